@@ -1,0 +1,13 @@
+pub mod Tree
+pub mod Grammar
+pub mod Place
+pub mod Lexeme
+pub mod Levels
+pub mod Proper
+pub mod Fault
+pub mod Allows
+pub mod Given
+pub mod Sizes
+pub mod Laws
+pub mod ReaderLaws
+pub mod NumberStates

@@ -1,0 +1,42 @@
+// Laws for the proofs of a reader, over the definitions alone.
+ghost use Rattle.json_grammar.specs.ReaderLaws.{StuckAtPlace, StuckInWord, StuckInNumber, StuckInString, FaultyIsFault, GivenReads, FaultyIsValueFault, ValueBreaksOff};
+
+/// Where no byte comes that may come, no text begins so.
+pub fn stuck_at_place()
+    ensures { StuckAtPlace }
+{}
+
+/// Within a literal no text goes on with another byte.
+pub fn stuck_in_word()
+    ensures { StuckInWord }
+{}
+
+/// Within a number no text goes on with a byte with which no number does.
+pub fn stuck_in_number()
+    ensures { StuckInNumber }
+{}
+
+/// Within a string no text goes on with a byte with which no part of a string does.
+pub fn stuck_in_string()
+    ensures { StuckInString }
+{}
+
+/// Where no text goes on so, the prefix is the longest.
+pub fn faulty_is_fault()
+    ensures { FaultyIsFault }
+{}
+
+/// Where nothing is open behind a last byte that is no whitespace, a value was read.
+pub fn given_reads()
+    ensures { GivenReads }
+{}
+
+/// A fault of a text is one of the value, but at the end and behind a whole value.
+pub fn faulty_is_value_fault()
+    ensures { FaultyIsValueFault }
+{}
+
+/// An input that ends before its value does has that fault.
+pub fn value_breaks_off()
+    ensures { ValueBreaksOff }
+{}

@@ -1,0 +1,4 @@
+pub mod Print
+pub mod Sort
+pub mod Edit
+pub mod Laws
