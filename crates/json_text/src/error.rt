@@ -1,0 +1,208 @@
+// What a call answers where it is not `Ok`.
+ghost use Rattle.std.specs.Prelude.{◌≡◌, ◌↔◌, IsTrue};
+ghost use Rattle.json_text.specs.Errors.{no_memory, number_of, category_of, offset_of, line_of, column_of};
+
+use std::alloc::{AllocError, AllocFailed};
+
+/// What is wrong. The discriminant is the code's number.
+#[derive(Clone, Copy, Debug, PartialEq, Eq)]
+pub enum ErrorCode {
+    /// Memory ran out.
+    NoMemory = 1,
+    /// A read or a write failed.
+    Io = 2,
+    /// The input has more bytes than are read.
+    TooLarge = 3,
+    /// The input is not UTF-8 (RFC 8259, section 8.1).
+    InvalidUTF8 = 4,
+    /// The input ends before its value does.
+    EofWhileParsing = 5,
+    /// A `null`, `true` or `false` breaks off (section 3).
+    InvalidLiteral = 6,
+    /// A number breaks off, or has a digit behind a leading zero (section 6).
+    InvalidNumber = 7,
+    /// A name is not followed by a colon (section 4).
+    ExpectedColon = 8,
+    /// An element is not followed by a comma or the array's end (section 5).
+    ExpectedArrayCommaOrEnd = 9,
+    /// A member is not followed by a comma or the object's end (section 4).
+    ExpectedObjectCommaOrEnd = 10,
+    /// A name or the object's end must come (section 4).
+    ExpectObjectKeyOrEnd = 11,
+    /// The object ends behind a comma (section 4).
+    TrailingComma = 12,
+    /// A value must come (section 3).
+    InvalidJsonValue = 13,
+    /// A byte below 20 (hexadecimal) stands in a string (section 7).
+    ControlCharacter = 14,
+    /// An escape breaks off (section 7).
+    InvalidEscape = 15,
+    /// The escape of a surrogate stands outside a pair (section 8.2).
+    InvalidSurrogate = 16,
+    /// The value is followed by more than whitespace (section 2).
+    TrailingCharacters = 17,
+    /// A bracket opens more levels than are read (section 9).
+    RecursionLimitExceeded = 18,
+    /// The words of the command line have another form.
+    BadWords = 24,
+}
+
+/// What kind of refusal a code is.
+#[derive(Clone, Copy, Debug, PartialEq, Eq)]
+pub enum Category {
+    Io,
+    Syntax,
+    Eof,
+    Limit,
+    Memory,
+}
+
+/// Where a refusal comes from.
+#[derive(Clone, Copy, Debug, PartialEq, Eq)]
+pub enum Place {
+    /// No place is known.
+    None,
+    /// A place in the input: the offset in bytes from 0, the line from 1, and the column in bytes from 1.
+    At {
+        offset: usize,
+        line: usize,
+        column: usize,
+    },
+    /// The source.
+    Reading,
+    /// The sink.
+    Writing,
+}
+
+/// A refusal: what is wrong, and where.
+#[derive(Clone, Copy, Debug, PartialEq, Eq)]
+pub struct Error {
+    pub code: ErrorCode,
+    pub place: Place,
+}
+
+/// The answer of a call that can be refused.
+pub type Result<T> = std::result::Result<T, Error>;
+
+impl ErrorCode {
+    /// The number of the code, 1 to 24.
+    pub fn number(self) -> u8
+        ensures { result ≡ number_of self }
+    {
+        match self {
+            ErrorCode::NoMemory => 1,
+            ErrorCode::Io => 2,
+            ErrorCode::TooLarge => 3,
+            ErrorCode::InvalidUTF8 => 4,
+            ErrorCode::EofWhileParsing => 5,
+            ErrorCode::InvalidLiteral => 6,
+            ErrorCode::InvalidNumber => 7,
+            ErrorCode::ExpectedColon => 8,
+            ErrorCode::ExpectedArrayCommaOrEnd => 9,
+            ErrorCode::ExpectedObjectCommaOrEnd => 10,
+            ErrorCode::ExpectObjectKeyOrEnd => 11,
+            ErrorCode::TrailingComma => 12,
+            ErrorCode::InvalidJsonValue => 13,
+            ErrorCode::ControlCharacter => 14,
+            ErrorCode::InvalidEscape => 15,
+            ErrorCode::InvalidSurrogate => 16,
+            ErrorCode::TrailingCharacters => 17,
+            ErrorCode::RecursionLimitExceeded => 18,
+            ErrorCode::BadWords => 24,
+        }
+    }
+}
+
+impl Error {
+    /// The code.
+    pub fn error_code(&self) -> ErrorCode
+        ensures { result ≡ self.now.code }
+    {
+        self.code
+    }
+
+    /// The kind of refusal that the code is.
+    pub fn classify(&self) -> Category
+        ensures { result ≡ category_of self.now.code }
+    {
+        match self.code {
+            ErrorCode::NoMemory => Category::Memory,
+            ErrorCode::Io => Category::Io,
+            ErrorCode::TooLarge | ErrorCode::RecursionLimitExceeded => Category::Limit,
+            ErrorCode::EofWhileParsing => Category::Eof,
+            ErrorCode::InvalidUTF8
+            | ErrorCode::InvalidLiteral
+            | ErrorCode::InvalidNumber
+            | ErrorCode::ExpectedColon
+            | ErrorCode::ExpectedArrayCommaOrEnd
+            | ErrorCode::ExpectedObjectCommaOrEnd
+            | ErrorCode::ExpectObjectKeyOrEnd
+            | ErrorCode::TrailingComma
+            | ErrorCode::InvalidJsonValue
+            | ErrorCode::ControlCharacter
+            | ErrorCode::InvalidEscape
+            | ErrorCode::InvalidSurrogate
+            | ErrorCode::TrailingCharacters
+            | ErrorCode::BadWords => Category::Syntax,
+        }
+    }
+
+    /// Whether the refusal is one of syntax.
+    pub fn is_syntax(&self) -> bool
+        ensures { IsTrue result ↔ (category_of self.now.code ≡ Category.Syntax) }
+    {
+        matches!(self.classify(), Category::Syntax)
+    }
+
+    /// The offset in bytes, where the place is one in the input.
+    pub fn offset(&self) -> Option<usize>
+        ensures { result ≡ offset_of self.now.place }
+    {
+        match self.place {
+            Place::At { offset, .. } => Some(offset),
+            _ => None,
+        }
+    }
+
+    /// The line, counted from 1, where the place is one in the input.
+    pub fn line(&self) -> Option<usize>
+        ensures { result ≡ line_of self.now.place }
+    {
+        match self.place {
+            Place::At { line, .. } => Some(line),
+            _ => None,
+        }
+    }
+
+    /// The column in bytes, counted from 1, where the place is one in the input.
+    pub fn column(&self) -> Option<usize>
+        ensures { result ≡ column_of self.now.place }
+    {
+        match self.place {
+            Place::At { column, .. } => Some(column),
+            _ => None,
+        }
+    }
+}
+
+impl From<AllocError> for Error {
+    ghost from_gives = { λ _ e. e ≡ no_memory };
+
+    fn from(_: AllocError) -> Self {
+        Error {
+            code: ErrorCode::NoMemory,
+            place: Place::None,
+        }
+    }
+}
+
+impl<T: Drop> From<AllocFailed<T>> for Error {
+    ghost from_gives = { λ _ e. e ≡ no_memory };
+
+    fn from(_: AllocFailed<T>) -> Self {
+        Error {
+            code: ErrorCode::NoMemory,
+            place: Place::None,
+        }
+    }
+}
