@@ -1,1 +1,4 @@
 pub mod Errors
+pub mod Known
+pub mod Outside
+pub mod Transfer
