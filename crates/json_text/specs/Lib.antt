@@ -1,1 +1,6 @@
 pub mod Errors
+pub mod Known
+pub mod Outside
+pub mod Transfer
+pub mod Positions
+pub mod Utf8
