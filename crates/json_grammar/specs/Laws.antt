@@ -4,7 +4,7 @@ use Rattle.json_grammar.specs.declared.Kind.{Kind}
 use Rattle.json_grammar.specs.declared.Spot.{Spot}
 use Rattle.json_grammar.specs.declared.Spot.TheVariants.{Done as done}
 use Rattle.json_grammar.specs.Tree.{Tree, depth, Token, tokens}
-use Rattle.json_grammar.specs.Grammar.{ws, number, is_text}
+use Rattle.json_grammar.specs.Grammar.{ws, is_text}
 use Rattle.json_grammar.specs.Place.{viable_prefix, place, reading}
 use Rattle.json_grammar.specs.Given.{LastEnds}
 use Rattle.json_grammar.specs.Fault.{opens, FaultCode, in_word, in_number, in_string, fault, viable_value, reads, value_fault}

@@ -1,6 +1,7 @@
 //! The grammar of JSON (RFC 8259) over trees, prefixes and faults, with its laws. Definitions stand in `specs/`.
 #![tactic(auto)]
 
+pub mod examples;
 pub mod laws;
 pub mod reader_laws;
 
