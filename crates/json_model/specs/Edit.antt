@@ -1,7 +1,7 @@
 -- What edits make of a tree.
 use Rattle.std.specs.Prelude.{ℕ, zero, suc, List, [], ◌∷◌, Bool, true, false, cond, Result, Ok, Err, bytes_eq, IsUtf8}
 use Rattle.json_grammar.specs.Proper.{IsProper}
-use Rattle.json_grammar.specs.Tree.{Tree, null, boolean, num, text, list, pairs, Trees, no_trees, tree_and, Pairs, no_pairs, pair_and}
+use Rattle.json_grammar.specs.Tree.{Tree, list, pairs, Trees, no_trees, tree_and, Pairs, no_pairs, pair_and}
 
 -- a key of an object, or an index of an array
 pub data Step : Type 0 where
