@@ -2,7 +2,7 @@
 -- An input within `codes` is written as it stands in a file, but that a backslash stands before each quote and each backslash of it.
 use Rattle.std.specs.Prelude.{◌≡◌, ℕ, zero, suc, ◌≤◌, List, [], ◌∷◌, ◌++◌, replicate, true, false, codes}
 use Rattle.json_grammar.specs.declared.Kind.TheVariants.{Array as array, Object as object}
-use Rattle.json_grammar.specs.Tree.{Tree, null, boolean, num, text, list, pairs, no_trees, tree_and, no_pairs, pair_and, depth, num_token, begin, end, key_token, tokens}
+use Rattle.json_grammar.specs.Tree.{Tree, null, boolean, num, text, list, pairs, no_trees, tree_and, no_pairs, list_trees, list_pairs, depth, num_token, begin, end, key_token, tokens}
 use Rattle.json_grammar.specs.Grammar.{is_text}
 use Rattle.json_grammar.specs.Sizes.{nodes, text_bytes}
 use Rattle.json_grammar.specs.Fault.{FaultCode, eof_while_parsing, invalid_literal, invalid_number, expected_colon, expected_array_comma_or_end, expected_object_comma_or_end, expect_object_key_or_end, trailing_comma, invalid_json_value, control_character, invalid_escape, invalid_surrogate, trailing_characters, recursion_limit_exceeded, fault, reads}
@@ -24,14 +24,13 @@ pub record IsRefused (b : List ℕ) (code : FaultCode) (offset : ℕ) : Type 0 w
 -- the members in their order
 abbrev pub ObjectText : Type 0
 ObjectText =
-    IsTextOf (pairs (pair_and (codes "a") (num (codes "1")) (pair_and (codes "b") (boolean true) (pair_and (codes "c") null no_pairs))))
+    IsTextOf (pairs (list_pairs ((codes "a", num (codes "1")) ∷ (codes "b", boolean true) ∷ (codes "c", null) ∷ [])))
     (codes "{\"a\": 1, \"b\": true, \"c\": null}")
 
 -- each number is its own literal, however large or small (RFC 8259, section 6)
 abbrev pub NumbersText : Type 0
 NumbersText =
-    IsTextOf (list (tree_and (num (codes "-0")) (tree_and (num (codes "1.0")) (tree_and (num (codes "1e400"))
-    (tree_and (num (codes "12345678901234567890123")) (tree_and (num (codes "18446744073709551615")) no_trees))))))
+    IsTextOf (list (list_trees (num (codes "-0") ∷ num (codes "1.0") ∷ num (codes "1e400") ∷ num (codes "12345678901234567890123") ∷ num (codes "18446744073709551615") ∷ [])))
     (codes "[-0,1.0,1e400,12345678901234567890123,18446744073709551615]")
 
 -- escapes stand for U+1F604, `A`, `/` and U+0000 (section 7)
@@ -40,7 +39,7 @@ EscapesText = IsTextOf (text (0xf0 ∷ 0x9f ∷ 0x98 ∷ 0x84 ∷ 0x41 ∷ 0x2f 
 
 -- a name may stand twice, and both members are kept (section 4)
 abbrev pub RepeatedNamesText : Type 0
-RepeatedNamesText = IsTextOf (pairs (pair_and (codes "a") (num (codes "1")) (pair_and (codes "a") null no_pairs))) (codes "{\"a\":1,\"a\":null}")
+RepeatedNamesText = IsTextOf (pairs (list_pairs ((codes "a", num (codes "1")) ∷ (codes "a", null) ∷ []))) (codes "{\"a\":1,\"a\":null}")
 
 -- a space, a tab, a line feed and a carriage return around `[` and `]` (section 2)
 abbrev pub WhitespaceText : Type 0
@@ -130,7 +129,7 @@ TooDeepRefused = IsRefused (replicate 300 91) recursion_limit_exceeded 254
 
 -- the tree of `{"a":[1,{}]}`
 abbrev pub small_tree : Tree
-small_tree = pairs (pair_and (codes "a") (list (tree_and (num (codes "1")) (tree_and (pairs no_pairs) no_trees))) no_pairs)
+small_tree = pairs (list_pairs ((codes "a", list (list_trees (num (codes "1") ∷ pairs no_pairs ∷ []))) ∷ []))
 
 -- 3 levels; 5 nodes, the name among them; and 2 bytes of text, `a` and `1`
 abbrev pub SmallTreeCounted : Type 0

@@ -45,28 +45,40 @@ SetAtRoot = (u t : Tree) → edited (set_at [] u ∷ []) t ≡ Ok u
 abbrev pub InsertSetsFirst : Type 0
 InsertSetsFirst =
     (k : List ℕ) (u : Tree) (ps : Pairs)
-    → (qs : Pairs) × (edited (insert_at [] k u ∷ []) (pairs ps) ≡ Ok (pairs qs)) × (values_of k qs ≡ u ∷ drop 1 (values_of k ps)) × ((n : List ℕ) → n ≢ k → values_of n qs ≡ values_of n ps)
+    → (qs : Pairs)
+    × (edited (insert_at [] k u ∷ []) (pairs ps) ≡ Ok (pairs qs))
+    × (values_of k qs ≡ u ∷ drop 1 (values_of k ps))
+    × ((n : List ℕ) → n ≢ k → values_of n qs ≡ values_of n ps)
 
 -- behind the removal of a key no member has the key, and the others stay in their order
 abbrev pub RemoveTakesAll : Type 0
 RemoveTakesAll =
     (k : List ℕ) (ps : Pairs)
-    → has_key k ps ≡ true → (qs : Pairs) × (edited (remove_at [] (key_step k) ∷ []) (pairs ps) ≡ Ok (pairs qs)) × (has_key k qs ≡ false) × (pairs_list qs ≡ filter (λ p. not (bytes_eq p.0 k)) (pairs_list ps))
+    → has_key k ps ≡ true
+    → (qs : Pairs)
+    × (edited (remove_at [] (key_step k) ∷ []) (pairs ps) ≡ Ok (pairs qs))
+    × (has_key k qs ≡ false)
+    × (pairs_list qs ≡ filter (λ p. not (bytes_eq p.0 k)) (pairs_list ps))
 
 -- a key that no member has is not found: it is not taken out, and no path leads past it
 abbrev pub KeyNotFound : Type 0
 KeyNotFound =
     (k : List ℕ) (ps : Pairs)
-    → has_key k ps ≡ false → (edited (remove_at [] (key_step k) ∷ []) (pairs ps) ≡ Err (0, not_found)) × ((p : List Step) (f : Tree → Changed Tree) → at_path (key_step k ∷ p) f (pairs ps) ≡ Err not_found)
+    → has_key k ps ≡ false
+    → (edited (remove_at [] (key_step k) ∷ []) (pairs ps) ≡ Err (0, not_found))
+    × ((p : List Step) (f : Tree → Changed Tree) → at_path (key_step k ∷ p) f (pairs ps) ≡ Err not_found)
 
 -- an index past the end is not found
 abbrev pub IndexNotFound : Type 0
 IndexNotFound =
     (i : ℕ) (ts : Trees)
-    → length (trees_list ts) ≤ i → (edited (remove_at [] (index_step i) ∷ []) (list ts) ≡ Err (0, not_found)) × ((p : List Step) (f : Tree → Changed Tree) → at_path (index_step i ∷ p) f (list ts) ≡ Err not_found)
+    → length (trees_list ts) ≤ i
+    → (edited (remove_at [] (index_step i) ∷ []) (list ts) ≡ Err (0, not_found))
+    × ((p : List Step) (f : Tree → Changed Tree) → at_path (index_step i ∷ p) f (list ts) ≡ Err not_found)
 
 -- no key leads into an array, and no index into an object
 abbrev pub StepUnmatched : Type 0
 StepUnmatched =
     (p : List Step) (f : Tree → Changed Tree)
-    → ((k : List ℕ) (ts : Trees) → at_path (key_step k ∷ p) f (list ts) ≡ Err type_unmatched) × ((i : ℕ) (ps : Pairs) → at_path (index_step i ∷ p) f (pairs ps) ≡ Err type_unmatched)
+    → ((k : List ℕ) (ts : Trees) → at_path (key_step k ∷ p) f (list ts) ≡ Err type_unmatched)
+    × ((i : ℕ) (ps : Pairs) → at_path (index_step i ∷ p) f (pairs ps) ≡ Err type_unmatched)
