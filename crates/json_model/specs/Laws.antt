@@ -9,17 +9,17 @@ use Rattle.json_model.specs.Edit.{Step, key_step, index_step, Edit, set_at, inse
 
 -- ---- printing
 
--- what is shown of a tree, with any whitespace for an indent, is a text of it
+-- what is shown of a tree, with any whitespace for an indent, is a text of it, where its number literals are numbers and its strings and names UTF-8
 abbrev pub ShownIsText : Type 0
 ShownIsText = (lossy : Bool) (i : Option (List ℕ)) (t : Tree) → IsIndent i → IsProper t → is_text lossy t (shown i 0 t)
 
 -- ---- sorting
 
--- the keys of each object never fall
+-- the keys of each object never fall, however deep it stands
 abbrev pub SortedIsInOrder : Type 0
 SortedIsInOrder = (t : Tree) → IsInOrder (sorted t)
 
--- the values of one key stay, each of them sorted, and keep their order
+-- the values of each key stay, each of them sorted, and keep their order
 abbrev pub SortedKeepsValues : Type 0
 SortedKeepsValues = (k : List ℕ) (ps : Pairs) → values_of k (pairs_sorted ps) ≡ map sorted (values_of k ps)
 
@@ -27,13 +27,13 @@ SortedKeepsValues = (k : List ℕ) (ps : Pairs) → values_of k (pairs_sorted ps
 abbrev pub SortedTwice : Type 0
 SortedTwice = (t : Tree) → sorted (sorted t) ≡ sorted t
 
--- what is sorted stays a tree of numbers and UTF-8
+-- what is sorted keeps number literals that are numbers, and strings and names that are UTF-8
 abbrev pub SortedIsProper : Type 0
 SortedIsProper = (t : Tree) → IsProper t → IsProper (sorted t)
 
 -- ---- edits
 
--- what is edited stays a tree of numbers and UTF-8, where the edits put in such
+-- so does what is edited, where the edits put in such
 abbrev pub EditedIsProper : Type 0
 EditedIsProper = (es : List Edit) (t : Tree) → AreProperEdits es → IsProper t → IfOk (edited es t) IsProper
 

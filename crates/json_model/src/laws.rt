@@ -21,12 +21,12 @@ pub fn sorted_twice()
     ensures { SortedTwice }
 {}
 
-/// What is sorted keeps literals that are numbers and texts that are UTF-8.
+/// What is sorted keeps literals that are numbers, and strings and names that are UTF-8.
 pub fn sorted_is_proper()
     ensures { SortedIsProper }
 {}
 
-/// What is edited keeps literals that are numbers and texts that are UTF-8, where the edits put in such.
+/// What is edited keeps literals that are numbers, and strings and names that are UTF-8, where the edits put in such.
 pub fn edited_is_proper()
     ensures { EditedIsProper }
 {}
