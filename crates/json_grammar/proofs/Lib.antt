@@ -31,3 +31,4 @@ pub mod Lossy
 pub mod Steps
 pub mod ExampleTexts
 pub mod ExampleFaults
+pub mod TextUtf8

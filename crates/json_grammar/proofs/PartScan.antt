@@ -66,7 +66,7 @@ valued x h = go (cases_lt x 48) (cases_lt x 58) (cases_lt x 65) (cases_lt x 91) 
     go (inr a) (inr b) (inr c) (inr d) (inr e) (inl f) i = let v : digit_value x ≡ x - 87 = rw (le-ltb x 48 a, le-ltb x 58 b, le-ltb x 65 c, le-ltb x 91 d, le-ltb x 97 e, lt-ltb x 123 f) refl in inr (inr (e, omega arith, omega arith))
     go (inr a) (inr b) (inr c) (inr d) (inr e) (inr f) i = let v : digit_value x ≡ 36 = rw (le-ltb x 48 a, le-ltb x 58 b, le-ltb x 65 c, le-ltb x 91 d, le-ltb x 97 e, le-ltb x 123 f) refl in absurd (omega arith)
 
-hex_ascii : (x : ℕ) → is_digit x 16 ≡ true → x < 128
+pub hex_ascii : (x : ℕ) → is_digit x 16 ≡ true → x < 128
 hex_ascii x h = let v = valued x h in omega arith
 
 hex_small : (x : ℕ) → is_digit x 16 ≡ true → digit_value x < 16
@@ -125,7 +125,7 @@ pub record Hex (p q r s u : ℕ) : Type 0 where
   pub s_hex : is_digit s 16 ≡ true
   pub sum : digit_value p * 4096 + digit_value q * 256 + digit_value r * 16 + digit_value s ≡ u
 
-hex_parts : (p q r s u : ℕ) → hex4 p q r s ≡ Some u → Hex p q r s u
+pub hex_parts : (p q r s u : ℕ) → hex4 p q r s ≡ Some u → Hex p q r s u
 unfolding hex4
 hex_parts p q r s u e =
     let a = cond_some (is_digit p 16 && is_digit q 16 && is_digit r 16 && is_digit s 16) _ u e in
