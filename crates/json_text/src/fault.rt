@@ -135,3 +135,40 @@ pub fn fault_text(error: &Error) -> FaultText
     text.push(b"\n");
     text
 }
+
+#[cfg(test)]
+mod tests {
+    use super::*;
+    use std::test::Fail;
+
+    #[test]
+    fn texts_of_refusals(rt: HostRuntime) -> Result<(), Fail> {
+        let at = |offset, line, column| Place::At {
+            offset,
+            line,
+            column,
+        };
+        let cases = [
+            (
+                ErrorCode::EofWhileParsing,
+                at(0, 1, 1),
+                "EofWhileParsing at offset 0, line 1 column 1\n",
+            ),
+            (
+                ErrorCode::InvalidJsonValue,
+                at(19, 4, 7),
+                "InvalidJsonValue at offset 19, line 4 column 7\n",
+            ),
+            (ErrorCode::Io, Place::Reading, "Io while reading\n"),
+            (ErrorCode::Io, Place::Writing, "Io while writing\n"),
+            (ErrorCode::BadWords, Place::None, "BadWords\n"),
+        ];
+        for (code, place, text) in cases {
+            let error = Error { code, place };
+            assert_eq!(rt; fault_text(&error).as_bytes(), text.as_bytes());
+            let shown = format!(in rt.alloc(); "{error}\n")?;
+            assert_eq!(rt; shown.as_str(), text);
+        }
+        Ok(())
+    }
+}

@@ -30,3 +30,29 @@ pub fn one_utf8_fault()
 pub fn utf8_fault_is_no_utf8()
     ensures { Utf8FaultIsNoUtf8 }
 {}
+
+#[cfg(test)]
+mod tests {
+    use super::*;
+    use crate::Place;
+
+    #[test]
+    fn the_longest_valid_prefix(rt: HostRuntime) {
+        let cases = [
+            (b"\"\x80\x90\"".as_slice(), 1),
+            (b"x\xff".as_slice(), 1),
+            (b"\"\x00\x00\x00\x80\x90\"".as_slice(), 4),
+            (b"\xe2\x82".as_slice(), 0),
+        ];
+        for (bytes, offset) in cases {
+            let place = Place::At {
+                offset,
+                line: 1,
+                column: offset + 1,
+            };
+            let code = ErrorCode::InvalidUTF8;
+            assert_eq!(rt; check_utf8(bytes), Err(Error { code, place }));
+        }
+        assert_eq!(rt; check_utf8(b"\xe2\x82\xac"), Ok("€"));
+    }
+}

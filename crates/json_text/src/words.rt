@@ -56,3 +56,19 @@ impl Words {
         self.words[i].as_str()
     }
 }
+
+#[cfg(test)]
+mod tests {
+    use super::*;
+    use std::test::Fail;
+
+    #[test]
+    fn words_in_order(rt: HostRuntime) -> std::result::Result<(), Fail> {
+        let mut words = Words::new(rt.alloc());
+        words.push("--pretty")?;
+        words.push("[]")?;
+        assert_eq!(rt; words.len(), 2);
+        assert_eq!(rt; words.word(1), "[]");
+        Ok(())
+    }
+}
