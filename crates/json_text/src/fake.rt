@@ -1,5 +1,5 @@
 // Sources and sinks that fail when they are told to.
-ghost use Rattle.std.specs.Prelude.{◌≡◌, ◌↔◌, ◌≤◌, ◌+◌, ◌-◌, min, length, take, [], Some, false, IsErr, IfOk, IfErr, OnOk, OnErr, IsErrOf, Contains};
+ghost use Rattle.std.specs.Prelude.{◌≡◌, ◌↔◌, ◌≤◌, ◌+◌, ◌-◌, min, length, take, [], Some, false, IsErr, IfOk, IfErr, OnOk, OnErr, IsErrOf, IsTrue, Contains};
 ghost use Rattle.std.specs.Io.{ReadsAtMost, WritesAtMost};
 ghost use Rattle.json_text.specs.Fakes.{gave, gave_nothing, took, refused};
 ghost use Rattle.json_text.specs.Outside.{counted, Reads, Writes, Flushes};
@@ -7,6 +7,16 @@ ghost use Rattle.json_text.specs.Outside.{counted, Reads, Writes, Flushes};
 use crate::{Failed, Sink, SinkError, Source};
 use std::alloc::Global;
 use std::marker::Model;
+
+// Counts a call, and answers whether it is to fail.
+fn next_fails(calls: &mut u64, fail: &[u64]) -> bool
+    ensures fails { IsTrue result ↔ Contains fail.now calls.old }
+    ensures counted { calls.new ≡ counted 1 calls.old }
+{
+    let call = *calls;
+    *calls = call.saturating_add(1);
+    fail.contains(&call)
+}
 
 /// A source of bytes in memory, which gives a few a call, and fails at the calls with these numbers.
 /// Contracts see its bytes and its counts.
@@ -60,9 +70,7 @@ impl Source for FakeSource<'_> {
         ensures ok { IfOk result (λ n. self.new ≡ gave n self.old) }
         ensures err { OnErr result (self.new ≡ gave_nothing self.old) }
     {
-        let call = self.calls;
-        self.calls = call.saturating_add(1);
-        if self.fail.contains(&call) {
+        if next_fails(&mut self.calls, self.fail) {
             self.faults = self.faults.saturating_add(1);
             return Err(Failed);
         }
@@ -134,9 +142,7 @@ impl Sink for FakeSink<'_> {
         ensures ok { IfOk result (λ n. self.new ≡ took (take n piece.now) self.old) }
         ensures err { IfErr result (λ e. self.new ≡ refused e self.old) }
     {
-        let call = self.calls;
-        self.calls = call.saturating_add(1);
-        if self.fail.contains(&call) {
+        if next_fails(&mut self.calls, self.fail) {
             self.faults = self.faults.saturating_add(1);
             return Err(SinkError::Failed);
         }
@@ -157,9 +163,7 @@ impl Sink for FakeSink<'_> {
         ensures ok { OnOk result (self.new ≡ took [] self.old) }
         ensures err { IfErr result (λ e. self.new ≡ refused e self.old) }
     {
-        let call = self.calls;
-        self.calls = call.saturating_add(1);
-        if self.fail.contains(&call) {
+        if next_fails(&mut self.calls, self.fail) {
             self.faults = self.faults.saturating_add(1);
             return Err(SinkError::Failed);
         }
