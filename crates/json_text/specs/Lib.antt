@@ -6,3 +6,5 @@ pub mod Positions
 pub mod Utf8
 pub mod Fakes
 pub mod FaultText
+pub mod Sources
+pub mod Sinks
