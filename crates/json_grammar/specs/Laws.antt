@@ -26,6 +26,10 @@ SameTokens = (t t' : Tree) → tokens t ≡ tokens t' → t ≡ t'
 abbrev pub TextIsProper : Type 0
 TextIsProper = (lossy : Bool) (t : Tree) (b : List ℕ) → is_text lossy t b → IsProper t
 
+-- each text of a tree is UTF-8 (section 8.1)
+abbrev pub TextIsUtf8 : Type 0
+TextIsUtf8 = (lossy : Bool) (t : Tree) (b : List ℕ) → is_text lossy t b → IsUtf8 b
+
 -- a text of a tree in the strict mode is a text of it in the lossy mode too
 abbrev pub StrictTextIsLossy : Type 0
 StrictTextIsLossy = (t : Tree) (b : List ℕ) → is_text false t b → is_text true t b

@@ -1,5 +1,5 @@
 // Laws over the definitions alone.
-ghost use Rattle.json_grammar.specs.Laws.{OneTree, SameTokens, TextIsProper, StrictTextIsLossy, OpensIsDepth, PlaceIsViable, TokenIsViable, OnePlace, EventsBegin, OneFault, SomeFault, TextHasNoFault, TextFits, PrefixFits, EventsFit, TokensBring, OneValue, TextReads, ReadsText, ViableValues, ValueEventsBegin, OneValueFault, SomeValueFault, ReadsHasNoFault};
+ghost use Rattle.json_grammar.specs.Laws.{OneTree, SameTokens, TextIsProper, TextIsUtf8, StrictTextIsLossy, OpensIsDepth, PlaceIsViable, TokenIsViable, OnePlace, EventsBegin, OneFault, SomeFault, TextHasNoFault, TextFits, PrefixFits, EventsFit, TokensBring, OneValue, TextReads, ReadsText, ViableValues, ValueEventsBegin, OneValueFault, SomeValueFault, ReadsHasNoFault};
 
 /// Bytes are a text of one tree at most.
 pub fn one_tree()
@@ -14,6 +14,11 @@ pub fn same_tokens()
 /// The tree of each text has literals that are numbers, and strings and names that are UTF-8.
 pub fn text_is_proper()
     ensures { TextIsProper }
+{}
+
+/// Each text of a tree is UTF-8 (RFC 8259, section 8.1).
+pub fn text_is_utf8()
+    ensures { TextIsUtf8 }
 {}
 
 /// A text of a tree in the strict mode is a text of it in the lossy mode too.
