@@ -1,1 +1,5 @@
 pub mod Errors
+pub mod Runs
+pub mod Escapes
+pub mod Spelled
+pub mod Unescaped

@@ -2,5 +2,14 @@
 #![tactic(auto)]
 
 mod error;
+mod escape;
+mod event;
+mod fault;
+mod runs;
+mod span;
+mod unescape;
 
 pub use error::{Category, Error, ErrorCode, Place, Result};
+pub use event::Event;
+pub use runs::{digit_run, plain_run, ws_run};
+pub use span::Span;
