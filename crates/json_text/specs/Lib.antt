@@ -3,3 +3,5 @@ pub mod Runs
 pub mod Escapes
 pub mod Spelled
 pub mod Unescaped
+pub mod Numbers
+pub mod Literals

@@ -5,8 +5,11 @@ mod error;
 mod escape;
 mod event;
 mod fault;
+mod literal;
+mod number;
 mod runs;
 mod span;
+mod string;
 mod unescape;
 
 pub use error::{Category, Error, ErrorCode, Place, Result};
