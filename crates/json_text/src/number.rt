@@ -18,7 +18,7 @@ fn some_digits(bytes: &[u8], from: usize) -> Result<usize, usize>
     if end == from { Err(from) } else { Ok(end) }
 }
 
-/// The place behind a integer_part part, or at which none goes on.
+/// The place behind an integer part, or at which none goes on.
 fn integer_end(bytes: &[u8], from: usize) -> Result<usize, usize>
     requires { from ≤ length bytes.now }
     ensures ok { (i : ℕ) (s : NumberState) → Stands bytes.now i from s → IsSigned s → IfOk result (λ e. IntegerTo bytes.now i e) }
