@@ -5,3 +5,8 @@ pub mod Spelled
 pub mod Unescaped
 pub mod Numbers
 pub mod Literals
+pub mod Known
+pub mod Outside
+pub mod Transfer
+pub mod Positions
+pub mod Utf8
