@@ -51,10 +51,10 @@ dec_hex x = by (is_digit x 16) refl
     by true e = inl e
     by false e = inr e
 
-abbrev Valued : ℕ → ℕ → Type 0
+abbrev pub Valued : ℕ → ℕ → Type 0
 Valued x v = ((48 ≤ x) × (x ≤ 57) × (v + 48 ≡ x)) ⊎ (((65 ≤ x) × (x ≤ 70) × (v + 55 ≡ x)) ⊎ ((97 ≤ x) × (x ≤ 102) × (v + 87 ≡ x)))
 
-valued : (x : ℕ) → is_digit x 16 ≡ true → Valued x (digit_value x)
+pub valued : (x : ℕ) → is_digit x 16 ≡ true → Valued x (digit_value x)
 valued x h = go (cases_lt x 48) (cases_lt x 58) (cases_lt x 65) (cases_lt x 91) (cases_lt x 97) (cases_lt x 123) (ltb-true (digit_value x) 16 h)
   where
     go : (x < 48) ⊎ (48 ≤ x) → (x < 58) ⊎ (58 ≤ x) → (x < 65) ⊎ (65 ≤ x) → (x < 91) ⊎ (91 ≤ x) → (x < 97) ⊎ (97 ≤ x) → (x < 123) ⊎ (123 ≤ x) → digit_value x < 16 → Valued x (digit_value x)
@@ -77,7 +77,7 @@ abbrev IsD : ℕ → Type 0
 IsD x = (x ≡ 68) ⊎ (x ≡ 100)
 
 -- c to f, with which the escape of a low one goes on
-abbrev IsCToF : ℕ → Type 0
+abbrev pub IsCToF : ℕ → Type 0
 IsCToF x = ((67 ≤ x) × (x ≤ 70)) ⊎ ((99 ≤ x) × (x ≤ 102))
 
 dec_d : (x : ℕ) → IsD x ⊎ ¬ (IsD x)
@@ -106,7 +106,7 @@ d_value : (x : ℕ) → IsD x → digit_value x ≡ 13
 d_value x (inl e) = rw e refl
 d_value x (inr e) = rw e refl
 
-hex_c_to_f : (x : ℕ) → IsCToF x → is_digit x 16 ≡ true
+pub hex_c_to_f : (x : ℕ) → IsCToF x → is_digit x 16 ≡ true
 hex_c_to_f x h = go (dec_hex x)
   where
     go : (is_digit x 16 ≡ true) ⊎ (is_digit x 16 ≡ false) → is_digit x 16 ≡ true
