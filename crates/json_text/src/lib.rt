@@ -12,6 +12,7 @@ mod runs;
 mod sink;
 mod source;
 mod span;
+mod spot;
 mod stack;
 mod string;
 mod transfer;
