@@ -15,3 +15,5 @@ pub mod Faults
 pub mod Standing
 pub mod Misplaced
 pub mod Events
+pub mod Begins
+pub mod Tokens

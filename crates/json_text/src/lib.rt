@@ -15,6 +15,7 @@ mod span;
 mod spot;
 mod stack;
 mod string;
+mod token;
 mod transfer;
 mod unescape;
 mod utf8;
