@@ -182,6 +182,10 @@ pub some_top : (c : List Kind) → c ≢ [] → top c ≡ None → ⊥
 some_top [] n e = n refl
 some_top (k ∷ c) n e = cc
 
+pub no_top : (c : List Kind) → top c ≡ None → length c ≡ 0
+no_top [] e = refl
+no_top (k ∷ c) e = absurd (cc)
+
 -- ---- what an event means
 
 pub begin_means : (k : Kind) → Means (begin_event k) (begin k)

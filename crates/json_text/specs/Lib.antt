@@ -17,3 +17,5 @@ pub mod Misplaced
 pub mod Events
 pub mod Begins
 pub mod Tokens
+pub mod Parsing
+pub mod Laws
