@@ -2,8 +2,7 @@
 use Rattle.std.proofs.Common.{◌≡◌, ℕ, ◌≤◌, List, ◌∷◌, ◌++◌, length, false, ap, arith, length-append}
 use Rattle.json_grammar.specs.Tree.{Tree, depth}
 use Rattle.json_grammar.specs.Grammar.{is_text}
-use Rattle.json_grammar.specs.Place.{viable_prefix}
-use Rattle.json_grammar.specs.Fault.{FaultCode, opens, longest, row, eof_while_parsing, invalid_literal, invalid_number, expected_colon, expected_array_comma_or_end, expected_object_comma_or_end, expect_object_key_or_end, trailing_comma, invalid_json_value, control_character, invalid_escape, invalid_surrogate, trailing_characters, recursion_limit_exceeded}
+use Rattle.json_grammar.specs.Fault.{eof_while_parsing, invalid_literal, invalid_number, expected_colon, expected_array_comma_or_end, expected_object_comma_or_end, expect_object_key_or_end, trailing_comma, invalid_json_value, control_character, invalid_escape, invalid_surrogate, trailing_characters, recursion_limit_exceeded}
 use Rattle.json_grammar.proofs.OneFault.{text_no_fault}
 use Rattle.json_text.specs.declared.error.ErrorCode.{ErrorCode}
 use Rattle.json_text.specs.declared.error.ErrorCode.TheVariants as code

@@ -118,13 +118,7 @@ impl<'a> Parser<'a> {
                 offset: stand.at,
             });
         }
-        match take_event(
-            self.rest,
-            stand.at,
-            stand.spot,
-            self.limit,
-            &mut self.kinds,
-        ) {
+        match take_event(self.rest, stand.at, stand.spot, self.limit, &mut self.kinds) {
             Ok(read) => {
                 self.at = read.end;
                 self.spot = read.spot;

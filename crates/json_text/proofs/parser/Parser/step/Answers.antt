@@ -1,6 +1,6 @@
-use Rattle.std.proofs.Common.{◌≡◌, ◌++◌, ◌∷◌, [], length, sym, ◌∙◌, refl, subst, ap, arith, List, ℕ, ◌≤◌, false}
+use Rattle.std.proofs.Common.{◌≡◌, ◌++◌, ◌∷◌, [], sym, ◌∙◌, refl, subst, ap, arith, ◌≤◌, false}
 use Rattle.std.proofs.lemmas.Bool.{both_ways}
-use Rattle.json_grammar.specs.Tree.{Tree, Token, tokens, depth}
+use Rattle.json_grammar.specs.Tree.{Tree, tokens, depth}
 use Rattle.json_grammar.specs.Grammar.{is_text}
 use Rattle.json_text.specs.declared.error.ErrorCode.TheVariants as code
 use Rattle.json_text.specs.Faults.{IsFault}
