@@ -1,0 +1,17 @@
+pub mod Awaited
+pub mod Texts
+pub mod Block
+pub mod Building
+pub mod Shape
+pub mod Spells
+pub mod Trees
+pub mod Places
+pub mod State
+pub mod Recorded
+pub mod Docs
+pub mod Kinds
+pub mod Readings
+pub mod CellReadings
+pub mod Seen
+pub mod Left
+pub mod Laws
