@@ -1,1 +1,12 @@
 pub mod Errors
+pub mod Runs
+pub mod Escapes
+pub mod Spelled
+pub mod Unescaped
+pub mod Numbers
+pub mod Literals
+pub mod Known
+pub mod Outside
+pub mod Transfer
+pub mod Positions
+pub mod Utf8

@@ -2,5 +2,27 @@
 #![tactic(auto)]
 
 mod error;
+mod escape;
+mod event;
+mod fault;
+mod literal;
+mod number;
+mod place;
+mod runs;
+mod sink;
+mod source;
+mod span;
+mod string;
+mod transfer;
+mod unescape;
+mod utf8;
 
 pub use error::{Category, Error, ErrorCode, Place, Result};
+pub use event::Event;
+pub use place::place_of;
+pub use runs::{digit_run, plain_run, ws_run};
+pub use sink::{Sink, SinkError, StdSink, VecSink};
+pub use source::{Failed, SliceSource, Source, StdSource};
+pub use span::Span;
+pub use transfer::{flush_all, put_all};
+pub use utf8::{check_utf8, one_utf8_fault, utf8_fault_is_no_utf8};

@@ -1,0 +1,173 @@
+// Where bytes go.
+ghost use Rattle.std.specs.Prelude.{◌≡◌, [], false, Some, None, IfOk, IsOk, length};
+ghost use Rattle.std.specs.Io.KnownBytes as known;
+ghost use Rattle.std.specs.Io.{WritesAtMost};
+ghost use Rattle.json_text.specs.Outside.{SinkState, Writes, Flushes};
+
+use std::alloc::Global;
+use std::io::Write;
+
+/// Why a sink took nothing.
+#[derive(Clone, Copy, Debug, PartialEq, Eq)]
+pub enum SinkError {
+    /// The call failed.
+    Failed,
+    /// Memory ran out.
+    NoMemory,
+}
+
+/// Where bytes go.
+pub trait Sink {
+    /// The bytes gained, where they are told, how many calls failed and how many found no memory, and
+    /// whether bytes may wait for a flush.
+    ghost state: { Self → SinkState };
+
+    /// Takes the front of the piece, and answers how many bytes: at least one where there is one. A call
+    /// with another answer takes nothing.
+    fn write(&mut self, piece: &[u8]) -> Result<usize, SinkError>
+        ensures bound { WritesAtMost result piece.now }
+        ensures writes { Writes (state self.old) (state self.new) piece.now result };
+
+    /// Sends on what waits.
+    fn flush(&mut self) -> Result<(), SinkError>
+        ensures flushes { Flushes (state self.old) (state self.new) result };
+}
+
+impl<K: Sink> Sink for &mut K {
+    ghost state = { λ k. K.state k.now };
+
+    #[inline(always)]
+    fn write(&mut self, piece: &[u8]) -> Result<usize, SinkError> {
+        Sink::write(&mut **self, piece)
+    }
+
+    #[inline(always)]
+    fn flush(&mut self) -> Result<(), SinkError> {
+        Sink::flush(&mut **self)
+    }
+}
+
+/// A sink in memory. It tells its bytes and never fails; it takes the whole piece or finds no memory.
+#[derive(Drop)]
+pub struct VecSink {
+    bytes: Vec<u8>,
+    lacks: u64,
+}
+
+impl VecSink {
+    /// A sink that has gained nothing.
+    pub fn new(alloc: Global) -> VecSink
+        ensures { ⟦<VecSink as Sink>⟧.state result
+            ≡ record { gained = Some []; faults = 0; lacks = 0; unflushed = false } }
+    {
+        VecSink {
+            bytes: Vec::new(alloc),
+            lacks: 0,
+        }
+    }
+
+    /// The bytes gained.
+    pub fn as_slice(&self) -> &[u8]
+        ensures { (⟦<VecSink as Sink>⟧.state self.now).gained ≡ Some result.now }
+    {
+        &self.bytes
+    }
+
+    /// The bytes gained.
+    pub fn into_vec(self) -> Vec<u8>
+        ensures { (⟦<VecSink as Sink>⟧.state self).gained ≡ Some result.items }
+    {
+        self.bytes
+    }
+}
+
+impl Sink for VecSink {
+    ghost state = { λ s. record { gained = Some s.bytes.items; faults = 0; lacks = s.lacks; unflushed = false } };
+
+    fn write(&mut self, piece: &[u8]) -> Result<usize, SinkError>
+        ensures bound { WritesAtMost result piece.now }
+        ensures writes { Writes (⟦<VecSink as Sink>⟧.state self.old) (⟦<VecSink as Sink>⟧.state self.new) piece.now result }
+        ensures whole { IfOk result (λ n. n ≡ length piece.now) }
+    {
+        match self.bytes.extend_from_slice(piece) {
+            Ok(()) => Ok(piece.len()),
+            Err(_) => {
+                self.lacks = self.lacks.saturating_add(1);
+                Err(SinkError::NoMemory)
+            }
+        }
+    }
+
+    fn flush(&mut self) -> Result<(), SinkError>
+        ensures flushes { Flushes (⟦<VecSink as Sink>⟧.state self.old) (⟦<VecSink as Sink>⟧.state self.new) result }
+        ensures done { IsOk result }
+    {
+        Ok(())
+    }
+}
+
+/// A sink over any writer. It does not tell its bytes; each error of the writer, and a write of nothing
+/// of a piece that is not empty, is a fault.
+//
+// This is the edge to the system. What is known of the writer's bytes is passed on, so no byte is dropped
+// or made up; that a call fails only where the writer did, and that `flush` flushes the writer, is trusted,
+// since no clause of `Write` says when it fails or what a flush does.
+#[derive(Drop)]
+pub struct StdSink<W: Write> {
+    writer: W,
+    faults: u64,
+    unflushed: bool,
+}
+
+impl<W: Write> StdSink<W> {
+    /// A sink into the writer.
+    pub fn new(writer: W) -> StdSink<W>
+        ensures { ⟦<StdSink<W> as Sink>⟧.state result
+            ≡ record { gained = None; faults = 0; lacks = 0; unflushed = false } }
+    {
+        StdSink {
+            writer,
+            faults: 0,
+            unflushed: false,
+        }
+    }
+}
+
+impl<W: Write> Sink for StdSink<W> {
+    ghost state = { λ s. record { gained = None; faults = s.faults; lacks = 0; unflushed = s.unflushed } };
+
+    fn write(&mut self, piece: &[u8]) -> Result<usize, SinkError>
+        ensures bound { WritesAtMost result piece.now }
+        ensures writes { Writes (⟦<StdSink<W> as Sink>⟧.state self.old) (⟦<StdSink<W> as Sink>⟧.state self.new) piece.now result }
+        ensures passes { known.WriteAppends (W.contents self.old.writer) (W.contents self.new.writer) result piece.now }
+    {
+        self.unflushed = true;
+        match self.writer.write(piece) {
+            Ok(0) if !piece.is_empty() => {
+                self.faults = self.faults.saturating_add(1);
+                Err(SinkError::Failed)
+            }
+            Ok(count) => Ok(count),
+            Err(_) => {
+                self.faults = self.faults.saturating_add(1);
+                Err(SinkError::Failed)
+            }
+        }
+    }
+
+    fn flush(&mut self) -> Result<(), SinkError>
+        ensures flushes { Flushes (⟦<StdSink<W> as Sink>⟧.state self.old) (⟦<StdSink<W> as Sink>⟧.state self.new) result }
+        ensures passes { known.Keeps (W.contents self.old.writer) (W.contents self.new.writer) }
+    {
+        match self.writer.flush() {
+            Ok(()) => {
+                self.unflushed = false;
+                Ok(())
+            }
+            Err(_) => {
+                self.faults = self.faults.saturating_add(1);
+                Err(SinkError::Failed)
+            }
+        }
+    }
+}
