@@ -9,3 +9,4 @@ pub mod Shaping
 pub mod Finishing
 pub mod Fronts
 pub mod Pieces
+pub mod Shown

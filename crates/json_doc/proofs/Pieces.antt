@@ -58,7 +58,7 @@ range_cons xs from n d h =
     let f : ((from + 1) + n) - (from + 1) ≡ n = omega arith in
     rw (e, f, drop_more xs from d h, add-one) refl
 
-range_none : {X : Type 0} (xs : List X) (at n : ℕ) → n ≡ 0 → slice_range xs at (at + n) ≡ []
+pub range_none : {X : Type 0} (xs : List X) (at n : ℕ) → n ≡ 0 → slice_range xs at (at + n) ≡ []
 range_none xs at n e = let f : (at + n) - at ≡ 0 = omega arith in rw f
 
 -- a range that no child stands in is empty wherever it begins

@@ -4,7 +4,7 @@ ghost use Rattle.json_grammar.specs.Grammar.{chars};
 
 use crate::cell::Cell;
 use crate::doc::Doc;
-use crate::span::Span;
+use json_text::Span;
 use crate::visitor::JsonVisitor;
 use json_text::Result;
 use std::alloc::Global;

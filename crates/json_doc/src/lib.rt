@@ -6,7 +6,6 @@ mod children;
 mod doc;
 mod document_visitor;
 mod json_type;
-mod span;
 mod view;
 mod visitor;
 

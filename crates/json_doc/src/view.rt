@@ -41,7 +41,7 @@ impl<'a> DocView<'a> {
     fn cell(self) -> Cell
         ensures { result ≡ slice_index_or (doc_cells (view_doc self.entry)) (view_place self.entry) null_cell }
     {
-        self.doc.cells[self.at as usize]
+        cell_at(self.doc, self.at as usize)
     }
 
     /// The kind of the value.
@@ -140,26 +140,24 @@ impl<'a> DocView<'a> {
         ensures trees { children_left result ≡ children (view_tree self.entry) }
     {
         match self.cell() {
-            Cell::Array { link, len } => DocChildren {
-                doc: self.doc,
-                next: link as usize,
-                left: len as usize,
-                step: 1,
-            },
-            Cell::Object { link, len } => DocChildren {
-                doc: self.doc,
-                next: link as usize + 1,
-                left: len as usize,
-                step: 2,
-            },
-            _ => DocChildren {
-                doc: self.doc,
-                next: 0,
-                left: 0,
-                step: 1,
-            },
+            Cell::Array { link, len } => {
+                DocChildren::new(self.doc, link as usize, len as usize, 1)
+            }
+            Cell::Object { link, len } => {
+                DocChildren::new(self.doc, link as usize + 1, len as usize, 2)
+            }
+            _ => DocChildren::new(self.doc, 0, 0, 1),
         }
     }
+}
+
+// The cell at a place.
+#[inline(always)]
+fn cell_at(doc: &Doc, at: usize) -> Cell
+    requires { at < length (doc_cells doc.now) }
+    ensures { result ≡ slice_index_or (doc_cells doc.now) at null_cell }
+{
+    doc.cells[at]
 }
 
 // The bytes that a cell names.
@@ -179,7 +177,7 @@ fn text_at(doc: &Doc, at: usize) -> Option<&str>
     requires { at < length (doc_cells doc.now) }
     ensures { option_map (λ s. s.now) result ≡ string_of (doc_tree doc.now at) }
 {
-    match doc.cells[at] {
+    match cell_at(doc, at) {
         Cell::Str { start, len } => Some(text_range(doc, start, len)),
         _ => None,
     }

@@ -6,7 +6,7 @@ ghost use Rattle.json_grammar.specs.Grammar.{chars};
 ghost use Rattle.json_grammar.specs.declared.Kind.TheVariants.{Array as array, Object as object};
 ghost use Rattle.json_doc.specs.State.{VisitorState, Fits, after_event, MayCome, HoldsMore};
 
-use crate::span::Span;
+use json_text::Span;
 
 /// Takes the events of one tree in turn.
 ///

@@ -1,4 +1,4 @@
-use Rattle.std.proofs.Common.{◌≡◌, ℕ, ◌/◌, ◌∷◌, [], ◌++◌, length, take, ap}
+use Rattle.std.proofs.Common.{◌≡◌, ℕ, ◌/◌, ◌∷◌, [], ◌++◌, length, take, ap, arith}
 use Rattle.json_doc.specs.declared.cell.Cell.TheVariants as cell
 use Rattle.json_doc.specs.Block.{link_to}
 use Rattle.json_doc.proofs.Holding.{same_state, same_count, held_same, open_object, held_object_end}
