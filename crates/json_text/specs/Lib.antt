@@ -10,3 +10,12 @@ pub mod Outside
 pub mod Transfer
 pub mod Positions
 pub mod Utf8
+pub mod Stack
+pub mod Faults
+pub mod Standing
+pub mod Misplaced
+pub mod Events
+pub mod Begins
+pub mod Tokens
+pub mod Parsing
+pub mod Laws

@@ -5,7 +5,7 @@ ghost use Rattle.json_grammar.specs.Given.{piece};
 ghost use Rattle.json_text.specs.Runs.{IsPlain, plain, ByteAt};
 
 #[inline(always)]
-pub fn is_whitespace(byte: u8) -> bool
+fn is_whitespace(byte: u8) -> bool
     ensures { IsTrue result ↔ IsWhitespace byte }
 {
     byte == b' ' || byte == b'\t' || byte == b'\n' || byte == b'\r'
@@ -37,6 +37,21 @@ pub fn ws_run(bytes: &[u8], from: usize) -> usize
         at += 1;
     }
     at
+}
+
+/// The same as `ws_run`, by the test of one byte where no whitespace stands.
+#[inline(always)]
+pub fn ws_end(bytes: &[u8], from: usize) -> usize
+    requires { from ≤ length bytes.now }
+    ensures within { (from ≤ result) × (result ≤ length bytes.now) }
+    ensures space { ws (piece bytes.now from result) }
+    ensures stop { result < length bytes.now → ¬ (IsWhitespace (get_or bytes.now result 0)) }
+{
+    if from < bytes.len() && !is_whitespace(bytes[from]) {
+        from
+    } else {
+        ws_run(bytes, from)
+    }
 }
 
 /// The first place from `from` on whose byte does not stand for itself in a string (section 7), or the length: a byte below 20
