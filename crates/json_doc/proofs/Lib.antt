@@ -10,3 +10,6 @@ pub mod Finishing
 pub mod Fronts
 pub mod Pieces
 pub mod Shown
+pub mod Fitting
+pub mod Following
+pub mod Keeping

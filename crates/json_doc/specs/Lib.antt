@@ -14,4 +14,5 @@ pub mod Readings
 pub mod CellReadings
 pub mod Seen
 pub mod Left
+pub mod Reading
 pub mod Laws

@@ -26,3 +26,7 @@ pub record Held (front done : List Cell) (bytes : List ℕ) (p : ℕ) (ts : List
 -- while no event was refused, the events so far were ts
 abbrev pub Holds : DocumentVisitor → List Token → Type 0
 Holds v ts = Held v.front.items v.done.items v.text.items v.parent ts
+
+-- the room stays
+abbrev pub SameRoom : DocumentVisitor → DocumentVisitor → Type 0
+SameRoom old new = (new.room ≡ old.room) × (new.text_room ≡ old.text_room)

@@ -1,5 +1,5 @@
 // The builder of a document.
-ghost use Rattle.std.specs.Prelude.{◌≡◌, ◌+◌, ◌-◌, ◌/◌, ◌<◌, ◌≤◌, ◌^◌, ◌↔◌, List, ℕ, [], ◌∷◌, ◌++◌, length, take, drop, false, IsTrue, IfOk, IfErr, vec_len, vec_capacity, slice_index_or};
+ghost use Rattle.std.specs.Prelude.{◌≡◌, ◌+◌, ◌-◌, ◌/◌, ◌<◌, ◌≤◌, ◌^◌, ◌↔◌, List, ℕ, [], ◌∷◌, ◌++◌, length, take, drop, true, false, IsTrue, IfOk, IfErr, vec_len, vec_capacity, slice_index_or};
 ghost use Rattle.json_grammar.specs.Grammar.{chars};
 
 use crate::cell::Cell;
@@ -38,7 +38,7 @@ impl DocumentVisitor {
     ghost use Rattle.json_text.specs.Errors.{no_memory};
     ghost use Rattle.json_doc.specs.Docs.{IsDocOf};
     ghost use Rattle.json_doc.specs.State.{VisitorState, Fits};
-    ghost use Rattle.json_doc.specs.Recorded.{visitor_state};
+    ghost use Rattle.json_doc.specs.Recorded.{visitor_state, SameRoom};
     ghost use Rattle.json_doc.specs.Shape.{link_of};
     ghost use Rattle.json_doc.specs.Block.{link_to};
     ghost use Rattle.json_doc.specs.declared.cell.Cell.TheVariants.{Null as null_cell};
@@ -75,15 +75,30 @@ impl DocumentVisitor {
         ensures done { self.new.done ≡ self.old.done }
         ensures text { self.new.text ≡ self.old.text }
         ensures parent { self.new.parent ≡ self.old.parent }
-        ensures room { (self.new.room ≡ self.old.room) × (self.new.text_room ≡ self.old.text_room) }
+        ensures room { SameRoom self.old self.new }
     {
         let nodes_left = self.room - (self.front.len() + self.done.len());
         let bytes_left = self.text_room - self.text.len();
         if self.full || nodes > nodes_left || bytes > bytes_left {
-            self.full = true;
-            return false;
+            return self.refuse();
         }
         true
+    }
+
+    // Nothing more is recorded.
+    #[cold]
+    #[inline(never)]
+    fn refuse(&mut self) -> bool
+        ensures answer { result ≡ false }
+        ensures full { self.new.full ≡ true }
+        ensures front { self.new.front ≡ self.old.front }
+        ensures done { self.new.done ≡ self.old.done }
+        ensures text { self.new.text ≡ self.old.text }
+        ensures parent { self.new.parent ≡ self.old.parent }
+        ensures room { SameRoom self.old self.new }
+    {
+        self.full = true;
+        false
     }
 
     #[inline(always)]
@@ -94,7 +109,7 @@ impl DocumentVisitor {
         ensures text { self.new.text ≡ self.old.text }
         ensures parent { self.new.parent ≡ self.old.parent }
         ensures full { self.new.full ≡ self.old.full }
-        ensures room { (self.new.room ≡ self.old.room) × (self.new.text_room ≡ self.old.text_room) }
+        ensures room { SameRoom self.old self.new }
     {
         self.front.push_reserved(cell);
     }
@@ -109,7 +124,7 @@ impl DocumentVisitor {
         ensures done { self.new.done ≡ self.old.done }
         ensures parent { self.new.parent ≡ self.old.parent }
         ensures full { self.new.full ≡ self.old.full }
-        ensures room { (self.new.room ≡ self.old.room) × (self.new.text_room ≡ self.old.text_room) }
+        ensures room { SameRoom self.old self.new }
     {
         let start = self.text.len() as u32;
         append_bytes(&mut self.text, literal.as_bytes());
@@ -129,7 +144,7 @@ impl DocumentVisitor {
         ensures done { self.new.done ≡ self.old.done }
         ensures parent { self.new.parent ≡ self.old.parent }
         ensures full { self.new.full ≡ self.old.full }
-        ensures room { (self.new.room ≡ self.old.room) × (self.new.text_room ≡ self.old.text_room) }
+        ensures room { SameRoom self.old self.new }
     {
         let start = self.text.len();
         append_text(&mut self.text, s);
@@ -181,7 +196,7 @@ impl DocumentVisitor {
         ensures parent { self.new.parent ≡ link_of (slice_index_or self.old.front.items self.old.parent null_cell) }
         ensures text { self.new.text ≡ self.old.text }
         ensures full { self.new.full ≡ self.old.full }
-        ensures room { (self.new.room ≡ self.old.room) × (self.new.text_room ≡ self.old.text_room) }
+        ensures room { SameRoom self.old self.new }
     {
         let outer = self.outer();
         let at = self.parent as usize;

@@ -1,5 +1,5 @@
 // Laws over the definitions alone.
-ghost use Rattle.json_doc.specs.Laws.{OneTree, TreeAtRoot, ReadingBegins};
+ghost use Rattle.json_doc.specs.Laws.{OneTree, TreeAtRoot, ReadingBegins, EventsFit};
 
 /// A document stands for at most one tree.
 pub fn one_tree()
@@ -14,4 +14,9 @@ pub fn tree_at_root()
 /// What is read of a prefix begins the tokens of a tree.
 pub fn reading_begins()
     ensures { ReadingBegins }
+{}
+
+/// A builder made for a text refuses none of its events.
+pub fn events_fit()
+    ensures { EventsFit }
 {}

@@ -6,15 +6,20 @@ mod children;
 mod doc;
 mod document_visitor;
 mod json_type;
+mod reader;
 mod view;
 mod visitor;
 
 pub mod laws;
+
+#[cfg(test)]
+mod tests;
 
 pub use cell::Cell;
 pub use children::DocChildren;
 pub use doc::Doc;
 pub use document_visitor::DocumentVisitor;
 pub use json_type::JsonType;
+pub use reader::read_document;
 pub use view::DocView;
 pub use visitor::JsonVisitor;
