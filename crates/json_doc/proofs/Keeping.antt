@@ -1,9 +1,9 @@
 -- What the reader of a text keeps.
-use Rattle.std.proofs.Common.{◌≡◌, ◌≢◌, Bool, true, false, ℕ, ◌+◌, ◌-◌, ◌<◌, ◌≤◌, ◌/◌, List, [], ◌∷◌, ◌++◌, length, take, drop, refl, sym, ap, subst, ◌∙◌, arith, length-append, zero-add}
+use Rattle.std.proofs.Common.{◌≡◌, ◌≢◌, Bool, true, false, ℕ, ◌+◌, ◌<◌, ◌≤◌, ◌/◌, List, [], ◌∷◌, ◌++◌, length, take, drop, refl, sym, ap, subst, ◌∙◌, arith}
 use Rattle.std.proofs.lemmas.List.{length-take}
-use Rattle.json_grammar.specs.Tree.{Tree, depth, Token, null_token, boolean_token, num_token, text_token, begin, end, key_token, tokens}
+use Rattle.json_grammar.specs.Tree.{Tree, depth, Token, tokens}
 use Rattle.json_grammar.specs.Grammar.{is_text}
-use Rattle.json_grammar.specs.Sizes.{nodes, token_bytes, nodes_of, bytes_of}
+use Rattle.json_grammar.specs.Sizes.{nodes, nodes_of, bytes_of}
 use Rattle.json_grammar.proofs.Sizes.{nodes_tree, read_fits, text_fits}
 use Rattle.json_text.specs.declared.error.ErrorCode.{ErrorCode}
 use Rattle.json_text.specs.declared.error.ErrorCode.TheVariants as code
@@ -16,7 +16,6 @@ use Rattle.json_text.specs.Events.{Means, raw_size}
 use Rattle.json_text.specs.Faults.{IsFault, FaultAt, FaultFrom}
 use Rattle.json_text.specs.Parsing.{ParserState, input, HasGiven, SameInput, Goes, TakesToken, IsTight}
 use Rattle.json_doc.specs.Awaited.{Begins}
-use Rattle.json_doc.specs.Texts.{token_text, tokens_text}
 use Rattle.json_doc.specs.State.{VisitorState}
 use Rattle.json_doc.specs.Recorded.{visitor_state, Holds, SameRoom}
 use Rattle.json_doc.specs.Reading.{ReadingFails, Follows}

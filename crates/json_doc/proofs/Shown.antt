@@ -1,10 +1,10 @@
 -- What is read of a cell is read of the tree there.
-use Rattle.std.proofs.Common.{◌≡◌, ◌≢◌, Bool, true, ℕ, zero, suc, ◌+◌, ◌-◌, ◌*◌, ◌<◌, ◌≤◌, List, [], ◌∷◌, length, map, get_or, take, Option, Some, None, refl, sym, ap, subst, ◌∙◌, arith}
+use Rattle.std.proofs.Common.{◌≡◌, ◌≢◌, true, ℕ, zero, suc, ◌+◌, ◌-◌, ◌*◌, ◌<◌, ◌≤◌, List, [], ◌∷◌, length, map, get_or, take, Some, None, refl, sym, ap, subst, ◌∙◌, arith}
 use Rattle.std.specs.Prelude.{slice_get, slice_range}
 use Rattle.std.proofs.lemmas.Option.{slice_get-get_or}
-use Rattle.json_grammar.specs.Tree.{Tree, null, list, pairs, Pairs, pairs_list, trees_list, list_trees}
-use Rattle.json_doc.specs.Shape.{link_of, width_of, is_str, CellInPlace}
-use Rattle.json_doc.specs.Trees.{text_of, paired, tree_of_cell, trees, tree_at}
+use Rattle.json_grammar.specs.Tree.{Tree, null, pairs, Pairs, pairs_list, trees_list, list_trees}
+use Rattle.json_doc.specs.Shape.{is_str, CellInPlace}
+use Rattle.json_doc.specs.Trees.{text_of, paired, tree_of_cell, trees}
 use Rattle.json_doc.specs.Docs.{doc_cells, doc_text, doc_tree}
 use Rattle.json_doc.specs.Places.{places_from, AllBelow}
 use Rattle.json_doc.specs.Readings.{type_of, bool_of, literal_of, string_of, elements, keys, values, children}
@@ -194,8 +194,7 @@ module _ (d : Doc) (at : ℕ) (c : Cell) (inside : at < length (doc_cells d)) (i
   pairs_at link len e =
       let ts = trees (doc_text d) (doc_cells d) in
       let all = length-trees (doc_text d) (doc_cells d) in
-      let fits : link + 2 * len ≤ at = (subst (λ (x : Cell). CellInPlace (doc_cells d) (doc_text d) at x) e in_place_here).below in
-      (
+      let fits : link + 2 * len ≤ at = (subst (λ (x : Cell). CellInPlace (doc_cells d) (doc_text d) at x) e in_place_here).below in (
         paired (slice_range (take at ts) link (link + 2 * len)),
         here ∙ ap (tree_of_cell (doc_text d) (take at ts)) e,
         ap (λ (xs : List Tree). pairs_list (paired xs)) (range_below ts at link (link + 2 * len) fits (omega arith)) ∙ paired_row ts link len (omega arith),

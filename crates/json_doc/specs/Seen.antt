@@ -1,8 +1,8 @@
 -- What clauses see of views.
-use Rattle.std.specs.Prelude.{ℕ, zero, suc, ◌+◌, ◌*◌, List, [], ◌∷◌, map, slice_index_or}
+use Rattle.std.specs.Prelude.{ℕ, slice_index_or}
 use Rattle.json_grammar.specs.Tree.{Tree}
 use Rattle.json_doc.specs.Docs.{doc_cells, doc_tree}
-use Rattle.json_doc.specs.Places.{child_of, places_from}
+use Rattle.json_doc.specs.Places.{child_of}
 use Rattle.json_doc.specs.declared.cell.Cell.TheVariants as cell
 use Rattle.json_doc.specs.declared.doc.Doc.{Doc}
 use Rattle.json_doc.specs.declared.view.DocView.{DocView}

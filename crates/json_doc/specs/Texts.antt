@@ -1,6 +1,6 @@
 -- How many members a container has, and the texts of tokens in a row.
 use Rattle.std.specs.Prelude.{ℕ, ◌+◌, List, [], ◌∷◌, ◌++◌}
-use Rattle.json_grammar.specs.Tree.{Tree, Trees, no_trees, tree_and, Pairs, no_pairs, pair_and, Token, null_token, boolean_token, num_token, text_token, begin, end, key_token}
+use Rattle.json_grammar.specs.Tree.{Trees, no_trees, tree_and, Pairs, no_pairs, pair_and, Token, null_token, boolean_token, num_token, text_token, begin, end, key_token}
 
 -- how many elements an array has
 abbrev pub trees_count : Trees → ℕ

@@ -11,24 +11,12 @@ pub enum Cell {
     Null,
     Bool(bool),
     /// The literal of a number.
-    Raw {
-        start: u32,
-        len: u32,
-    },
+    Raw { start: u32, len: u32 },
     /// A string, or a key.
-    Str {
-        start: u32,
-        len: u32,
-    },
-    Array {
-        link: u32,
-        len: u32,
-    },
+    Str { start: u32, len: u32 },
+    Array { link: u32, len: u32 },
     /// The children of an object are a key and its value in turn.
-    Object {
-        link: u32,
-        len: u32,
-    },
+    Object { link: u32, len: u32 },
 }
 
 impl Cell {

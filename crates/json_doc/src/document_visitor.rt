@@ -4,9 +4,8 @@ ghost use Rattle.json_grammar.specs.Grammar.{chars};
 
 use crate::cell::Cell;
 use crate::doc::Doc;
-use json_text::Span;
 use crate::visitor::JsonVisitor;
-use json_text::Result;
+use json_text::{Result, Span};
 use std::alloc::Global;
 use std::rc::Rc;
 

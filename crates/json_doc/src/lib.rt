@@ -6,14 +6,12 @@ mod children;
 mod doc;
 mod document_visitor;
 mod json_type;
-mod reader;
-mod view;
-mod visitor;
-
 pub mod laws;
-
+mod reader;
 #[cfg(test)]
 mod tests;
+mod view;
+mod visitor;
 
 pub use cell::Cell;
 pub use children::DocChildren;

@@ -15,7 +15,11 @@ fn read(rt: &impl Abort, alloc: Global, text: &str) -> json_text::Result<Rc<Doc>
 fn cells_and_text(rt: HostRuntime) -> Result<(), Fail> {
     let cases = [
         ("[]", [Cell::Array { link: 0, len: 0 }].as_slice(), ""),
-        (" \"\\u00e9\\n\" ", [Cell::Str { start: 0, len: 3 }].as_slice(), "é\n"),
+        (
+            " \"\\u00e9\\n\" ",
+            [Cell::Str { start: 0, len: 3 }].as_slice(),
+            "é\n",
+        ),
         (
             "[[1],[\"x\"],2]",
             [
@@ -68,7 +72,10 @@ fn faults_past_the_room(rt: HostRuntime) {
         ("[[[[[[[[[}", ErrorCode::InvalidJsonValue, 9),
     ] {
         let answer = read(&rt, rt.alloc(), json);
-        let fault = Error { code, place: at(offset) };
+        let fault = Error {
+            code,
+            place: at(offset),
+        };
         assert!(rt; matches!(answer, Err(error) if error == fault), "{json}");
     }
 }
@@ -88,19 +95,34 @@ fn views(rt: HostRuntime) -> Result<(), Fail> {
     let doc = read(&rt, rt.alloc(), "{\"a\":[12,[null]],\"b\":{},\"a\":true}")?;
     let root = doc.view();
     assert!(rt; root.get_type() == JsonType::Object && root.len() == 3);
-    assert_eq!(rt; (root.key(0), root.key(1), root.key(3)), (Some("a"), Some("b"), None));
+    assert_eq!(rt;
+        (root.key(0), root.key(1), root.key(3)),
+        (Some("a"), Some("b"), None)
+    );
     assert!(rt; root.element(0).is_none() && root.pair_value(3).is_none());
     let list = root.pair_value(0).ok_or("no value")?;
     assert!(rt; list.get_type() == JsonType::Array && list.len() == 2 && list.key(0).is_none());
     let number = list.element(0).ok_or("no element")?;
-    assert_eq!(rt; (number.literal(), number.text(), number.len()), (Some("12"), None, 0));
+    assert_eq!(rt;
+        (number.literal(), number.text(), number.len()),
+        (Some("12"), None, 0)
+    );
     let last = root.pair_value(2).ok_or("no value")?;
-    assert_eq!(rt; (last.as_bool(), last.place(), last.doc().root()), (Some(true), 8, 9));
+    assert_eq!(rt;
+        (last.as_bool(), last.place(), last.doc().root()),
+        (Some(true), 8, 9)
+    );
     let mut types = Vec::new(rt.alloc());
     for child in root.children() {
         types.push(child.get_type())?;
     }
-    assert_eq!(rt; types.as_slice(), [JsonType::Array, JsonType::Object, JsonType::Boolean].as_slice());
-    assert_eq!(rt; (JsonType::from_u8(4), JsonType::from_u8(6)), (Some(JsonType::Object), None));
+    assert_eq!(rt;
+        types.as_slice(),
+        [JsonType::Array, JsonType::Object, JsonType::Boolean].as_slice()
+    );
+    assert_eq!(rt;
+        (JsonType::from_u8(4), JsonType::from_u8(6)),
+        (Some(JsonType::Object), None)
+    );
     Ok(())
 }

@@ -1,4 +1,4 @@
-use Rattle.std.proofs.Common.{[], ◌∷◌, ◌++◌, ◌<◌, ◌≤◌, ◌≡◌, ◌+◌, ◌/◌, ℕ, false, Result, Ok, Err, length, refl, sym, ap, subst, ◌∙◌, arith}
+use Rattle.std.proofs.Common.{[], ◌∷◌, ◌++◌, ◌≡◌, Result, Ok, Err, sym, subst, arith}
 use Rattle.std.proofs.lemmas.Result.{IfOk-weaker}
 use Rattle.std.specs.Result.{IsErrAnd, IfErr}
 use Rattle.json_text.specs.declared.error.Error.{Error}
@@ -27,11 +27,10 @@ pub events-preserved : goal.events-preserved
 events-preserved c =
     let k = c.events.invariant in
     let next = next_token c.events.parser c.next.new.self c.events.visitor c.args.text.now c.events.invariant.0 c.in_ok-event.event c.events.invariant.1 c.in_default.not-End c.in_ok-event.ensures.ok.2 c.in_ok-event.ensures.tight c.in_ok-event.ensures.same in
-    let r = c.record_event-recorded.ensures in
-    (
+    let r = c.record_event-recorded.ensures in (
       k.0 ++ next.0 ∷ [],
       keeps_on c.events.parser c.next.new.self c.events.visitor c.args.text.now c.events.invariant.0 c.in_ok-event.event c.events.invariant.1 c.in_default.not-End c.in_ok-event.ensures.ok.2 c.in_ok-event.ensures.tight c.in_ok-event.ensures.same c.record_event-recorded.new.visitor
-        (r.follows next.0 k.0 next.1 k.1.follows (next_begins c.events.parser c.next.new.self c.events.visitor c.args.text.now c.events.invariant.0 c.in_ok-event.event c.events.invariant.1 c.in_default.not-End c.in_ok-event.ensures.ok.2 c.in_ok-event.ensures.tight c.in_ok-event.ensures.same) (next_fits c.events.parser c.next.new.self c.events.visitor c.args.text.now c.events.invariant.0 c.in_ok-event.event c.events.invariant.1 c.in_default.not-End c.in_ok-event.ensures.ok.2 c.in_ok-event.ensures.tight c.in_ok-event.ensures.same)) (r.room next.0 next.1),
+          (r.follows next.0 k.0 next.1 k.1.follows (next_begins c.events.parser c.next.new.self c.events.visitor c.args.text.now c.events.invariant.0 c.in_ok-event.event c.events.invariant.1 c.in_default.not-End c.in_ok-event.ensures.ok.2 c.in_ok-event.ensures.tight c.in_ok-event.ensures.same) (next_fits c.events.parser c.next.new.self c.events.visitor c.args.text.now c.events.invariant.0 c.in_ok-event.event c.events.invariant.1 c.in_default.not-End c.in_ok-event.ensures.ok.2 c.in_ok-event.ensures.tight c.in_ok-event.ensures.same)) (r.room next.0 next.1),
     )
 
 pub finish-requires : goal.finish-requires

@@ -1,4 +1,4 @@
-use Rattle.std.proofs.Common.{◌≡◌, ℕ, List, [], length}
+use Rattle.std.proofs.Common.{length}
 use Rattle.json_grammar.specs.declared.Kind.TheVariants.{Array as array, Object as object}
 use Rattle.json_grammar.specs.Tree.{null_token, boolean_token, num_token, text_token, key_token, begin, end}
 use Rattle.json_text.specs.declared.event.Event.TheVariants as event

@@ -1,6 +1,6 @@
 use Rattle.std.proofs.Common.{◌<◌, length, arith}
 use Rattle.json_doc.specs.Docs.{doc_cells}
-use Rattle.json_doc.proofs.Shown.{one_less, none_left, still_below, first_below}
+use Rattle.json_doc.proofs.Shown.{still_below}
 use Rattle.json_doc.proofs.children.DocChildrenIterator.next.Goals as goal
 
 pub invariant_of-self : goal.invariant_of-self

@@ -1,10 +1,5 @@
-use Rattle.std.proofs.Common.{◌≡◌, ℕ, ◌+◌, List, length, sym, ap, ◌∙◌, arith, string_bytes}
+use Rattle.std.proofs.Common.{◌≡◌, ◌+◌, length, sym, ap, ◌∙◌, arith, string_bytes}
 use Rattle.std.proofs.lemmas.List.{length_push}
-use Rattle.json_doc.specs.Shape.{CellsInPlace}
-use Rattle.json_doc.specs.Spells.{StandsFor}
-use Rattle.json_doc.specs.Docs.{IsDocOf}
-use Rattle.json_doc.specs.declared.cell.Cell.{Cell}
-use Rattle.json_doc.specs.declared.doc.Doc.{Doc}
 use Rattle.json_doc.proofs.Finishing.{finished, stands_for, in_place}
 use Rattle.json_doc.proofs.document_visitor.DocumentVisitor.finish.Goals as goal
 

@@ -1,4 +1,4 @@
-use Rattle.std.proofs.Common.{◌≡◌, length, ap, ◌∙◌, arith, string_bytes, vec_len}
+use Rattle.std.proofs.Common.{◌≡◌, length, ap, ◌∙◌, arith, vec_len}
 use Rattle.json_doc.proofs.Holding.{held_same, held_object}
 use Rattle.json_doc.proofs.document_visitor.DocumentVisitorJsonVisitor.visit_object_start.Goals as goal
 
