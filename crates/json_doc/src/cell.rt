@@ -1,0 +1,61 @@
+// One cell of a packed document.
+
+use crate::json_type::JsonType;
+
+/// One node of a document, or a key of an object.
+///
+/// A literal and a text name bytes of the document's text, by their start and their length. A container
+/// has as its length the number of its elements or pairs.
+#[derive(Clone, Copy, Debug, PartialEq, Eq)]
+pub enum Cell {
+    Null,
+    Bool(bool),
+    /// The literal of a number.
+    Raw { start: u32, len: u32 },
+    /// A string, or a key.
+    Str { start: u32, len: u32 },
+    Array { link: u32, len: u32 },
+    /// The children of an object are a key and its value in turn.
+    Object { link: u32, len: u32 },
+}
+
+impl Cell {
+    ghost use Rattle.std.specs.Prelude.{◌≡◌};
+    ghost use Rattle.json_doc.specs.CellReadings.{cell_type, cell_bool, cell_len};
+
+    #[inline(always)]
+    pub(crate) fn get_type(self) -> JsonType
+        ensures { result ≡ cell_type self }
+    {
+        match self {
+            Cell::Null => JsonType::Null,
+            Cell::Bool(_) => JsonType::Boolean,
+            Cell::Raw { .. } => JsonType::Number,
+            Cell::Str { .. } => JsonType::String,
+            Cell::Array { .. } => JsonType::Array,
+            Cell::Object { .. } => JsonType::Object,
+        }
+    }
+
+    #[inline(always)]
+    pub(crate) fn as_bool(self) -> Option<bool>
+        ensures { result ≡ cell_bool self }
+    {
+        match self {
+            Cell::Bool(b) => Some(b),
+            _ => None,
+        }
+    }
+
+    // How many elements or pairs there are; 0 for a scalar.
+    #[inline(always)]
+    pub(crate) fn len(self) -> usize
+        ensures { result ≡ cell_len self }
+    {
+        match self {
+            Cell::Array { len, .. } => len as usize,
+            Cell::Object { len, .. } => len as usize,
+            _ => 0,
+        }
+    }
+}
