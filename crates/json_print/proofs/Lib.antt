@@ -1,0 +1,5 @@
+pub mod Escapes
+pub mod Elements
+pub mod Plain
+pub mod Layouts
+pub mod Spaces

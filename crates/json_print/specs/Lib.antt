@@ -1,0 +1,5 @@
+pub mod Calls
+pub mod Runs
+pub mod Layouts
+pub mod Indents
+pub mod Styles

@@ -1,0 +1,15 @@
+//! How JSON is written (RFC 8259, section 10): formatters, a sink that holds bytes back, and a serializer.
+#![tactic(auto)]
+
+mod compact;
+mod escape;
+mod formatter;
+mod layout;
+mod pretty;
+mod runs;
+mod style;
+
+pub use compact::CompactFormatter;
+pub use formatter::Formatter;
+pub use pretty::PrettyFormatter;
+pub use style::Style;
