@@ -3,3 +3,4 @@ pub mod Elements
 pub mod Plain
 pub mod Layouts
 pub mod Spaces
+pub mod Sending

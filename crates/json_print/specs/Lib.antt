@@ -3,3 +3,4 @@ pub mod Runs
 pub mod Layouts
 pub mod Indents
 pub mod Styles
+pub mod Buffered

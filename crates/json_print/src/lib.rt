@@ -1,6 +1,7 @@
 //! How JSON is written (RFC 8259, section 10): formatters, a sink that holds bytes back, and a serializer.
 #![tactic(auto)]
 
+mod buffered;
 mod compact;
 mod escape;
 mod formatter;
@@ -9,6 +10,7 @@ mod pretty;
 mod runs;
 mod style;
 
+pub use buffered::BufferedWriter;
 pub use compact::CompactFormatter;
 pub use formatter::Formatter;
 pub use pretty::PrettyFormatter;
