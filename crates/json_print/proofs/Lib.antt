@@ -1,6 +1,11 @@
+pub mod Plain
 pub mod Escapes
 pub mod Elements
-pub mod Plain
 pub mod Layouts
 pub mod Spaces
 pub mod Sending
+pub mod Stopping
+pub mod Asked
+pub mod Texts
+pub mod Prefixes
+pub mod Laws

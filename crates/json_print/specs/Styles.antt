@@ -1,8 +1,7 @@
 -- What a style asks for.
-use Rattle.std.specs.Prelude.{ℕ, List, Bool, cond, Option, option_map}
+use Rattle.std.specs.Prelude.{ℕ, List, Bool, Option, option_map}
 use Rattle.json_grammar.specs.Tree.{Tree}
-use Rattle.json_model.specs.Print.{shown}
-use Rattle.json_model.specs.Sort.{sorted}
+use Rattle.json_print.specs.Shown.{shown_as}
 use Rattle.json_print.specs.declared.style.Style.{Style}
 
 -- the bytes of the indent, or none for no whitespace
@@ -12,10 +11,6 @@ indent_of s = option_map (λ t. t.now) s.indent
 -- whether the members of each object stand in the order of their keys
 abbrev pub is_sorted : Style → Bool
 is_sorted s = s.sorted
-
--- the text of a tree, sorted where asked
-abbrev pub shown_as : Option (List ℕ) → Bool → Tree → List ℕ
-shown_as i sorts t = shown i 0 (cond sorts (sorted t) t)
 
 -- the text of a tree in a style
 abbrev pub printed : Style → Tree → List ℕ
