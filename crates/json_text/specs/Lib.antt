@@ -4,3 +4,7 @@ pub mod Outside
 pub mod Transfer
 pub mod Positions
 pub mod Utf8
+pub mod Fakes
+pub mod FaultText
+pub mod Sources
+pub mod Sinks

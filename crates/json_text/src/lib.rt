@@ -2,15 +2,21 @@
 #![tactic(auto)]
 
 mod error;
+mod fake;
+mod fault;
 mod place;
 mod sink;
 mod source;
 mod transfer;
 mod utf8;
+mod words;
 
 pub use error::{Category, Error, ErrorCode, Place, Result};
+pub use fake::{FakeSink, FakeSource};
+pub use fault::{FaultText, fault_text};
 pub use place::place_of;
 pub use sink::{Sink, SinkError, StdSink, VecSink};
 pub use source::{Failed, SliceSource, Source, StdSource};
-pub use transfer::{flush_all, put_all};
-pub use utf8::{check_utf8, one_utf8_fault, utf8_fault_is_no_utf8};
+pub use transfer::{flush_all, put_all, read_all};
+pub use utf8::{check_utf8, one_utf8_fault, some_utf8_fault, utf8_fault_is_no_utf8};
+pub use words::Words;
