@@ -5,10 +5,10 @@ use Rattle.std.proofs.lemmas.Bool.{ne_eqb, lt-ltb, cases_lt}
 use Rattle.std.proofs.lemmas.List.{take_all, take_more, take-append-drop}
 use Rattle.json_model.specs.Print.{shown_byte, shown_bytes, unit_escape, indents}
 use Rattle.json_model.proofs.Printing.{plain_shown, shown_append}
-use Rattle.json_text.specs.declared.error.Error.{Error}
+use Rattle.json_text.specs.declared.sink.SinkError.{SinkError}
 use Rattle.json_text.specs.Outside.{SinkState}
-use Rattle.json_text.specs.Transfer.{Puts}
-use Rattle.json_text.proofs.Putting.{Puts-first, Puts-then}
+use Rattle.json_print.specs.Adding.{Adds}
+use Rattle.json_print.proofs.Pieces.{Adds-first, Adds-then}
 use Rattle.json_grammar.specs.Given.{piece}
 use Rattle.json_print.specs.Runs.{IsPlain, plain}
 
@@ -41,27 +41,27 @@ indents_more (suc n) s = append_assoc s (indents n s) s ∙ ap (λ l. s ++ l) (i
 
 -- ---- what stands in a sink
 
-pub run_put : (a b c : SinkState) (value : List ℕ) (i j : ℕ) (r : Result (Unit {0}) Error) → i ≤ j → plain (piece value i j) → Puts a b (shown_bytes (take i value)) (Ok tt) → Puts b c (piece value i j) r
-    → Puts a c (shown_bytes (take j value)) r
-run_put a b c value i j r l h p q = subst (λ l. Puts a c l r) (run_shown value i j l h) (Puts-then a b c _ _ tt r p q)
+pub run_put : (a b c : SinkState) (value : List ℕ) (i j : ℕ) (r : Result (Unit {0}) SinkError) → i ≤ j → plain (piece value i j) → Adds a b (shown_bytes (take i value)) (Ok tt) → Adds b c (piece value i j) r
+    → Adds a c (shown_bytes (take j value)) r
+run_put a b c value i j r l h p q = subst (λ l. Adds a c l r) (run_shown value i j l h) (Adds-then a b c _ _ tt r p q)
 
-pub byte_put : (a b c : SinkState) (value : List ℕ) (i : ℕ) (r : Result (Unit {0}) Error) → i < length value → Puts a b (shown_bytes (take i value)) (Ok tt) → Puts b c (shown_byte (get_or value i 0)) r
-    → Puts a c (shown_bytes (take (i + 1) value)) r
-byte_put a b c value i r h p q = subst (λ l. Puts a c l r) (byte_shown value i h) (Puts-then a b c _ _ tt r p q)
+pub byte_put : (a b c : SinkState) (value : List ℕ) (i : ℕ) (r : Result (Unit {0}) SinkError) → i < length value → Adds a b (shown_bytes (take i value)) (Ok tt) → Adds b c (shown_byte (get_or value i 0)) r
+    → Adds a c (shown_bytes (take (i + 1) value)) r
+byte_put a b c value i r h p q = subst (λ l. Adds a c l r) (byte_shown value i h) (Adds-then a b c _ _ tt r p q)
 
-pub shown_failed : (a b : SinkState) (value : List ℕ) (i : ℕ) (e : Error) → Puts a b (shown_bytes (take i value)) (Err e) → Puts a b (shown_bytes value) (Err e)
+pub shown_failed : (a b : SinkState) (value : List ℕ) (i : ℕ) (e : SinkError) → Adds a b (shown_bytes (take i value)) (Err e) → Adds a b (shown_bytes value) (Err e)
 shown_failed a b value i e p =
-    subst (λ l. Puts a b l (Err e)) (sym (shown_append (take i value) (drop i value)) ∙ ap shown_bytes (take-append-drop i value)) (Puts-first a b _ (shown_bytes (drop i value)) e p)
+    subst (λ l. Adds a b l (Err e)) (sym (shown_append (take i value) (drop i value)) ∙ ap shown_bytes (take-append-drop i value)) (Adds-first a b _ (shown_bytes (drop i value)) e p)
 
-pub all_put : (a b : SinkState) (value : List ℕ) (i : ℕ) → i ≡ length value → Puts a b (shown_bytes (take i value)) (Ok tt) → Puts a b (shown_bytes value) (Ok tt)
-all_put a b value i e p = subst (λ l. Puts a b (shown_bytes l) (Ok tt)) (take_all i value (omega arith)) p
+pub all_put : (a b : SinkState) (value : List ℕ) (i : ℕ) → i ≡ length value → Adds a b (shown_bytes (take i value)) (Ok tt) → Adds a b (shown_bytes value) (Ok tt)
+all_put a b value i e p = subst (λ l. Adds a b (shown_bytes l) (Ok tt)) (take_all i value (omega arith)) p
 
 -- one indent more
-pub indents_put : (a b c : SinkState) (left level : ℕ) (s : List ℕ) (r : Result (Unit {0}) Error) → left ≤ level → 0 < left → Puts a b (indents (level - left) s) (Ok tt) → Puts b c s r
-    → Puts a c (indents (level - (left - 1)) s) r
+pub indents_put : (a b c : SinkState) (left level : ℕ) (s : List ℕ) (r : Result (Unit {0}) SinkError) → left ≤ level → 0 < left → Adds a b (indents (level - left) s) (Ok tt) → Adds b c s r
+    → Adds a c (indents (level - (left - 1)) s) r
 indents_put a b c left level s r h k p q =
     let e : suc (level - left) ≡ level - (left - 1) = omega arith in
-    subst (λ n. Puts a c (indents n s) r) e (subst (λ l. Puts a c l r) (indents_more (level - left) s) (Puts-then a b c _ _ tt r p q))
+    subst (λ n. Adds a c (indents n s) r) e (subst (λ l. Adds a c l r) (indents_more (level - left) s) (Adds-then a b c _ _ tt r p q))
 
 indents_cut : (m n : ℕ) (s : List ℕ) → m ≤ n → indents n s ≡ indents m s ++ indents (n - m) s
 indents_cut zero n s h = ap (λ k. indents k s) (omega arith)
@@ -70,6 +70,6 @@ indents_cut (suc m) (suc n) s h =
     let e : n - m ≡ suc n - suc m = omega arith in
     ap (λ l. s ++ l) (indents_cut m n s (omega arith)) ∙ sym (append_assoc s (indents m s) (indents (n - m) s)) ∙ ap (λ k. (s ++ indents m s) ++ indents k s) e
 
-pub indents_failed : (a b c : SinkState) (left level : ℕ) (s : List ℕ) (e : Error) → left ≤ level → 0 < left → Puts a b (indents (level - left) s) (Ok tt) → Puts b c s (Err e) → Puts a c (indents level s) (Err e)
+pub indents_failed : (a b c : SinkState) (left level : ℕ) (s : List ℕ) (e : SinkError) → left ≤ level → 0 < left → Adds a b (indents (level - left) s) (Ok tt) → Adds b c s (Err e) → Adds a c (indents level s) (Err e)
 indents_failed a b c left level s e h k p q =
-    subst (λ l. Puts a c l (Err e)) (sym (indents_cut (level - (left - 1)) level s (omega arith))) (Puts-first a c _ _ e (indents_put a b c left level s (Err e) h k p q))
+    subst (λ l. Adds a c l (Err e)) (sym (indents_cut (level - (left - 1)) level s (omega arith))) (Adds-first a c _ _ e (indents_put a b c left level s (Err e) h k p q))

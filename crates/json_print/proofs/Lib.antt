@@ -1,4 +1,5 @@
 pub mod Plain
+pub mod Pieces
 pub mod Escapes
 pub mod Elements
 pub mod Layouts

@@ -1,13 +1,14 @@
 -- What a sink that holds bytes back has sent.
 use Rattle.std.proofs.Common.{◌≡◌, Option, ℕ, ◌+◌, ◌-◌, ◌≤◌, List, [], ◌++◌, length, take, drop, ◌∙◌, subst, sym, ap, refl, arith, Ok, Err, Result}
-use Rattle.std.specs.Prelude.{IsErrOf}
 use Rattle.json_text.specs.Known.{Appends, Keeps, append_known}
 use Rattle.json_text.proofs.Known.{Appends-trans, Appends-nil, Appends-kept, append_known-moved, known-nil}
 use Rattle.std.proofs.Math.Seq.{take-add}
 use Rattle.std.proofs.lemmas.List.{length-drop, take_all, take-append-drop, drop-drop}
 use Rattle.json_text.specs.declared.sink.SinkError.{SinkError}
-use Rattle.json_text.specs.Outside.{SinkState, Writes, Flushes}
-use Rattle.json_print.specs.Buffered.{Sends, held_behind}
+use Rattle.json_text.specs.Outside.{SinkState, Counts, Writes, Flushes}
+use Rattle.json_print.specs.Adding.{Sends}
+use Rattle.json_print.specs.Buffered.{held_behind}
+use Rattle.json_print.proofs.Pieces.{counts_from, counts_err, counts_ok}
 
 -- so far these went to the inner sink, and no call failed
 pub record HasSent (old new : SinkState) (buffer : List ℕ) (from to : ℕ) : Type 0 where
@@ -47,42 +48,17 @@ HasSent-more old mid new buffer from to n h k more f l =
 
 pub sent_failed : (old mid new : SinkState) (buffer rest : List ℕ) (from to : ℕ) (e : SinkError) → HasSent old mid buffer from to → Writes mid new rest (Err e) → Sends old new buffer from to (Err e)
 sent_failed old mid new buffer rest from to e h w =
-    let convert : (x : SinkError) → IsErrOf {T = Unit {0}} (Err e) x → IsErrOf {T = ℕ} (Err e) x = λ x s. ap Err (cc) in
     record {
       later = h.later;
       within = h.within;
       gains = Appends-kept old.gained mid.gained new.gained _ h.gains w.appends;
       all = tt;
-      counts = record {
-        faults_ok = tt;
-        lacks_ok = tt;
-        failed = λ s. rw (← h.no_fault) (w.counts.failed (convert _ s));
-        failed_lacks = λ s. w.counts.failed_lacks (convert _ s) ∙ h.no_lack;
-        lacking = λ s. rw (← h.no_lack) (w.counts.lacking (convert _ s));
-        lacking_faults = λ s. w.counts.lacking_faults (convert _ s) ∙ h.no_fault;
-        faults_later = omega (arith, h.no_fault, w.counts.faults_later);
-        lacks_later = omega (arith, h.no_lack, w.counts.lacks_later);
-      };
+      counts = counts_from old mid new h.no_fault h.no_lack (counts_err mid new w.counts);
     }
 
 pub sent_all : (old new : SinkState) (buffer : List ℕ) (from to : ℕ) → HasSent old new buffer from to → length buffer ≤ to → Sends old new buffer from to (Ok tt)
 sent_all old new buffer from to h l =
-    record {
-      later = h.later;
-      within = h.within;
-      gains = h.gains;
-      all = omega (arith, h.within);
-      counts = record {
-        faults_ok = h.no_fault;
-        lacks_ok = h.no_lack;
-        failed = λ s. absurd (cc);
-        failed_lacks = λ s. absurd (cc);
-        lacking = λ s. absurd (cc);
-        lacking_faults = λ s. absurd (cc);
-        faults_later = omega (arith, h.no_fault);
-        lacks_later = omega (arith, h.no_lack);
-      };
-    }
+    record { later = h.later; within = h.within; gains = h.gains; all = omega (arith, h.within); counts = counts_ok old new h.no_fault h.no_lack }
 
 -- ---- a sink with bytes behind it
 
@@ -95,37 +71,22 @@ moved a b buffer from to h =
     append_known-moved a.gained b.gained (take (to - from) (drop from buffer)) (drop to buffer) (drop from buffer) h.gains
     (sym (take-append-drop (to - from) (drop from buffer)) ∙ ap (λ x. take (to - from) (drop from buffer) ++ x) (drop_on buffer from to h.later))
 
-pub send_failed : (a b : SinkState) (buffer piece : List ℕ) (from to : ℕ) (e : SinkError) → Sends a b buffer from to (Err e) → Writes (held_behind a (drop from buffer)) (held_behind b (drop to buffer)) piece (Err e)
-send_failed a b buffer piece from to e h =
-    let convert : (x : SinkError) → IsErrOf {T = ℕ} (Err e) x → IsErrOf {T = Unit {0}} (Err e) x = λ x s. ap Err (cc) in
+-- the counts are those of the inner sink
+counts_held : {T : Type 0} {r : Result T SinkError} (a b : SinkState) (p q : List ℕ) → Counts a b r → Counts (held_behind a p) (held_behind b q) r
+counts_held a b p q h =
     record {
-      progress = tt;
-      appends = moved a b buffer from to h;
-      counts = record {
-        faults_ok = tt;
-        lacks_ok = tt;
-        failed = λ s. h.counts.failed (convert _ s);
-        failed_lacks = λ s. h.counts.failed_lacks (convert _ s);
-        lacking = λ s. h.counts.lacking (convert _ s);
-        lacking_faults = λ s. h.counts.lacking_faults (convert _ s);
-        faults_later = h.counts.faults_later;
-        lacks_later = h.counts.lacks_later;
-      };
+      faults_ok = h.faults_ok;
+      lacks_ok = h.lacks_ok;
+      failed = h.failed;
+      failed_lacks = h.failed_lacks;
+      lacking = h.lacking;
+      lacking_faults = h.lacking_faults;
+      faults_later = h.faults_later;
+      lacks_later = h.lacks_later;
     }
 
+pub send_failed : (a b : SinkState) (buffer piece : List ℕ) (from to : ℕ) (e : SinkError) → Sends a b buffer from to (Err e) → Writes (held_behind a (drop from buffer)) (held_behind b (drop to buffer)) piece (Err e)
+send_failed a b buffer piece from to e h = record { progress = tt; appends = moved a b buffer from to h; counts = counts_held a b _ _ (counts_err a b h.counts) }
+
 pub flush_failed : (a b : SinkState) (buffer : List ℕ) (from to : ℕ) (e : SinkError) → Sends a b buffer from to (Err e) → Flushes (held_behind a (drop from buffer)) (held_behind b (drop to buffer)) (Err e)
-flush_failed a b buffer from to e h =
-    record {
-      keeps = moved a b buffer from to h;
-      flushed = tt;
-      counts = record {
-        faults_ok = tt;
-        lacks_ok = tt;
-        failed = h.counts.failed;
-        failed_lacks = h.counts.failed_lacks;
-        lacking = h.counts.lacking;
-        lacking_faults = h.counts.lacking_faults;
-        faults_later = h.counts.faults_later;
-        lacks_later = h.counts.lacks_later;
-      };
-    }
+flush_failed a b buffer from to e h = record { keeps = moved a b buffer from to h; flushed = tt; counts = counts_held a b _ _ h.counts }

@@ -4,6 +4,7 @@ pub mod Layouts
 pub mod Indents
 pub mod Shown
 pub mod Styles
+pub mod Adding
 pub mod Buffered
 pub mod Standing
 pub mod Taking

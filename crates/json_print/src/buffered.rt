@@ -2,8 +2,9 @@
 ghost use Rattle.std.specs.Prelude.{◌≡◌, ◌≤◌, ◌+◌, ◌++◌, length, IfOk, List, ℕ, drop, take};
 ghost use Rattle.std.specs.Io.{WritesAtMost};
 ghost use Rattle.json_text.specs.Outside.{Writes};
-ghost use Rattle.json_print.specs.Buffered.{Sends, held_behind};
+ghost use Rattle.json_print.specs.Buffered.{held_behind};
 
+use crate::adding::send;
 use json_text::{Result, Sink, SinkError};
 use std::alloc::Global;
 
@@ -23,26 +24,6 @@ pub struct BufferedWriter<W> {
     ghost order: { sent ≤ end },
     ghost within: { end ≤ 8192 },
     ghost size: { length buffer.items ≡ 8192 },
-}
-
-// Sends the bytes from `sent` on to the inner sink.
-#[cold]
-#[inline(never)]
-fn send<W: Sink>(
-    inner: &mut W,
-    buffer: &[u8],
-    sent: &mut usize,
-) -> std::result::Result<(), SinkError>
-    requires { sent.old ≤ length buffer.now }
-    ensures { Sends (W.state inner.old) (W.state inner.new) buffer.now sent.old sent.new result }
-{
-    'rest: while *sent < buffer.len() {
-        match inner.write(&buffer[*sent..]) {
-            Ok(count) => *sent += count,
-            Err(error) => return Err(error),
-        }
-    }
-    Ok(())
 }
 
 #[inline(always)]

@@ -3,9 +3,10 @@ ghost use Rattle.std.specs.Prelude.{false, None};
 ghost use Rattle.json_print.specs.Calls.{piece_of};
 
 use crate::Formatter;
-use crate::escape::{put_number, put_string};
-use crate::layout::put_byte_array;
-use json_text::{Result, Sink, put_all};
+use crate::adding::{add, told};
+use crate::escape::{add_number, add_string};
+use crate::layout::add_byte_array;
+use json_text::{Result, Sink};
 
 /// Writes no whitespace between the tokens.
 #[derive(Clone, Copy, Debug)]
@@ -20,71 +21,71 @@ impl Formatter for CompactFormatter {
 
     #[inline(always)]
     fn write_null<W: Sink>(&mut self, writer: &mut W) -> Result<()> {
-        put_all(writer, b"null")
+        told(add(writer, b"null"))
     }
 
     #[inline(always)]
     fn write_bool<W: Sink>(&mut self, writer: &mut W, value: bool) -> Result<()> {
         if value {
-            put_all(writer, b"true")
+            told(add(writer, b"true"))
         } else {
-            put_all(writer, b"false")
+            told(add(writer, b"false"))
         }
     }
 
     #[inline(always)]
     fn write_i8<W: Sink>(&mut self, writer: &mut W, value: i8) -> Result<()> {
-        put_number(writer, value)
+        told(add_number(writer, value))
     }
 
     #[inline(always)]
     fn write_i16<W: Sink>(&mut self, writer: &mut W, value: i16) -> Result<()> {
-        put_number(writer, value)
+        told(add_number(writer, value))
     }
 
     #[inline(always)]
     fn write_i32<W: Sink>(&mut self, writer: &mut W, value: i32) -> Result<()> {
-        put_number(writer, value)
+        told(add_number(writer, value))
     }
 
     #[inline(always)]
     fn write_i64<W: Sink>(&mut self, writer: &mut W, value: i64) -> Result<()> {
-        put_number(writer, value)
+        told(add_number(writer, value))
     }
 
     #[inline(always)]
     fn write_i128<W: Sink>(&mut self, writer: &mut W, value: i128) -> Result<()> {
-        put_number(writer, value)
+        told(add_number(writer, value))
     }
 
     #[inline(always)]
     fn write_u8<W: Sink>(&mut self, writer: &mut W, value: u8) -> Result<()> {
-        put_number(writer, value)
+        told(add_number(writer, value))
     }
 
     #[inline(always)]
     fn write_u16<W: Sink>(&mut self, writer: &mut W, value: u16) -> Result<()> {
-        put_number(writer, value)
+        told(add_number(writer, value))
     }
 
     #[inline(always)]
     fn write_u32<W: Sink>(&mut self, writer: &mut W, value: u32) -> Result<()> {
-        put_number(writer, value)
+        told(add_number(writer, value))
     }
 
     #[inline(always)]
     fn write_u64<W: Sink>(&mut self, writer: &mut W, value: u64) -> Result<()> {
-        put_number(writer, value)
+        told(add_number(writer, value))
     }
 
     #[inline(always)]
     fn write_u128<W: Sink>(&mut self, writer: &mut W, value: u128) -> Result<()> {
-        put_number(writer, value)
+        told(add_number(writer, value))
     }
 
     #[inline(always)]
     fn write_number_str<W: Sink>(&mut self, writer: &mut W, value: &str) -> Result<()> {
-        put_all(writer, value.as_bytes())
+        told(add(writer, value.as_bytes()))
     }
 
     #[inline(always)]
@@ -94,37 +95,37 @@ impl Formatter for CompactFormatter {
         value: &str,
         need_quote: bool,
     ) -> Result<()> {
-        put_string(writer, value, need_quote)
+        told(add_string(writer, value, need_quote))
     }
 
     #[inline(always)]
     fn write_byte_array<W: Sink>(&mut self, writer: &mut W, value: &[u8]) -> Result<()> {
-        put_byte_array(writer, None, 1, 0, value)
+        told(add_byte_array(writer, None, 1, 0, value))
     }
 
     #[inline(always)]
     fn begin_string<W: Sink>(&mut self, writer: &mut W) -> Result<()> {
-        put_all(writer, b"\"")
+        told(add(writer, b"\""))
     }
 
     #[inline(always)]
     fn end_string<W: Sink>(&mut self, writer: &mut W) -> Result<()> {
-        put_all(writer, b"\"")
+        told(add(writer, b"\""))
     }
 
     #[inline(always)]
     fn begin_array<W: Sink>(&mut self, writer: &mut W) -> Result<()> {
-        put_all(writer, b"[")
+        told(add(writer, b"["))
     }
 
     #[inline(always)]
     fn end_array<W: Sink>(&mut self, writer: &mut W) -> Result<()> {
-        put_all(writer, b"]")
+        told(add(writer, b"]"))
     }
 
     #[inline(always)]
     fn begin_array_value<W: Sink>(&mut self, writer: &mut W, first: bool) -> Result<()> {
-        if first { Ok(()) } else { put_all(writer, b",") }
+        if first { Ok(()) } else { told(add(writer, b",")) }
     }
 
     #[inline(always)]
@@ -135,17 +136,17 @@ impl Formatter for CompactFormatter {
 
     #[inline(always)]
     fn begin_object<W: Sink>(&mut self, writer: &mut W) -> Result<()> {
-        put_all(writer, b"{")
+        told(add(writer, b"{"))
     }
 
     #[inline(always)]
     fn end_object<W: Sink>(&mut self, writer: &mut W) -> Result<()> {
-        put_all(writer, b"}")
+        told(add(writer, b"}"))
     }
 
     #[inline(always)]
     fn begin_object_key<W: Sink>(&mut self, writer: &mut W, first: bool) -> Result<()> {
-        if first { Ok(()) } else { put_all(writer, b",") }
+        if first { Ok(()) } else { told(add(writer, b",")) }
     }
 
     #[inline(always)]
@@ -156,7 +157,7 @@ impl Formatter for CompactFormatter {
 
     #[inline(always)]
     fn begin_object_value<W: Sink>(&mut self, writer: &mut W) -> Result<()> {
-        put_all(writer, b":")
+        told(add(writer, b":"))
     }
 
     #[inline(always)]
@@ -167,6 +168,6 @@ impl Formatter for CompactFormatter {
 
     #[inline(always)]
     fn write_raw_value<W: Sink>(&mut self, writer: &mut W, raw: &str) -> Result<()> {
-        put_all(writer, raw.as_bytes())
+        told(add(writer, raw.as_bytes()))
     }
 }

@@ -2,13 +2,14 @@
 ghost use Rattle.std.specs.Prelude.{◌≡◌, ◌<◌, [], ◌∷◌, MatchOption};
 ghost use Rattle.std.specs.Char.{digit_char};
 ghost use Rattle.json_model.specs.Print.{quoted, shown_byte, shown_bytes, unit_escape};
-ghost use Rattle.json_text.specs.Transfer.{Puts};
+ghost use Rattle.json_print.specs.Adding.{Adds};
 ghost use Rattle.json_print.specs.Calls.{string_text};
 ghost use Rattle.json_print.specs.Runs.{IsPlain};
 
+use crate::adding::{Added, add};
 use crate::runs::plain_run;
 use itoa::{Buffer, Integer};
-use json_text::{Result, Sink, put_all};
+use json_text::Sink;
 
 #[inline(always)]
 fn hexadecimal(digit: u8) -> u8
@@ -55,31 +56,31 @@ fn short_escape(byte: u8) -> Option<u8>
 }
 
 #[inline(always)]
-fn put_escape<W: Sink>(writer: &mut W, byte: u8) -> Result<()>
+fn add_escape<W: Sink>(writer: &mut W, byte: u8) -> Added
     requires { ¬ (IsPlain byte) }
-    ensures { Puts (W.state writer.old) (W.state writer.new) (shown_byte byte) result }
+    ensures { Adds (W.state writer.old) (W.state writer.new) (shown_byte byte) result }
 {
     match short_escape(byte) {
-        Some(letter) => put_all(writer, &[b'\\', letter]),
-        None => put_all(writer, &unit_escape_of(byte)),
+        Some(letter) => add(writer, &[b'\\', letter]),
+        None => add(writer, &unit_escape_of(byte)),
     }
 }
 
 // The bytes of a string, escaped where they have to be.
-fn put_escaped<W: Sink>(writer: &mut W, value: &[u8]) -> Result<()>
-    ensures { Puts (W.state writer.old) (W.state writer.new) (shown_bytes value.now) result }
+fn add_escaped<W: Sink>(writer: &mut W, value: &[u8]) -> Added
+    ensures { Adds (W.state writer.old) (W.state writer.new) (shown_bytes value.now) result }
 {
     let mut at = 0;
     'runs: loop {
         let end = plain_run(value, at);
-        match put_all(writer, &value[at..end]) {
+        match add(writer, &value[at..end]) {
             Ok(()) => {}
             Err(error) => return Err(error),
         }
         if end == value.len() {
             return Ok(());
         }
-        match put_escape(writer, value[end]) {
+        match add_escape(writer, value[end]) {
             Ok(()) => {}
             Err(error) => return Err(error),
         }
@@ -87,29 +88,29 @@ fn put_escaped<W: Sink>(writer: &mut W, value: &[u8]) -> Result<()>
     }
 }
 
-fn put_quoted<W: Sink>(writer: &mut W, value: &[u8]) -> Result<()>
-    ensures { Puts (W.state writer.old) (W.state writer.new) (quoted value.now) result }
+fn add_quoted<W: Sink>(writer: &mut W, value: &[u8]) -> Added
+    ensures { Adds (W.state writer.old) (W.state writer.new) (quoted value.now) result }
 {
-    put_all(writer, b"\"")?;
-    put_escaped(writer, value)?;
-    put_all(writer, b"\"")
+    add(writer, b"\"")?;
+    add_escaped(writer, value)?;
+    add(writer, b"\"")
 }
 
 #[inline(always)]
-pub(crate) fn put_string<W: Sink>(writer: &mut W, value: &str, need_quote: bool) -> Result<()>
-    ensures { Puts (W.state writer.old) (W.state writer.new) (string_text need_quote value.now) result }
+pub(crate) fn add_string<W: Sink>(writer: &mut W, value: &str, need_quote: bool) -> Added
+    ensures { Adds (W.state writer.old) (W.state writer.new) (string_text need_quote value.now) result }
 {
     if need_quote {
-        put_quoted(writer, value.as_bytes())
+        add_quoted(writer, value.as_bytes())
     } else {
-        put_escaped(writer, value.as_bytes())
+        add_escaped(writer, value.as_bytes())
     }
 }
 
 #[inline(always)]
-pub(crate) fn put_number<N: Integer, W: Sink>(writer: &mut W, number: N) -> Result<()>
-    ensures { Puts (W.state writer.old) (W.state writer.new) (N.text number) result }
+pub(crate) fn add_number<N: Integer, W: Sink>(writer: &mut W, number: N) -> Added
+    ensures { Adds (W.state writer.old) (W.state writer.new) (N.text number) result }
 {
     let mut buffer = Buffer::new();
-    put_all(writer, buffer.format(number).as_bytes())
+    add(writer, buffer.format(number).as_bytes())
 }

@@ -1,18 +1,19 @@
 // Lines and indents, and bytes as an array of numbers.
 ghost use Rattle.std.specs.Prelude.{◌∷◌, ◌++◌, [], true, option_map};
 ghost use Rattle.json_model.specs.Print.{indents, line};
-ghost use Rattle.json_text.specs.Transfer.{Puts};
+ghost use Rattle.json_print.specs.Adding.{Adds};
 ghost use Rattle.json_print.specs.Calls.{byte_elements, closing_line, comma, holds_any};
 
-use crate::escape::put_number;
-use json_text::{Result, Sink, put_all};
+use crate::adding::{Added, add};
+use crate::escape::add_number;
+use json_text::Sink;
 
-fn put_indents<W: Sink>(writer: &mut W, indent: &[u8], level: usize) -> Result<()>
-    ensures { Puts (W.state writer.old) (W.state writer.new) (indents level indent.now) result }
+fn add_indents<W: Sink>(writer: &mut W, indent: &[u8], level: usize) -> Added
+    ensures { Adds (W.state writer.old) (W.state writer.new) (indents level indent.now) result }
 {
     let mut left = level;
     'fill: while left > 0 {
-        match put_all(writer, indent) {
+        match add(writer, indent) {
             Ok(()) => {}
             Err(error) => return Err(error),
         }
@@ -21,100 +22,100 @@ fn put_indents<W: Sink>(writer: &mut W, indent: &[u8], level: usize) -> Result<(
     Ok(())
 }
 
-fn put_break<W: Sink>(writer: &mut W, indent: &[u8], level: usize) -> Result<()>
-    ensures { Puts (W.state writer.old) (W.state writer.new) (10 ∷ indents level indent.now) result }
+fn add_break<W: Sink>(writer: &mut W, indent: &[u8], level: usize) -> Added
+    ensures { Adds (W.state writer.old) (W.state writer.new) (10 ∷ indents level indent.now) result }
 {
-    put_all(writer, b"\n")?;
-    put_indents(writer, indent, level)
+    add(writer, b"\n")?;
+    add_indents(writer, indent, level)
 }
 
 /// A new line, unless there is no indent.
-fn put_line<W: Sink>(writer: &mut W, indent: Option<&[u8]>, level: usize) -> Result<()>
+fn add_line<W: Sink>(writer: &mut W, indent: Option<&[u8]>, level: usize) -> Added
     ensures { let i = option_map (λ s. s.now) indent.entry in
-        Puts (W.state writer.old) (W.state writer.new) (line i level) result }
+        Adds (W.state writer.old) (W.state writer.new) (line i level) result }
 {
     match indent {
         None => Ok(()),
-        Some(indent) => put_break(writer, indent, level),
+        Some(indent) => add_break(writer, indent, level),
     }
 }
 
 /// What stands before an element or a key.
 #[inline]
-pub(crate) fn put_start<W: Sink>(
+pub(crate) fn add_start<W: Sink>(
     writer: &mut W,
     indent: Option<&[u8]>,
     level: usize,
     first: bool,
-) -> Result<()>
+) -> Added
     ensures { let i = option_map (λ s. s.now) indent.entry in
-        Puts (W.state writer.old) (W.state writer.new) (comma first ++ line i level) result }
+        Adds (W.state writer.old) (W.state writer.new) (comma first ++ line i level) result }
 {
     if first {
-        return put_line(writer, indent, level);
+        return add_line(writer, indent, level);
     }
-    put_all(writer, b",")?;
-    put_line(writer, indent, level)
+    add(writer, b",")?;
+    add_line(writer, indent, level)
 }
 
-fn put_end_line<W: Sink>(
+fn add_end_line<W: Sink>(
     writer: &mut W,
     indent: Option<&[u8]>,
     level: usize,
     bracket: u8,
-) -> Result<()>
+) -> Added
     ensures { let i = option_map (λ s. s.now) indent.entry in
-        Puts (W.state writer.old) (W.state writer.new) (line i level ++ bracket ∷ []) result }
+        Adds (W.state writer.old) (W.state writer.new) (line i level ++ bracket ∷ []) result }
 {
-    put_line(writer, indent, level)?;
-    put_all(writer, &[bracket])
+    add_line(writer, indent, level)?;
+    add(writer, &[bracket])
 }
 
 /// A closing bracket, on a line of its own behind a member.
 #[inline]
-pub(crate) fn put_end<W: Sink>(
+pub(crate) fn add_end<W: Sink>(
     writer: &mut W,
     indent: Option<&[u8]>,
     level: usize,
     flag: bool,
     bracket: u8,
-) -> Result<()>
+) -> Added
     ensures { let i = option_map (λ s. s.now) indent.entry in
-        Puts (W.state writer.old) (W.state writer.new) (closing_line flag i level ++ bracket ∷ []) result }
+        Adds (W.state writer.old) (W.state writer.new) (closing_line flag i level ++ bracket ∷ []) result }
 {
     if flag {
-        put_end_line(writer, indent, level, bracket)
+        add_end_line(writer, indent, level, bracket)
     } else {
-        put_all(writer, &[bracket])
+        add(writer, &[bracket])
     }
 }
 
-fn put_byte_element<W: Sink>(
+fn add_byte_element<W: Sink>(
     writer: &mut W,
     indent: Option<&[u8]>,
     level: usize,
     first: bool,
     byte: u8,
-) -> Result<()>
+) -> Added
     ensures { let i = option_map (λ s. s.now) indent.entry in
-        Puts (W.state writer.old) (W.state writer.new) (byte_elements i level first (byte ∷ [])) result }
+        Adds (W.state writer.old) (W.state writer.new) (byte_elements i level first (byte ∷ [])) result }
 {
-    put_start(writer, indent, level, first)?;
-    put_number(writer, byte)
+    add_start(writer, indent, level, first)?;
+    add_number(writer, byte)
 }
 
-fn put_byte_elements<W: Sink>(
+fn add_byte_elements<W: Sink>(
     writer: &mut W,
     indent: Option<&[u8]>,
     level: usize,
     bytes: &[u8],
-) -> Result<()>
+) -> Added
     ensures { let i = option_map (λ s. s.now) indent.entry in
-        Puts (W.state writer.old) (W.state writer.new) (byte_elements i level true bytes.now) result }
+        Adds (W.state writer.old) (W.state writer.new) (byte_elements i level true bytes.now) result }
 {
     let mut at = 0;
     'each: while at < bytes.len() {
-        match put_byte_element(writer, indent, level, at == 0, bytes[at]) {
+        match add_byte_element(writer, indent, level, at == 0, bytes[at]) {
             Ok(()) => {}
             Err(error) => return Err(error),
         }
@@ -124,18 +125,18 @@ fn put_byte_elements<W: Sink>(
 }
 
 /// The bytes as an array of numbers.
-pub(crate) fn put_byte_array<W: Sink>(
+pub(crate) fn add_byte_array<W: Sink>(
     writer: &mut W,
     indent: Option<&[u8]>,
     level: usize,
     outer: usize,
     bytes: &[u8],
-) -> Result<()>
+) -> Added
     ensures { let i = option_map (λ s. s.now) indent.entry in
-        Puts (W.state writer.old) (W.state writer.new)
+        Adds (W.state writer.old) (W.state writer.new)
         (91 ∷ (byte_elements i level true bytes.now ++ (closing_line (holds_any bytes.now) i outer ++ 93 ∷ []))) result }
 {
-    put_all(writer, b"[")?;
-    put_byte_elements(writer, indent, level, bytes)?;
-    put_end(writer, indent, outer, !bytes.is_empty(), b']')
+    add(writer, b"[")?;
+    add_byte_elements(writer, indent, level, bytes)?;
+    add_end(writer, indent, outer, !bytes.is_empty(), b']')
 }

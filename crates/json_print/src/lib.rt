@@ -1,6 +1,7 @@
 //! How JSON is written (RFC 8259, section 10): formatters, a sink that holds bytes back, and a serializer.
 #![tactic(auto)]
 
+mod adding;
 mod buffered;
 mod compact;
 mod escape;

@@ -4,9 +4,10 @@ ghost use Rattle.json_print.specs.Layouts.{LaidOut};
 ghost use Rattle.json_print.specs.Calls.{piece_of, level_after, flag_after};
 
 use crate::Formatter;
-use crate::escape::{put_number, put_string};
-use crate::layout::{put_byte_array, put_end, put_start};
-use json_text::{Result, Sink, put_all};
+use crate::adding::{add, told};
+use crate::escape::{add_number, add_string};
+use crate::layout::{add_byte_array, add_end, add_start};
+use json_text::{Result, Sink};
 
 /// Writes each element and each key on a line of its own, behind one indent for each container around it. An empty container is `[]`
 /// or `{}`, and `: ` stands behind a key.
@@ -61,71 +62,71 @@ impl Formatter for PrettyFormatter<'_> {
 
     #[inline(always)]
     fn write_null<W: Sink>(&mut self, writer: &mut W) -> Result<()> {
-        put_all(writer, b"null")
+        told(add(writer, b"null"))
     }
 
     #[inline(always)]
     fn write_bool<W: Sink>(&mut self, writer: &mut W, value: bool) -> Result<()> {
         if value {
-            put_all(writer, b"true")
+            told(add(writer, b"true"))
         } else {
-            put_all(writer, b"false")
+            told(add(writer, b"false"))
         }
     }
 
     #[inline(always)]
     fn write_i8<W: Sink>(&mut self, writer: &mut W, value: i8) -> Result<()> {
-        put_number(writer, value)
+        told(add_number(writer, value))
     }
 
     #[inline(always)]
     fn write_i16<W: Sink>(&mut self, writer: &mut W, value: i16) -> Result<()> {
-        put_number(writer, value)
+        told(add_number(writer, value))
     }
 
     #[inline(always)]
     fn write_i32<W: Sink>(&mut self, writer: &mut W, value: i32) -> Result<()> {
-        put_number(writer, value)
+        told(add_number(writer, value))
     }
 
     #[inline(always)]
     fn write_i64<W: Sink>(&mut self, writer: &mut W, value: i64) -> Result<()> {
-        put_number(writer, value)
+        told(add_number(writer, value))
     }
 
     #[inline(always)]
     fn write_i128<W: Sink>(&mut self, writer: &mut W, value: i128) -> Result<()> {
-        put_number(writer, value)
+        told(add_number(writer, value))
     }
 
     #[inline(always)]
     fn write_u8<W: Sink>(&mut self, writer: &mut W, value: u8) -> Result<()> {
-        put_number(writer, value)
+        told(add_number(writer, value))
     }
 
     #[inline(always)]
     fn write_u16<W: Sink>(&mut self, writer: &mut W, value: u16) -> Result<()> {
-        put_number(writer, value)
+        told(add_number(writer, value))
     }
 
     #[inline(always)]
     fn write_u32<W: Sink>(&mut self, writer: &mut W, value: u32) -> Result<()> {
-        put_number(writer, value)
+        told(add_number(writer, value))
     }
 
     #[inline(always)]
     fn write_u64<W: Sink>(&mut self, writer: &mut W, value: u64) -> Result<()> {
-        put_number(writer, value)
+        told(add_number(writer, value))
     }
 
     #[inline(always)]
     fn write_u128<W: Sink>(&mut self, writer: &mut W, value: u128) -> Result<()> {
-        put_number(writer, value)
+        told(add_number(writer, value))
     }
 
     #[inline(always)]
     fn write_number_str<W: Sink>(&mut self, writer: &mut W, value: &str) -> Result<()> {
-        put_all(writer, value.as_bytes())
+        told(add(writer, value.as_bytes()))
     }
 
     #[inline(always)]
@@ -135,7 +136,7 @@ impl Formatter for PrettyFormatter<'_> {
         value: &str,
         need_quote: bool,
     ) -> Result<()> {
-        put_string(writer, value, need_quote)
+        told(add_string(writer, value, need_quote))
     }
 
     #[inline(always)]
@@ -143,35 +144,35 @@ impl Formatter for PrettyFormatter<'_> {
         let level = self.level.saturating_add(1);
         self.level = level.saturating_sub(1);
         self.flag = !value.is_empty();
-        put_byte_array(writer, Some(self.indent), level, self.level, value)
+        told(add_byte_array(writer, Some(self.indent), level, self.level, value))
     }
 
     #[inline(always)]
     fn begin_string<W: Sink>(&mut self, writer: &mut W) -> Result<()> {
-        put_all(writer, b"\"")
+        told(add(writer, b"\""))
     }
 
     #[inline(always)]
     fn end_string<W: Sink>(&mut self, writer: &mut W) -> Result<()> {
-        put_all(writer, b"\"")
+        told(add(writer, b"\""))
     }
 
     #[inline(always)]
     fn begin_array<W: Sink>(&mut self, writer: &mut W) -> Result<()> {
         self.level = self.level.saturating_add(1);
         self.flag = false;
-        put_all(writer, b"[")
+        told(add(writer, b"["))
     }
 
     #[inline(always)]
     fn end_array<W: Sink>(&mut self, writer: &mut W) -> Result<()> {
         self.level = self.level.saturating_sub(1);
-        put_end(writer, Some(self.indent), self.level, self.flag, b']')
+        told(add_end(writer, Some(self.indent), self.level, self.flag, b']'))
     }
 
     #[inline(always)]
     fn begin_array_value<W: Sink>(&mut self, writer: &mut W, first: bool) -> Result<()> {
-        put_start(writer, Some(self.indent), self.level, first)
+        told(add_start(writer, Some(self.indent), self.level, first))
     }
 
     #[inline(always)]
@@ -185,18 +186,18 @@ impl Formatter for PrettyFormatter<'_> {
     fn begin_object<W: Sink>(&mut self, writer: &mut W) -> Result<()> {
         self.level = self.level.saturating_add(1);
         self.flag = false;
-        put_all(writer, b"{")
+        told(add(writer, b"{"))
     }
 
     #[inline(always)]
     fn end_object<W: Sink>(&mut self, writer: &mut W) -> Result<()> {
         self.level = self.level.saturating_sub(1);
-        put_end(writer, Some(self.indent), self.level, self.flag, b'}')
+        told(add_end(writer, Some(self.indent), self.level, self.flag, b'}'))
     }
 
     #[inline(always)]
     fn begin_object_key<W: Sink>(&mut self, writer: &mut W, first: bool) -> Result<()> {
-        put_start(writer, Some(self.indent), self.level, first)
+        told(add_start(writer, Some(self.indent), self.level, first))
     }
 
     #[inline(always)]
@@ -207,7 +208,7 @@ impl Formatter for PrettyFormatter<'_> {
 
     #[inline(always)]
     fn begin_object_value<W: Sink>(&mut self, writer: &mut W) -> Result<()> {
-        put_all(writer, b": ")
+        told(add(writer, b": "))
     }
 
     #[inline(always)]
@@ -219,6 +220,6 @@ impl Formatter for PrettyFormatter<'_> {
 
     #[inline(always)]
     fn write_raw_value<W: Sink>(&mut self, writer: &mut W, raw: &str) -> Result<()> {
-        put_all(writer, raw.as_bytes())
+        told(add(writer, raw.as_bytes()))
     }
 }
