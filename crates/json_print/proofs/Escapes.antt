@@ -1,0 +1,75 @@
+-- Strings by their plain runs, and indents.
+use Rattle.std.proofs.Common.{◌≡◌, ℕ, zero, suc, ◌+◌, ◌-◌, ◌<◌, ◌≤◌, List, [], ◌∷◌, ◌++◌, length, take, drop, get_or, inl, inr, refl, sym, ap, ap₂, ◌∙◌, subst, arith, append_assoc, append-nil, Ok, Err, Result}
+use Rattle.std.proofs.Math.Seq.{take-add}
+use Rattle.std.proofs.lemmas.Bool.{ne_eqb, lt-ltb, cases_lt}
+use Rattle.std.proofs.lemmas.List.{take_all, take_more, take-append-drop}
+use Rattle.json_model.specs.Print.{shown_byte, shown_bytes, unit_escape, indents}
+use Rattle.json_model.proofs.Printing.{plain_shown, shown_append}
+use Rattle.json_text.specs.declared.sink.SinkError.{SinkError}
+use Rattle.json_text.specs.Outside.{SinkState}
+use Rattle.json_print.specs.Adding.{Adds}
+use Rattle.json_print.proofs.Pieces.{Adds-first, Adds-then}
+use Rattle.json_grammar.specs.Given.{piece}
+use Rattle.json_print.specs.Runs.{IsPlain, plain}
+
+-- a byte that has to be escaped and is neither a quote nor a backslash
+control : (x : ℕ) → ¬ (IsPlain x) → (x ≡ 34 → ⊥) → (x ≡ 92 → ⊥) → x < 32
+control x n q b = elim (cases_lt x 32) [ inl m ↦ m | inr m ↦ absurd (n (m, q, b)) ]
+
+-- it has no letter
+pub control_shown : (x : ℕ) → ¬ (IsPlain x) → (x ≡ 34 → ⊥) → (x ≡ 92 → ⊥) → (x ≡ 8 → ⊥) → (x ≡ 9 → ⊥) → (x ≡ 10 → ⊥) → (x ≡ 12 → ⊥) → (x ≡ 13 → ⊥) → shown_byte x ≡ unit_escape x
+unfolding shown_byte
+control_shown x p q s b t n f r = rw (ne_eqb x 34 q, ne_eqb x 92 s, lt-ltb x 32 (control x p q s), ne_eqb x 8 b, ne_eqb x 9 t, ne_eqb x 10 n, ne_eqb x 12 f, ne_eqb x 13 r) refl
+
+plain_all : (l : List ℕ) → plain l → shown_bytes l ≡ l
+plain_all [] h = refl
+plain_all (x ∷ l) h = ap₂ (λ a b. a ++ b) (plain_shown x h.0.1 h.0.2 h.0.0) (plain_all l h.1)
+
+-- a plain run behind what was shown
+pub run_shown : (b : List ℕ) (i j : ℕ) → i ≤ j → plain (piece b i j) → shown_bytes (take i b) ++ piece b i j ≡ shown_bytes (take j b)
+run_shown b i j l h =
+    let e : i + (j - i) ≡ j = omega (arith, l) in
+    ap (λ x. shown_bytes (take i b) ++ x) (sym (plain_all (piece b i j) h)) ∙ sym (shown_append (take i b) _) ∙ ap shown_bytes (sym (take-add i (j - i) b)) ∙ ap (λ n. shown_bytes (take n b)) e
+
+-- a special byte behind it
+pub byte_shown : (b : List ℕ) (i : ℕ) → i < length b → shown_bytes (take i b) ++ shown_byte (get_or b i 0) ≡ shown_bytes (take (i + 1) b)
+byte_shown b i l = rw (take_more b i 0 l, shown_append (take i b) (get_or b i 0 ∷ []), append-nil (shown_byte (get_or b i 0))) refl
+
+pub indents_more : (n : ℕ) (s : List ℕ) → indents n s ++ s ≡ indents (suc n) s
+indents_more zero s = sym (append-nil s)
+indents_more (suc n) s = append_assoc s (indents n s) s ∙ ap (λ l. s ++ l) (indents_more n s)
+
+-- ---- what stands in a sink
+
+pub run_put : (a b c : SinkState) (value : List ℕ) (i j : ℕ) (r : Result (Unit {0}) SinkError) → i ≤ j → plain (piece value i j) → Adds a b (shown_bytes (take i value)) (Ok tt) → Adds b c (piece value i j) r
+    → Adds a c (shown_bytes (take j value)) r
+run_put a b c value i j r l h p q = subst (λ l. Adds a c l r) (run_shown value i j l h) (Adds-then a b c _ _ tt r p q)
+
+pub byte_put : (a b c : SinkState) (value : List ℕ) (i : ℕ) (r : Result (Unit {0}) SinkError) → i < length value → Adds a b (shown_bytes (take i value)) (Ok tt) → Adds b c (shown_byte (get_or value i 0)) r
+    → Adds a c (shown_bytes (take (i + 1) value)) r
+byte_put a b c value i r h p q = subst (λ l. Adds a c l r) (byte_shown value i h) (Adds-then a b c _ _ tt r p q)
+
+pub shown_failed : (a b : SinkState) (value : List ℕ) (i : ℕ) (e : SinkError) → Adds a b (shown_bytes (take i value)) (Err e) → Adds a b (shown_bytes value) (Err e)
+shown_failed a b value i e p =
+    subst (λ l. Adds a b l (Err e)) (sym (shown_append (take i value) (drop i value)) ∙ ap shown_bytes (take-append-drop i value)) (Adds-first a b _ (shown_bytes (drop i value)) e p)
+
+pub all_put : (a b : SinkState) (value : List ℕ) (i : ℕ) → i ≡ length value → Adds a b (shown_bytes (take i value)) (Ok tt) → Adds a b (shown_bytes value) (Ok tt)
+all_put a b value i e p = subst (λ l. Adds a b (shown_bytes l) (Ok tt)) (take_all i value (omega arith)) p
+
+-- one indent more
+pub indents_put : (a b c : SinkState) (left level : ℕ) (s : List ℕ) (r : Result (Unit {0}) SinkError) → left ≤ level → 0 < left → Adds a b (indents (level - left) s) (Ok tt) → Adds b c s r
+    → Adds a c (indents (level - (left - 1)) s) r
+indents_put a b c left level s r h k p q =
+    let e : suc (level - left) ≡ level - (left - 1) = omega arith in
+    subst (λ n. Adds a c (indents n s) r) e (subst (λ l. Adds a c l r) (indents_more (level - left) s) (Adds-then a b c _ _ tt r p q))
+
+indents_cut : (m n : ℕ) (s : List ℕ) → m ≤ n → indents n s ≡ indents m s ++ indents (n - m) s
+indents_cut zero n s h = ap (λ k. indents k s) (omega arith)
+indents_cut (suc m) zero s h = absurd (omega arith)
+indents_cut (suc m) (suc n) s h =
+    let e : n - m ≡ suc n - suc m = omega arith in
+    ap (λ l. s ++ l) (indents_cut m n s (omega arith)) ∙ sym (append_assoc s (indents m s) (indents (n - m) s)) ∙ ap (λ k. (s ++ indents m s) ++ indents k s) e
+
+pub indents_failed : (a b c : SinkState) (left level : ℕ) (s : List ℕ) (e : SinkError) → left ≤ level → 0 < left → Adds a b (indents (level - left) s) (Ok tt) → Adds b c s (Err e) → Adds a c (indents level s) (Err e)
+indents_failed a b c left level s e h k p q =
+    subst (λ l. Adds a c l (Err e)) (sym (indents_cut (level - (left - 1)) level s (omega arith))) (Adds-first a c _ _ e (indents_put a b c left level s (Err e) h k p q))

@@ -1,0 +1,12 @@
+pub mod Plain
+pub mod Pieces
+pub mod Escapes
+pub mod Elements
+pub mod Layouts
+pub mod Spaces
+pub mod Sending
+pub mod Stopping
+pub mod Asked
+pub mod Texts
+pub mod Prefixes
+pub mod Laws

@@ -1,0 +1,143 @@
+-- A serializer that stops on the way has written a part of what was to be written.
+use Rattle.std.proofs.Common.{◌≡◌, ℕ, List, [], ◌∷◌, ◌++◌, ◌∙◌, sym, ap, refl, subst, arith, ◌+◌, ◌-◌, length, take, get_or, reverse, Bool, true, false, cond, Option, Err, Result}
+use Rattle.std.proofs.lemmas.List.{take_more, take_all, reverse-append}
+use Rattle.json_print.specs.Standing.{outside}
+use Rattle.std.proofs.lemmas.Result.{IfErr-weaker}
+use Rattle.json_grammar.specs.declared.Kind.{Kind}
+use Rattle.json_grammar.specs.declared.Kind.TheVariants.{Array as array, Object as object}
+use Rattle.json_text.specs.declared.error.Error.{Error}
+use Rattle.json_text.specs.Errors.{no_memory}
+use Rattle.json_text.specs.Known.{append_known}
+use Rattle.json_text.proofs.Known.{known-append, known-nil}
+use Rattle.json_print.specs.declared.events.Turn.{Turn}
+use Rattle.json_print.specs.declared.events.Turn.TheVariants.{Value as at_value, Element as at_element, Key as at_key, Member as at_member, Done as at_done}
+use Rattle.json_print.specs.Calls.{Call, end_call, begin_element, end_element, begin_member, end_member}
+use Rattle.json_print.specs.Layouts.{Form}
+use Rattle.json_print.specs.Printer.{Out, Layer, Begins, Stops, StopCause, gained_put, call, lead_in, follow_on, value_begun, value_ended, took_scalar, took_end, emptied}
+use Rattle.json_print.specs.Steps.{Steps}
+
+pub Begins-refl : (a : Option (List ℕ)) → Begins a a
+Begins-refl a = record { back = []; whole = sym (known-nil a) }
+
+pub Begins-trans : (a b c : Option (List ℕ)) → Begins a b → Begins b c → Begins a c
+Begins-trans a b c g h = record { back = g.back ++ h.back; whole = h.whole ∙ ap (λ x. append_known x h.back) g.whole ∙ known-append a g.back h.back }
+
+pub put_begins : (ls : List Layer) (g : Option (List ℕ)) (p : List ℕ) → Begins g (gained_put ls g p)
+put_begins [] g p = record { back = p; whole = refl }
+put_begins (l ∷ ls) g p = Begins-refl g
+
+pub one_begins : {F : Type 0} (g : Option (List ℕ)) (b : Bool) (x y : Out F) → Begins g x.gained → Begins g y.gained → Begins g (cond b x y).gained
+one_begins g true x y p q = p
+one_begins g false x y p q = q
+
+pub call_begins : {F : Type 0} (m : Form F) (s : Out F) (c : Call) → Begins s.gained (call m s c).gained
+call_begins m s c = put_begins s.layers s.gained (m.piece s.formatter c)
+
+pub lead_begins : {F : Type 0} (m : Form F) (s : Out F) (t : Turn) → Begins s.gained (lead_in m s t).gained
+lead_begins m s at_value = Begins-refl s.gained
+lead_begins m s (at_element first) = call_begins m s (begin_element first)
+lead_begins m s (at_key first) = Begins-refl s.gained
+lead_begins m s at_member = one_begins s.gained s.sorts s (call m s begin_member) (Begins-refl s.gained) (call_begins m s begin_member)
+lead_begins m s at_done = Begins-refl s.gained
+
+follow_begins : {F : Type 0} (m : Form F) (s : Out F) (c : List Kind) → Begins s.gained (follow_on m s c).gained
+follow_begins m s [] = Begins-refl s.gained
+follow_begins m s (array ∷ c) = call_begins m s end_element
+follow_begins m s (object ∷ c) = one_begins s.gained s.sorts _ _ (Begins-refl s.gained) (call_begins m s end_member)
+
+pub ended_begins : {F : Type 0} (m : Form F) (s : Out F) → Begins s.gained (value_ended m s).gained
+ended_begins m s = follow_begins m s s.opened
+
+pub begun_begins : {F : Type 0} (m : Form F) (s : Out F) → Begins s.gained (value_begun m s).gained
+begun_begins m s = lead_begins m s s.turn
+
+pub begun_faults : {F : Type 0} (m : Form F) (s : Out F) → (value_begun m s).faults ≡ s.faults
+begun_faults m s = go s.turn
+  where
+    by : (b : Bool) → (cond b s (call m s begin_member)).faults ≡ s.faults
+    by true = refl
+    by false = refl
+
+    go : (t : Turn) → (lead_in m s t).faults ≡ s.faults
+    go at_value = refl
+    go (at_element first) = refl
+    go (at_key first) = refl
+    go at_member = by s.sorts
+    go at_done = refl
+
+-- ---- steps one after another
+
+pub Stops-on : {F : Type 0} (old new aim aim' : Out F) (e : Error) → Stops old new aim e → Begins aim.gained aim'.gained → Stops old new aim' e
+Stops-on old new aim aim' e h b = record { had = h.had; less = Begins-trans _ _ _ h.less b; cause = h.cause; told = h.told; later = h.later }
+
+pub Stops-from : {F : Type 0} (old x new aim : Out F) (e : Error) → Begins old.gained x.gained → x.faults ≡ old.faults → Stops x new aim e → Stops old new aim e
+Stops-from old x new aim e b f h =
+    record {
+      had = Begins-trans _ _ _ b h.had;
+      less = h.less;
+      cause = subst (λ n. StopCause n new.faults e.code e.place) f h.cause;
+      told = λ l. h.told (omega (arith, f, l));
+      later = omega (arith, f, h.later);
+    }
+
+-- a step behind others that came to x
+pub Steps-from : {F : Type 0} (old x mid new : Out F) (step : Out F → Out F) (r : Result (Unit {0}) Error) → Begins old.gained x.gained → x.faults ≡ old.faults → mid ≡ x → Steps mid new (step mid) r → Steps old new (step x) r
+Steps-from old x mid new step r b f e h =
+    let g : Steps x new (step x) r = subst (λ y. Steps y new (step y) r) e h in
+    record { ok = g.ok; stops = IfErr-weaker r _ _ (λ y k. Stops-from old x new (step x) y b f k) g.stops }
+
+-- ... and then stops on the way to a further aim
+pub Stops-step : {F : Type 0} (old x mid new aim : Out F) (step : Out F → Out F) (e : Error) → Begins old.gained x.gained → x.faults ≡ old.faults → mid ≡ x → Steps mid new (step mid) (Err e) → Begins (step x).gained aim.gained → Stops old new aim e
+Stops-step old x mid new aim step e b f k h g = Stops-on old new (step x) aim e (Steps-from old x mid new step (Err e) b f k h).stops g
+
+-- no memory, where nothing more was written
+pub Stops-here : {F : Type 0} (old new aim : Out F) → Begins old.gained new.gained → new.gained ≡ aim.gained → new.faults ≡ old.faults → Stops old new aim no_memory
+Stops-here old new aim b g f =
+    record { had = b; less = subst (λ x. Begins new.gained x) g (Begins-refl new.gained); cause = tt; told = λ l. absurd (omega (arith, f, l)); later = omega (arith, f) }
+
+-- ---- at the exits
+
+pub exits : {F : Type 0} (old new aim : Out F) (r : Result (Unit {0}) Error) (e : Error) → (y : Error) × (r ≡ Err y) × (y ≡ e) → Stops old new aim e → Steps old new aim r
+exits old new aim r e p h = subst (λ x. Steps old new aim x) (sym (p.1 ∙ ap Err p.2)) (record { ok = tt; stops = h })
+
+pub scalar_rest : {F : Type 0} (m : Form F) (s : Out F) (c : Call) → Begins (value_begun m s).gained (took_scalar m s c).gained
+scalar_rest m s c = Begins-trans _ _ _ (call_begins m (value_begun m s) c) (ended_begins m (call m (value_begun m s) c))
+
+pub begin_called : {F : Type 0} (m : Form F) (s : Out F) (c : Call) → Begins s.gained (call m (value_begun m s) c).gained
+begin_called m s c = Begins-trans _ _ _ (begun_begins m s) (call_begins m (value_begun m s) c)
+
+-- an end, where nothing is sorted
+pub ended_rest : {F : Type 0} (m : Form F) (s : Out F) → Begins s.gained (value_ended m s).gained
+ended_rest m s = ended_begins m s
+
+-- no memory behind a step that came to x
+pub pushed_here : {F : Type 0} (old x mid new aim : Out F) → Begins old.gained x.gained → x.faults ≡ old.faults → mid ≡ x → new.gained ≡ mid.gained → new.faults ≡ mid.faults → x.gained ≡ aim.gained → Stops old new aim no_memory
+pushed_here old x mid new aim b f e g k a =
+    let e1 : new.gained ≡ x.gained = g ∙ ap (λ s. s.gained) e in
+    let e2 : new.faults ≡ x.faults = k ∙ ap (λ s. s.faults) e in
+    Stops-here old new aim (subst (Begins old.gained) (sym e1) b) (e1 ∙ a) (e2 ∙ f)
+
+-- ---- the innermost container is taken off
+
+abbrev pub shut : {F : Type 0} → Out F → Out F
+shut a = record a { opened = outside a.opened }
+
+pub popped : (xs p : List Kind) → p ≡ take (length xs - 1) xs → reverse p ≡ outside (reverse xs)
+popped [] p e = ap reverse e
+popped (x ∷ xs) p e =
+    let n : length xs + 1 ≡ length (x ∷ xs) = omega arith in
+    let k : length (x ∷ xs) - 1 ≡ length xs = omega arith in
+    let cut : take (length xs) (x ∷ xs) ++ get_or (x ∷ xs) (length xs) x ∷ [] ≡ x ∷ xs = sym (take_more (x ∷ xs) (length xs) x (omega arith)) ∙ ap (λ i. take i (x ∷ xs)) n ∙ take_all (length (x ∷ xs)) (x ∷ xs) (omega arith) in
+    let q : p ≡ take (length xs) (x ∷ xs) = e ∙ ap (λ i. take i (x ∷ xs)) k in
+    ap reverse q ∙ sym (ap outside (ap reverse (sym cut) ∙ reverse-append (take (length xs) (x ∷ xs)) (get_or (x ∷ xs) (length xs) x ∷ [])))
+
+pub shut_same : {F : Type 0} (a x : Out F) (o : List Kind) → a ≡ x → o ≡ outside a.opened → ◌≡◌ {A = Out F} (record a { opened = o }) (shut x)
+shut_same {F = F} a x o e h = ap (λ (c : List Kind). let r : Out F = record a { opened = c } in r) h ∙ ap shut e
+
+emptied_flat : {F : Type 0} (m : Form F) (s : Out F) (k : Kind) → s.sorts ≡ false → emptied m s k ≡ s
+emptied_flat m s array e = refl
+emptied_flat m s object e = rw e refl
+
+-- where nothing is sorted
+pub ends_flat : {F : Type 0} (m : Form F) (s : Out F) (k : Kind) (new : Out F) (r : Result (Unit {0}) Error) → s.sorts ≡ false → Steps s new (value_ended m (shut (call m s (end_call k)))) r → Steps s new (took_end m s k) r
+ends_flat {F = F} m s k new r e h = subst (λ (x : Out F). Steps s new (value_ended m (shut (call m x (end_call k)))) r) (sym (emptied_flat m s k e)) h

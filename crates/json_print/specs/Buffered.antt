@@ -1,0 +1,9 @@
+-- A sink that holds bytes back.
+use Rattle.std.specs.Prelude.{ℕ, List, ◌||◌}
+use Rattle.json_text.specs.Known.{append_known}
+use Rattle.json_text.specs.Outside.{SinkState}
+use Rattle.json_print.specs.Calls.{holds_any}
+
+-- the inner sink's bytes and then those that are held
+abbrev pub held_behind : SinkState → List ℕ → SinkState
+held_behind inner held = record { gained = append_known inner.gained held; faults = inner.faults; lacks = inner.lacks; unflushed = holds_any held || inner.unflushed }

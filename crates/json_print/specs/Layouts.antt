@@ -1,0 +1,22 @@
+-- What a formatter writes, call by call, and in which layout.
+use Rattle.std.specs.Prelude.{◌≡◌, ℕ, List, [], ◌∷◌, Bool, Option}
+use Rattle.json_print.specs.Calls.{Call, piece_of, level_after, flag_after}
+
+-- a formatter: the piece of a call, and the formatter behind it
+pub record Form (F : Type 0) : Type 0 where
+  pub piece : F → Call → List ℕ
+  pub next : F → Call → F
+
+-- the pieces of calls in a row
+abbrev pub pieces : {F : Type 0} → Form F → F → List Call → List (List ℕ)
+pieces m f [] = []
+pieces m f (c ∷ cs) = m.piece f c ∷ pieces m (m.next f c) cs
+
+-- the pieces of calls in a row in the layout of an indent, from a level and a flag on
+abbrev pub pieces_of : Option (List ℕ) → ℕ → Bool → List Call → List (List ℕ)
+pieces_of i d flag [] = []
+pieces_of i d flag (c ∷ cs) = piece_of i d flag c ∷ pieces_of i (level_after d c) (flag_after flag c) cs
+
+-- the formatter writes in the layout of this indent, and is at that level
+abbrev pub LaidOut : {F : Type 0} → Form F → F → Option (List ℕ) → ℕ → Bool → Type 0
+LaidOut m f i d flag = (cs : List Call) → pieces m f cs ≡ pieces_of i d flag cs

@@ -1,0 +1,15 @@
+pub mod Calls
+pub mod Runs
+pub mod Layouts
+pub mod Indents
+pub mod Shown
+pub mod Styles
+pub mod Adding
+pub mod Buffered
+pub mod Standing
+pub mod Taking
+pub mod Printer
+pub mod Parts
+pub mod Steps
+pub mod Stands
+pub mod Written

@@ -1,0 +1,188 @@
+-- What a serializer has written and what it holds, over any formatter.
+use Rattle.std.specs.Prelude.{◌≡◌, ℕ, suc, ◌-◌, ◌^◌, ◌<◌, ◌≤◌, List, [], ◌∷◌, ◌++◌, length, Bool, true, false, cond, ◌||◌, nat_lt, Option, reverse}
+use Rattle.json_grammar.specs.declared.Kind.{Kind}
+use Rattle.json_grammar.specs.Tree.{Token, null_token, boolean_token, num_token, text_token, begin, end, key_token}
+use Rattle.json_grammar.specs.declared.Kind.TheVariants.{Array as array, Object as object}
+use Rattle.json_model.specs.Sort.{bytes_less}
+use Rattle.json_text.specs.declared.error.Error.{Error}
+use Rattle.json_text.specs.declared.error.ErrorCode.{ErrorCode}
+use Rattle.json_text.specs.declared.error.ErrorCode.TheVariants.{NoMemory, Io}
+use Rattle.json_text.specs.declared.error.Place.{Place}
+use Rattle.json_text.specs.declared.error.Place.TheVariants.{None as nowhere, Writing}
+use Rattle.json_text.specs.Errors.{writing_failed}
+use Rattle.json_text.specs.Known.{append_known}
+use Rattle.json_text.specs.Outside.{Rose, SinkState}
+use Rattle.json_print.specs.declared.events.Turn.{Turn}
+use Rattle.json_print.specs.declared.events.Turn.TheVariants.{Value as at_value, Element as at_element, Key as at_key, Member as at_member, Done as at_done}
+use Rattle.json_print.specs.Calls.{Call, null_call, boolean_call, number_call, string_call, begin_call, end_call, begin_element, end_element, begin_key, end_key, begin_member, end_member}
+use Rattle.json_print.specs.Layouts.{Form}
+use Rattle.json_print.specs.Standing.{Stand, first_turn, outside}
+
+-- a pair of a sorted object, with the text of its value
+pub record Row : Type 0 where
+  pub key : List ℕ
+  pub text : List ℕ
+
+-- a sorted object that is open: its finished pairs, and of the last pair the key and the text so far
+pub record Layer : Type 0 where
+  pub rows : List Row
+  pub key : List ℕ
+  pub text : List ℕ
+
+pub record Out (F : Type 0) : Type 0 where
+  pub formatter : F
+  pub turn : Turn
+  -- the open containers, the innermost first
+  pub opened : List Kind
+  pub sorts : Bool
+  -- the sorted objects that are open, the innermost first
+  pub layers : List Layer
+  -- of the writer
+  pub gained : Option (List ℕ)
+  pub faults : ℕ
+  pub lacks : ℕ
+  -- more containers were open than a usize counts
+  pub deep : Bool
+
+-- what a serializer without sorted objects stands for; its open containers have the innermost last
+abbrev pub out_from : {F : Type 0} → F → Turn → List Kind → SinkState → Out F
+out_from f turn opened w =
+    record { formatter = f; turn = turn; opened = reverse opened; sorts = false; layers = []; gained = w.gained; faults = w.faults; lacks = w.lacks; deep = false }
+
+-- nothing was written yet
+abbrev pub start : {F : Type 0} → F → Bool → SinkState → Out F
+start f sorts w =
+    record { formatter = f; turn = at_value; opened = []; sorts = sorts; layers = []; gained = w.gained; faults = w.faults; lacks = w.lacks; deep = false }
+
+abbrev pub gained_put : List Layer → Option (List ℕ) → List ℕ → Option (List ℕ)
+gained_put [] gained p = append_known gained p
+gained_put (l ∷ ls) gained p = gained
+
+abbrev pub layers_put : List Layer → List ℕ → List Layer
+layers_put [] p = []
+layers_put (l ∷ ls) p = record l { text = l.text ++ p } ∷ ls
+
+-- bytes go to the innermost sorted object, or to the writer
+abbrev pub put : {F : Type 0} → Out F → List ℕ → Out F
+put s p = record s { gained = gained_put s.layers s.gained p; layers = layers_put s.layers p }
+
+abbrev pub call : {F : Type 0} → Form F → Out F → Call → Out F
+call m s c = record s { formatter = m.next s.formatter c; gained = gained_put s.layers s.gained (m.piece s.formatter c); layers = layers_put s.layers (m.piece s.formatter c) }
+
+abbrev pub turned : {F : Type 0} → Out F → Turn → Out F
+turned s turn = record s { turn = turn }
+
+-- ---- before and behind a value
+
+abbrev pub lead_in : {F : Type 0} → Form F → Out F → Turn → Out F
+lead_in m s at_value = s
+lead_in m s (at_element first) = call m s (begin_element first)
+lead_in m s (at_key first) = s
+lead_in m s at_member = cond s.sorts s (call m s begin_member)
+lead_in m s at_done = s
+
+abbrev pub filed : List Layer → List Layer
+filed [] = []
+filed (l ∷ ls) = record l { rows = l.rows ++ record { key = l.key; text = l.text } ∷ []; text = [] } ∷ ls
+
+abbrev pub follow_on : {F : Type 0} → Form F → Out F → List Kind → Out F
+follow_on m s [] = turned s at_done
+follow_on m s (array ∷ c) = turned (call m s end_element) (at_element false)
+follow_on m s (object ∷ c) = turned (cond s.sorts (record s { layers = filed s.layers }) (call m s end_member)) (at_key false)
+
+abbrev pub value_begun : {F : Type 0} → Form F → Out F → Out F
+value_begun m s = lead_in m s s.turn
+
+abbrev pub value_ended : {F : Type 0} → Form F → Out F → Out F
+value_ended m s = follow_on m s s.opened
+
+-- ---- the tokens
+
+abbrev pub took_scalar : {F : Type 0} → Form F → Out F → Call → Out F
+took_scalar m s c = value_ended m (call m (value_begun m s) c)
+
+abbrev pub layered : Kind → Bool → List Layer → List Layer
+layered object true ls = record { rows = []; key = []; text = [] } ∷ ls
+layered k sorts ls = ls
+
+abbrev pub opened_up : {F : Type 0} → Out F → Kind → Out F
+opened_up s k =
+    record s { turn = first_turn k; opened = k ∷ s.opened; layers = layered k s.sorts s.layers; deep = s.deep || nat_lt (2 ^ 64 - 1) (suc (length s.opened)) }
+
+abbrev pub took_begin : {F : Type 0} → Form F → Out F → Kind → Out F
+took_begin m s k = opened_up (call m (value_begun m s) (begin_call k)) k
+
+-- before the first row whose key is not smaller
+abbrev pub row_in : Row → List Row → List Row
+row_in r [] = r ∷ []
+row_in r (x ∷ rows) = cond (bytes_less x.key r.key) (x ∷ row_in r rows) (r ∷ x ∷ rows)
+
+abbrev pub rows_sorted : List Row → List Row
+rows_sorted [] = []
+rows_sorted (r ∷ rows) = row_in r (rows_sorted rows)
+
+abbrev pub row_put : {F : Type 0} → Form F → Out F → Bool → Row → Out F
+row_put m s first r = call m (put (call m (call m (call m (call m s (begin_key first)) (string_call true r.key)) end_key) begin_member) r.text) end_member
+
+abbrev pub rows_put : {F : Type 0} → Form F → Out F → Bool → List Row → Out F
+rows_put m s first [] = s
+rows_put m s first (r ∷ rows) = rows_put m (row_put m s first r) false rows
+
+abbrev pub top_rows : List Layer → List Row
+top_rows [] = []
+top_rows (l ∷ ls) = l.rows
+
+abbrev pub below : List Layer → List Layer
+below [] = []
+below (l ∷ ls) = ls
+
+abbrev pub emptied : {F : Type 0} → Form F → Out F → Kind → Out F
+emptied m s array = s
+emptied m s object = cond s.sorts (rows_put m (record s { layers = below s.layers }) true (rows_sorted (top_rows s.layers))) s
+
+abbrev pub took_end : {F : Type 0} → Form F → Out F → Kind → Out F
+took_end m s k = let a = call m (emptied m s k) (end_call k) in value_ended m (record a { opened = outside a.opened })
+
+abbrev pub is_first : Turn → Bool
+is_first (at_key first) = first
+is_first turn = true
+
+abbrev pub key_set : List Layer → List ℕ → List Layer
+key_set [] k = []
+key_set (l ∷ ls) k = record l { key = k } ∷ ls
+
+abbrev pub took_key : {F : Type 0} → Form F → Out F → List ℕ → Out F
+took_key m s k =
+    turned (cond s.sorts (record s { layers = key_set s.layers k }) (call m (call m (call m s (begin_key (is_first s.turn))) (string_call true k)) end_key)) at_member
+
+abbrev pub after : {F : Type 0} → Form F → Out F → Token → Out F
+after m s null_token = took_scalar m s null_call
+after m s (boolean_token b) = took_scalar m s (boolean_call b)
+after m s (num_token l) = took_scalar m s (number_call l)
+after m s (text_token t) = took_scalar m s (string_call true t)
+after m s (begin k) = took_begin m s k
+after m s (end k) = took_end m s k
+after m s (key_token k) = took_key m s k
+
+abbrev pub stand_of : {F : Type 0} → Out F → Stand
+stand_of s = record { turn = s.turn; opened = s.opened }
+
+-- ---- refusals
+
+-- the second has all told bytes of the first, and maybe more
+pub record Begins (a b : Option (List ℕ)) : Type 0 where
+  pub back : List ℕ
+  pub whole : b ≡ append_known a back
+
+abbrev pub StopCause : ℕ → ℕ → ErrorCode → Place → Type 0
+StopCause faults faults' NoMemory nowhere = Unit {0}
+StopCause faults faults' Io Writing = Rose faults faults'
+StopCause faults faults' code place = ⊥
+
+-- what a step may leave that meets this error on the way to its aim: some of what was to be written is
+pub record Stops {F : Type 0} (old new aim : Out F) (e : Error) : Type 0 where
+  pub had : Begins old.gained new.gained
+  pub less : Begins new.gained aim.gained
+  pub cause : StopCause old.faults new.faults e.code e.place
+  pub told : old.faults < new.faults → e ≡ writing_failed
+  pub later : old.faults ≤ new.faults

@@ -1,0 +1,78 @@
+// Pieces put into a sink, answered as the sink answers: an answer that can hold a place in the input costs more.
+ghost use Rattle.std.specs.Prelude.{◌≡◌, ◌≤◌, ℕ, List, length, drop};
+ghost use Rattle.json_text.specs.Errors.{no_memory, writing_failed};
+ghost use Rattle.json_text.specs.Outside.{SinkState};
+ghost use Rattle.json_text.specs.Transfer.{Puts};
+ghost use Rattle.json_print.specs.Adding.{Adds, Sends};
+
+use json_text::{Error, ErrorCode, Place, Result, Sink, SinkError};
+
+pub(crate) type Added = std::result::Result<(), SinkError>;
+
+// Sends the bytes from `sent` on to the sink, and says which it has.
+#[cold]
+#[inline(never)]
+pub(crate) fn send<W: Sink>(sink: &mut W, bytes: &[u8], sent: &mut usize) -> Added
+    requires { sent.old ≤ length bytes.now }
+    ensures { Sends (W.state sink.old) (W.state sink.new) bytes.now sent.old sent.new result }
+{
+    'rest: while *sent < bytes.len() {
+        match sink.write(&bytes[*sent..]) {
+            Ok(count) => *sent += count,
+            Err(error) => return Err(error),
+        }
+    }
+    Ok(())
+}
+
+// Puts the whole piece into the sink.
+#[inline(always)]
+pub(crate) fn add<W: Sink>(sink: &mut W, piece: &[u8]) -> Added
+    ensures { Adds (W.state sink.old) (W.state sink.new) piece.now result }
+{
+    match sink.write(piece) {
+        Ok(count) if count == piece.len() => Ok(()),
+        Ok(count) => add_rest(sink, piece, count),
+        Err(error) => Err(error),
+    }
+}
+
+// The piece from a place on.
+#[cold]
+#[inline(never)]
+fn add_rest<W: Sink>(sink: &mut W, piece: &[u8], from: usize) -> Added
+    requires { from ≤ length piece.now }
+    ensures { Adds (W.state sink.old) (W.state sink.new) (drop from piece.now) result }
+{
+    let mut sent = from;
+    send(sink, piece, &mut sent)
+}
+
+#[cold]
+#[inline(never)]
+fn refuse(error: SinkError) -> Result<()>
+    ensures failed { error ≡ SinkError.Failed → result ≡ Err writing_failed }
+    ensures no_memory { error ≡ SinkError.NoMemory → result ≡ Err no_memory }
+{
+    match error {
+        SinkError::Failed => Err(Error {
+            code: ErrorCode::Io,
+            place: Place::Writing,
+        }),
+        SinkError::NoMemory => Err(Error {
+            code: ErrorCode::NoMemory,
+            place: Place::None,
+        }),
+    }
+}
+
+// The answer to a caller.
+#[inline(always)]
+pub(crate) fn told(added: Added) -> Result<()>
+    ensures { (old new : SinkState) (piece : List ℕ) → Adds old new piece added → Puts old new piece result }
+{
+    match added {
+        Ok(()) => Ok(()),
+        Err(error) => refuse(error),
+    }
+}

@@ -1,0 +1,104 @@
+// A sink that holds bytes back and sends many at once.
+ghost use Rattle.std.specs.Prelude.{◌≡◌, ◌≤◌, ◌+◌, ◌++◌, length, IfOk, List, ℕ, drop, take};
+ghost use Rattle.std.specs.Io.{WritesAtMost};
+ghost use Rattle.json_text.specs.Outside.{Writes};
+ghost use Rattle.json_print.specs.Buffered.{held_behind};
+
+use crate::adding::send;
+use json_text::{Result, Sink, SinkError};
+use std::alloc::Global;
+
+const CAPACITY: usize = 8192;
+
+/// A sink that holds up to 8,192 bytes back and sends them to the inner sink at once.
+///
+/// It has gained the inner sink's bytes and then those that it holds. Where the inner sink fails, the bytes that it took are not sent
+/// again, and the others stay held.
+#[derive(Drop)]
+pub struct BufferedWriter<W> {
+    inner: W,
+    buffer: Vec<u8>,
+    // Held are the bytes of the buffer from `sent` up to `end`. Those before `sent` are the inner sink's already.
+    sent: usize,
+    end: usize,
+    ghost order: { sent ≤ end },
+    ghost within: { end ≤ 8192 },
+    ghost size: { length buffer.items ≡ 8192 },
+}
+
+#[inline(always)]
+fn fill(buffer: &mut [u8], at: usize, piece: &[u8])
+    requires { at + length piece.now ≤ length buffer.old }
+    ensures { take (at + length piece.now) buffer.new ≡ take at buffer.old ++ piece.now }
+{
+    buffer[at..at + piece.len()].copy_from_slice(piece);
+}
+
+impl<W: Sink> BufferedWriter<W> {
+    /// A sink over the inner one that holds nothing yet. It takes its 8,192 bytes at once: `NoMemory` comes where they are not there.
+    pub fn new(alloc: Global, inner: W) -> Result<BufferedWriter<W>>
+    where
+        W: Drop,
+        ensures { IfOk result (λ b. ⟦<BufferedWriter<W> as Sink>⟧.state b ≡ W.state inner) }
+    {
+        let buffer = vec![in alloc; 0; CAPACITY]?;
+        Ok(BufferedWriter {
+            inner,
+            buffer,
+            sent: 0,
+            end: 0,
+        })
+    }
+
+    /// The inner sink. Bytes that are held are dropped.
+    pub fn into_inner(self) -> W
+        ensures { (held : List ℕ) × (⟦<BufferedWriter<W> as Sink>⟧.state self ≡ held_behind (W.state result) held) }
+    {
+        self.inner
+    }
+
+    // Sends what is held, and then takes the piece.
+    #[cold]
+    #[inline(never)]
+    fn write_past(&mut self, piece: &[u8]) -> std::result::Result<usize, SinkError>
+        ensures bound { WritesAtMost result piece.now }
+        ensures writes { Writes (⟦<BufferedWriter<W> as Sink>⟧.state self.old) (⟦<BufferedWriter<W> as Sink>⟧.state self.new) piece.now result }
+    {
+        match send(&mut self.inner, &self.buffer[..self.end], &mut self.sent) {
+            Ok(()) => {}
+            Err(error) => return Err(error),
+        }
+        self.sent = 0;
+        self.end = 0;
+        if piece.len() >= CAPACITY {
+            return self.inner.write(piece);
+        }
+        fill(&mut self.buffer, 0, piece);
+        self.end = piece.len();
+        Ok(piece.len())
+    }
+}
+
+impl<W: Sink> Sink for BufferedWriter<W> {
+    ghost state = { λ b. held_behind (W.state b.inner) (drop b.sent (take b.end b.buffer.items)) };
+
+    #[inline(always)]
+    fn write(&mut self, piece: &[u8]) -> std::result::Result<usize, SinkError> {
+        if piece.len() > CAPACITY - self.end {
+            return self.write_past(piece);
+        }
+        fill(&mut self.buffer, self.end, piece);
+        self.end += piece.len();
+        Ok(piece.len())
+    }
+
+    fn flush(&mut self) -> std::result::Result<(), SinkError> {
+        match send(&mut self.inner, &self.buffer[..self.end], &mut self.sent) {
+            Ok(()) => {}
+            Err(error) => return Err(error),
+        }
+        self.sent = 0;
+        self.end = 0;
+        self.inner.flush()
+    }
+}

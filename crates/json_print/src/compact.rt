@@ -1,0 +1,173 @@
+// The formatter without whitespace.
+ghost use Rattle.std.specs.Prelude.{false, None};
+ghost use Rattle.json_print.specs.Calls.{piece_of};
+
+use crate::Formatter;
+use crate::adding::{add, told};
+use crate::escape::{add_number, add_string};
+use crate::layout::add_byte_array;
+use json_text::{Result, Sink};
+
+/// Writes no whitespace between the tokens.
+#[derive(Clone, Copy, Debug)]
+pub struct CompactFormatter;
+
+impl Formatter for CompactFormatter {
+    ghost piece = { λ _ c. piece_of None 0 false c };
+
+    ghost next = { λ s _. s };
+
+    ghost fresh = { λ _. Unit {0} };
+
+    #[inline(always)]
+    fn write_null<W: Sink>(&mut self, writer: &mut W) -> Result<()> {
+        told(add(writer, b"null"))
+    }
+
+    #[inline(always)]
+    fn write_bool<W: Sink>(&mut self, writer: &mut W, value: bool) -> Result<()> {
+        if value {
+            told(add(writer, b"true"))
+        } else {
+            told(add(writer, b"false"))
+        }
+    }
+
+    #[inline(always)]
+    fn write_i8<W: Sink>(&mut self, writer: &mut W, value: i8) -> Result<()> {
+        told(add_number(writer, value))
+    }
+
+    #[inline(always)]
+    fn write_i16<W: Sink>(&mut self, writer: &mut W, value: i16) -> Result<()> {
+        told(add_number(writer, value))
+    }
+
+    #[inline(always)]
+    fn write_i32<W: Sink>(&mut self, writer: &mut W, value: i32) -> Result<()> {
+        told(add_number(writer, value))
+    }
+
+    #[inline(always)]
+    fn write_i64<W: Sink>(&mut self, writer: &mut W, value: i64) -> Result<()> {
+        told(add_number(writer, value))
+    }
+
+    #[inline(always)]
+    fn write_i128<W: Sink>(&mut self, writer: &mut W, value: i128) -> Result<()> {
+        told(add_number(writer, value))
+    }
+
+    #[inline(always)]
+    fn write_u8<W: Sink>(&mut self, writer: &mut W, value: u8) -> Result<()> {
+        told(add_number(writer, value))
+    }
+
+    #[inline(always)]
+    fn write_u16<W: Sink>(&mut self, writer: &mut W, value: u16) -> Result<()> {
+        told(add_number(writer, value))
+    }
+
+    #[inline(always)]
+    fn write_u32<W: Sink>(&mut self, writer: &mut W, value: u32) -> Result<()> {
+        told(add_number(writer, value))
+    }
+
+    #[inline(always)]
+    fn write_u64<W: Sink>(&mut self, writer: &mut W, value: u64) -> Result<()> {
+        told(add_number(writer, value))
+    }
+
+    #[inline(always)]
+    fn write_u128<W: Sink>(&mut self, writer: &mut W, value: u128) -> Result<()> {
+        told(add_number(writer, value))
+    }
+
+    #[inline(always)]
+    fn write_number_str<W: Sink>(&mut self, writer: &mut W, value: &str) -> Result<()> {
+        told(add(writer, value.as_bytes()))
+    }
+
+    #[inline(always)]
+    fn write_string_fast<W: Sink>(
+        &mut self,
+        writer: &mut W,
+        value: &str,
+        need_quote: bool,
+    ) -> Result<()> {
+        told(add_string(writer, value, need_quote))
+    }
+
+    #[inline(always)]
+    fn write_byte_array<W: Sink>(&mut self, writer: &mut W, value: &[u8]) -> Result<()> {
+        told(add_byte_array(writer, None, 1, 0, value))
+    }
+
+    #[inline(always)]
+    fn begin_string<W: Sink>(&mut self, writer: &mut W) -> Result<()> {
+        told(add(writer, b"\""))
+    }
+
+    #[inline(always)]
+    fn end_string<W: Sink>(&mut self, writer: &mut W) -> Result<()> {
+        told(add(writer, b"\""))
+    }
+
+    #[inline(always)]
+    fn begin_array<W: Sink>(&mut self, writer: &mut W) -> Result<()> {
+        told(add(writer, b"["))
+    }
+
+    #[inline(always)]
+    fn end_array<W: Sink>(&mut self, writer: &mut W) -> Result<()> {
+        told(add(writer, b"]"))
+    }
+
+    #[inline(always)]
+    fn begin_array_value<W: Sink>(&mut self, writer: &mut W, first: bool) -> Result<()> {
+        if first { Ok(()) } else { told(add(writer, b",")) }
+    }
+
+    #[inline(always)]
+    fn end_array_value<W: Sink>(&mut self, writer: &mut W) -> Result<()> {
+        let _ = writer;
+        Ok(())
+    }
+
+    #[inline(always)]
+    fn begin_object<W: Sink>(&mut self, writer: &mut W) -> Result<()> {
+        told(add(writer, b"{"))
+    }
+
+    #[inline(always)]
+    fn end_object<W: Sink>(&mut self, writer: &mut W) -> Result<()> {
+        told(add(writer, b"}"))
+    }
+
+    #[inline(always)]
+    fn begin_object_key<W: Sink>(&mut self, writer: &mut W, first: bool) -> Result<()> {
+        if first { Ok(()) } else { told(add(writer, b",")) }
+    }
+
+    #[inline(always)]
+    fn end_object_key<W: Sink>(&mut self, writer: &mut W) -> Result<()> {
+        let _ = writer;
+        Ok(())
+    }
+
+    #[inline(always)]
+    fn begin_object_value<W: Sink>(&mut self, writer: &mut W) -> Result<()> {
+        told(add(writer, b":"))
+    }
+
+    #[inline(always)]
+    fn end_object_value<W: Sink>(&mut self, writer: &mut W) -> Result<()> {
+        let _ = writer;
+        Ok(())
+    }
+
+    #[inline(always)]
+    fn write_raw_value<W: Sink>(&mut self, writer: &mut W, raw: &str) -> Result<()> {
+        told(add(writer, raw.as_bytes()))
+    }
+}

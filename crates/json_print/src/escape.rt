@@ -1,0 +1,116 @@
+// Strings and numbers.
+ghost use Rattle.std.specs.Prelude.{◌≡◌, ◌<◌, [], ◌∷◌, MatchOption};
+ghost use Rattle.std.specs.Char.{digit_char};
+ghost use Rattle.json_model.specs.Print.{quoted, shown_byte, shown_bytes, unit_escape};
+ghost use Rattle.json_print.specs.Adding.{Adds};
+ghost use Rattle.json_print.specs.Calls.{string_text};
+ghost use Rattle.json_print.specs.Runs.{IsPlain};
+
+use crate::adding::{Added, add};
+use crate::runs::plain_run;
+use itoa::{Buffer, Integer};
+use json_text::Sink;
+
+#[inline(always)]
+fn hexadecimal(digit: u8) -> u8
+    requires { digit < 16 }
+    ensures { result ≡ digit_char digit }
+{
+    if digit < 10 {
+        b'0' + digit
+    } else {
+        b'a' + (digit - 10)
+    }
+}
+
+fn unit_escape_of(byte: u8) -> [u8; 6]
+    ensures { result ≡ unit_escape byte }
+{
+    [
+        b'\\',
+        b'u',
+        b'0',
+        b'0',
+        hexadecimal(byte / 16),
+        hexadecimal(byte % 16),
+    ]
+}
+
+// The letter behind the backslash, where two characters stand for the byte.
+#[tactic(auto, using(crate::proofs::Escapes::control_shown), unfolding(json_model::specs::Print::shown_byte))]
+#[inline(always)]
+fn short_escape(byte: u8) -> Option<u8>
+    requires { ¬ (IsPlain byte) }
+    ensures { MatchOption result (shown_byte byte ≡ unit_escape byte) (λ letter. shown_byte byte ≡ 92 ∷ letter ∷ []) }
+{
+    match byte {
+        b'"' => Some(b'"'),
+        b'\\' => Some(b'\\'),
+        0x08 => Some(b'b'),
+        b'\t' => Some(b't'),
+        b'\n' => Some(b'n'),
+        0x0c => Some(b'f'),
+        b'\r' => Some(b'r'),
+        _ => None,
+    }
+}
+
+#[inline(always)]
+fn add_escape<W: Sink>(writer: &mut W, byte: u8) -> Added
+    requires { ¬ (IsPlain byte) }
+    ensures { Adds (W.state writer.old) (W.state writer.new) (shown_byte byte) result }
+{
+    match short_escape(byte) {
+        Some(letter) => add(writer, &[b'\\', letter]),
+        None => add(writer, &unit_escape_of(byte)),
+    }
+}
+
+// The bytes of a string, escaped where they have to be.
+fn add_escaped<W: Sink>(writer: &mut W, value: &[u8]) -> Added
+    ensures { Adds (W.state writer.old) (W.state writer.new) (shown_bytes value.now) result }
+{
+    let mut at = 0;
+    'runs: loop {
+        let end = plain_run(value, at);
+        match add(writer, &value[at..end]) {
+            Ok(()) => {}
+            Err(error) => return Err(error),
+        }
+        if end == value.len() {
+            return Ok(());
+        }
+        match add_escape(writer, value[end]) {
+            Ok(()) => {}
+            Err(error) => return Err(error),
+        }
+        at = end + 1;
+    }
+}
+
+fn add_quoted<W: Sink>(writer: &mut W, value: &[u8]) -> Added
+    ensures { Adds (W.state writer.old) (W.state writer.new) (quoted value.now) result }
+{
+    add(writer, b"\"")?;
+    add_escaped(writer, value)?;
+    add(writer, b"\"")
+}
+
+#[inline(always)]
+pub(crate) fn add_string<W: Sink>(writer: &mut W, value: &str, need_quote: bool) -> Added
+    ensures { Adds (W.state writer.old) (W.state writer.new) (string_text need_quote value.now) result }
+{
+    if need_quote {
+        add_quoted(writer, value.as_bytes())
+    } else {
+        add_escaped(writer, value.as_bytes())
+    }
+}
+
+#[inline(always)]
+pub(crate) fn add_number<N: Integer, W: Sink>(writer: &mut W, number: N) -> Added
+    ensures { Adds (W.state writer.old) (W.state writer.new) (N.text number) result }
+{
+    let mut buffer = Buffer::new();
+    add(writer, buffer.format(number).as_bytes())
+}

@@ -1,0 +1,93 @@
+// The parts of a value from left to right.
+ghost use Rattle.std.specs.Prelude.{◌≡◌, List, Option, None};
+ghost use Rattle.std.specs.Fmt.{decimal, signed_decimal};
+ghost use Rattle.json_grammar.specs.Grammar.{number};
+ghost use Rattle.json_grammar.specs.Tree.{Token, null_token, boolean_token, num_token, text_token, begin, end, key_token};
+ghost use Rattle.json_grammar.specs.declared.Kind.TheVariants.{Array as array, Object as object};
+ghost use Rattle.json_text.specs.declared.error.Error.{Error};
+ghost use Rattle.json_print.specs.Standing.{Stand, MayCome, stand_after};
+ghost use Rattle.json_print.specs.Taking.{Takes};
+
+use json_text::Result;
+
+/// What comes next.
+#[derive(Clone, Copy, Debug)]
+pub enum Turn {
+    /// The value, with nothing around it.
+    Value,
+    /// An element, which is the first or not, or the end.
+    Element(bool),
+    /// A key, which is the first or not, or the end.
+    Key(bool),
+    /// The value behind a key.
+    Member,
+    /// Nothing.
+    Done,
+}
+
+pub trait Events {
+    ghost State: { Type 0 };
+
+    /// Computed from what it holds.
+    ghost state: { Self → State };
+
+    /// The state behind a token.
+    ghost after: { State → Token → State };
+
+    /// What may come.
+    ghost stand: { State → Stand };
+
+    /// What a call that meets an error at a token may leave.
+    ghost stopped: { State → Token → State → Error → Type 0 };
+
+    /// The error that was answered.
+    ghost failed: { Self → Option Error };
+
+    fn null(&mut self) -> Result<()>
+        requires { failed self.old ≡ None → MayCome (stand (state self.old)) null_token }
+        ensures { Takes after stopped (state self.old) (state self.new) (failed self.old) (failed self.new) null_token result };
+
+    fn boolean(&mut self, b: bool) -> Result<()>
+        requires { failed self.old ≡ None → MayCome (stand (state self.old)) (boolean_token b) }
+        ensures { Takes after stopped (state self.old) (state self.new) (failed self.old) (failed self.new) (boolean_token b) result };
+
+    fn int(&mut self, n: i128) -> Result<()>
+        requires { failed self.old ≡ None → MayCome (stand (state self.old)) (num_token (signed_decimal n)) }
+        ensures { Takes after stopped (state self.old) (state self.new) (failed self.old) (failed self.new) (num_token (signed_decimal n)) result };
+
+    fn uint(&mut self, n: u128) -> Result<()>
+        requires { failed self.old ≡ None → MayCome (stand (state self.old)) (num_token (decimal n)) }
+        ensures { Takes after stopped (state self.old) (state self.new) (failed self.old) (failed self.new) (num_token (decimal n)) result };
+
+    fn raw_number(&mut self, literal: &str) -> Result<()>
+        requires number { number literal.now }
+        requires come { failed self.old ≡ None → MayCome (stand (state self.old)) (num_token literal.now) }
+        ensures { Takes after stopped (state self.old) (state self.new) (failed self.old) (failed self.new) (num_token literal.now) result };
+
+    fn text(&mut self, s: &str) -> Result<()>
+        requires { failed self.old ≡ None → MayCome (stand (state self.old)) (text_token s.now) }
+        ensures { Takes after stopped (state self.old) (state self.new) (failed self.old) (failed self.new) (text_token s.now) result };
+
+    fn begin_array(&mut self, hint: Option<usize>) -> Result<()>
+        requires { failed self.old ≡ None → MayCome (stand (state self.old)) (begin array) }
+        ensures { Takes after stopped (state self.old) (state self.new) (failed self.old) (failed self.new) (begin array) result };
+
+    fn end_array(&mut self) -> Result<()>
+        requires { failed self.old ≡ None → MayCome (stand (state self.old)) (end array) }
+        ensures { Takes after stopped (state self.old) (state self.new) (failed self.old) (failed self.new) (end array) result };
+
+    fn begin_object(&mut self, hint: Option<usize>) -> Result<()>
+        requires { failed self.old ≡ None → MayCome (stand (state self.old)) (begin object) }
+        ensures { Takes after stopped (state self.old) (state self.new) (failed self.old) (failed self.new) (begin object) result };
+
+    fn key(&mut self, s: &str) -> Result<()>
+        requires { failed self.old ≡ None → MayCome (stand (state self.old)) (key_token s.now) }
+        ensures { Takes after stopped (state self.old) (state self.new) (failed self.old) (failed self.new) (key_token s.now) result };
+
+    fn end_object(&mut self) -> Result<()>
+        requires { failed self.old ≡ None → MayCome (stand (state self.old)) (end object) }
+        ensures { Takes after stopped (state self.old) (state self.new) (failed self.old) (failed self.new) (end object) result };
+
+    /// What may come moves as in the tokens of a tree.
+    ghost moves: { (s : State) (t : Token) → stand (after s t) ≡ stand_after (stand s) t };
+}

@@ -1,0 +1,142 @@
+// Lines and indents, and bytes as an array of numbers.
+ghost use Rattle.std.specs.Prelude.{◌∷◌, ◌++◌, [], true, option_map};
+ghost use Rattle.json_model.specs.Print.{indents, line};
+ghost use Rattle.json_print.specs.Adding.{Adds};
+ghost use Rattle.json_print.specs.Calls.{byte_elements, closing_line, comma, holds_any};
+
+use crate::adding::{Added, add};
+use crate::escape::add_number;
+use json_text::Sink;
+
+fn add_indents<W: Sink>(writer: &mut W, indent: &[u8], level: usize) -> Added
+    ensures { Adds (W.state writer.old) (W.state writer.new) (indents level indent.now) result }
+{
+    let mut left = level;
+    'fill: while left > 0 {
+        match add(writer, indent) {
+            Ok(()) => {}
+            Err(error) => return Err(error),
+        }
+        left -= 1;
+    }
+    Ok(())
+}
+
+fn add_break<W: Sink>(writer: &mut W, indent: &[u8], level: usize) -> Added
+    ensures { Adds (W.state writer.old) (W.state writer.new) (10 ∷ indents level indent.now) result }
+{
+    add(writer, b"\n")?;
+    add_indents(writer, indent, level)
+}
+
+/// A new line, unless there is no indent.
+fn add_line<W: Sink>(writer: &mut W, indent: Option<&[u8]>, level: usize) -> Added
+    ensures { let i = option_map (λ s. s.now) indent.entry in
+        Adds (W.state writer.old) (W.state writer.new) (line i level) result }
+{
+    match indent {
+        None => Ok(()),
+        Some(indent) => add_break(writer, indent, level),
+    }
+}
+
+/// What stands before an element or a key.
+#[inline]
+pub(crate) fn add_start<W: Sink>(
+    writer: &mut W,
+    indent: Option<&[u8]>,
+    level: usize,
+    first: bool,
+) -> Added
+    ensures { let i = option_map (λ s. s.now) indent.entry in
+        Adds (W.state writer.old) (W.state writer.new) (comma first ++ line i level) result }
+{
+    if first {
+        return add_line(writer, indent, level);
+    }
+    add(writer, b",")?;
+    add_line(writer, indent, level)
+}
+
+fn add_end_line<W: Sink>(
+    writer: &mut W,
+    indent: Option<&[u8]>,
+    level: usize,
+    bracket: u8,
+) -> Added
+    ensures { let i = option_map (λ s. s.now) indent.entry in
+        Adds (W.state writer.old) (W.state writer.new) (line i level ++ bracket ∷ []) result }
+{
+    add_line(writer, indent, level)?;
+    add(writer, &[bracket])
+}
+
+/// A closing bracket, on a line of its own behind a member.
+#[inline]
+pub(crate) fn add_end<W: Sink>(
+    writer: &mut W,
+    indent: Option<&[u8]>,
+    level: usize,
+    flag: bool,
+    bracket: u8,
+) -> Added
+    ensures { let i = option_map (λ s. s.now) indent.entry in
+        Adds (W.state writer.old) (W.state writer.new) (closing_line flag i level ++ bracket ∷ []) result }
+{
+    if flag {
+        add_end_line(writer, indent, level, bracket)
+    } else {
+        add(writer, &[bracket])
+    }
+}
+
+fn add_byte_element<W: Sink>(
+    writer: &mut W,
+    indent: Option<&[u8]>,
+    level: usize,
+    first: bool,
+    byte: u8,
+) -> Added
+    ensures { let i = option_map (λ s. s.now) indent.entry in
+        Adds (W.state writer.old) (W.state writer.new) (byte_elements i level first (byte ∷ [])) result }
+{
+    add_start(writer, indent, level, first)?;
+    add_number(writer, byte)
+}
+
+fn add_byte_elements<W: Sink>(
+    writer: &mut W,
+    indent: Option<&[u8]>,
+    level: usize,
+    bytes: &[u8],
+) -> Added
+    ensures { let i = option_map (λ s. s.now) indent.entry in
+        Adds (W.state writer.old) (W.state writer.new) (byte_elements i level true bytes.now) result }
+{
+    let mut at = 0;
+    'each: while at < bytes.len() {
+        match add_byte_element(writer, indent, level, at == 0, bytes[at]) {
+            Ok(()) => {}
+            Err(error) => return Err(error),
+        }
+        at += 1;
+    }
+    Ok(())
+}
+
+/// The bytes as an array of numbers.
+pub(crate) fn add_byte_array<W: Sink>(
+    writer: &mut W,
+    indent: Option<&[u8]>,
+    level: usize,
+    outer: usize,
+    bytes: &[u8],
+) -> Added
+    ensures { let i = option_map (λ s. s.now) indent.entry in
+        Adds (W.state writer.old) (W.state writer.new)
+        (91 ∷ (byte_elements i level true bytes.now ++ (closing_line (holds_any bytes.now) i outer ++ 93 ∷ []))) result }
+{
+    add(writer, b"[")?;
+    add_byte_elements(writer, indent, level, bytes)?;
+    add_end(writer, indent, outer, !bytes.is_empty(), b']')
+}

@@ -1,0 +1,22 @@
+//! How JSON is written (RFC 8259, section 10): formatters, a sink that holds bytes back, and a serializer.
+#![tactic(auto)]
+
+mod adding;
+mod buffered;
+mod compact;
+mod escape;
+mod events;
+mod formatter;
+mod layout;
+mod pretty;
+mod runs;
+mod serializer;
+mod style;
+
+pub use buffered::BufferedWriter;
+pub use compact::CompactFormatter;
+pub use events::{Events, Turn};
+pub use formatter::Formatter;
+pub use pretty::PrettyFormatter;
+pub use serializer::Serializer;
+pub use style::Style;

@@ -1,0 +1,225 @@
+// The formatter that indents.
+ghost use Rattle.std.specs.Prelude.{◌≡◌, false, Some, codes};
+ghost use Rattle.json_print.specs.Layouts.{LaidOut};
+ghost use Rattle.json_print.specs.Calls.{piece_of, level_after, flag_after};
+
+use crate::Formatter;
+use crate::adding::{add, told};
+use crate::escape::{add_number, add_string};
+use crate::layout::{add_byte_array, add_end, add_start};
+use json_text::{Result, Sink};
+
+/// Writes each element and each key on a line of its own, behind one indent for each container around it. An empty container is `[]`
+/// or `{}`, and `: ` stands behind a key.
+#[derive(Clone, Copy, Debug)]
+pub struct PrettyFormatter<'a> {
+    indent: &'a [u8],
+    // How many containers are open, up to the last value of a usize.
+    level: usize,
+    // Whether the innermost of them holds something.
+    flag: bool,
+}
+
+impl PrettyFormatter<'static> {
+    /// Indents by two spaces. Nothing was written yet.
+    pub fn new() -> PrettyFormatter<'static>
+        ensures fresh { ⟦<PrettyFormatter<'static> as Formatter>⟧.fresh result }
+        ensures laid { LaidOut (record { piece = ⟦<PrettyFormatter<'static> as Formatter>⟧.piece; next = ⟦<PrettyFormatter<'static> as Formatter>⟧.next }) result (Some (codes "  ")) 0 false }
+    {
+        PrettyFormatter::with_indent(b"  ")
+    }
+}
+
+impl<'a> PrettyFormatter<'a> {
+    /// Indents by these bytes. Nothing was written yet.
+    pub fn with_indent(indent: &'a [u8]) -> PrettyFormatter<'a>
+        ensures fresh { ⟦<PrettyFormatter<'a> as Formatter>⟧.fresh result }
+        ensures laid { LaidOut (record { piece = ⟦<PrettyFormatter<'a> as Formatter>⟧.piece; next = ⟦<PrettyFormatter<'a> as Formatter>⟧.next }) result (Some indent.now) 0 false }
+    {
+        PrettyFormatter {
+            indent,
+            level: 0,
+            flag: false,
+        }
+    }
+}
+
+impl Default for PrettyFormatter<'static> {
+    ghost is_default = { λ f. ⟦<PrettyFormatter<'static> as Formatter>⟧.fresh f
+        × LaidOut (record { piece = ⟦<PrettyFormatter<'static> as Formatter>⟧.piece; next = ⟦<PrettyFormatter<'static> as Formatter>⟧.next }) f (Some (codes "  ")) 0 false };
+
+    fn default() -> PrettyFormatter<'static> {
+        PrettyFormatter::new()
+    }
+}
+
+impl Formatter for PrettyFormatter<'_> {
+    ghost piece = { λ s c. piece_of (Some s.indent.now) s.level s.flag c };
+
+    ghost next = { λ s c. record s { level = level_after s.level c; flag = flag_after s.flag c } };
+
+    ghost fresh = { λ s. (s.level ≡ 0) × (s.flag ≡ false) };
+
+    #[inline(always)]
+    fn write_null<W: Sink>(&mut self, writer: &mut W) -> Result<()> {
+        told(add(writer, b"null"))
+    }
+
+    #[inline(always)]
+    fn write_bool<W: Sink>(&mut self, writer: &mut W, value: bool) -> Result<()> {
+        if value {
+            told(add(writer, b"true"))
+        } else {
+            told(add(writer, b"false"))
+        }
+    }
+
+    #[inline(always)]
+    fn write_i8<W: Sink>(&mut self, writer: &mut W, value: i8) -> Result<()> {
+        told(add_number(writer, value))
+    }
+
+    #[inline(always)]
+    fn write_i16<W: Sink>(&mut self, writer: &mut W, value: i16) -> Result<()> {
+        told(add_number(writer, value))
+    }
+
+    #[inline(always)]
+    fn write_i32<W: Sink>(&mut self, writer: &mut W, value: i32) -> Result<()> {
+        told(add_number(writer, value))
+    }
+
+    #[inline(always)]
+    fn write_i64<W: Sink>(&mut self, writer: &mut W, value: i64) -> Result<()> {
+        told(add_number(writer, value))
+    }
+
+    #[inline(always)]
+    fn write_i128<W: Sink>(&mut self, writer: &mut W, value: i128) -> Result<()> {
+        told(add_number(writer, value))
+    }
+
+    #[inline(always)]
+    fn write_u8<W: Sink>(&mut self, writer: &mut W, value: u8) -> Result<()> {
+        told(add_number(writer, value))
+    }
+
+    #[inline(always)]
+    fn write_u16<W: Sink>(&mut self, writer: &mut W, value: u16) -> Result<()> {
+        told(add_number(writer, value))
+    }
+
+    #[inline(always)]
+    fn write_u32<W: Sink>(&mut self, writer: &mut W, value: u32) -> Result<()> {
+        told(add_number(writer, value))
+    }
+
+    #[inline(always)]
+    fn write_u64<W: Sink>(&mut self, writer: &mut W, value: u64) -> Result<()> {
+        told(add_number(writer, value))
+    }
+
+    #[inline(always)]
+    fn write_u128<W: Sink>(&mut self, writer: &mut W, value: u128) -> Result<()> {
+        told(add_number(writer, value))
+    }
+
+    #[inline(always)]
+    fn write_number_str<W: Sink>(&mut self, writer: &mut W, value: &str) -> Result<()> {
+        told(add(writer, value.as_bytes()))
+    }
+
+    #[inline(always)]
+    fn write_string_fast<W: Sink>(
+        &mut self,
+        writer: &mut W,
+        value: &str,
+        need_quote: bool,
+    ) -> Result<()> {
+        told(add_string(writer, value, need_quote))
+    }
+
+    #[inline(always)]
+    fn write_byte_array<W: Sink>(&mut self, writer: &mut W, value: &[u8]) -> Result<()> {
+        let level = self.level.saturating_add(1);
+        self.level = level.saturating_sub(1);
+        self.flag = !value.is_empty();
+        told(add_byte_array(writer, Some(self.indent), level, self.level, value))
+    }
+
+    #[inline(always)]
+    fn begin_string<W: Sink>(&mut self, writer: &mut W) -> Result<()> {
+        told(add(writer, b"\""))
+    }
+
+    #[inline(always)]
+    fn end_string<W: Sink>(&mut self, writer: &mut W) -> Result<()> {
+        told(add(writer, b"\""))
+    }
+
+    #[inline(always)]
+    fn begin_array<W: Sink>(&mut self, writer: &mut W) -> Result<()> {
+        self.level = self.level.saturating_add(1);
+        self.flag = false;
+        told(add(writer, b"["))
+    }
+
+    #[inline(always)]
+    fn end_array<W: Sink>(&mut self, writer: &mut W) -> Result<()> {
+        self.level = self.level.saturating_sub(1);
+        told(add_end(writer, Some(self.indent), self.level, self.flag, b']'))
+    }
+
+    #[inline(always)]
+    fn begin_array_value<W: Sink>(&mut self, writer: &mut W, first: bool) -> Result<()> {
+        told(add_start(writer, Some(self.indent), self.level, first))
+    }
+
+    #[inline(always)]
+    fn end_array_value<W: Sink>(&mut self, writer: &mut W) -> Result<()> {
+        let _ = writer;
+        self.flag = true;
+        Ok(())
+    }
+
+    #[inline(always)]
+    fn begin_object<W: Sink>(&mut self, writer: &mut W) -> Result<()> {
+        self.level = self.level.saturating_add(1);
+        self.flag = false;
+        told(add(writer, b"{"))
+    }
+
+    #[inline(always)]
+    fn end_object<W: Sink>(&mut self, writer: &mut W) -> Result<()> {
+        self.level = self.level.saturating_sub(1);
+        told(add_end(writer, Some(self.indent), self.level, self.flag, b'}'))
+    }
+
+    #[inline(always)]
+    fn begin_object_key<W: Sink>(&mut self, writer: &mut W, first: bool) -> Result<()> {
+        told(add_start(writer, Some(self.indent), self.level, first))
+    }
+
+    #[inline(always)]
+    fn end_object_key<W: Sink>(&mut self, writer: &mut W) -> Result<()> {
+        let _ = writer;
+        Ok(())
+    }
+
+    #[inline(always)]
+    fn begin_object_value<W: Sink>(&mut self, writer: &mut W) -> Result<()> {
+        told(add(writer, b": "))
+    }
+
+    #[inline(always)]
+    fn end_object_value<W: Sink>(&mut self, writer: &mut W) -> Result<()> {
+        let _ = writer;
+        self.flag = true;
+        Ok(())
+    }
+
+    #[inline(always)]
+    fn write_raw_value<W: Sink>(&mut self, writer: &mut W, raw: &str) -> Result<()> {
+        told(add(writer, raw.as_bytes()))
+    }
+}
