@@ -1,0 +1,4 @@
+pub mod Inputs
+pub mod Outcomes
+pub mod Standing
+pub mod Emitting

@@ -1,0 +1,5 @@
+pub mod Input
+pub mod Emitting
+pub mod Reshape
+pub mod Run
+pub mod Laws
