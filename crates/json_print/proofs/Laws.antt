@@ -1,5 +1,5 @@
 -- What a serializer has written.
-use Rattle.std.proofs.Common.{◌∙◌, sym, ap, subst, ℕ, List}
+use Rattle.std.proofs.Common.{◌∙◌, sym, ap, subst}
 use Rattle.json_model.specs.Print.{shown}
 use Rattle.json_text.specs.Known.{append_known}
 use Rattle.json_print.specs.Layouts.{Form}

@@ -6,6 +6,7 @@ pub mod Layouts
 pub mod Spaces
 pub mod Sending
 pub mod Stopping
+pub mod Answering
 pub mod Asked
 pub mod Texts
 pub mod Prefixes

@@ -1,5 +1,5 @@
 -- What a serializer has written and what it holds, over any formatter.
-use Rattle.std.specs.Prelude.{◌≡◌, ℕ, suc, ◌-◌, ◌^◌, ◌<◌, ◌≤◌, List, [], ◌∷◌, ◌++◌, length, Bool, true, false, cond, ◌||◌, nat_lt, Option, reverse}
+use Rattle.std.specs.Prelude.{◌≡◌, ℕ, suc, ◌-◌, ◌^◌, ◌<◌, ◌≤◌, List, [], ◌∷◌, ◌++◌, length, Bool, true, false, cond, ◌||◌, nat_lt, Option}
 use Rattle.json_grammar.specs.declared.Kind.{Kind}
 use Rattle.json_grammar.specs.Tree.{Token, null_token, boolean_token, num_token, text_token, begin, end, key_token}
 use Rattle.json_grammar.specs.declared.Kind.TheVariants.{Array as array, Object as object}
@@ -43,11 +43,6 @@ pub record Out (F : Type 0) : Type 0 where
   pub lacks : ℕ
   -- more containers were open than a usize counts
   pub deep : Bool
-
--- what a serializer without sorted objects stands for; its open containers have the innermost last
-abbrev pub out_from : {F : Type 0} → F → Turn → List Kind → SinkState → Out F
-out_from f turn opened w =
-    record { formatter = f; turn = turn; opened = reverse opened; sorts = false; layers = []; gained = w.gained; faults = w.faults; lacks = w.lacks; deep = false }
 
 -- nothing was written yet
 abbrev pub start : {F : Type 0} → F → Bool → SinkState → Out F
@@ -186,3 +181,7 @@ pub record Stops {F : Type 0} (old new aim : Out F) (e : Error) : Type 0 where
   pub cause : StopCause old.faults new.faults e.code e.place
   pub told : old.faults < new.faults → e ≡ writing_failed
   pub later : old.faults ≤ new.faults
+
+-- what a call that meets this error at a token may leave
+abbrev pub StopsAt : {F : Type 0} → Form F → Out F → Token → Out F → Error → Type 0
+StopsAt m s t s' e = (s.deep ≡ false) × Stops s s' (after m s t) e
