@@ -78,7 +78,7 @@ lead_in m s at_done = s
 
 abbrev pub filed : List Layer → List Layer
 filed [] = []
-filed (l ∷ ls) = record l { rows = l.rows ++ record { key = l.key; text = l.text } ∷ []; text = [] } ∷ ls
+filed (l ∷ ls) = record { rows = l.rows ++ record { key = l.key; text = l.text } ∷ []; key = []; text = [] } ∷ ls
 
 abbrev pub follow_on : {F : Type 0} → Form F → Out F → List Kind → Out F
 follow_on m s [] = turned s at_done
@@ -142,13 +142,13 @@ abbrev pub is_first : Turn → Bool
 is_first (at_key first) = first
 is_first turn = true
 
-abbrev pub key_set : List Layer → List ℕ → List Layer
-key_set [] k = []
-key_set (l ∷ ls) k = record l { key = k } ∷ ls
+abbrev pub key_put : List Layer → List ℕ → List Layer
+key_put [] k = []
+key_put (l ∷ ls) k = record l { key = l.key ++ k } ∷ ls
 
 abbrev pub took_key : {F : Type 0} → Form F → Out F → List ℕ → Out F
 took_key m s k =
-    turned (cond s.sorts (record s { layers = key_set s.layers k }) (call m (call m (call m s (begin_key (is_first s.turn))) (string_call true k)) end_key)) at_member
+    turned (cond s.sorts (record s { layers = key_put s.layers k }) (call m (call m (call m s (begin_key (is_first s.turn))) (string_call true k)) end_key)) at_member
 
 abbrev pub after : {F : Type 0} → Form F → Out F → Token → Out F
 after m s null_token = took_scalar m s null_call
