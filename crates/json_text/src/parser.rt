@@ -104,13 +104,12 @@ impl<'a> Parser<'a> {
         ensures kept { OnErr result (self.new ≡ self.old) }
     {
         let bytes = self.rest.as_bytes();
-        let kind = self.kinds.top();
-        let stand = match ready(bytes, self.at, self.spot, kind) {
+        let stand = match ready(bytes, self.at, self.spot, &self.kinds) {
             Ok(stand) => stand,
             Err(fault) => return Err(fault),
         };
         if stand.at == bytes.len() {
-            if is_whole(stand.spot, kind) {
+            if is_whole(stand.spot, self.kinds.top()) {
                 return Ok(Event::End);
             }
             return Err(Fault {
