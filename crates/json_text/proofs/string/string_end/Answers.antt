@@ -1,59 +1,22 @@
-use Rattle.std.proofs.Common.{rules, arith, ◌<◌, length, inl, inr, refl}
-use Rattle.json_text.proofs.Spelling.{spells_begin, spells_plain, utf8_plain, spells_escape, utf8_escape, utf8_behind, small_byte}
+use Rattle.std.proofs.Common.{◌≤◌, false, IsUtf8, drop, length, arith}
+use Rattle.json_text.proofs.Spelling.{spells_begin, spells_plain, utf8_plain, utf8_behind}
 use Rattle.json_text.proofs.string.string_end.Goals as goal
 
-pub scan-init : goal.scan-init
-scan-init c = record {
-  whole = spells_begin c.args.bytes.now c.args.from (let h = c.requires.begun in let l = h.1.0 in omega arith);
-  utf8 = utf8_behind c.args.bytes.now c.args.from 34 c.requires.utf8 c.requires.begun.0 c.requires.begun.1 (omega arith);
-}
+pub returns-then-byte_is-clause-ok : goal.returns-then-byte_is-clause-ok
+returns-then-byte_is-clause-ok c =
+    let b = c.args.bytes.now in let r = c.plain_run-stop.ensures in let q = c.requires.begun in
+    let l : c.args.from ≤ length b = let m = q.1.0 in omega arith in
+    let u = utf8_behind b c.args.from 34 c.requires.utf8 q.0 q.1 (omega arith) in
+    (c.byte_is.ensures.0 c.if-byte_is.true, spells_plain b c.args.from c.args.from c.plain_run-stop.result false (spells_begin b c.args.from l) u r.within.0 r.within.1 r.run r.stop)
 
-pub returns-then-stop-bytes-clause-err : goal.returns-then-stop-bytes-clause-err
-returns-then-stop-bytes-clause-err c =
-    let r = c.plain_run-stop.ensures in
-    record {
-      to = c.plain_run-stop.result;
-      escaped = c.scan.escaped;
-      whole = spells_plain c.args.bytes.now c.args.from c.scan.at c.plain_run-stop.result c.scan.escaped c.scan.invariant.whole c.scan.invariant.utf8 r.within.0 r.within.1 r.run r.stop;
-      why = inl (refl, search rules, refl);
-    }
+pub string_rest-requires-clause-whole : goal.string_rest-requires-clause-whole
+string_rest-requires-clause-whole c =
+    let b = c.args.bytes.now in let r = c.plain_run-stop.ensures in let q = c.requires.begun in
+    let l : c.args.from ≤ length b = let m = q.1.0 in omega arith in
+    let u = utf8_behind b c.args.from 34 c.requires.utf8 q.0 q.1 (omega arith) in
+    spells_plain b c.args.from c.args.from c.plain_run-stop.result false (spells_begin b c.args.from l) u r.within.0 r.within.1 r.run r.stop
 
-pub returns-then-byte-eq34-clause-ok : goal.returns-then-byte-eq34-clause-ok
-returns-then-byte-eq34-clause-ok c =
-    let r = c.plain_run-stop.ensures in (
-      (search rules, search rules),
-      spells_plain c.args.bytes.now c.args.from c.scan.at c.plain_run-stop.result c.scan.escaped c.scan.invariant.whole c.scan.invariant.utf8 r.within.0 r.within.1 r.run r.stop,
-    )
-
-pub returns-in-Err-clause-err : goal.returns-in-Err-clause-err
-returns-in-Err-clause-err c =
-    let r = c.plain_run-stop.ensures in
-    record {
-      to = c.plain_run-stop.result;
-      escaped = c.scan.escaped;
-      whole = spells_plain c.args.bytes.now c.args.from c.scan.at c.plain_run-stop.result c.scan.escaped c.scan.invariant.whole c.scan.invariant.utf8 r.within.0 r.within.1 r.run r.stop;
-      why = inr (inr ((search rules, search rules), c.in-Err.ensures.err));
-    }
-
-pub scan-preserved : goal.scan-preserved
-scan-preserved c =
-    let r = c.plain_run-stop.ensures in
-    let at = c.plain_run-stop.result in
-    let l : at < length c.args.bytes.now = search rules in
-    let s = spells_plain c.args.bytes.now c.args.from c.scan.at at c.scan.escaped c.scan.invariant.whole c.scan.invariant.utf8 r.within.0 r.within.1 r.run r.stop in
-    let u = utf8_plain c.args.bytes.now c.scan.at at c.scan.invariant.utf8 r.within.0 r.within.1 r.stop in
-    record {
-      whole = spells_escape c.args.bytes.now c.args.from at c.in-Ok.end c.scan.escaped s (l, search rules) c.in-Ok.ensures.ok;
-      utf8 = utf8_escape c.args.bytes.now at c.in-Ok.end u (l, search rules) c.in-Ok.ensures.ok;
-    }
-
-pub returns-then-byte-ne92-clause-err : goal.returns-then-byte-ne92-clause-err
-returns-then-byte-ne92-clause-err c =
-    let r = c.plain_run-stop.ensures in
-    let l : c.plain_run-stop.result < length c.args.bytes.now = search rules in
-    record {
-      to = c.plain_run-stop.result;
-      escaped = c.scan.escaped;
-      whole = spells_plain c.args.bytes.now c.args.from c.scan.at c.plain_run-stop.result c.scan.escaped c.scan.invariant.whole c.scan.invariant.utf8 r.within.0 r.within.1 r.run r.stop;
-      why = inr (inl (refl, l, small_byte _ (r.stop l) (search rules) (search rules), refl));
-    }
+pub string_rest-requires-clause-utf8 : goal.string_rest-requires-clause-utf8
+string_rest-requires-clause-utf8 c =
+    let b = c.args.bytes.now in let r = c.plain_run-stop.ensures in let q = c.requires.begun in
+    utf8_plain b c.args.from c.plain_run-stop.result (utf8_behind b c.args.from 34 c.requires.utf8 q.0 q.1 (omega arith)) r.within.0 r.within.1 r.stop
