@@ -1,5 +1,5 @@
 // The reader of a text.
-ghost use Rattle.std.specs.Prelude.{◌≡◌, ◌<◌, ◌≤◌, ◌↔◌, List, [], length, get_or, IsTrue, IfOk, IfErr, OnErr, None};
+ghost use Rattle.std.specs.Prelude.{◌≡◌, ◌<◌, ◌≤◌, ◌↔◌, List, [], length, get_or, IsTrue, IsSome, Some, None, IfSome, IfOk, IfErr, OnErr};
 ghost use Rattle.json_grammar.specs.declared.Spot.TheVariants as Spot;
 ghost use Rattle.json_grammar.specs.Grammar.{IsWhitespace, ws};
 ghost use Rattle.json_grammar.specs.Given.{piece};
@@ -130,17 +130,27 @@ impl<'a> Parser<'a> {
     /// Keeps the refusal, with its place in the text.
     #[cold]
     #[inline(never)]
-    fn refuse(&mut self, fault: Fault) -> Error
+    fn refuse(&mut self, fault: Fault)
         requires new { self.old.failure ≡ None }
         requires fault { IsFault self.old.limit (input self.old) fault.code fault.offset }
-        ensures { Refuses self.old result self.new }
+        ensures { IfSome self.new.failure (λ e. Refuses self.old e self.new) × IsSome self.new.failure }
     {
-        let error = Error {
+        self.failure = Some(Error {
             code: fault.code,
             place: place_of(self.text.as_bytes(), self.start + fault.offset),
-        };
-        self.failure = Some(error);
-        error
+        });
+    }
+
+    /// What was refused.
+    #[inline(always)]
+    fn refusal(&self) -> Error
+        requires { IsSome self.now.failure }
+        ensures { self.now.failure ≡ Some result }
+    {
+        match self.failure {
+            Some(error) => error,
+            None => unreachable!(),
+        }
     }
 
     /// The next event, or what is wrong with the text and where. `End` comes again at each later call, and so does a refusal.
@@ -152,12 +162,15 @@ impl<'a> Parser<'a> {
         ensures err { IfErr result (λ e. Refuses self.old e self.new) }
         ensures begins { EventsBegin self.new }
     {
-        if let Some(error) = self.failure {
-            return Err(error);
+        if self.failure.is_some() {
+            return Err(self.refusal());
         }
         match self.step() {
             Ok(event) => Ok(event),
-            Err(fault) => Err(self.refuse(fault)),
+            Err(fault) => {
+                self.refuse(fault);
+                Err(self.refusal())
+            }
         }
     }
 
