@@ -1,6 +1,4 @@
-use Rattle.std.proofs.Common.{subst, ap, length, ◌≤◌, ◌+◌, ◌∙◌, arith}
-use Rattle.json_grammar.specs.Grammar.{ws}
-use Rattle.json_grammar.specs.Given.{piece}
+use Rattle.std.proofs.Common.{◌∙◌, arith}
 use Rattle.json_text.proofs.Going.{to_rest, from_rest, within_text}
 use Rattle.json_text.proofs.Stands.{stood_spaced}
 use Rattle.json_text.proofs.parser.Parser.skip_ws.Goals as goal
