@@ -20,7 +20,7 @@ use Rattle.json_doc.specs.State.{VisitorState}
 use Rattle.json_doc.specs.Recorded.{visitor_state, Holds, SameRoom}
 use Rattle.json_doc.specs.Reading.{ReadingFails, Follows}
 use Rattle.json_doc.specs.declared.document_visitor.DocumentVisitor.{DocumentVisitor}
-use Rattle.json_doc.proofs.Fronts.{reading_begins}
+use Rattle.json_doc.proofs.Prefixes.{reading_begins}
 use Rattle.json_doc.proofs.Fitting.{recorded_bytes}
 
 -- the parser has read a text up to here, and the builder was given the same tokens

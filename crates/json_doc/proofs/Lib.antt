@@ -7,7 +7,7 @@ pub mod Spelling
 pub mod Apart
 pub mod Shaping
 pub mod Finishing
-pub mod Fronts
+pub mod Prefixes
 pub mod Pieces
 pub mod Shown
 pub mod Fitting

@@ -18,10 +18,11 @@ abbrev pub link_to : ℕ → ℕ → ℕ
 link_to at zero = 0
 link_to at (suc n) = at
 
--- so do the bytes of a text, with texts behind
+-- the bytes of a text stand from the place at on, with texts behind
 abbrev pub TextStands : List ℕ → ℕ → List ℕ → Type 0
 TextStands bytes at s = (h : Stands bytes at s) × IsUtf8 s × IsUtf8 h.after
 
+-- c names the bytes of a text
 abbrev pub text_cell : List ℕ → Cell → List ℕ → Type 0
 text_cell bytes c s = (start : ℕ) × (c ≡ cell.Str start (length s)) × TextStands bytes start s
 

@@ -4,7 +4,7 @@ use Rattle.std.specs.Str.{IsCharBoundary}
 use Rattle.json_doc.specs.declared.cell.Cell.{Cell}
 use Rattle.json_doc.specs.declared.cell.Cell.TheVariants as cell
 
--- where the bytes of a cell begin, and how many they are; 0 where it has none
+-- where the bytes of a cell begin; 0 where it has none
 abbrev pub start_of : Cell → ℕ
 start_of cell.Null = 0
 start_of (cell.Bool b) = 0
@@ -13,6 +13,7 @@ start_of (cell.Str start len) = start
 start_of (cell.Array link len) = 0
 start_of (cell.Object link len) = 0
 
+-- how many bytes it has
 abbrev pub span_of : Cell → ℕ
 span_of cell.Null = 0
 span_of (cell.Bool b) = 0
@@ -21,7 +22,7 @@ span_of (cell.Str start len) = len
 span_of (cell.Array link len) = 0
 span_of (cell.Object link len) = 0
 
--- the place of the first child, and how many cells the children take
+-- the place of the first child; 0 where there is none
 abbrev pub link_of : Cell → ℕ
 link_of cell.Null = 0
 link_of (cell.Bool b) = 0
@@ -30,6 +31,7 @@ link_of (cell.Str start len) = 0
 link_of (cell.Array link len) = link
 link_of (cell.Object link len) = link
 
+-- how many cells the children take
 abbrev pub width_of : Cell → ℕ
 width_of cell.Null = 0
 width_of (cell.Bool b) = 0
@@ -38,6 +40,7 @@ width_of (cell.Str start len) = 0
 width_of (cell.Array link len) = len
 width_of (cell.Object link len) = 2 * len
 
+-- how many keys it has
 abbrev pub keys_of : Cell → ℕ
 keys_of cell.Null = 0
 keys_of (cell.Bool b) = 0
@@ -46,6 +49,7 @@ keys_of (cell.Str start len) = 0
 keys_of (cell.Array link len) = 0
 keys_of (cell.Object link len) = len
 
+-- whether it is the cell of a string or a key
 abbrev pub is_str : Cell → Bool
 is_str cell.Null = false
 is_str (cell.Bool b) = false
@@ -61,5 +65,6 @@ pub record CellInPlace (cells : List Cell) (bytes : List ℕ) (at : ℕ) (c : Ce
   pub below : link_of c + width_of c ≤ at
   pub keyed : (i : ℕ) → i < keys_of c → is_str (slice_index_or cells (link_of c + 2 * i) cell.Null) ≡ true
 
+-- so is each cell
 abbrev pub CellsInPlace : List Cell → List ℕ → Type 0
 CellsInPlace cells bytes = (k : ℕ) → k < length cells → CellInPlace cells bytes k (slice_index_or cells k cell.Null)

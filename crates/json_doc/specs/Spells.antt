@@ -8,10 +8,11 @@ use Rattle.json_doc.specs.Shape.{link_of}
 use Rattle.json_doc.specs.declared.cell.Cell.{Cell}
 use Rattle.json_doc.specs.declared.cell.Cell.TheVariants as cell
 
--- the cell at a place names exactly the bytes of s
+-- the cell at a place names exactly the bytes of a text
 abbrev pub spells_text : List Cell → List ℕ → ℕ → List ℕ → Type 0
 spells_text cells bytes at s = (start : ℕ) × (slice_get cells at ≡ Some (cell.Str start (length s))) × (slice_range bytes start (start + length s) ≡ s)
 
+-- the cell at a place names exactly the bytes of a number's literal
 abbrev pub spells_literal : List Cell → List ℕ → ℕ → List ℕ → Type 0
 spells_literal cells bytes at l = (start : ℕ) × (slice_get cells at ≡ Some (cell.Raw start (length l))) × (slice_range bytes start (start + length l) ≡ l)
 
@@ -25,10 +26,12 @@ abbrev mutual
   spells cells bytes at (list ts) = (link : ℕ) × (slice_get cells at ≡ Some (cell.Array (link_to link (trees_count ts)) (trees_count ts))) × (link + trees_count ts ≤ at) × spells_trees cells bytes link ts
   spells cells bytes at (pairs ps) = (link : ℕ) × (slice_get cells at ≡ Some (cell.Object (link_to link (pairs_count ps)) (pairs_count ps))) × (link + 2 * pairs_count ps ≤ at) × spells_pairs cells bytes link ps
 
+  -- the cells from a place on stand for these trees, one after another
   pub spells_trees : List Cell → List ℕ → ℕ → Trees → Type 0
   spells_trees cells bytes at no_trees = Unit {0}
   spells_trees cells bytes at (tree_and t ts) = spells cells bytes at t × spells_trees cells bytes (at + 1) ts
 
+  -- the cells from a place on stand for a key and its value in turn
   pub spells_pairs : List Cell → List ℕ → ℕ → Pairs → Type 0
   spells_pairs cells bytes at no_pairs = Unit {0}
   spells_pairs cells bytes at (pair_and k t ps) = spells_text cells bytes at k × spells cells bytes (at + 1) t × spells_pairs cells bytes (at + 2) ps
@@ -47,19 +50,22 @@ abbrev mutual
   places cells at (list ts) = at ∷ trees_places cells (first_child cells at) ts
   places cells at (pairs ps) = at ∷ pairs_places cells (first_child cells at) ps
 
+  -- those of elements
   pub trees_places : List Cell → ℕ → Trees → List ℕ
   trees_places cells at no_trees = []
   trees_places cells at (tree_and t ts) = places cells at t ++ trees_places cells (at + 1) ts
 
+  -- those of keys and values
   pub pairs_places : List Cell → ℕ → Pairs → List ℕ
   pairs_places cells at no_pairs = []
   pairs_places cells at (pair_and k t ps) = at ∷ (places cells (at + 1) t ++ pairs_places cells (at + 2) ps)
 
--- no place comes twice
+-- x is none of them
 abbrev pub Differs : ℕ → List ℕ → Type 0
 Differs x [] = Unit {0}
 Differs x (y ∷ ys) = (x ≢ y) × Differs x ys
 
+-- none comes twice
 abbrev pub AllDiffer : List ℕ → Type 0
 AllDiffer [] = Unit {0}
 AllDiffer (x ∷ xs) = Differs x xs × AllDiffer xs

@@ -4,8 +4,10 @@ use crate::json_type::JsonType;
 
 /// One node of a document, or a key of an object.
 ///
-/// A literal and a text name bytes of the document's text, by their start and their length. A container
-/// has as its length the number of its elements or pairs.
+/// A literal and a text name bytes of the document's text, by their start and their length. The length of
+/// a container counts its elements or pairs, and its link is the place of the first, or 0 where there is
+/// none. The children of a container stand in a row, those of an object a key and its value in turn; how
+/// they lie is this crate's own, and views give them.
 #[derive(Clone, Copy, Debug, PartialEq, Eq)]
 pub enum Cell {
     Null,
@@ -15,7 +17,6 @@ pub enum Cell {
     /// A string, or a key.
     Str { start: u32, len: u32 },
     Array { link: u32, len: u32 },
-    /// The children of an object are a key and its value in turn.
     Object { link: u32, len: u32 },
 }
 

@@ -33,7 +33,7 @@ SortedIsProper = (t : Tree) → IsProper t → IsProper (sorted t)
 
 -- ---- edits
 
--- so does what is edited, where the edits put in such
+-- what is edited keeps number literals that are numbers, and strings and names that are UTF-8, where the edits put in such
 abbrev pub EditedIsProper : Type 0
 EditedIsProper = (es : List Edit) (t : Tree) → AreProperEdits es → IsProper t → IfOk (edited es t) IsProper
 

@@ -6,7 +6,10 @@ pub mod Layouts
 pub mod Spaces
 pub mod Sending
 pub mod Stopping
+pub mod Answering
 pub mod Asked
+pub mod Ideals
+pub mod Likeness
 pub mod Texts
 pub mod Prefixes
 pub mod Laws

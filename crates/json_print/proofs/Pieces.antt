@@ -1,5 +1,5 @@
 -- Pieces put into a sink one after another.
-use Rattle.std.proofs.Common.{◌≡◌, ℕ, ◌-◌, ◌<◌, ◌≤◌, List, [], ◌++◌, length, take, drop, ◌∙◌, sym, ap, refl, subst, arith, Ok, Err, Result, length-drop}
+use Rattle.std.proofs.Common.{◌≡◌, ℕ, ◌-◌, List, [], ◌++◌, length, take, drop, ◌∙◌, sym, ap, refl, subst, arith, Ok, Err, Result, length-drop}
 use Rattle.std.specs.Prelude.{IsErrOf}
 use Rattle.std.proofs.lemmas.List.{take_all, take-append-drop}
 use Rattle.json_text.specs.Known.{Appends}
@@ -9,7 +9,7 @@ use Rattle.json_text.specs.declared.sink.SinkError.{SinkError}
 use Rattle.json_text.specs.declared.sink.SinkError.TheVariants as sink_error
 use Rattle.json_text.specs.Errors.{no_memory, writing_failed}
 use Rattle.json_text.specs.Outside.{SinkState, Counts, Writes}
-use Rattle.json_text.specs.Transfer.{AppendsFront, Puts}
+use Rattle.json_text.specs.Transfer.{Puts}
 use Rattle.json_text.proofs.Putting.{AppendsFront-first, AppendsFront-then}
 use Rattle.json_print.specs.Adding.{Adds, Sends}
 

@@ -2,11 +2,10 @@
 use Rattle.std.proofs.Common.{◌≡◌, ℕ, List, [], ◌∷◌, ◌++◌, ◌∙◌, sym, ap, refl, subst, arith, ◌+◌, ◌-◌, length, take, get_or, reverse, Bool, true, false, cond, Option, Err, Result}
 use Rattle.std.proofs.lemmas.List.{take_more, take_all, reverse-append}
 use Rattle.json_print.specs.Standing.{outside}
-use Rattle.std.proofs.lemmas.Result.{IfErr-weaker}
+use Rattle.std.proofs.lemmas.Result.{on_err_weaker}
 use Rattle.json_grammar.specs.declared.Kind.{Kind}
 use Rattle.json_grammar.specs.declared.Kind.TheVariants.{Array as array, Object as object}
 use Rattle.json_text.specs.declared.error.Error.{Error}
-use Rattle.json_text.specs.Errors.{no_memory}
 use Rattle.json_text.specs.Known.{append_known}
 use Rattle.json_text.proofs.Known.{known-append, known-nil}
 use Rattle.json_print.specs.declared.events.Turn.{Turn}
@@ -14,7 +13,8 @@ use Rattle.json_print.specs.declared.events.Turn.TheVariants.{Value as at_value,
 use Rattle.json_print.specs.Calls.{Call, end_call, begin_element, end_element, begin_member, end_member}
 use Rattle.json_print.specs.Layouts.{Form}
 use Rattle.json_print.specs.Printer.{Out, Layer, Begins, Stops, StopCause, gained_put, call, lead_in, follow_on, value_begun, value_ended, took_scalar, took_end, emptied}
-use Rattle.json_print.specs.Steps.{Steps}
+use Rattle.json_print.specs.declared.serializer.Halted.{Halted}
+use Rattle.json_print.specs.Steps.{Steps, Stopped}
 
 pub Begins-refl : (a : Option (List ℕ)) → Begins a a
 Begins-refl a = record { back = []; whole = sym (known-nil a) }
@@ -80,42 +80,30 @@ Stops-from old x new aim e b f h =
       later = omega (arith, f, h.later);
     }
 
+pub Stopped-on : {F : Type 0} (old new aim aim' : Out F) (f : Option Error) → Stopped old new aim f → Begins aim.gained aim'.gained → Stopped old new aim' f
+Stopped-on old new aim aim' f h b = record { error = h.error; kept = h.kept; stops = Stops-on old new aim aim' h.error h.stops b }
+
 -- a step behind others that came to x
-pub Steps-from : {F : Type 0} (old x mid new : Out F) (step : Out F → Out F) (r : Result (Unit {0}) Error) → Begins old.gained x.gained → x.faults ≡ old.faults → mid ≡ x → Steps mid new (step mid) r → Steps old new (step x) r
-Steps-from old x mid new step r b f e h =
-    let g : Steps x new (step x) r = subst (λ y. Steps y new (step y) r) e h in
-    record { ok = g.ok; stops = IfErr-weaker r _ _ (λ y k. Stops-from old x new (step x) y b f k) g.stops }
+pub Steps-from : {F : Type 0} (old x mid new : Out F) (step : Out F → Out F) (f : Option Error) (r : Result (Unit {0}) Halted) → Begins old.gained x.gained → x.faults ≡ old.faults → mid ≡ x → Steps mid new (step mid) f r → Steps old new (step x) f r
+Steps-from old x mid new step f r b l e h =
+    let g : Steps x new (step x) f r = subst (λ y. Steps y new (step y) f r) e h in
+    record { ok = g.ok; goes = g.goes; stops = on_err_weaker r (λ (k : Stopped x new (step x) f). let s : Stopped old new (step x) f = record { error = k.error; kept = k.kept; stops = Stops-from old x new (step x) k.error b l k.stops } in s) g.stops }
 
 -- ... and then stops on the way to a further aim
-pub Stops-step : {F : Type 0} (old x mid new aim : Out F) (step : Out F → Out F) (e : Error) → Begins old.gained x.gained → x.faults ≡ old.faults → mid ≡ x → Steps mid new (step mid) (Err e) → Begins (step x).gained aim.gained → Stops old new aim e
-Stops-step old x mid new aim step e b f k h g = Stops-on old new (step x) aim e (Steps-from old x mid new step (Err e) b f k h).stops g
-
--- no memory, where nothing more was written
-pub Stops-here : {F : Type 0} (old new aim : Out F) → Begins old.gained new.gained → new.gained ≡ aim.gained → new.faults ≡ old.faults → Stops old new aim no_memory
-Stops-here old new aim b g f =
-    record { had = b; less = subst (λ x. Begins new.gained x) g (Begins-refl new.gained); cause = tt; told = λ l. absurd (omega (arith, f, l)); later = omega (arith, f) }
+pub Stopped-step : {F : Type 0} (old x mid new aim : Out F) (step : Out F → Out F) (f : Option Error) (halted : Halted) → Begins old.gained x.gained → x.faults ≡ old.faults → mid ≡ x → Steps mid new (step mid) f (Err halted) → Begins (step x).gained aim.gained
+    → Stopped old new aim f
+Stopped-step old x mid new aim step f halted b l k h g = Stopped-on old new (step x) aim f (Steps-from old x mid new step f (Err halted) b l k h).stops g
 
 -- ---- at the exits
 
-pub exits : {F : Type 0} (old new aim : Out F) (r : Result (Unit {0}) Error) (e : Error) → (y : Error) × (r ≡ Err y) × (y ≡ e) → Stops old new aim e → Steps old new aim r
-exits old new aim r e p h = subst (λ x. Steps old new aim x) (sym (p.1 ∙ ap Err p.2)) (record { ok = tt; stops = h })
+pub exits : {F : Type 0} (old new aim : Out F) (f : Option Error) (r : Result (Unit {0}) Halted) (halted : Halted) → (y : Halted) × (r ≡ Err y) × (y ≡ halted) → Stopped old new aim f → Steps old new aim f r
+exits old new aim f r halted p h = subst (λ x. Steps old new aim f x) (sym p.1) (record { ok = tt; goes = tt; stops = h })
 
 pub scalar_rest : {F : Type 0} (m : Form F) (s : Out F) (c : Call) → Begins (value_begun m s).gained (took_scalar m s c).gained
 scalar_rest m s c = Begins-trans _ _ _ (call_begins m (value_begun m s) c) (ended_begins m (call m (value_begun m s) c))
 
 pub begin_called : {F : Type 0} (m : Form F) (s : Out F) (c : Call) → Begins s.gained (call m (value_begun m s) c).gained
 begin_called m s c = Begins-trans _ _ _ (begun_begins m s) (call_begins m (value_begun m s) c)
-
--- an end, where nothing is sorted
-pub ended_rest : {F : Type 0} (m : Form F) (s : Out F) → Begins s.gained (value_ended m s).gained
-ended_rest m s = ended_begins m s
-
--- no memory behind a step that came to x
-pub pushed_here : {F : Type 0} (old x mid new aim : Out F) → Begins old.gained x.gained → x.faults ≡ old.faults → mid ≡ x → new.gained ≡ mid.gained → new.faults ≡ mid.faults → x.gained ≡ aim.gained → Stops old new aim no_memory
-pushed_here old x mid new aim b f e g k a =
-    let e1 : new.gained ≡ x.gained = g ∙ ap (λ s. s.gained) e in
-    let e2 : new.faults ≡ x.faults = k ∙ ap (λ s. s.faults) e in
-    Stops-here old new aim (subst (Begins old.gained) (sym e1) b) (e1 ∙ a) (e2 ∙ f)
 
 -- ---- the innermost container is taken off
 
@@ -139,5 +127,5 @@ emptied_flat m s array e = refl
 emptied_flat m s object e = rw e refl
 
 -- where nothing is sorted
-pub ends_flat : {F : Type 0} (m : Form F) (s : Out F) (k : Kind) (new : Out F) (r : Result (Unit {0}) Error) → s.sorts ≡ false → Steps s new (value_ended m (shut (call m s (end_call k)))) r → Steps s new (took_end m s k) r
-ends_flat {F = F} m s k new r e h = subst (λ (x : Out F). Steps s new (value_ended m (shut (call m x (end_call k)))) r) (sym (emptied_flat m s k e)) h
+pub ends_flat : {F : Type 0} (m : Form F) (s : Out F) (k : Kind) (new : Out F) (f : Option Error) (r : Result (Unit {0}) Halted) → s.sorts ≡ false → Steps s new (value_ended m (shut (call m s (end_call k)))) f r → Steps s new (took_end m s k) f r
+ends_flat {F = F} m s k new f r e h = subst (λ (x : Out F). Steps s new (value_ended m (shut (call m x (end_call k)))) f r) (sym (emptied_flat m s k e)) h

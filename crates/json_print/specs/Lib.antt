@@ -13,3 +13,4 @@ pub mod Parts
 pub mod Steps
 pub mod Stands
 pub mod Written
+pub mod Serializing

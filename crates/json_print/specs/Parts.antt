@@ -1,8 +1,8 @@
 -- The calls that a serializer makes.
 use Rattle.std.specs.Prelude.{true}
 use Rattle.std.specs.Fmt.{decimal, signed_decimal}
-use Rattle.json_print.specs.declared.serializer.Part.{Part}
-use Rattle.json_print.specs.declared.serializer.Part.TheVariants.{Null, Bool, Int, Uint, Number, Text, Begin, End, BeginElement, EndElement, BeginKey, EndKey, BeginMember, EndMember}
+use Rattle.json_print.specs.declared.part.Part.{Part}
+use Rattle.json_print.specs.declared.part.Part.TheVariants.{Null, Bool, Int, Uint, Number, Text, Begin, End, BeginElement, EndElement, BeginKey, EndKey, BeginMember, EndMember}
 use Rattle.json_print.specs.Calls.{Call, null_call, boolean_call, number_call, string_call, begin_call, end_call, begin_element, end_element, begin_key, end_key, begin_member, end_member}
 
 abbrev pub meaning : Part → Call

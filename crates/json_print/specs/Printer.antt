@@ -1,5 +1,5 @@
 -- What a serializer has written and what it holds, over any formatter.
-use Rattle.std.specs.Prelude.{◌≡◌, ℕ, suc, ◌-◌, ◌^◌, ◌<◌, ◌≤◌, List, [], ◌∷◌, ◌++◌, length, Bool, true, false, cond, ◌||◌, nat_lt, Option, reverse}
+use Rattle.std.specs.Prelude.{◌≡◌, ℕ, suc, ◌-◌, ◌^◌, ◌<◌, ◌≤◌, List, [], ◌∷◌, ◌++◌, length, Bool, true, false, cond, ◌||◌, nat_lt, Option}
 use Rattle.json_grammar.specs.declared.Kind.{Kind}
 use Rattle.json_grammar.specs.Tree.{Token, null_token, boolean_token, num_token, text_token, begin, end, key_token}
 use Rattle.json_grammar.specs.declared.Kind.TheVariants.{Array as array, Object as object}
@@ -44,11 +44,6 @@ pub record Out (F : Type 0) : Type 0 where
   -- more containers were open than a usize counts
   pub deep : Bool
 
--- what a serializer without sorted objects stands for; its open containers have the innermost last
-abbrev pub out_from : {F : Type 0} → F → Turn → List Kind → SinkState → Out F
-out_from f turn opened w =
-    record { formatter = f; turn = turn; opened = reverse opened; sorts = false; layers = []; gained = w.gained; faults = w.faults; lacks = w.lacks; deep = false }
-
 -- nothing was written yet
 abbrev pub start : {F : Type 0} → F → Bool → SinkState → Out F
 start f sorts w =
@@ -83,7 +78,7 @@ lead_in m s at_done = s
 
 abbrev pub filed : List Layer → List Layer
 filed [] = []
-filed (l ∷ ls) = record l { rows = l.rows ++ record { key = l.key; text = l.text } ∷ []; text = [] } ∷ ls
+filed (l ∷ ls) = record { rows = l.rows ++ record { key = l.key; text = l.text } ∷ []; key = []; text = [] } ∷ ls
 
 abbrev pub follow_on : {F : Type 0} → Form F → Out F → List Kind → Out F
 follow_on m s [] = turned s at_done
@@ -147,13 +142,13 @@ abbrev pub is_first : Turn → Bool
 is_first (at_key first) = first
 is_first turn = true
 
-abbrev pub key_set : List Layer → List ℕ → List Layer
-key_set [] k = []
-key_set (l ∷ ls) k = record l { key = k } ∷ ls
+abbrev pub key_put : List Layer → List ℕ → List Layer
+key_put [] k = []
+key_put (l ∷ ls) k = record l { key = l.key ++ k } ∷ ls
 
 abbrev pub took_key : {F : Type 0} → Form F → Out F → List ℕ → Out F
 took_key m s k =
-    turned (cond s.sorts (record s { layers = key_set s.layers k }) (call m (call m (call m s (begin_key (is_first s.turn))) (string_call true k)) end_key)) at_member
+    turned (cond s.sorts (record s { layers = key_put s.layers k }) (call m (call m (call m s (begin_key (is_first s.turn))) (string_call true k)) end_key)) at_member
 
 abbrev pub after : {F : Type 0} → Form F → Out F → Token → Out F
 after m s null_token = took_scalar m s null_call
@@ -186,3 +181,7 @@ pub record Stops {F : Type 0} (old new aim : Out F) (e : Error) : Type 0 where
   pub cause : StopCause old.faults new.faults e.code e.place
   pub told : old.faults < new.faults → e ≡ writing_failed
   pub later : old.faults ≤ new.faults
+
+-- what a call that meets this error at a token may leave
+abbrev pub StopsAt : {F : Type 0} → Form F → Out F → Token → Out F → Error → Type 0
+StopsAt m s t s' e = (s.deep ≡ false) × Stops s s' (after m s t) e

@@ -1,26 +1,24 @@
 -- What a serializer has written.
-use Rattle.std.specs.Prelude.{◌≡◌, ℕ, ◌-◌, ◌^◌, ◌≤◌, List, ◌∷◌, ◌++◌, Bool, false, cond, Option}
-use Rattle.json_grammar.specs.Tree.{Tree, Token, tokens, depth}
-use Rattle.json_model.specs.Sort.{sorted}
-use Rattle.json_model.specs.Print.{shown}
+use Rattle.std.specs.Prelude.{◌≡◌, ℕ, List, ◌∷◌, ◌++◌, Bool, false, Option}
+use Rattle.json_grammar.specs.Tree.{Tree, Token, tokens}
 use Rattle.json_text.specs.declared.error.Error.{Error}
 use Rattle.json_text.specs.Known.{append_known}
 use Rattle.json_text.specs.Outside.{SinkState}
-use Rattle.json_print.specs.Layouts.{Form}
-use Rattle.json_print.specs.Printer.{Out, Begins, Stops, after, start}
-use Rattle.json_print.specs.Layouts.{LaidOut}
+use Rattle.json_print.specs.Layouts.{Form, LaidOut}
+use Rattle.json_print.specs.Printer.{Out, Begins, StopsAt, after, start}
+use Rattle.json_print.specs.Shown.{shown_as}
 use Rattle.json_print.specs.Taking.{after_all}
 
--- what the writer had, and then the text of the tree, sorted where asked
+-- what the writer had, and then the text of the tree
 abbrev pub text_behind : SinkState → Option (List ℕ) → Bool → Tree → Option (List ℕ)
-text_behind w i sorts t = append_known w.gained (shown i 0 (cond sorts (sorted t) t))
+text_behind w i sorts t = append_known w.gained (shown_as i sorts t)
 
--- where a state came from the tokens of a tree the writer has its text; where from some first tokens of it, a front of its text,
+-- where a state came from the tokens of a tree the writer has its text; where from some first tokens of it, a prefix of its text,
 -- also after an error that was met at the token behind these
 pub record Written {F : Type 0} (m : Form F) (s : Out F) (gained : Option (List ℕ)) : Type 0 where
-  pub whole : (f : F) (sorts : Bool) (w : SinkState) (i : Option (List ℕ)) (t : Tree) → LaidOut m f i 0 false → depth t ≤ 2 ^ 64 - 1
+  pub whole : (f : F) (sorts : Bool) (w : SinkState) (i : Option (List ℕ)) (t : Tree) → LaidOut m f i 0 false
       → s ≡ after_all (after m) (start f sorts w) (tokens t) → gained ≡ text_behind w i sorts t
-  pub front : (f : F) (sorts : Bool) (w : SinkState) (i : Option (List ℕ)) (t : Tree) (ts more : List Token) → LaidOut m f i 0 false → depth t ≤ 2 ^ 64 - 1
+  pub prefix : (f : F) (sorts : Bool) (w : SinkState) (i : Option (List ℕ)) (t : Tree) (ts more : List Token) → LaidOut m f i 0 false
       → tokens t ≡ ts ++ more → s ≡ after_all (after m) (start f sorts w) ts → Begins gained (text_behind w i sorts t)
-  pub stopped : (f : F) (sorts : Bool) (w : SinkState) (i : Option (List ℕ)) (t : Tree) (ts more : List Token) (x : Token) (e : Error) → LaidOut m f i 0 false → depth t ≤ 2 ^ 64 - 1
-      → tokens t ≡ ts ++ x ∷ more → Stops (after_all (after m) (start f sorts w) ts) s (after m (after_all (after m) (start f sorts w) ts) x) e → Begins gained (text_behind w i sorts t)
+  pub stopped : (f : F) (sorts : Bool) (w : SinkState) (i : Option (List ℕ)) (t : Tree) (ts more : List Token) (x : Token) (e : Error) → LaidOut m f i 0 false
+      → tokens t ≡ ts ++ x ∷ more → StopsAt m (after_all (after m) (start f sorts w) ts) x s e → Begins gained (text_behind w i sorts t)

@@ -125,7 +125,11 @@ impl Formatter for CompactFormatter {
 
     #[inline(always)]
     fn begin_array_value<W: Sink>(&mut self, writer: &mut W, first: bool) -> Result<()> {
-        if first { Ok(()) } else { told(add(writer, b",")) }
+        if first {
+            Ok(())
+        } else {
+            told(add(writer, b","))
+        }
     }
 
     #[inline(always)]
@@ -146,7 +150,11 @@ impl Formatter for CompactFormatter {
 
     #[inline(always)]
     fn begin_object_key<W: Sink>(&mut self, writer: &mut W, first: bool) -> Result<()> {
-        if first { Ok(()) } else { told(add(writer, b",")) }
+        if first {
+            Ok(())
+        } else {
+            told(add(writer, b","))
+        }
     }
 
     #[inline(always)]

@@ -58,12 +58,7 @@ pub(crate) fn add_start<W: Sink>(
     add_line(writer, indent, level)
 }
 
-fn add_end_line<W: Sink>(
-    writer: &mut W,
-    indent: Option<&[u8]>,
-    level: usize,
-    bracket: u8,
-) -> Added
+fn add_end_line<W: Sink>(writer: &mut W, indent: Option<&[u8]>, level: usize, bracket: u8) -> Added
     ensures { let i = option_map (λ s. s.now) indent.entry in
         Adds (W.state writer.old) (W.state writer.new) (line i level ++ bracket ∷ []) result }
 {

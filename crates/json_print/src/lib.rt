@@ -8,6 +8,7 @@ mod escape;
 mod events;
 mod formatter;
 mod layout;
+mod part;
 mod pretty;
 mod runs;
 mod serializer;

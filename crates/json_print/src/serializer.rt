@@ -1,76 +1,40 @@
-// Writes a value's parts.
-ghost use Rattle.std.specs.Prelude.{◌≡◌, ◌≤◌, ◌<◌, None, Some, codes, false, OnOk, IfErr};
-ghost use Rattle.json_text.specs.Transfer.{Puts};
-ghost use Rattle.json_print.specs.Calls.{Call};
+// The serializer.
+ghost use Rattle.std.specs.Prelude.{◌≡◌, None, Some, codes, false};
 ghost use Rattle.json_print.specs.Parts.{meaning};
-ghost use Rattle.json_print.specs.Printer.{Out, Stops, after, call, is_first, out_from, stand_of, start, took_scalar, took_begin, took_end, took_key, value_begun, value_ended};
-ghost use Rattle.json_print.specs.Stands.{after_stands};
 ghost use Rattle.json_print.specs.Layouts.{LaidOut};
-ghost use Rattle.json_print.specs.Steps.{Steps};
+ghost use Rattle.json_print.specs.Printer.{Out, StopsAt, after, call, is_first, opened_up, stand_of, start, took_scalar, took_begin, took_end, took_key, value_begun, value_ended};
+ghost use Rattle.json_print.specs.Serializing.{out_of};
+ghost use Rattle.json_print.specs.Stands.{after_stands};
+ghost use Rattle.json_print.specs.Steps.{Steps, refusal_of};
 ghost use Rattle.json_print.specs.Written.{Written};
 
+use crate::part::{Part, write_part};
 use crate::{CompactFormatter, Events, Formatter, PrettyFormatter, Turn};
 use json_grammar::Kind;
 use json_text::{Error, Result, Sink};
 use std::alloc::Global;
 
-/// A call of a formatter.
+// A step stopped, and the serializer keeps why.
 #[derive(Clone, Copy)]
-pub enum Part<'a> {
-    Null,
-    Bool(bool),
-    Int(i128),
-    Uint(u128),
-    Number(&'a str),
-    Text(&'a str),
-    Begin(Kind),
-    End(Kind),
-    BeginElement(bool),
-    EndElement,
-    BeginKey(bool),
-    EndKey,
-    BeginMember,
-    EndMember,
-}
+struct Halted;
 
-#[inline(always)]
-fn write_part<F: Formatter, W: Sink>(
-    formatter: &mut F,
-    writer: &mut W,
-    part: Part<'_>,
-) -> Result<()>
-    ensures puts { Puts (W.state writer.old) (W.state writer.new) (F.piece formatter.old (meaning part.entry)) result }
-    ensures next { OnOk result (formatter.new ≡ F.next formatter.old (meaning part.entry)) }
-{
-    match part {
-        Part::Null => formatter.write_null(writer),
-        Part::Bool(value) => formatter.write_bool(writer, value),
-        Part::Int(value) => formatter.write_i128(writer, value),
-        Part::Uint(value) => formatter.write_u128(writer, value),
-        Part::Number(literal) => formatter.write_number_str(writer, literal),
-        Part::Text(text) => formatter.write_string_fast(writer, text, true),
-        Part::Begin(Kind::Array) => formatter.begin_array(writer),
-        Part::Begin(Kind::Object) => formatter.begin_object(writer),
-        Part::End(Kind::Array) => formatter.end_array(writer),
-        Part::End(Kind::Object) => formatter.end_object(writer),
-        Part::BeginElement(first) => formatter.begin_array_value(writer, first),
-        Part::EndElement => formatter.end_array_value(writer),
-        Part::BeginKey(first) => formatter.begin_object_key(writer, first),
-        Part::EndKey => formatter.end_object_key(writer),
-        Part::BeginMember => formatter.begin_object_value(writer),
-        Part::EndMember => formatter.end_object_value(writer),
-    }
-}
+type Step = std::result::Result<(), Halted>;
 
+/// Writes the text of a value (RFC 8259) from its parts, by the calls of a formatter.
+///
+/// `Io` at `Writing` comes where the writer failed, and `NoMemory` where memory ran out. After an error each call answers that error and
+/// writes nothing.
 #[derive(Drop)]
 pub struct Serializer<W, F> {
     writer: W,
     formatter: F,
     turn: Turn,
+    // The open containers, the innermost last.
     opened: Vec<Kind>,
     failed: Option<Error>,
 }
 
+#[inline(always)]
 fn first_key(turn: Turn) -> bool
     ensures { result ≡ is_first turn }
 {
@@ -81,7 +45,7 @@ fn first_key(turn: Turn) -> bool
 }
 
 impl<W: Sink> Serializer<W, CompactFormatter> {
-    /// It writes no whitespace.
+    /// Writes no whitespace. Nothing was written yet.
     pub fn new(alloc: Global, writer: W) -> Serializer<W, CompactFormatter>
         ensures starts { ⟦<Serializer<W, CompactFormatter> as Events>⟧.state result ≡ start (⟦<Serializer<W, CompactFormatter> as Events>⟧.state result).formatter false (W.state writer) }
         ensures laid { LaidOut (record { piece = ⟦<CompactFormatter as Formatter>⟧.piece; next = ⟦<CompactFormatter as Formatter>⟧.next }) (⟦<Serializer<W, CompactFormatter> as Events>⟧.state result).formatter None 0 false }
@@ -91,7 +55,7 @@ impl<W: Sink> Serializer<W, CompactFormatter> {
 }
 
 impl<W: Sink> Serializer<W, PrettyFormatter<'static>> {
-    /// It indents by two spaces.
+    /// Indents by two spaces. Nothing was written yet.
     pub fn pretty(alloc: Global, writer: W) -> Serializer<W, PrettyFormatter<'static>>
         ensures starts { ⟦<Serializer<W, PrettyFormatter<'static>> as Events>⟧.state result ≡ start (⟦<Serializer<W, PrettyFormatter<'static>> as Events>⟧.state result).formatter false (W.state writer) }
         ensures laid { LaidOut (record { piece = ⟦<PrettyFormatter<'static> as Formatter>⟧.piece; next = ⟦<PrettyFormatter<'static> as Formatter>⟧.next }) (⟦<Serializer<W, PrettyFormatter<'static>> as Events>⟧.state result).formatter (Some (codes "  ")) 0 false }
@@ -101,6 +65,7 @@ impl<W: Sink> Serializer<W, PrettyFormatter<'static>> {
 }
 
 impl<W: Sink, F: Formatter> Serializer<W, F> {
+    /// Writes by the calls of this formatter, which has written nothing yet.
     pub fn with_formatter(alloc: Global, writer: W, formatter: F) -> Serializer<W, F>
         requires { F.fresh formatter }
         ensures { ⟦<Serializer<W, F> as Events>⟧.state result ≡ start formatter false (W.state writer) }
@@ -114,7 +79,8 @@ impl<W: Sink, F: Formatter> Serializer<W, F> {
         }
     }
 
-    /// The writer.
+    /// The writer. Where the calls were those of the tokens of a tree, it has gained the text of the tree in the layout of the formatter;
+    /// where they were the first of them, a prefix of that text, and also where an error was answered behind them.
     pub fn into_inner(self) -> W
     where
         F: Drop,
@@ -123,17 +89,32 @@ impl<W: Sink, F: Formatter> Serializer<W, F> {
         self.writer
     }
 
-    #[inline(always)]
-    fn call(&mut self, part: Part<'_>) -> Result<()>
-        ensures steps { Steps (⟦<Serializer<W, F> as Events>⟧.state self.old) (⟦<Serializer<W, F> as Events>⟧.state self.new) (call (record { piece = F.piece; next = F.next }) (⟦<Serializer<W, F> as Events>⟧.state self.old) (meaning part.entry)) result }
-        ensures failed { self.new.failed ≡ self.old.failed }
+    // Keeps the error.
+    #[cold]
+    #[inline(never)]
+    fn halt(&mut self, error: Error) -> Halted
+        ensures { self.new ≡ record self.old { failed = Some error } }
     {
-        write_part(&mut self.formatter, &mut self.writer, part)
+        self.failed = Some(error);
+        Halted
     }
 
-    fn value_begin(&mut self) -> Result<()>
-        ensures steps { Steps (⟦<Serializer<W, F> as Events>⟧.state self.old) (⟦<Serializer<W, F> as Events>⟧.state self.new) (value_begun (record { piece = F.piece; next = F.next }) (⟦<Serializer<W, F> as Events>⟧.state self.old)) result }
-        ensures failed { self.new.failed ≡ self.old.failed }
+    #[inline(always)]
+    fn call(&mut self, part: Part<'_>) -> Step
+        requires { self.old.failed ≡ None }
+        ensures { Steps (⟦<Serializer<W, F> as Events>⟧.state self.old) (⟦<Serializer<W, F> as Events>⟧.state self.new) (call (record { piece = F.piece; next = F.next }) (⟦<Serializer<W, F> as Events>⟧.state self.old) (meaning part.entry)) self.new.failed result }
+    {
+        match write_part(&mut self.formatter, &mut self.writer, part) {
+            Ok(()) => Ok(()),
+            Err(error) => Err(self.halt(error)),
+        }
+    }
+
+    // What stands before a value.
+    #[inline(always)]
+    fn value_begin(&mut self) -> Step
+        requires { self.old.failed ≡ None }
+        ensures { Steps (⟦<Serializer<W, F> as Events>⟧.state self.old) (⟦<Serializer<W, F> as Events>⟧.state self.new) (value_begun (record { piece = F.piece; next = F.next }) (⟦<Serializer<W, F> as Events>⟧.state self.old)) self.new.failed result }
     {
         match self.turn {
             Turn::Value | Turn::Key(_) | Turn::Done => Ok(()),
@@ -142,9 +123,11 @@ impl<W: Sink, F: Formatter> Serializer<W, F> {
         }
     }
 
-    fn value_end(&mut self) -> Result<()>
-        ensures steps { Steps (⟦<Serializer<W, F> as Events>⟧.state self.old) (⟦<Serializer<W, F> as Events>⟧.state self.new) (value_ended (record { piece = F.piece; next = F.next }) (⟦<Serializer<W, F> as Events>⟧.state self.old)) result }
-        ensures failed { self.new.failed ≡ self.old.failed }
+    // What stands behind a value.
+    #[inline(always)]
+    fn value_end(&mut self) -> Step
+        requires { self.old.failed ≡ None }
+        ensures { Steps (⟦<Serializer<W, F> as Events>⟧.state self.old) (⟦<Serializer<W, F> as Events>⟧.state self.new) (value_ended (record { piece = F.piece; next = F.next }) (⟦<Serializer<W, F> as Events>⟧.state self.old)) self.new.failed result }
     {
         match self.opened.last() {
             None => {
@@ -152,34 +135,36 @@ impl<W: Sink, F: Formatter> Serializer<W, F> {
                 Ok(())
             }
             Some(Kind::Array) => {
-                let result = self.call(Part::EndElement);
                 self.turn = Turn::Element(false);
-                result
+                self.call(Part::EndElement)
             }
             Some(Kind::Object) => {
-                let result = self.call(Part::EndMember);
                 self.turn = Turn::Key(false);
-                result
+                self.call(Part::EndMember)
             }
         }
     }
 
-    fn scalar(&mut self, part: Part<'_>) -> Result<()>
-        ensures steps { Steps (⟦<Serializer<W, F> as Events>⟧.state self.old) (⟦<Serializer<W, F> as Events>⟧.state self.new) (took_scalar (record { piece = F.piece; next = F.next }) (⟦<Serializer<W, F> as Events>⟧.state self.old) (meaning part.entry)) result }
-        ensures failed { self.new.failed ≡ self.old.failed }
+    #[inline(always)]
+    fn scalar(&mut self, part: Part<'_>) -> Step
+        requires { self.old.failed ≡ None }
+        ensures { Steps (⟦<Serializer<W, F> as Events>⟧.state self.old) (⟦<Serializer<W, F> as Events>⟧.state self.new) (took_scalar (record { piece = F.piece; next = F.next }) (⟦<Serializer<W, F> as Events>⟧.state self.old) (meaning part.entry)) self.new.failed result }
     {
         self.value_begin()?;
         self.call(part)?;
         self.value_end()
     }
 
-    fn begin(&mut self, kind: Kind) -> Result<()>
-        ensures steps { Steps (⟦<Serializer<W, F> as Events>⟧.state self.old) (⟦<Serializer<W, F> as Events>⟧.state self.new) (took_begin (record { piece = F.piece; next = F.next }) (⟦<Serializer<W, F> as Events>⟧.state self.old) kind) result }
-        ensures failed { self.new.failed ≡ self.old.failed }
+    // Puts a container on those that are open.
+    #[inline(always)]
+    fn open(&mut self, kind: Kind) -> Step
+        requires { self.old.failed ≡ None }
+        ensures { Steps (⟦<Serializer<W, F> as Events>⟧.state self.old) (⟦<Serializer<W, F> as Events>⟧.state self.new) (opened_up (⟦<Serializer<W, F> as Events>⟧.state self.old) kind) self.new.failed result }
     {
-        self.value_begin()?;
-        self.call(Part::Begin(kind))?;
-        self.opened.push(kind)?;
+        match self.opened.push(kind) {
+            Ok(()) => {}
+            Err(error) => return Err(self.halt(Error::from(error))),
+        }
         self.turn = match kind {
             Kind::Array => Turn::Element(true),
             Kind::Object => Turn::Key(true),
@@ -187,18 +172,30 @@ impl<W: Sink, F: Formatter> Serializer<W, F> {
         Ok(())
     }
 
-    fn end(&mut self, kind: Kind) -> Result<()>
-        ensures steps { Steps (⟦<Serializer<W, F> as Events>⟧.state self.old) (⟦<Serializer<W, F> as Events>⟧.state self.new) (took_end (record { piece = F.piece; next = F.next }) (⟦<Serializer<W, F> as Events>⟧.state self.old) kind) result }
-        ensures failed { self.new.failed ≡ self.old.failed }
+    #[inline(always)]
+    fn begin(&mut self, kind: Kind) -> Step
+        requires { self.old.failed ≡ None }
+        ensures { Steps (⟦<Serializer<W, F> as Events>⟧.state self.old) (⟦<Serializer<W, F> as Events>⟧.state self.new) (took_begin (record { piece = F.piece; next = F.next }) (⟦<Serializer<W, F> as Events>⟧.state self.old) kind) self.new.failed result }
+    {
+        self.value_begin()?;
+        self.call(Part::Begin(kind))?;
+        self.open(kind)
+    }
+
+    #[inline(always)]
+    fn end(&mut self, kind: Kind) -> Step
+        requires { self.old.failed ≡ None }
+        ensures { Steps (⟦<Serializer<W, F> as Events>⟧.state self.old) (⟦<Serializer<W, F> as Events>⟧.state self.new) (took_end (record { piece = F.piece; next = F.next }) (⟦<Serializer<W, F> as Events>⟧.state self.old) kind) self.new.failed result }
     {
         self.call(Part::End(kind))?;
         let _ = self.opened.pop();
         self.value_end()
     }
 
-    fn key_text(&mut self, key: &str) -> Result<()>
-        ensures steps { Steps (⟦<Serializer<W, F> as Events>⟧.state self.old) (⟦<Serializer<W, F> as Events>⟧.state self.new) (took_key (record { piece = F.piece; next = F.next }) (⟦<Serializer<W, F> as Events>⟧.state self.old) key.now) result }
-        ensures failed { self.new.failed ≡ self.old.failed }
+    #[inline(always)]
+    fn key_text(&mut self, key: &str) -> Step
+        requires { self.old.failed ≡ None }
+        ensures { Steps (⟦<Serializer<W, F> as Events>⟧.state self.old) (⟦<Serializer<W, F> as Events>⟧.state self.new) (took_key (record { piece = F.piece; next = F.next }) (⟦<Serializer<W, F> as Events>⟧.state self.old) key.now) self.new.failed result }
     {
         let first = first_key(self.turn);
         self.call(Part::BeginKey(first))?;
@@ -208,122 +205,144 @@ impl<W: Sink, F: Formatter> Serializer<W, F> {
         Ok(())
     }
 
-    #[inline(always)]
-    fn settle(&mut self, outcome: Result<()>) -> Result<()>
-        ensures result { result ≡ outcome }
-        ensures ok { OnOk outcome (self.new.failed ≡ self.old.failed) }
-        ensures err { IfErr outcome (λ e. self.new.failed ≡ Some e) }
-        ensures state { ⟦<Serializer<W, F> as Events>⟧.state self.new ≡ ⟦<Serializer<W, F> as Events>⟧.state self.old }
+    // The error that is kept.
+    #[cold]
+    #[inline(never)]
+    fn refusal(&self) -> Result<()>
+        ensures { result ≡ refusal_of self.now.failed }
     {
-        if let Err(error) = outcome {
-            self.failed = Some(error);
+        match self.failed {
+            None => Ok(()),
+            Some(error) => Err(error),
         }
-        outcome
     }
 }
 
+#[tactic(auto, using(crate::proofs::Answering::answered))]
 impl<W: Sink, F: Formatter> Events for Serializer<W, F> {
     ghost State = { Out F };
 
-    ghost state = { λ s. out_from s.formatter s.turn s.opened.items (W.state s.writer) };
+    ghost state = { out_of W.state };
 
-    ghost after = { λ s t. after (record { piece = F.piece; next = F.next }) s t };
+    ghost after = { after (record { piece = F.piece; next = F.next }) };
 
     ghost stand = { stand_of };
 
-    ghost stopped = { λ s t s' e. Stops s s' (after (record { piece = F.piece; next = F.next }) s t) e };
+    ghost stopped = { StopsAt (record { piece = F.piece; next = F.next }) };
 
     ghost failed = { λ s. s.failed };
 
     ghost moves = { after_stands (record { piece = F.piece; next = F.next }) };
 
     fn null(&mut self) -> Result<()> {
-        if let Some(error) = self.failed {
-            return Err(error);
+        if self.failed.is_some() {
+            return self.refusal();
         }
-        let result = self.scalar(Part::Null);
-        self.settle(result)
+        match self.scalar(Part::Null) {
+            Ok(()) => Ok(()),
+            Err(_) => self.refusal(),
+        }
     }
 
     fn boolean(&mut self, b: bool) -> Result<()> {
-        if let Some(error) = self.failed {
-            return Err(error);
+        if self.failed.is_some() {
+            return self.refusal();
         }
-        let result = self.scalar(Part::Bool(b));
-        self.settle(result)
+        match self.scalar(Part::Bool(b)) {
+            Ok(()) => Ok(()),
+            Err(_) => self.refusal(),
+        }
     }
 
     fn int(&mut self, n: i128) -> Result<()> {
-        if let Some(error) = self.failed {
-            return Err(error);
+        if self.failed.is_some() {
+            return self.refusal();
         }
-        let result = self.scalar(Part::Int(n));
-        self.settle(result)
+        match self.scalar(Part::Int(n)) {
+            Ok(()) => Ok(()),
+            Err(_) => self.refusal(),
+        }
     }
 
     fn uint(&mut self, n: u128) -> Result<()> {
-        if let Some(error) = self.failed {
-            return Err(error);
+        if self.failed.is_some() {
+            return self.refusal();
         }
-        let result = self.scalar(Part::Uint(n));
-        self.settle(result)
+        match self.scalar(Part::Uint(n)) {
+            Ok(()) => Ok(()),
+            Err(_) => self.refusal(),
+        }
     }
 
     fn raw_number(&mut self, literal: &str) -> Result<()> {
-        if let Some(error) = self.failed {
-            return Err(error);
+        if self.failed.is_some() {
+            return self.refusal();
         }
-        let result = self.scalar(Part::Number(literal));
-        self.settle(result)
+        match self.scalar(Part::Number(literal)) {
+            Ok(()) => Ok(()),
+            Err(_) => self.refusal(),
+        }
     }
 
     fn text(&mut self, s: &str) -> Result<()> {
-        if let Some(error) = self.failed {
-            return Err(error);
+        if self.failed.is_some() {
+            return self.refusal();
         }
-        let result = self.scalar(Part::Text(s));
-        self.settle(result)
+        match self.scalar(Part::Text(s)) {
+            Ok(()) => Ok(()),
+            Err(_) => self.refusal(),
+        }
     }
 
     fn begin_array(&mut self, hint: Option<usize>) -> Result<()> {
         let _ = hint;
-        if let Some(error) = self.failed {
-            return Err(error);
+        if self.failed.is_some() {
+            return self.refusal();
         }
-        let result = self.begin(Kind::Array);
-        self.settle(result)
+        match self.begin(Kind::Array) {
+            Ok(()) => Ok(()),
+            Err(_) => self.refusal(),
+        }
     }
 
     fn end_array(&mut self) -> Result<()> {
-        if let Some(error) = self.failed {
-            return Err(error);
+        if self.failed.is_some() {
+            return self.refusal();
         }
-        let result = self.end(Kind::Array);
-        self.settle(result)
+        match self.end(Kind::Array) {
+            Ok(()) => Ok(()),
+            Err(_) => self.refusal(),
+        }
     }
 
     fn begin_object(&mut self, hint: Option<usize>) -> Result<()> {
         let _ = hint;
-        if let Some(error) = self.failed {
-            return Err(error);
+        if self.failed.is_some() {
+            return self.refusal();
         }
-        let result = self.begin(Kind::Object);
-        self.settle(result)
+        match self.begin(Kind::Object) {
+            Ok(()) => Ok(()),
+            Err(_) => self.refusal(),
+        }
     }
 
     fn key(&mut self, s: &str) -> Result<()> {
-        if let Some(error) = self.failed {
-            return Err(error);
+        if self.failed.is_some() {
+            return self.refusal();
         }
-        let result = self.key_text(s);
-        self.settle(result)
+        match self.key_text(s) {
+            Ok(()) => Ok(()),
+            Err(_) => self.refusal(),
+        }
     }
 
     fn end_object(&mut self) -> Result<()> {
-        if let Some(error) = self.failed {
-            return Err(error);
+        if self.failed.is_some() {
+            return self.refusal();
         }
-        let result = self.end(Kind::Object);
-        self.settle(result)
+        match self.end(Kind::Object) {
+            Ok(()) => Ok(()),
+            Err(_) => self.refusal(),
+        }
     }
 }

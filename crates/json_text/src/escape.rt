@@ -1,5 +1,5 @@
 // Escapes in a string (RFC 8259, section 7).
-ghost use Rattle.std.specs.Prelude.{◌≡◌, ◌≢◌, ℕ, ◌<◌, ◌≤◌, Bool, Some, None, cond, length, get_or, IfOk, IfErr};
+ghost use Rattle.std.specs.Prelude.{◌≡◌, ◌≢◌, ℕ, ◌<◌, ◌≤◌, Bool, Some, None, cond, length, get_or, IfOk, IfErr, IsTrue, ◌↔◌};
 ghost use Rattle.std.specs.Char.{digit_value as spec_digit_value};
 ghost use Rattle.json_text.specs.declared.escape.Escape.TheVariants as Escape;
 ghost use Rattle.json_text.specs.Escapes.{escape_step, escape_refusal, EscapeTo, EscapeStops};
@@ -137,8 +137,19 @@ fn behind_backslash(byte: u8) -> Option<Escape>
     }
 }
 
-/// The place behind the escape whose backslash stands before `from`.
-pub fn escape_end(bytes: &[u8], from: usize) -> Result<usize, Fault>
+#[inline(always)]
+fn is_short(byte: u8) -> bool
+    ensures { IsTrue result ↔ (escape_step Escape.Backslash byte ≡ Some Escape.Done) }
+{
+    match behind_backslash(byte) {
+        Some(Escape::Done) => true,
+        _ => false,
+    }
+}
+
+/// The place behind the escape whose backslash stands before `from`, byte by byte.
+#[inline(never)]
+fn long_escape_end(bytes: &[u8], from: usize) -> Result<usize, Fault>
     requires { from ≤ length bytes.now }
     ensures ok { IfOk result (λ e. EscapeTo bytes.now from e) }
     ensures err { IfErr result (λ f. EscapeStops bytes.now from f.code f.offset) }
@@ -162,4 +173,17 @@ pub fn escape_end(bytes: &[u8], from: usize) -> Result<usize, Fault>
         code: ErrorCode::EofWhileParsing,
         offset: at,
     })
+}
+
+/// The place behind the escape whose backslash stands before `from`.
+#[inline(always)]
+pub fn escape_end(bytes: &[u8], from: usize) -> Result<usize, Fault>
+    requires { from ≤ length bytes.now }
+    ensures ok { IfOk result (λ e. EscapeTo bytes.now from e) }
+    ensures err { IfErr result (λ f. EscapeStops bytes.now from f.code f.offset) }
+{
+    if from < bytes.len() && is_short(bytes[from]) {
+        return Ok(from + 1);
+    }
+    long_escape_end(bytes, from)
 }

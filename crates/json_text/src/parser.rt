@@ -1,5 +1,5 @@
 // The reader of a text.
-ghost use Rattle.std.specs.Prelude.{◌≡◌, ◌<◌, ◌≤◌, ◌↔◌, List, [], length, get_or, IsTrue, IfOk, IfErr, OnErr, None};
+ghost use Rattle.std.specs.Prelude.{◌≡◌, ◌<◌, ◌≤◌, ◌↔◌, List, [], length, get_or, IsTrue, IsSome, Some, None, IfSome, IfOk, IfErr, OnErr};
 ghost use Rattle.json_grammar.specs.declared.Spot.TheVariants as Spot;
 ghost use Rattle.json_grammar.specs.Grammar.{IsWhitespace, ws};
 ghost use Rattle.json_grammar.specs.Given.{piece};
@@ -104,13 +104,12 @@ impl<'a> Parser<'a> {
         ensures kept { OnErr result (self.new ≡ self.old) }
     {
         let bytes = self.rest.as_bytes();
-        let kind = self.kinds.top();
-        let stand = match ready(bytes, self.at, self.spot, kind) {
+        let stand = match ready(bytes, self.at, self.spot, &self.kinds) {
             Ok(stand) => stand,
             Err(fault) => return Err(fault),
         };
         if stand.at == bytes.len() {
-            if is_whole(stand.spot, kind) {
+            if is_whole(stand.spot, self.kinds.top()) {
                 return Ok(Event::End);
             }
             return Err(Fault {
@@ -131,21 +130,31 @@ impl<'a> Parser<'a> {
     /// Keeps the refusal, with its place in the text.
     #[cold]
     #[inline(never)]
-    fn refuse(&mut self, fault: Fault) -> Error
+    fn refuse(&mut self, fault: Fault)
         requires new { self.old.failure ≡ None }
         requires fault { IsFault self.old.limit (input self.old) fault.code fault.offset }
-        ensures { Refuses self.old result self.new }
+        ensures { IfSome self.new.failure (λ e. Refuses self.old e self.new) × IsSome self.new.failure }
     {
-        let error = Error {
+        self.failure = Some(Error {
             code: fault.code,
             place: place_of(self.text.as_bytes(), self.start + fault.offset),
-        };
-        self.failure = Some(error);
-        error
+        });
+    }
+
+    /// What was refused.
+    #[inline(always)]
+    fn refusal(&self) -> Error
+        requires { IsSome self.now.failure }
+        ensures { self.now.failure ≡ Some result }
+    {
+        match self.failure {
+            Some(error) => error,
+            None => unreachable!(),
+        }
     }
 
     /// The next event, or what is wrong with the text and where. `End` comes again at each later call, and so does a refusal.
-    #[inline]
+    #[inline(always)]
     pub fn next(&mut self) -> Result<Event<'a>>
         ensures same { SameInput self.old self.new }
         ensures ok { IfOk result (λ e. (self.old.failure ≡ None) × (self.new.failure ≡ None) × Goes self.old e self.new) }
@@ -153,12 +162,15 @@ impl<'a> Parser<'a> {
         ensures err { IfErr result (λ e. Refuses self.old e self.new) }
         ensures begins { EventsBegin self.new }
     {
-        if let Some(error) = self.failure {
-            return Err(error);
+        if self.failure.is_some() {
+            return Err(self.refusal());
         }
         match self.step() {
             Ok(event) => Ok(event),
-            Err(fault) => Err(self.refuse(fault)),
+            Err(fault) => {
+                self.refuse(fault);
+                Err(self.refusal())
+            }
         }
     }
 
@@ -170,5 +182,131 @@ impl<'a> Parser<'a> {
         ensures stop { self.new.index < length self.old.text → ¬ (IsWhitespace (get_or self.old.text self.new.index 0)) }
     {
         self.at = ws_run(self.rest.as_bytes(), self.at);
+    }
+}
+
+#[cfg(test)]
+mod tests {
+    use super::*;
+    use crate::error::Place;
+    use std::test::Fail;
+
+    // A letter for each event.
+    fn letter(event: Event) -> u8 {
+        match event {
+            Event::Null => b'n',
+            Event::Bool(true) => b't',
+            Event::Bool(false) => b'f',
+            Event::Number(_) => b'1',
+            Event::Str(_) => b's',
+            Event::Key(_) => b'k',
+            Event::BeginArray => b'[',
+            Event::EndArray => b']',
+            Event::BeginObject => b'{',
+            Event::EndObject => b'}',
+            Event::End => b'.',
+        }
+    }
+
+    // What is refused of a text.
+    fn refusal_of(text: &str) -> Option<Error> {
+        let mut parser = Parser::new(text);
+        for _ in 0..text.len() + 1 {
+            match parser.next() {
+                Ok(Event::End) => return None,
+                Ok(_) => {}
+                Err(error) => return Some(error),
+            }
+        }
+        None
+    }
+
+    #[test]
+    fn events_in_their_order(rt: HostRuntime) -> std::result::Result<(), Fail> {
+        let text = " {\"a\\u0062\": [-0.5e+1, \"x\", true , []], \"\": false,\"c\":null}\n";
+        let mut parser = Parser::new(text);
+        for want in *b"{k[1st[]]kfkn}.." {
+            let event = parser.next()?;
+            assert_eq!(rt; letter(event), want);
+            if let Event::Key(span) = event {
+                assert_eq!(rt; span.plain().is_none(), span.raw_len() == 7);
+            }
+        }
+        assert!(rt; parser.done());
+        assert_eq!(rt; parser.index(), text.len() - 1);
+        parser.skip_ws();
+        assert_eq!(rt; parser.index(), text.len());
+        Ok(())
+    }
+
+    #[test]
+    fn escapes_spelled_out(rt: HostRuntime) -> std::result::Result<(), Fail> {
+        let mut parser = Parser::new("\"\\ud83d\\ude04\\u0041\\/\\u0000\\t\"");
+        let mut bytes = Vec::with_capacity(rt.alloc(), 64)?;
+        match parser.next()? {
+            Event::Str(span) => {
+                if span.raw_len() <= 64 {
+                    span.unescape_into(&mut bytes);
+                }
+            }
+            _ => {}
+        }
+        assert_eq!(rt; bytes.as_slice(), b"\xf0\x9f\x98\x84A/\x00\t".as_slice());
+        Ok(())
+    }
+
+    #[test]
+    fn refusals_with_their_offsets(rt: HostRuntime) {
+        let table = [
+            ("\"\\ud800abc\"", ErrorCode::InvalidSurrogate, 7),
+            ("\"\\udc00\"", ErrorCode::InvalidSurrogate, 4),
+            ("\"\\ud8\"", ErrorCode::InvalidEscape, 5),
+            ("\"\\x\"", ErrorCode::InvalidEscape, 2),
+            ("\"\\u12g4\"", ErrorCode::InvalidEscape, 5),
+            ("\"\\uDBDD\\u1DD000\"", ErrorCode::InvalidSurrogate, 9),
+            ("", ErrorCode::EofWhileParsing, 0),
+            ("[[[[", ErrorCode::EofWhileParsing, 4),
+            ("[1,]", ErrorCode::InvalidJsonValue, 3),
+            ("{\"a\":1,}", ErrorCode::TrailingComma, 7),
+            ("[01]", ErrorCode::InvalidNumber, 2),
+            ("[1x", ErrorCode::ExpectedArrayCommaOrEnd, 2),
+            ("{\"a\" 1}", ErrorCode::ExpectedColon, 5),
+            ("{1}", ErrorCode::ExpectObjectKeyOrEnd, 1),
+            ("{\"a\":1 \"b\"", ErrorCode::ExpectedObjectCommaOrEnd, 7),
+            ("{} x", ErrorCode::TrailingCharacters, 3),
+            ("-", ErrorCode::EofWhileParsing, 1),
+            ("nulx", ErrorCode::InvalidLiteral, 3),
+            ("[tru]", ErrorCode::InvalidLiteral, 4),
+            ("1.]", ErrorCode::InvalidNumber, 2),
+            ("01", ErrorCode::InvalidNumber, 1),
+            ("True", ErrorCode::InvalidJsonValue, 0),
+            ("\u{feff}1", ErrorCode::InvalidJsonValue, 0),
+            ("\"\n\"", ErrorCode::ControlCharacter, 1),
+        ];
+        for (text, code, offset) in table {
+            let told = refusal_of(text).map(|error| (error.code, error.offset()));
+            assert_eq!(rt; told, Some((code, Some(offset))), "at {text}");
+        }
+        let place = Place::At {
+            offset: 19,
+            line: 4,
+            column: 7,
+        };
+        let told = refusal_of("\n{\n\"k\": \"v\",\n\"a\": [, 1]\n}").map(|error| error.place);
+        assert_eq!(rt; told, Some(place));
+    }
+
+    #[test]
+    fn levels_up_to_the_limit(rt: HostRuntime) -> std::result::Result<(), Fail> {
+        let mut text = String::new(rt.alloc());
+        for _ in 0..254 {
+            text.push('[')?;
+        }
+        let open = refusal_of(text.as_str()).map(|error| (error.code, error.offset()));
+        assert_eq!(rt; open, Some((ErrorCode::EofWhileParsing, Some(254))));
+        text.push('[')?;
+        let deep = refusal_of(text.as_str()).map(|error| (error.code, error.offset()));
+        assert_eq!(rt; deep, Some((ErrorCode::RecursionLimitExceeded, Some(254))));
+        Ok(())
     }
 }

@@ -47,10 +47,10 @@ pub fn ws_end(bytes: &[u8], from: usize) -> usize
     ensures space { ws (piece bytes.now from result) }
     ensures stop { result < length bytes.now → ¬ (IsWhitespace (get_or bytes.now result 0)) }
 {
-    if from < bytes.len() && !is_whitespace(bytes[from]) {
-        from
+    if from < bytes.len() && is_whitespace(bytes[from]) {
+        ws_run(bytes, from + 1)
     } else {
-        ws_run(bytes, from)
+        from
     }
 }
 

@@ -1,10 +1,10 @@
 // What may come at a place.
-ghost use Rattle.std.specs.Prelude.{◌≡◌, ◌≢◌, ℕ, ◌+◌, ◌<◌, ◌≤◌, List, length, get_or, IfOk, IfErr, IsTrue, None, ◌↔◌};
+ghost use Rattle.std.specs.Prelude.{◌≡◌, ◌≢◌, ℕ, ◌+◌, ◌<◌, ◌≤◌, List, length, get_or, IfOk, IfErr, None};
 ghost use Rattle.json_grammar.specs.declared.Kind.{Kind};
 ghost use Rattle.json_grammar.specs.declared.Spot.TheVariants as Spot;
 ghost use Rattle.json_grammar.specs.Tree.{Token};
 ghost use Rattle.json_grammar.specs.Grammar.{IsWhitespace};
-ghost use Rattle.json_grammar.specs.Place.{after_comma as spec_after_comma, closing as spec_closing, TakesEnd};
+ghost use Rattle.json_grammar.specs.Place.{after_comma as spec_after_comma, closing as spec_closing};
 ghost use Rattle.json_text.specs.Stack.{top};
 ghost use Rattle.json_text.specs.Runs.{ByteAt};
 ghost use Rattle.json_text.specs.Faults.{IsFault};
@@ -15,6 +15,7 @@ use crate::error::ErrorCode;
 use crate::fault::Fault;
 use crate::literal::refuse;
 use crate::runs::{byte_is, ws_end};
+use crate::stack::Kinds;
 use json_grammar::{Kind, Spot};
 
 /// Where the next part begins, and what it may be.
@@ -51,14 +52,14 @@ fn after_comma(kind: Kind) -> Spot
 
 /// Behind whitespace and, where one must come, a comma or a colon.
 #[inline(always)]
-pub fn ready(bytes: &[u8], index: usize, spot: Spot, kind: Option<Kind>) -> Result<Stand, Fault>
+pub fn ready(bytes: &[u8], index: usize, spot: Spot, kinds: &Kinds) -> Result<Stand, Fault>
     requires { index ≤ length bytes.now }
     ensures within { IfOk result (λ r. (index ≤ r.at) × (r.at ≤ length bytes.now)) }
     ensures stop { IfOk result (λ r. r.at < length bytes.now → ¬ (IsWhitespace (get_or bytes.now r.at 0))) }
-    ensures apart { IfOk result (λ r. (r.spot ≢ Spot.Colon) × (r.spot ≡ Spot.Done → kind ≢ None → ¬ (ByteAt bytes.now r.at 44))) }
-    ensures ok { (limit : ℕ) (c : List Kind) (ts : List Token) → top c ≡ kind → Stood limit bytes.now index c spot ts
-        → IfOk result (λ r. Stood limit bytes.now r.at c r.spot ts) }
-    ensures err { (limit : ℕ) (c : List Kind) (ts : List Token) → Stood limit bytes.now index c spot ts
+    ensures apart { IfOk result (λ r. (r.spot ≢ Spot.Colon) × (r.spot ≡ Spot.Done → top kinds.now ≢ None → ¬ (ByteAt bytes.now r.at 44))) }
+    ensures ok { (limit : ℕ) (ts : List Token) → Stood limit bytes.now index kinds.now spot ts
+        → IfOk result (λ r. Stood limit bytes.now r.at kinds.now r.spot ts) }
+    ensures err { (limit : ℕ) (ts : List Token) → Stood limit bytes.now index kinds.now spot ts
         → IfErr result (λ f. IsFault limit bytes.now f.code f.offset) }
 {
     let here = settle(bytes, index, spot);
@@ -70,7 +71,7 @@ pub fn ready(bytes: &[u8], index: usize, spot: Spot, kind: Option<Kind>) -> Resu
                 Err(refuse(bytes, here.at, ErrorCode::ExpectedColon))
             }
         }
-        Spot::Done => match kind {
+        Spot::Done => match kinds.top() {
             Some(kind) => {
                 if byte_is(bytes, here.at, b',') {
                     Ok(settle(bytes, here.at + 1, after_comma(kind)))
@@ -81,19 +82,6 @@ pub fn ready(bytes: &[u8], index: usize, spot: Spot, kind: Option<Kind>) -> Resu
             None => Ok(here),
         },
         _ => Ok(here),
-    }
-}
-
-/// Whether the bracket of the kind may close at the spot.
-#[inline(always)]
-pub fn may_end(kind: Kind, spot: Spot) -> bool
-    ensures { IsTrue result ↔ TakesEnd kind spot }
-{
-    match (kind, spot) {
-        (_, Spot::Done) => true,
-        (Kind::Array, Spot::First) => true,
-        (Kind::Object, Spot::KeyOrEnd) => true,
-        _ => false,
     }
 }
 

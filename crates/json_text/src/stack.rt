@@ -1,8 +1,7 @@
 // The open containers, a bit each.
 ghost use Rattle.std.specs.Prelude.{◌≡◌, ◌≢◌, ℕ, ◌<◌, ◌≤◌, List, [], ◌∷◌, length, drop};
 ghost use Rattle.std.specs.Int.{bit_at};
-ghost use Rattle.json_text.specs.Stack.{kind_of};
-ghost use Rattle.json_text.specs.Stack.{top};
+ghost use Rattle.json_text.specs.Stack.{kind_of, top};
 
 use json_grammar::Kind;
 use std::marker::Model;
@@ -26,7 +25,8 @@ impl Model for Kinds {
     ghost invariant = { λ a. a.len ≤ 1024 };
 }
 
-/// The word with the kind's bit in its place.
+// The word with the kind's bit in its place.
+#[inline(always)]
 fn with_bit(word: u64, at: usize, kind: Kind) -> u64
     requires { at < 64 }
     ensures same { kind_of (bit_at result at) ≡ kind }
@@ -39,6 +39,7 @@ fn with_bit(word: u64, at: usize, kind: Kind) -> u64
     }
 }
 
+#[inline(always)]
 fn bit_kind(word: u64, at: usize) -> Kind
     requires { at < 64 }
     ensures { result ≡ kind_of (bit_at word at) }
@@ -51,6 +52,7 @@ fn bit_kind(word: u64, at: usize) -> Kind
 }
 
 impl Kinds {
+    /// None is open.
     pub fn new() -> Kinds
         ensures { result ≡ [] }
     {
@@ -60,6 +62,8 @@ impl Kinds {
         }
     }
 
+    /// How many are open.
+    #[inline(always)]
     pub fn len(&self) -> usize
         ensures value { result ≡ length self.now }
         ensures most { result ≤ 1024 }
@@ -68,6 +72,7 @@ impl Kinds {
     }
 
     /// The innermost.
+    #[inline(always)]
     pub fn top(&self) -> Option<Kind>
         ensures { result ≡ top self.now }
     {
@@ -78,6 +83,8 @@ impl Kinds {
         Some(bit_kind(self.bits[at / 64], at % 64))
     }
 
+    /// One more, the innermost.
+    #[inline(always)]
     pub fn push(&mut self, kind: Kind)
         requires { length self.old < 1024 }
         ensures { self.new ≡ kind ∷ self.old }
@@ -88,6 +95,8 @@ impl Kinds {
         self.len += 1;
     }
 
+    /// Without the innermost.
+    #[inline(always)]
     pub fn pop(&mut self)
         requires { 0 < length self.old }
         ensures { self.new ≡ drop 1 self.old }

@@ -1,5 +1,5 @@
 // Where a string ends (RFC 8259, section 7).
-ghost use Rattle.std.specs.Prelude.{◌≡◌, ℕ, ◌-◌, ◌<◌, ◌≤◌, length, get_or, IfOk, IfErr};
+ghost use Rattle.std.specs.Prelude.{◌≡◌, ℕ, ◌-◌, ◌<◌, ◌≤◌, length, get_or, drop, false, IfOk, IfErr};
 ghost use Rattle.std.specs.Str.{IsUtf8};
 ghost use Rattle.json_text.specs.Runs.{ByteAt};
 ghost use Rattle.json_text.specs.Spelled.{Spells, StringStops};
@@ -7,7 +7,7 @@ ghost use Rattle.json_text.specs.Spelled.{Spells, StringStops};
 use crate::error::ErrorCode;
 use crate::escape::escape_end;
 use crate::fault::Fault;
-use crate::runs::plain_run;
+use crate::runs::{byte_is, plain_run};
 
 /// Where a string closes, and whether an escape stands in it.
 #[derive(Clone, Copy)]
@@ -16,15 +16,15 @@ pub struct Close {
     pub escaped: bool,
 }
 
-/// The closing quote of the string whose first quote stands before `from`.
-#[inline]
-pub fn string_end(bytes: &[u8], from: usize) -> Result<Close, Fault>
-    requires utf8 { IsUtf8 bytes.now }
-    requires begun { (0 < from) × ByteAt bytes.now (from - 1) 34 }
+/// The closing quote of the string whose first quote stands before `from`, from `plain` on, up to which no escape stands.
+#[inline(never)]
+fn string_rest(bytes: &[u8], from: usize, plain: usize) -> Result<Close, Fault>
+    requires whole { Spells bytes.now from plain false }
+    requires utf8 { IsUtf8 (drop plain bytes.now) }
     ensures ok { IfOk result (λ c. ByteAt bytes.now c.quote 34 × Spells bytes.now from c.quote c.escaped) }
     ensures err { IfErr result (λ f. StringStops bytes.now from f.code f.offset) }
 {
-    let mut at = from;
+    let mut at = plain;
     let mut escaped = false;
     'scan: loop {
         let stop = plain_run(bytes, at);
@@ -53,4 +53,22 @@ pub fn string_end(bytes: &[u8], from: usize) -> Result<Close, Fault>
         };
         escaped = true;
     }
+}
+
+/// The closing quote of the string whose first quote stands before `from`.
+#[inline(always)]
+pub fn string_end(bytes: &[u8], from: usize) -> Result<Close, Fault>
+    requires utf8 { IsUtf8 bytes.now }
+    requires begun { (0 < from) × ByteAt bytes.now (from - 1) 34 }
+    ensures ok { IfOk result (λ c. ByteAt bytes.now c.quote 34 × Spells bytes.now from c.quote c.escaped) }
+    ensures err { IfErr result (λ f. StringStops bytes.now from f.code f.offset) }
+{
+    let stop = plain_run(bytes, from);
+    if byte_is(bytes, stop, b'"') {
+        return Ok(Close {
+            quote: stop,
+            escaped: false,
+        });
+    }
+    string_rest(bytes, from, stop)
 }

@@ -1,12 +1,12 @@
 // The parts of a text, each where it begins.
-ghost use Rattle.std.specs.Prelude.{◌≡◌, ◌≢◌, ℕ, ◌+◌, ◌<◌, ◌≤◌, List, length, get_or, Option, Some, None, IfOk, IfErr, OnErr, IfSome, IfNone};
+ghost use Rattle.std.specs.Prelude.{◌≡◌, ◌≢◌, ℕ, ◌+◌, ◌<◌, ◌≤◌, List, length, get_or, drop, Some, None, IfOk, IfErr, OnErr};
 ghost use Rattle.json_grammar.specs.Grammar.{IsWhitespace};
 ghost use Rattle.json_grammar.specs.declared.Kind.{Kind};
 ghost use Rattle.json_grammar.specs.declared.Kind.TheVariants as Kind;
 ghost use Rattle.json_grammar.specs.declared.Spot.{Spot};
 ghost use Rattle.json_grammar.specs.declared.Spot.TheVariants as Spot;
 ghost use Rattle.json_grammar.specs.Tree.{Token};
-ghost use Rattle.json_grammar.specs.Place.{TakesValue, TakesKey, TakesEnd, bracket as spec_bracket, opened as spec_opened, closing as spec_closing};
+ghost use Rattle.json_grammar.specs.Place.{TakesValue, TakesKey, bracket as spec_bracket, opened as spec_opened};
 ghost use Rattle.json_text.specs.Runs.{ByteAt};
 ghost use Rattle.json_text.specs.Numbers.{BeginsNumber};
 ghost use Rattle.json_text.specs.Faults.{IsFault};
@@ -23,7 +23,7 @@ use crate::fault::Fault;
 use crate::literal::{refuse, word_end};
 use crate::number::number_end;
 use crate::span::Span;
-use crate::spot::{closing, may_end, misplaced};
+use crate::spot::{closing, misplaced};
 use crate::stack::Kinds;
 use crate::string::string_end;
 use json_grammar::{Kind, Spot};
@@ -294,57 +294,93 @@ fn key<'a>(text: &'a str, at: usize, spot: Spot) -> Result<Read<'a>, Fault>
     }
 }
 
-/// The innermost container, if the byte closes it there.
+/// The end of the innermost container, whose bracket closes at `at`.
 #[inline(always)]
-fn closes(kind: Option<Kind>, spot: Spot, byte: u8) -> Option<Kind>
-    ensures some { IfSome result (λ k. (kind ≡ Some k) × TakesEnd k spot × (byte ≡ spec_closing k)) }
-    ensures none { IfNone result ((k : Kind) → kind ≡ Some k → TakesEnd k spot → byte ≢ spec_closing k) }
+fn close<'a>(kind: Kind, at: usize, kinds: &mut Kinds) -> Read<'a>
+    requires fits { at < usize.MAX }
+    requires open { top kinds.old ≡ Some kind }
+    ensures event { result.event ≡ spec_end_event kind }
+    ensures place { (result.end ≡ at + 1) × (result.spot ≡ Spot.Done) }
+    ensures kinds { kinds.new ≡ drop 1 kinds.old }
 {
-    let kind = kind?;
-    if byte != closing(kind) {
-        return None;
-    }
-    if may_end(kind, spot) {
-        Some(kind)
-    } else {
-        None
+    kinds.pop();
+    Read {
+        event: end_event(kind),
+        end: at + 1,
+        spot: Spot::Done,
     }
 }
 
-/// What begins at `at` and closes nothing.
+/// What may begin at `at` behind the bracket of an array: an element, or the array's end.
 #[inline(always)]
-fn inner<'a>(
-    text: &'a str,
-    at: usize,
-    spot: Spot,
-    limit: usize,
-    kinds: &mut Kinds,
-) -> Result<Read<'a>, Fault>
+fn first<'a>(text: &'a str, at: usize, limit: usize, kinds: &mut Kinds) -> Result<Read<'a>, Fault>
     requires within { at < length text.now }
     requires byte { ¬ (IsWhitespace (get_or text.now at 0)) }
-    requires spot { spot ≢ Spot.Colon }
-    requires apart { spot ≡ Spot.Done → top kinds.old ≢ None → ¬ (ByteAt text.now at 44) }
-    requires no_end { NoEnd text.now at kinds.old spot }
+    requires open { top kinds.old ≡ Some Kind.Array }
     requires most { limit ≤ 1024 }
-    ensures ok { IfOk result (λ r. From limit text.now at kinds.old spot r.event r.end kinds.new r.spot) }
+    ensures ok { IfOk result (λ r. From limit text.now at kinds.old Spot.First r.event r.end kinds.new r.spot) }
     ensures tight { IfOk result (λ r. Tight text.now at r.event r.end) }
-    ensures err { (ts : List Token) → Stood limit text.now at kinds.old spot ts
+    ensures err { (ts : List Token) → Stood limit text.now at kinds.old Spot.First ts
         → IfErr result (λ f. IsFault limit text.now f.code f.offset) }
     ensures kept { OnErr result (kinds.new ≡ kinds.old) }
 {
-    match spot {
-        Spot::Value => value(text, at, limit, kinds),
-        Spot::First => value(text, at, limit, kinds),
-        Spot::Key => key(text, at, spot),
-        Spot::KeyOrEnd => key(text, at, spot),
-        _ => Err(Fault {
-            code: misplaced(kinds.top()),
+    if byte_at(text, at) == b']' {
+        Ok(close(Kind::Array, at, kinds))
+    } else {
+        value(text, at, limit, kinds)
+    }
+}
+
+/// What may begin at `at` behind the bracket of an object: a name, or the object's end.
+#[inline(always)]
+fn key_or_end<'a>(text: &'a str, at: usize, kinds: &mut Kinds) -> Result<Read<'a>, Fault>
+    requires within { at < length text.now }
+    requires byte { ¬ (IsWhitespace (get_or text.now at 0)) }
+    requires open { top kinds.old ≡ Some Kind.Object }
+    ensures ok { (limit : ℕ) → IfOk result (λ r. From limit text.now at kinds.old Spot.KeyOrEnd r.event r.end kinds.new r.spot) }
+    ensures tight { IfOk result (λ r. Tight text.now at r.event r.end) }
+    ensures err { (limit : ℕ) (ts : List Token) → Stood limit text.now at kinds.old Spot.KeyOrEnd ts
+        → IfErr result (λ f. IsFault limit text.now f.code f.offset) }
+    ensures kept { OnErr result (kinds.new ≡ kinds.old) }
+{
+    if byte_at(text, at) == b'}' {
+        Ok(close(Kind::Object, at, kinds))
+    } else {
+        key(text, at, Spot::KeyOrEnd)
+    }
+}
+
+/// The end of the innermost container, which alone may come at `at` behind a value where no comma stands.
+#[inline(always)]
+fn behind_value<'a>(text: &'a str, at: usize, kinds: &mut Kinds) -> Result<Read<'a>, Fault>
+    requires within { at < length text.now }
+    requires byte { ¬ (IsWhitespace (get_or text.now at 0)) }
+    requires apart { top kinds.old ≢ None → ¬ (ByteAt text.now at 44) }
+    ensures ok { (limit : ℕ) → IfOk result (λ r. From limit text.now at kinds.old Spot.Done r.event r.end kinds.new r.spot) }
+    ensures tight { IfOk result (λ r. Tight text.now at r.event r.end) }
+    ensures err { (limit : ℕ) (ts : List Token) → Stood limit text.now at kinds.old Spot.Done ts
+        → IfErr result (λ f. IsFault limit text.now f.code f.offset) }
+    ensures kept { OnErr result (kinds.new ≡ kinds.old) }
+{
+    match kinds.top() {
+        Some(kind) => {
+            if byte_at(text, at) == closing(kind) {
+                Ok(close(kind, at, kinds))
+            } else {
+                Err(Fault {
+                    code: misplaced(Some(kind)),
+                    offset: at,
+                })
+            }
+        }
+        None => Err(Fault {
+            code: misplaced(None),
             offset: at,
         }),
     }
 }
 
-/// The part that begins at `at`, where no whitespace stands.
+/// The part that begins at `at`, where neither whitespace nor a comma or a colon that must come stands.
 #[inline(always)]
 pub fn take_event<'a>(
     text: &'a str,
@@ -356,6 +392,8 @@ pub fn take_event<'a>(
     requires within { at < length text.now }
     requires byte { ¬ (IsWhitespace (get_or text.now at 0)) }
     requires spot { spot ≢ Spot.Colon }
+    requires first { spot ≡ Spot.First → top kinds.old ≡ Some Kind.Array }
+    requires key_or_end { spot ≡ Spot.KeyOrEnd → top kinds.old ≡ Some Kind.Object }
     requires apart { spot ≡ Spot.Done → top kinds.old ≢ None → ¬ (ByteAt text.now at 44) }
     requires most { limit ≤ 1024 }
     ensures ok { IfOk result (λ r. From limit text.now at kinds.old spot r.event r.end kinds.new r.spot) }
@@ -364,15 +402,11 @@ pub fn take_event<'a>(
         → IfErr result (λ f. IsFault limit text.now f.code f.offset) }
     ensures kept { OnErr result (kinds.new ≡ kinds.old) }
 {
-    match closes(kinds.top(), spot, byte_at(text, at)) {
-        Some(kind) => {
-            kinds.pop();
-            Ok(Read {
-                event: end_event(kind),
-                end: at + 1,
-                spot: Spot::Done,
-            })
-        }
-        None => inner(text, at, spot, limit, kinds),
+    match spot {
+        Spot::Value => value(text, at, limit, kinds),
+        Spot::First => first(text, at, limit, kinds),
+        Spot::Key => key(text, at, Spot::Key),
+        Spot::KeyOrEnd => key_or_end(text, at, kinds),
+        _ => behind_value(text, at, kinds),
     }
 }

@@ -1,4 +1,4 @@
-use Rattle.json_doc.proofs.Fronts.{reading_begins}
+use Rattle.json_doc.proofs.Prefixes.{reading_begins}
 use Rattle.json_doc.proofs.laws.reading_begins.Goals as goal
 
 pub returns : goal.returns

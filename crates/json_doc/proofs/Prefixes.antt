@@ -1,4 +1,4 @@
--- What a parser has given begins the tokens of a tree.
+-- What is read of a prefix begins the tokens of a tree.
 use Rattle.std.proofs.Common.{ℕ, Bool, List, [], ◌∷◌, ◌++◌, refl, subst, append_assoc, inl, inr}
 use Rattle.json_grammar.specs.declared.Kind.{Kind}
 use Rattle.json_grammar.specs.declared.Spot.{Spot}
