@@ -340,3 +340,7 @@ emits_last after stopped first old new err err' pre x ts (Ok u) s fresh w h =
     record { all = h.ok ∙ ap (λ z. after z x) s ∙ sym (after_append after first pre (x ∷ [])) ∙ ap (after_all after first) (sym w); fresh = h.fresh; stops = tt }
 emits_last after stopped first old new err err' pre x ts (Err e) s fresh w h =
     record { all = tt; fresh = tt; stops = stops_within after stopped first old new pre (x ∷ []) [] ts e s w (stops_one after stopped old new err err' x e fresh h) }
+
+-- all tokens of a tree were given from the beginning
+pub given_whole : {S : Type 0} (after : S → Token → S) (first begun now : S) (t u : Tree) → now ≡ after_all after first (tokens u) → first ≡ begun → u ≡ t → now ≡ after_all after begun (tokens t)
+given_whole after first begun now t u h s e = h ∙ ap₂ (λ a b. after_all after a (tokens b)) s e

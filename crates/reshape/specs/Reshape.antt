@@ -43,6 +43,13 @@ pub record GainsFront (source source' : SourceState) (sink sink' : SinkState) : 
   pub reads : Reads source source' tree
   pub gains : AppendsFront sink.gained sink'.gained (compact tree)
 
+-- why no document was read: one row for each answer
+abbrev pub ReadingRefuses : SourceState → SourceState → ErrorCode → Place → Type 0
+ReadingRefuses source source' NoMemory nowhere = ⊤
+ReadingRefuses source source' Io Reading = Rose source.faults source'.faults
+ReadingRefuses source source' TooLarge nowhere = RoseBy (most + 1) source.given source'.given × IfSome source.left (λ b. most < length b)
+ReadingRefuses source source' code place = ReadsFault source source' code place
+
 -- why it was refused, and what that left in the sink: one row for each answer
 abbrev pub Refuses : SourceState → SourceState → SinkState → SinkState → ErrorCode → Place → Type 0
 Refuses source source' sink sink' NoMemory nowhere = (sink' ≡ sink) ⊎ GainsFront source source' sink sink'

@@ -2,9 +2,11 @@
 #![tactic(auto)]
 
 mod command;
+mod document;
 mod emit;
 mod engine;
 pub mod laws;
+mod output;
 mod top;
 mod words;
 
