@@ -189,9 +189,10 @@ array_front t i = begin array ∷ all_tokens (take i (elements t))
 -- the tokens around one element
 pub array_around : (t : Tree) (i : ℕ) (u : Tree) → type_of t ≡ kind.Array → slice_get (elements t) i ≡ Some u → (m : List Token) × (tokens t ≡ array_front t i ++ (tokens u ++ m))
 array_around t i u h e =
-    let r = rest_tokens (elements t) i u e in
-    (r.0 ++ end array ∷ [],
-     array_tokens t h ∙ ap (λ o. begin array ∷ (o ++ end array ∷ [])) r.1 ∙ ap (λ o. begin array ∷ o) (append_assoc (all_tokens (take i (elements t))) (tokens u ++ r.0) (end array ∷ []) ∙ ap (λ o. all_tokens (take i (elements t)) ++ o) (append_assoc (tokens u) r.0 (end array ∷ []))))
+    let r = rest_tokens (elements t) i u e in (
+      r.0 ++ end array ∷ [],
+      array_tokens t h ∙ ap (λ o. begin array ∷ (o ++ end array ∷ [])) r.1 ∙ ap (λ o. begin array ∷ o) (append_assoc (all_tokens (take i (elements t))) (tokens u ++ r.0) (end array ∷ []) ∙ ap (λ o. all_tokens (take i (elements t)) ++ o) (append_assoc (tokens u) r.0 (end array ∷ []))),
+    )
 
 pub array_more : (t : Tree) (i : ℕ) (u : Tree) → slice_get (elements t) i ≡ Some u → array_front t (i + 1) ≡ array_front t i ++ tokens u
 array_more t i u e = ap (array_front t) (next i) ∙ ap (λ o. begin array ∷ o) (more_tokens (elements t) i u e)
@@ -273,10 +274,11 @@ object_front t i = begin object ∷ all_pairs (take i (members t))
 pub object_around : (t : Tree) (i : ℕ) (k : List ℕ) (u : Tree) → type_of t ≡ kind.Object → slice_get (keys t) i ≡ Some k → slice_get (values t) i ≡ Some u → (m : List Token) × (tokens t ≡ object_front t i ++ (key_token k ∷ (tokens u ++ m)))
 object_around t i k u h d e =
     let d' = ap (λ o. slice_get o i) (sym (keys_of t)) ∙ d in let e' = ap (λ o. slice_get o i) (sym (values_of t)) ∙ e in
-    let r = rest_pairs (members t) i k u d' e' in
-    (r.0 ++ end object ∷ [],
-     object_tokens t h ∙ ap (λ o. begin object ∷ (o ++ end object ∷ [])) r.1
-     ∙ ap (λ o. begin object ∷ o) (append_assoc (all_pairs (take i (members t))) (key_token k ∷ (tokens u ++ r.0)) (end object ∷ []) ∙ ap (λ o. all_pairs (take i (members t)) ++ (key_token k ∷ o)) (append_assoc (tokens u) r.0 (end object ∷ []))))
+    let r = rest_pairs (members t) i k u d' e' in (
+      r.0 ++ end object ∷ [],
+      object_tokens t h ∙ ap (λ o. begin object ∷ (o ++ end object ∷ [])) r.1
+          ∙ ap (λ o. begin object ∷ o) (append_assoc (all_pairs (take i (members t))) (key_token k ∷ (tokens u ++ r.0)) (end object ∷ []) ∙ ap (λ o. all_pairs (take i (members t)) ++ (key_token k ∷ o)) (append_assoc (tokens u) r.0 (end object ∷ []))),
+    )
 
 pub object_more : (t : Tree) (i : ℕ) (k : List ℕ) (u : Tree) → slice_get (keys t) i ≡ Some k → slice_get (values t) i ≡ Some u → object_front t (i + 1) ≡ object_front t i ++ key_token k ∷ tokens u
 object_more t i k u d e =

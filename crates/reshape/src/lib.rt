@@ -14,3 +14,6 @@ pub use command::Asked;
 pub use engine::reshape;
 pub use top::run;
 pub use words::asked;
+
+#[cfg(test)]
+mod tests;

@@ -30,8 +30,8 @@ pub emit_array-elements-preserved : goal.emit_array-elements-preserved
 emit_array-elements-preserved g t c =
     let tree = view_tree c.args.view in let i = c.elements.i in let h = c.elements.invariant in
     elim c.match-element.branch [
-      emit_array-in-Some+in_ok-emit w ↦ rw w.out-is (array_step _ _ _ _ tree i _ h.0 w.in_ok-emit.ensures.all (sym w.in-Some.ensures.tree), w.in_ok-emit.ensures.fresh)
-    | emit_array-in_default w ↦ rw w.out-is (h.0 ∙ ap (after_all g.E.Events.after (g.E.Events.state c.args.out.now)) (sym (array_no_more tree i (sym w.in_default.ensures.tree))), h.1)
+      | emit_array-in-Some+in_ok-emit w ↦ rw w.out-is (array_step _ _ _ _ tree i _ h.0 w.in_ok-emit.ensures.all (sym w.in-Some.ensures.tree), w.in_ok-emit.ensures.fresh)
+      | emit_array-in_default w ↦ rw w.out-is (h.0 ∙ ap (after_all g.E.Events.after (g.E.Events.state c.args.out.now)) (sym (array_no_more tree i (sym w.in_default.ensures.tree))), h.1)
     ]
 
 pub emit_array-end_array-requires : goal.emit_array-end_array-requires
@@ -75,11 +75,11 @@ pub emit_object-members-preserved : goal.emit_object-members-preserved
 emit_object-members-preserved g t c =
     let tree = view_tree c.args.view in let i = c.members.i in let h = c.members.invariant in
     elim c.match-key.branch [
-      emit_object-in-Some+in-Some-pair_value+in_ok-key+in_ok-emit w ↦
-      rw w.out-is (object_step _ _ _ _ _ tree i w.in-Some.key.now _ h.0 w.in_ok-key.ensures.ok w.in_ok-emit.ensures.all (sym w.in-Some.ensures) (sym w.in-Some-pair_value.ensures.tree), w.in_ok-emit.ensures.fresh)
-    | emit_object-in-Some+in_default-pair_value w ↦
-      rw w.out-is (h.0 ∙ ap (after_all g.E.Events.after (g.E.Events.state c.args.out.now)) (sym (object_no_value tree i (sym w.in_default-pair_value.ensures.tree))), h.1)
-    | emit_object-in_default w ↦ rw w.out-is (h.0 ∙ ap (after_all g.E.Events.after (g.E.Events.state c.args.out.now)) (sym (object_no_key tree i (sym w.in_default.ensures))), h.1)
+      | emit_object-in-Some+in-Some-pair_value+in_ok-key+in_ok-emit w ↦
+          rw w.out-is (object_step _ _ _ _ _ tree i w.in-Some.key.now _ h.0 w.in_ok-key.ensures.ok w.in_ok-emit.ensures.all (sym w.in-Some.ensures) (sym w.in-Some-pair_value.ensures.tree), w.in_ok-emit.ensures.fresh)
+      | emit_object-in-Some+in_default-pair_value w ↦
+          rw w.out-is (h.0 ∙ ap (after_all g.E.Events.after (g.E.Events.state c.args.out.now)) (sym (object_no_value tree i (sym w.in_default-pair_value.ensures.tree))), h.1)
+      | emit_object-in_default w ↦ rw w.out-is (h.0 ∙ ap (after_all g.E.Events.after (g.E.Events.state c.args.out.now)) (sym (object_no_key tree i (sym w.in_default.ensures))), h.1)
     ]
 
 pub emit_object-end_object-requires : goal.emit_object-end_object-requires
