@@ -8,12 +8,12 @@ ghost use Rattle.json_text.specs.Parsing.{input, HasGiven, SameInput, Goes, IsTi
 
 use crate::error::{Error, ErrorCode, Result};
 use crate::event::Event;
-use crate::fault::Fault;
 use crate::place::place_of;
 use crate::runs::ws_run;
 use crate::spot::ready;
 use crate::stack::Kinds;
 use crate::token::take_event;
+use crate::unplaced::Fault;
 use json_grammar::{Kind, Spot};
 use std::marker::Model;
 

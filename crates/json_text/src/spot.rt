@@ -12,10 +12,10 @@ ghost use Rattle.json_text.specs.Standing.{Stood};
 ghost use Rattle.json_text.specs.Misplaced.{misplaced as spec_misplaced};
 
 use crate::error::ErrorCode;
-use crate::fault::Fault;
 use crate::literal::refuse;
 use crate::runs::{byte_is, ws_end};
 use crate::stack::Kinds;
+use crate::unplaced::Fault;
 use json_grammar::{Kind, Spot};
 
 /// Where the next part begins, and what it may be.

@@ -19,13 +19,13 @@ ghost use Rattle.json_text.specs.Tokens.{WordOf, NoEnd, no_key as spec_no_key, b
 
 use crate::error::ErrorCode;
 use crate::event::Event;
-use crate::fault::Fault;
 use crate::literal::{refuse, word_end};
 use crate::number::number_end;
 use crate::span::Span;
 use crate::spot::{closing, misplaced};
 use crate::stack::Kinds;
 use crate::string::string_end;
+use crate::unplaced::Fault;
 use json_grammar::{Kind, Spot};
 
 /// What a byte begins.
