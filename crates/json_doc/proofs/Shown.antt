@@ -6,7 +6,7 @@ use Rattle.json_grammar.specs.Tree.{Tree, null, pairs, Pairs, pairs_list, trees_
 use Rattle.json_doc.specs.Shape.{is_str, CellInPlace}
 use Rattle.json_doc.specs.Trees.{text_of, paired, tree_of_cell, trees}
 use Rattle.json_doc.specs.Docs.{doc_cells, doc_text, doc_tree}
-use Rattle.json_doc.specs.Places.{places_from, AllBelow}
+use Rattle.json_doc.specs.Places.{child_of, places_from, AllBelow}
 use Rattle.json_doc.specs.Readings.{type_of, bool_of, literal_of, string_of, elements, keys, values, children}
 use Rattle.json_doc.specs.CellReadings.{cell_type, cell_bool, cell_len}
 use Rattle.json_doc.specs.declared.cell.Cell.{Cell}
@@ -270,6 +270,27 @@ count_at d at c inside is = by_case c refl
     by_case (cell.Str start n) e = ap length (no_children_at d at c inside is (λ link len f. absurd (cc)) (λ link len f. absurd (cc)))
     by_case (cell.Array link n) e = ap length (array_children_at d at c inside is link n e) ∙ length-of_places (doc_tree d) link 1 n
     by_case (cell.Object link n) e = ap length (object_children_at d at c inside is link n e) ∙ length-of_places (doc_tree d) (link + 1) 2 n
+
+-- ---- where children stand
+
+get-places : (at step n i : ℕ) → i < n → slice_get (places_from at step n) i ≡ Some (at + step * i)
+get-places at step zero i h = absurd (omega arith)
+get-places at step (suc n) zero h = let e : at ≡ at + step * 0 = omega arith in ap Some e
+get-places at step (suc n) (suc i) h = get-places (at + step) step n i (omega arith) ∙ ap Some (next at step i)
+  where
+    next : (at step i : ℕ) → (at + step) + step * i ≡ at + step * suc i
+    next at step i = grind arith
+
+pub array_place_at : (d : Doc) (at : ℕ) (c : Cell) (link len i : ℕ) → at < length (doc_cells d) → c ≡ get_or (doc_cells d) at cell.Null → c ≡ cell.Array link len → i < length (children (doc_tree d at)) → slice_get (places_from link 1 len) i ≡ Some (child_of (get_or (doc_cells d) at cell.Null) i)
+array_place_at d at c link len i inside is e h =
+    let count : length (children (doc_tree d at)) ≡ len = count_at d at c inside is ∙ ap cell_len e in
+    let here : link + 1 * i ≡ link + i = omega arith in
+    get-places link 1 len i (omega arith) ∙ ap Some here ∙ ap (λ (x : Cell). Some (child_of x i)) (sym e ∙ is)
+
+pub object_place_at : (d : Doc) (at : ℕ) (c : Cell) (link len i : ℕ) → at < length (doc_cells d) → c ≡ get_or (doc_cells d) at cell.Null → c ≡ cell.Object link len → i < length (children (doc_tree d at)) → slice_get (places_from (link + 1) 2 len) i ≡ Some (child_of (get_or (doc_cells d) at cell.Null) i)
+object_place_at d at c link len i inside is e h =
+    let count : length (children (doc_tree d at)) ≡ len = count_at d at c inside is ∙ ap cell_len e in
+    get-places (link + 1) 2 len i (omega arith) ∙ ap (λ (x : Cell). Some (child_of x i)) (sym e ∙ is)
 
 -- ---- an iterator's steps
 

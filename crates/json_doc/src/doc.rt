@@ -24,6 +24,7 @@ impl Doc {
     ghost use Rattle.json_doc.specs.Seen.{view_doc, view_place, view_tree};
 
     /// The cells, one for each node and each key.
+    #[inline]
     pub fn cells(&self) -> &[Cell]
         ensures { result.now ≡ doc_cells self.now }
     {
@@ -31,6 +32,7 @@ impl Doc {
     }
 
     /// The texts, keys and literals in the order in which they stand in the JSON text, unescaped.
+    #[inline]
     pub fn text(&self) -> &str
         ensures { result.now ≡ doc_text self.now }
     {
@@ -38,6 +40,7 @@ impl Doc {
     }
 
     /// The place of the root's cell.
+    #[inline]
     pub fn root(&self) -> u32
         ensures place { result ≡ doc_root self.now }
         ensures within { result < length (doc_cells self.now) }
@@ -46,6 +49,7 @@ impl Doc {
     }
 
     /// The whole document.
+    #[inline]
     pub fn view(&self) -> DocView<'_>
         ensures doc { view_doc result ≡ self.now }
         ensures place { view_place result ≡ doc_root self.now }
@@ -55,6 +59,7 @@ impl Doc {
     }
 
     /// What stands at a place, which has to be below the number of cells.
+    #[inline]
     pub fn view_at(&self, at: u32) -> DocView<'_>
         requires { at < length (doc_cells self.now) }
         ensures doc { view_doc result ≡ self.now }

@@ -20,9 +20,11 @@ pub struct DocView<'a> {
 
 impl<'a> DocView<'a> {
     ghost use Rattle.json_doc.specs.Seen.{view_doc, view_place, view_tree, child_place};
-    ghost use Rattle.json_doc.specs.Left.{children_doc, children_left};
+    ghost use Rattle.std.specs.Prelude.{ℕ, Some};
+    ghost use Rattle.json_doc.specs.Left.{children_doc, children_places, children_left};
 
     /// The place.
+    #[inline]
     pub fn place(self) -> u32
         ensures at { result ≡ view_place self.entry }
         ensures within { result < length (doc_cells (view_doc self.entry)) }
@@ -31,6 +33,7 @@ impl<'a> DocView<'a> {
     }
 
     /// The document.
+    #[inline]
     pub fn doc(self) -> &'a Doc
         ensures { result.now ≡ view_doc self.entry }
     {
@@ -45,6 +48,7 @@ impl<'a> DocView<'a> {
     }
 
     /// The kind of the value.
+    #[inline]
     pub fn get_type(self) -> JsonType
         ensures { result ≡ type_of (view_tree self.entry) }
     {
@@ -52,6 +56,7 @@ impl<'a> DocView<'a> {
     }
 
     /// The boolean; none of another kind.
+    #[inline]
     pub fn as_bool(self) -> Option<bool>
         ensures { result ≡ bool_of (view_tree self.entry) }
     {
@@ -59,6 +64,7 @@ impl<'a> DocView<'a> {
     }
 
     /// The literal of the number; none of another kind.
+    #[inline]
     pub fn literal(self) -> Option<&'a str>
         ensures { option_map (λ s. s.now) result ≡ literal_of (view_tree self.entry) }
     {
@@ -69,6 +75,7 @@ impl<'a> DocView<'a> {
     }
 
     /// The text of the string; none of another kind.
+    #[inline]
     pub fn text(self) -> Option<&'a str>
         ensures { option_map (λ s. s.now) result ≡ string_of (view_tree self.entry) }
     {
@@ -76,6 +83,7 @@ impl<'a> DocView<'a> {
     }
 
     /// How many elements or pairs there are; 0 for a scalar.
+    #[inline]
     pub fn len(self) -> usize
         ensures { result ≡ length (children (view_tree self.entry)) }
     {
@@ -83,6 +91,7 @@ impl<'a> DocView<'a> {
     }
 
     /// The element `i`, counted from 0; none of another kind, or past the last.
+    #[inline]
     pub fn element(self, i: usize) -> Option<DocView<'a>>
         ensures tree { option_map view_tree result ≡ slice_get (elements (view_tree self.entry)) i }
         ensures doc { IfSome result (λ v. view_doc v ≡ view_doc self.entry) }
@@ -101,6 +110,7 @@ impl<'a> DocView<'a> {
     }
 
     /// The key of the pair `i`, counted from 0; none of another kind, or past the last.
+    #[inline]
     pub fn key(self, i: usize) -> Option<&'a str>
         ensures { option_map (λ s. s.now) result ≡ slice_get (keys (view_tree self.entry)) i }
     {
@@ -117,6 +127,7 @@ impl<'a> DocView<'a> {
     }
 
     /// The value of the pair `i`, counted from 0; none of another kind, or past the last.
+    #[inline]
     pub fn pair_value(self, i: usize) -> Option<DocView<'a>>
         ensures tree { option_map view_tree result ≡ slice_get (values (view_tree self.entry)) i }
         ensures doc { IfSome result (λ v. view_doc v ≡ view_doc self.entry) }
@@ -135,9 +146,11 @@ impl<'a> DocView<'a> {
     }
 
     /// The elements, or the values of the pairs, in order; none of a scalar.
+    #[inline]
     pub fn children(self) -> DocChildren<'a>
         ensures doc { children_doc result ≡ view_doc self.entry }
         ensures trees { children_left result ≡ children (view_tree self.entry) }
+        ensures places { (i : ℕ) → i < length (children (view_tree self.entry)) → slice_get (children_places result) i ≡ Some (child_place (view_doc self.entry) (view_place self.entry) i) }
     {
         match self.cell() {
             Cell::Array { link, len } => {
