@@ -19,3 +19,7 @@ pub mod Begins
 pub mod Tokens
 pub mod Parsing
 pub mod Laws
+pub mod Fakes
+pub mod FaultText
+pub mod Sources
+pub mod Sinks

@@ -8,17 +8,17 @@ use Rattle.json_text.specs.declared.sink.SinkError.TheVariants as sink_error
 
 -- ---- counts
 
--- the count rose by at least n, or stands at the last value of u64 (or beyond it, where one counts further)
+-- the count n later: at the last value of u64 it stands still
+abbrev pub counted : ℕ → ℕ → ℕ
+counted n before = max before (min (before + n) (2 ^ 64 - 1))
+
+-- the count rose by at least n, or stands at the last value of u64
 abbrev pub RoseBy : ℕ → ℕ → ℕ → Type 0
-RoseBy n before now = min (before + n) (2 ^ 64 - 1) ≤ now
+RoseBy n before now = counted n before ≤ now
 
 -- the count rose, or stands at the last value of u64
 abbrev pub Rose : ℕ → ℕ → Type 0
 Rose before now = RoseBy 1 before now
-
--- the count n later: at the last value of u64 it stands still
-abbrev pub counted : ℕ → ℕ → ℕ
-counted n before = max before (min (before + n) (2 ^ 64 - 1))
 
 -- ---- a source
 

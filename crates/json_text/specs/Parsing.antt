@@ -23,6 +23,10 @@ pub record ParserState : Type 0 where
   pub spot : Spot
   pub failure : Option Error
 
+-- of a parser that took so many bytes of what it reads
+abbrev pub state_of : List ℕ → ℕ → ℕ → ℕ → List Kind → Spot → Option Error → ParserState
+state_of text start limit at c w f = record { text = text; start = start; limit = limit; index = start + at; open_kinds = c; spot = w; failure = f }
+
 -- what is read
 abbrev pub input : ParserState → List ℕ
 input s = drop s.start s.text
@@ -68,8 +72,9 @@ pub record Refuses (old : ParserState) (e : Error) (new : ParserState) : Type 0 
 abbrev pub EventsBegin : ParserState → Type 0
 EventsBegin s = (ts : List Token) → HasGiven s ts → (t : Tree) (b : List ℕ) → is_text false t (take (taken s) (input s) ++ b) → LastEnds s.spot ts b → (m : List Token) × (tokens t ≡ ts ++ m)
 
--- what is true of each parser
-pub record IsSound (s : ParserState) : Type 0 where
+-- what is true of each parser, which keeps what is left of the text from the start on
+pub record IsSound (rest : List ℕ) (s : ParserState) : Type 0 where
+  pub rest_is : rest ≡ input s
   pub given : (ts : List Token) × HasGiven s ts
   pub failed : IfSome s.failure (λ e. FaultFrom s.limit s.start s.text e.code e.place)
   pub order : s.start ≤ s.index

@@ -1,5 +1,5 @@
 -- Bytes that are no UTF-8 (RFC 8259, section 8.1).
-use Rattle.std.specs.Prelude.{◌≡◌, ℕ, List, IsUtf8}
+use Rattle.std.specs.Prelude.{◌≡◌, ℕ, List, ◌⊎◌, IsUtf8}
 use Rattle.std.specs.Str.{IsValidUpTo}
 use Rattle.json_text.specs.declared.error.ErrorCode.{ErrorCode}
 use Rattle.json_text.specs.declared.error.ErrorCode.TheVariants.{InvalidUTF8}
@@ -22,3 +22,7 @@ OneUtf8Fault = (b : List ℕ) (k m : ℕ) → IsUtf8Fault b k → IsUtf8Fault b 
 -- bytes that have one are no UTF-8
 abbrev pub Utf8FaultIsNoUtf8 : Type 0
 Utf8FaultIsNoUtf8 = (b : List ℕ) (k : ℕ) → IsUtf8Fault b k → ¬ IsUtf8 b
+
+-- bytes are UTF-8 or have one
+abbrev pub SomeUtf8Fault : Type 0
+SomeUtf8Fault = (b : List ℕ) → IsUtf8 b ⊎ ((k : ℕ) × IsUtf8Fault b k)

@@ -5,7 +5,7 @@ ghost use Rattle.json_text.specs.declared.escape.Escape.TheVariants as Escape;
 ghost use Rattle.json_text.specs.Escapes.{escape_step, escape_refusal, EscapeTo, EscapeStops};
 
 use crate::error::ErrorCode;
-use crate::fault::Fault;
+use crate::unplaced::Fault;
 
 /// How far an escape has come behind its backslash.
 #[derive(Clone, Copy, PartialEq, Eq)]

@@ -8,12 +8,12 @@ ghost use Rattle.json_text.specs.Parsing.{input, HasGiven, SameInput, Goes, IsTi
 
 use crate::error::{Error, ErrorCode, Result};
 use crate::event::Event;
-use crate::fault::Fault;
 use crate::place::place_of;
 use crate::runs::ws_run;
 use crate::spot::ready;
 use crate::stack::Kinds;
 use crate::token::take_event;
+use crate::unplaced::Fault;
 use json_grammar::{Kind, Spot};
 use std::marker::Model;
 
@@ -36,14 +36,13 @@ pub struct Parser<'a> {
 }
 
 impl<'a> Model for Parser<'a> {
-    ghost use Rattle.std.specs.Prelude.{◌≡◌, ◌+◌, drop};
-    ghost use Rattle.json_text.specs.Parsing.{ParserState, IsSound};
+    ghost use Rattle.json_text.specs.Parsing.{ParserState, state_of, IsSound};
 
     ghost Value = { ParserState };
 
-    ghost view = { λ a. record { text = a.text.now; start = a.start; limit = a.limit; index = a.start + a.at; open_kinds = a.kinds; spot = a.spot; failure = a.failure } };
+    ghost view = { λ a. state_of a.text.now a.start a.limit a.at a.kinds a.spot a.failure };
 
-    ghost invariant = { λ a. (a.rest.now ≡ drop a.start a.text.now) × IsSound (record { text = a.text.now; start = a.start; limit = a.limit; index = a.start + a.at; open_kinds = a.kinds; spot = a.spot; failure = a.failure }) };
+    ghost invariant = { λ a. IsSound a.rest.now (state_of a.text.now a.start a.limit a.at a.kinds a.spot a.failure) };
 }
 
 #[inline(always)]
@@ -57,7 +56,7 @@ fn is_whole(spot: Spot, kind: Option<Kind>) -> bool
 }
 
 impl<'a> Parser<'a> {
-    /// Stands at the beginning, where a value must come. Trees of at most 254 levels are read.
+    /// Stands at the beginning, where a value must come. A value of at most 254 levels is read: `[]` has 1.
     pub fn new(text: &'a str) -> Parser<'a>
         ensures text { result.text ≡ text.now }
         ensures start { (result.start ≡ 0) × (result.index ≡ 0) }
@@ -76,8 +75,8 @@ impl<'a> Parser<'a> {
         }
     }
 
-    /// The place behind what was taken, in bytes from the beginning of the text. After an event it is right behind the event's token:
-    /// neither the colon behind a name nor the comma or the whitespace behind a value is taken.
+    /// The place behind what was taken, in bytes from the beginning of the text. After an event it is right behind
+    /// the event's token: neither the colon behind a name nor the comma or the whitespace behind a value is taken.
     #[inline(always)]
     pub fn index(&self) -> usize
         ensures { result ≡ self.now.index }
@@ -153,11 +152,16 @@ impl<'a> Parser<'a> {
         }
     }
 
-    /// The next event, or what is wrong with the text and where. `End` comes again at each later call, and so does a refusal.
+    /// The next event. `End` comes where the value is whole and only whitespace is left, and comes again.
+    ///
+    /// A refusal has one of the codes from `EofWhileParsing` to `RecursionLimitExceeded`, at the place behind the
+    /// longest prefix with which some text begins; or, of the last code, at the bracket that opens a level too many.
+    /// It comes again at each later call.
     #[inline(always)]
     pub fn next(&mut self) -> Result<Event<'a>>
         ensures same { SameInput self.old self.new }
-        ensures ok { IfOk result (λ e. (self.old.failure ≡ None) × (self.new.failure ≡ None) × Goes self.old e self.new) }
+        ensures ok { IfOk result
+            (λ e. (self.old.failure ≡ None) × (self.new.failure ≡ None) × Goes self.old e self.new) }
         ensures tight { IfOk result (λ e. IsTight self.old e self.new) }
         ensures err { IfErr result (λ e. Refuses self.old e self.new) }
         ensures begins { EventsBegin self.new }
@@ -179,7 +183,8 @@ impl<'a> Parser<'a> {
         ensures moves { self.new ≡ record self.old { index = self.new.index } }
         ensures order { (self.old.index ≤ self.new.index) × (self.new.index ≤ length self.old.text) }
         ensures space { ws (piece self.old.text self.old.index self.new.index) }
-        ensures stop { self.new.index < length self.old.text → ¬ (IsWhitespace (get_or self.old.text self.new.index 0)) }
+        ensures stop { self.new.index < length self.old.text
+            → ¬ (IsWhitespace (get_or self.old.text self.new.index 0)) }
     {
         self.at = ws_run(self.rest.as_bytes(), self.at);
     }

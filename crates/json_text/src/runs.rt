@@ -54,8 +54,8 @@ pub fn ws_end(bytes: &[u8], from: usize) -> usize
     }
 }
 
-/// The first place from `from` on whose byte does not stand for itself in a string (section 7), or the length: a byte below 20
-/// (hexadecimal), a quote or a backslash.
+/// The first place from `from` on whose byte does not stand for itself in a string (section 7), or the length:
+/// a byte below 20 (hexadecimal), a quote or a backslash.
 pub fn plain_run(bytes: &[u8], from: usize) -> usize
     requires { from ≤ length bytes.now }
     ensures within { (from ≤ result) × (result ≤ length bytes.now) }

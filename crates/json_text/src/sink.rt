@@ -82,7 +82,9 @@ impl VecSink {
 }
 
 impl Sink for VecSink {
-    ghost state = { λ s. record { gained = Some s.bytes.items; faults = 0; lacks = s.lacks; unflushed = false } };
+    ghost use Rattle.json_text.specs.Sinks.{vec_sink_state};
+
+    ghost state = { vec_sink_state };
 
     fn write(&mut self, piece: &[u8]) -> Result<usize, SinkError>
         ensures bound { WritesAtMost result piece.now }
@@ -120,10 +122,13 @@ pub struct StdSink<W: Write> {
 }
 
 impl<W: Write> StdSink<W> {
+    ghost use Rattle.json_text.specs.Sinks.{writer_of};
+
     /// A sink into the writer.
     pub fn new(writer: W) -> StdSink<W>
-        ensures { ⟦<StdSink<W> as Sink>⟧.state result
+        ensures state { ⟦<StdSink<W> as Sink>⟧.state result
             ≡ record { gained = None; faults = 0; lacks = 0; unflushed = false } }
+        ensures holds { writer_of result ≡ writer }
     {
         StdSink {
             writer,
@@ -134,12 +139,14 @@ impl<W: Write> StdSink<W> {
 }
 
 impl<W: Write> Sink for StdSink<W> {
-    ghost state = { λ s. record { gained = None; faults = s.faults; lacks = 0; unflushed = s.unflushed } };
+    ghost use Rattle.json_text.specs.Sinks.{std_sink_state, writer_of};
+
+    ghost state = { std_sink_state };
 
     fn write(&mut self, piece: &[u8]) -> Result<usize, SinkError>
         ensures bound { WritesAtMost result piece.now }
         ensures writes { Writes (⟦<StdSink<W> as Sink>⟧.state self.old) (⟦<StdSink<W> as Sink>⟧.state self.new) piece.now result }
-        ensures passes { known.WriteAppends (W.contents self.old.writer) (W.contents self.new.writer) result piece.now }
+        ensures passes { known.WriteAppends (W.contents (writer_of self.old)) (W.contents (writer_of self.new)) result piece.now }
     {
         self.unflushed = true;
         match self.writer.write(piece) {
@@ -157,7 +164,7 @@ impl<W: Write> Sink for StdSink<W> {
 
     fn flush(&mut self) -> Result<(), SinkError>
         ensures flushes { Flushes (⟦<StdSink<W> as Sink>⟧.state self.old) (⟦<StdSink<W> as Sink>⟧.state self.new) result }
-        ensures passes { known.Keeps (W.contents self.old.writer) (W.contents self.new.writer) }
+        ensures passes { known.Keeps (W.contents (writer_of self.old)) (W.contents (writer_of self.new)) }
     {
         match self.writer.flush() {
             Ok(()) => {

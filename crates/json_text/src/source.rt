@@ -43,7 +43,9 @@ impl<'a> SliceSource<'a> {
 }
 
 impl Source for SliceSource<'_> {
-    ghost state = { λ s. record { left = Some s.rest.now; given = s.given; faults = 0 } };
+    ghost use Rattle.json_text.specs.Sources.{slice_source_state};
+
+    ghost state = { slice_source_state };
 
     fn read(&mut self, buf: &mut [u8]) -> Result<usize, Failed> {
         let count = buf.len().min(self.rest.len());
@@ -68,10 +70,13 @@ pub struct StdSource<R: Read> {
 }
 
 impl<R: Read> StdSource<R> {
+    ghost use Rattle.json_text.specs.Sources.{reader_of};
+
     /// A source of what the reader gives.
     pub fn new(reader: R) -> StdSource<R>
-        ensures { ⟦<StdSource<R> as Source>⟧.state result
+        ensures state { ⟦<StdSource<R> as Source>⟧.state result
             ≡ record { left = None; given = 0; faults = 0 } }
+        ensures holds { reader_of result ≡ reader }
     {
         StdSource {
             reader,
@@ -82,13 +87,15 @@ impl<R: Read> StdSource<R> {
 }
 
 impl<R: Read> Source for StdSource<R> {
-    ghost state = { λ s. record { left = None; given = s.given; faults = s.faults } };
+    ghost use Rattle.json_text.specs.Sources.{reader_of, std_source_state};
+
+    ghost state = { std_source_state };
 
     fn read(&mut self, buf: &mut [u8]) -> Result<usize, Failed>
         ensures bound { ReadsAtMost result buf.new }
         ensures reads { Reads (⟦<StdSource<R> as Source>⟧.state self.old) (⟦<StdSource<R> as Source>⟧.state self.new) buf.new result }
         // Nothing is answered but what the reader gave.
-        ensures passes { ReadConsumes (R.remaining self.old.reader) (R.remaining self.new.reader) result buf.new }
+        ensures passes { ReadConsumes (R.remaining (reader_of self.old)) (R.remaining (reader_of self.new)) result buf.new }
     {
         match self.reader.read(buf) {
             Ok(count) => {

@@ -36,7 +36,8 @@ impl<'a> Span<'a> {
         self.raw.len()
     }
 
-    /// Appends the text's UTF-8, at most `raw_len` bytes, for which there must be room. Takes no memory.
+    /// Appends the text's UTF-8, at most `raw_len` bytes. The vector must have room for `raw_len` bytes; no memory is
+    /// taken.
     pub fn unescape_into(self, out: &mut Vec<u8>)
         requires { vec_len out.old + length self.raw.now ≤ vec_capacity out.old }
         ensures text { (s : List ℕ) → chars false s self.entry.raw.now → out.new.items ≡ out.old.items ++ s }

@@ -12,10 +12,10 @@ ghost use Rattle.json_text.specs.Standing.{Stood};
 ghost use Rattle.json_text.specs.Misplaced.{misplaced as spec_misplaced};
 
 use crate::error::ErrorCode;
-use crate::fault::Fault;
 use crate::literal::refuse;
 use crate::runs::{byte_is, ws_end};
 use crate::stack::Kinds;
+use crate::unplaced::Fault;
 use json_grammar::{Kind, Spot};
 
 /// Where the next part begins, and what it may be.
@@ -32,7 +32,8 @@ fn settle(bytes: &[u8], from: usize, spot: Spot) -> Stand
     ensures spot { result.spot ≡ spot }
     ensures within { (from ≤ result.at) × (result.at ≤ length bytes.now) }
     ensures stop { result.at < length bytes.now → ¬ (IsWhitespace (get_or bytes.now result.at 0)) }
-    ensures stood { (limit : ℕ) (c : List Kind) (ts : List Token) → Stood limit bytes.now from c spot ts → Stood limit bytes.now result.at c spot ts }
+    ensures stood { (limit : ℕ) (c : List Kind) (ts : List Token)
+        → Stood limit bytes.now from c spot ts → Stood limit bytes.now result.at c spot ts }
 {
     Stand {
         at: ws_end(bytes, from),
@@ -56,7 +57,8 @@ pub fn ready(bytes: &[u8], index: usize, spot: Spot, kinds: &Kinds) -> Result<St
     requires { index ≤ length bytes.now }
     ensures within { IfOk result (λ r. (index ≤ r.at) × (r.at ≤ length bytes.now)) }
     ensures stop { IfOk result (λ r. r.at < length bytes.now → ¬ (IsWhitespace (get_or bytes.now r.at 0))) }
-    ensures apart { IfOk result (λ r. (r.spot ≢ Spot.Colon) × (r.spot ≡ Spot.Done → top kinds.now ≢ None → ¬ (ByteAt bytes.now r.at 44))) }
+    ensures apart { IfOk result
+        (λ r. (r.spot ≢ Spot.Colon) × (r.spot ≡ Spot.Done → top kinds.now ≢ None → ¬ (ByteAt bytes.now r.at 44))) }
     ensures ok { (limit : ℕ) (ts : List Token) → Stood limit bytes.now index kinds.now spot ts
         → IfOk result (λ r. Stood limit bytes.now r.at kinds.now r.spot ts) }
     ensures err { (limit : ℕ) (ts : List Token) → Stood limit bytes.now index kinds.now spot ts

@@ -6,8 +6,8 @@ ghost use Rattle.json_text.specs.Spelled.{Spells, StringStops};
 
 use crate::error::ErrorCode;
 use crate::escape::escape_end;
-use crate::fault::Fault;
 use crate::runs::{byte_is, plain_run};
+use crate::unplaced::Fault;
 
 /// Where a string closes, and whether an escape stands in it.
 #[derive(Clone, Copy)]

@@ -19,13 +19,13 @@ ghost use Rattle.json_text.specs.Tokens.{WordOf, NoEnd, no_key as spec_no_key, b
 
 use crate::error::ErrorCode;
 use crate::event::Event;
-use crate::fault::Fault;
 use crate::literal::{refuse, word_end};
 use crate::number::number_end;
 use crate::span::Span;
 use crate::spot::{closing, misplaced};
 use crate::stack::Kinds;
 use crate::string::string_end;
+use crate::unplaced::Fault;
 use json_grammar::{Kind, Spot};
 
 /// What a byte begins.
@@ -99,7 +99,8 @@ fn number<'a>(text: &'a str, at: usize) -> Result<Read<'a>, Fault>
     ensures ok { (limit : ℕ) (c : List Kind) (w : Spot) → TakesValue w
         → IfOk result (λ r. From limit text.now at c w r.event r.end c r.spot) }
     ensures tight { IfOk result (λ r. Tight text.now at r.event r.end) }
-    ensures err { (limit : ℕ) (c : List Kind) (w : Spot) (ts : List Token) → TakesValue w → Stood limit text.now at c w ts
+    ensures err { (limit : ℕ) (c : List Kind) (w : Spot) (ts : List Token) → TakesValue w
+        → Stood limit text.now at c w ts
         → IfErr result (λ f. IsFault limit text.now f.code f.offset) }
 {
     let bytes = text.as_bytes();
@@ -121,7 +122,8 @@ fn literal<'a>(text: &'a str, at: usize, word: &[u8], event: Event<'a>) -> Resul
     ensures ok { (limit : ℕ) (c : List Kind) (w : Spot) → TakesValue w
         → IfOk result (λ r. From limit text.now at c w r.event r.end c r.spot) }
     ensures tight { IfOk result (λ r. Tight text.now at r.event r.end) }
-    ensures err { (limit : ℕ) (c : List Kind) (w : Spot) (ts : List Token) → TakesValue w → Stood limit text.now at c w ts
+    ensures err { (limit : ℕ) (c : List Kind) (w : Spot) (ts : List Token) → TakesValue w
+        → Stood limit text.now at c w ts
         → IfErr result (λ f. IsFault limit text.now f.code f.offset) }
 {
     match word_end(text.as_bytes(), at, word) {
@@ -141,7 +143,8 @@ fn string<'a>(text: &'a str, at: usize) -> Result<Read<'a>, Fault>
     ensures ok { (limit : ℕ) (c : List Kind) (w : Spot) → TakesValue w
         → IfOk result (λ r. From limit text.now at c w r.event r.end c r.spot) }
     ensures tight { IfOk result (λ r. Tight text.now at r.event r.end) }
-    ensures err { (limit : ℕ) (c : List Kind) (w : Spot) (ts : List Token) → TakesValue w → Stood limit text.now at c w ts
+    ensures err { (limit : ℕ) (c : List Kind) (w : Spot) (ts : List Token) → TakesValue w
+        → Stood limit text.now at c w ts
         → IfErr result (λ f. IsFault limit text.now f.code f.offset) }
 {
     match string_at(text, at) {
@@ -195,7 +198,8 @@ fn open<'a>(
 ) -> Result<Read<'a>, Fault>
     requires bracket { ByteAt text.now at (spec_bracket kind) }
     requires most { limit ≤ 1024 }
-    ensures ok { (w : Spot) → TakesValue w → IfOk result (λ r. From limit text.now at kinds.old w r.event r.end kinds.new r.spot) }
+    ensures ok { (w : Spot) → TakesValue w
+        → IfOk result (λ r. From limit text.now at kinds.old w r.event r.end kinds.new r.spot) }
     ensures tight { IfOk result (λ r. Tight text.now at r.event r.end) }
     ensures err { (w : Spot) (ts : List Token) → TakesValue w → Stood limit text.now at kinds.old w ts
         → IfErr result (λ f. IsFault limit text.now f.code f.offset) }
@@ -229,9 +233,11 @@ fn value<'a>(text: &'a str, at: usize, limit: usize, kinds: &mut Kinds) -> Resul
     requires within { at < length text.now }
     requires byte { ¬ (IsWhitespace (get_or text.now at 0)) }
     requires most { limit ≤ 1024 }
-    ensures ok { (w : Spot) → TakesValue w → IfOk result (λ r. From limit text.now at kinds.old w r.event r.end kinds.new r.spot) }
+    ensures ok { (w : Spot) → TakesValue w
+        → IfOk result (λ r. From limit text.now at kinds.old w r.event r.end kinds.new r.spot) }
     ensures tight { IfOk result (λ r. Tight text.now at r.event r.end) }
-    ensures err { (w : Spot) (ts : List Token) → TakesValue w → NoEnd text.now at kinds.old w → Stood limit text.now at kinds.old w ts
+    ensures err { (w : Spot) (ts : List Token) → TakesValue w → NoEnd text.now at kinds.old w
+        → Stood limit text.now at kinds.old w ts
         → IfErr result (λ f. IsFault limit text.now f.code f.offset) }
     ensures kept { OnErr result (kinds.new ≡ kinds.old) }
 {
@@ -272,9 +278,11 @@ fn key<'a>(text: &'a str, at: usize, spot: Spot) -> Result<Read<'a>, Fault>
     requires within { at < length text.now }
     requires byte { ¬ (IsWhitespace (get_or text.now at 0)) }
     requires spot { TakesKey spot }
-    ensures ok { (limit : ℕ) (c : List Kind) → IfOk result (λ r. From limit text.now at c spot r.event r.end c r.spot) }
+    ensures ok { (limit : ℕ) (c : List Kind)
+        → IfOk result (λ r. From limit text.now at c spot r.event r.end c r.spot) }
     ensures tight { IfOk result (λ r. Tight text.now at r.event r.end) }
-    ensures err { (limit : ℕ) (c : List Kind) (ts : List Token) → NoEnd text.now at c spot → Stood limit text.now at c spot ts
+    ensures err { (limit : ℕ) (c : List Kind) (ts : List Token) → NoEnd text.now at c spot
+        → Stood limit text.now at c spot ts
         → IfErr result (λ f. IsFault limit text.now f.code f.offset) }
 {
     let byte = byte_at(text, at);
@@ -318,7 +326,8 @@ fn first<'a>(text: &'a str, at: usize, limit: usize, kinds: &mut Kinds) -> Resul
     requires byte { ¬ (IsWhitespace (get_or text.now at 0)) }
     requires open { top kinds.old ≡ Some Kind.Array }
     requires most { limit ≤ 1024 }
-    ensures ok { IfOk result (λ r. From limit text.now at kinds.old Spot.First r.event r.end kinds.new r.spot) }
+    ensures ok { IfOk result
+        (λ r. From limit text.now at kinds.old Spot.First r.event r.end kinds.new r.spot) }
     ensures tight { IfOk result (λ r. Tight text.now at r.event r.end) }
     ensures err { (ts : List Token) → Stood limit text.now at kinds.old Spot.First ts
         → IfErr result (λ f. IsFault limit text.now f.code f.offset) }
@@ -337,7 +346,8 @@ fn key_or_end<'a>(text: &'a str, at: usize, kinds: &mut Kinds) -> Result<Read<'a
     requires within { at < length text.now }
     requires byte { ¬ (IsWhitespace (get_or text.now at 0)) }
     requires open { top kinds.old ≡ Some Kind.Object }
-    ensures ok { (limit : ℕ) → IfOk result (λ r. From limit text.now at kinds.old Spot.KeyOrEnd r.event r.end kinds.new r.spot) }
+    ensures ok { (limit : ℕ)
+        → IfOk result (λ r. From limit text.now at kinds.old Spot.KeyOrEnd r.event r.end kinds.new r.spot) }
     ensures tight { IfOk result (λ r. Tight text.now at r.event r.end) }
     ensures err { (limit : ℕ) (ts : List Token) → Stood limit text.now at kinds.old Spot.KeyOrEnd ts
         → IfErr result (λ f. IsFault limit text.now f.code f.offset) }
@@ -356,7 +366,8 @@ fn behind_value<'a>(text: &'a str, at: usize, kinds: &mut Kinds) -> Result<Read<
     requires within { at < length text.now }
     requires byte { ¬ (IsWhitespace (get_or text.now at 0)) }
     requires apart { top kinds.old ≢ None → ¬ (ByteAt text.now at 44) }
-    ensures ok { (limit : ℕ) → IfOk result (λ r. From limit text.now at kinds.old Spot.Done r.event r.end kinds.new r.spot) }
+    ensures ok { (limit : ℕ)
+        → IfOk result (λ r. From limit text.now at kinds.old Spot.Done r.event r.end kinds.new r.spot) }
     ensures tight { IfOk result (λ r. Tight text.now at r.event r.end) }
     ensures err { (limit : ℕ) (ts : List Token) → Stood limit text.now at kinds.old Spot.Done ts
         → IfErr result (λ f. IsFault limit text.now f.code f.offset) }

@@ -1,7 +1,6 @@
-use Rattle.std.proofs.Common.{arith, inl, inr}
-use Rattle.std.proofs.lemmas.Bool.{cases_lt}
+use Rattle.std.proofs.Common.{sym, ◌∙◌}
+use Rattle.std.proofs.lemmas.Str.{utf8_valid_len-IsValidUpTo}
 use Rattle.json_text.proofs.utf8.one_utf8_fault.Goals as goal
 
 pub returns : goal.returns
-returns c b k m p q =
-    elim (cases_lt k m) [ inl l ↦ absurd (p.longest m l q.front) | inr h ↦ elim (cases_lt m k) [ inl l ↦ absurd (q.longest k l p.front) | inr e ↦ omega arith ] ]
+returns c b k m p q = sym (utf8_valid_len-IsValidUpTo b k p) ∙ utf8_valid_len-IsValidUpTo b m q
