@@ -1,5 +1,5 @@
 -- Why no document is made of a text, and what its reader keeps.
-use Rattle.std.specs.Prelude.{◌≡◌, ℕ, ◌<◌, List, false, true}
+use Rattle.std.specs.Prelude.{◌≡◌, ℕ, ◌+◌, ◌<◌, ◌≤◌, List, false, true}
 use Rattle.json_grammar.specs.Tree.{Token}
 use Rattle.json_grammar.specs.Sizes.{nodes_of}
 use Rattle.json_text.specs.declared.error.ErrorCode.{ErrorCode}
@@ -14,6 +14,10 @@ use Rattle.json_doc.specs.declared.document_visitor.DocumentVisitor.{DocumentVis
 abbrev pub ReadingFails : List ℕ → ErrorCode → Place → Type 0
 ReadingFails text code.NoMemory place.None = Unit {0}
 ReadingFails text c p = FaultAt 254 text c p
+
+-- so many bytes more are within its room, while it was refused nothing
+abbrev pub HasRoomFor : DocumentVisitor → ℕ → Type 0
+HasRoomFor v m = (visitor_state v).full ≡ false → (visitor_state v).bytes + m ≤ (visitor_state v).text_room
 
 -- the builder was given the tokens ts: it holds them, or they have more nodes than there is room for
 pub record Follows (v : DocumentVisitor) (ts : List Token) : Type 0 where

@@ -40,25 +40,16 @@ impl<'a> DocChildren<'a> {
 }
 
 impl<'a> Iterator for DocChildren<'a> {
-    ghost use Rattle.std.specs.Prelude.{IfSome};
-    ghost use Rattle.std.specs.Iterator.{YieldsFirstBy, MakesProgress, item_count};
-    ghost use Rattle.json_doc.specs.Left.{children_doc, children_places, children_left};
-    ghost use Rattle.json_doc.specs.Seen.{view_doc, view_place, view_tree};
+    ghost use Rattle.std.specs.Iterator.{item_count};
+    ghost use Rattle.json_doc.specs.Left.{children_left, GivesChild};
 
     type Item = DocView<'a>;
 
-    ghost next_gives = { YieldsFirstBy view_tree children_left };
+    ghost next_gives = { GivesChild };
 
     ghost remaining = { item_count children_left };
 
-    fn next(&mut self) -> Option<DocView<'a>>
-        ensures steps { YieldsFirstBy view_tree children_left self.old result self.new }
-        ensures goes { MakesProgress ⟦<DocChildren<'a> as Iterator>⟧.can_next (item_count children_left) self.old result self.new }
-
-        // Each is a place of the same document.
-        ensures doc { (children_doc self.new ≡ children_doc self.old) × IfSome result (λ v. view_doc v ≡ children_doc self.old) }
-        ensures places { YieldsFirstBy view_place children_places self.old result self.new }
-    {
+    fn next(&mut self) -> Option<DocView<'a>> {
         if self.left == 0 {
             return None;
         }

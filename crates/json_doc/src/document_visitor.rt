@@ -46,7 +46,14 @@ impl DocumentVisitor {
     /// many bytes may need. `text_len` has to be at most 4,294,967,295. Memory may run out.
     pub fn new(alloc: Global, text_len: usize) -> Result<DocumentVisitor>
         requires { text_len < 2 ^ 32 }
-        ensures room { IfOk result (λ v. ⟦<DocumentVisitor as JsonVisitor>⟧.state v ≡ record { cell_room = (text_len + 1) / 2; text_room = text_len; nodes = 0; bytes = 0; full = false }) }
+        ensures room { IfOk result (λ v. ⟦<DocumentVisitor as JsonVisitor>⟧.state v
+            ≡ record {
+              cell_room = (text_len + 1) / 2;
+              text_room = text_len;
+              nodes = 0;
+              bytes = 0;
+              full = false;
+            }) }
         ensures held { IfOk result (λ v. ⟦<DocumentVisitor as JsonVisitor>⟧.holds v []) }
         ensures err { IfErr result (λ e. e ≡ no_memory) }
     {
@@ -137,8 +144,10 @@ impl DocumentVisitor {
     #[inline(always)]
     fn push_text(&mut self, s: Span<'_>) -> Cell
         requires { vec_len self.old.text + length s.raw.now ≤ self.old.text_room }
-        ensures cell { (t : List ℕ) → chars false t s.entry.raw.now → result ≡ Cell.Str (vec_len self.old.text) (length t) }
-        ensures text { (t : List ℕ) → chars false t s.entry.raw.now → self.new.text.items ≡ self.old.text.items ++ t }
+        ensures cell { (t : List ℕ) → chars false t s.entry.raw.now
+            → result ≡ Cell.Str (vec_len self.old.text) (length t) }
+        ensures text { (t : List ℕ) → chars false t s.entry.raw.now
+            → self.new.text.items ≡ self.old.text.items ++ t }
         ensures front { self.new.front ≡ self.old.front }
         ensures done { self.new.done ≡ self.old.done }
         ensures parent { self.new.parent ≡ self.old.parent }
@@ -190,9 +199,12 @@ impl DocumentVisitor {
     #[inline]
     fn close(&mut self, header: Cell)
         requires { self.old.parent < length self.old.front.items }
-        ensures done { self.new.done.items ≡ self.old.done.items ++ drop (self.old.parent + 1) self.old.front.items }
-        ensures front { self.new.front.items ≡ take self.old.parent self.old.front.items ++ header ∷ [] }
-        ensures parent { self.new.parent ≡ link_of (slice_index_or self.old.front.items self.old.parent null_cell) }
+        ensures done { self.new.done.items
+            ≡ self.old.done.items ++ drop (self.old.parent + 1) self.old.front.items }
+        ensures front { self.new.front.items
+            ≡ take self.old.parent self.old.front.items ++ header ∷ [] }
+        ensures parent { self.new.parent
+            ≡ link_of (slice_index_or self.old.front.items self.old.parent null_cell) }
         ensures text { self.new.text ≡ self.old.text }
         ensures full { self.new.full ≡ self.old.full }
         ensures room { SameRoom self.old self.new }
@@ -211,7 +223,8 @@ impl DocumentVisitor {
     /// The document of the tree whose events were recorded, which has to be whole. Memory may run out.
     pub fn finish(self, alloc: Global) -> Result<Rc<Doc>>
         requires { (t : Tree) × ⟦<DocumentVisitor as JsonVisitor>⟧.holds self (tokens t) }
-        ensures ok { IfOk result (λ d. (t : Tree) → ⟦<DocumentVisitor as JsonVisitor>⟧.holds self (tokens t) → IsDocOf d.value t) }
+        ensures ok { IfOk result (λ d. (t : Tree)
+            → ⟦<DocumentVisitor as JsonVisitor>⟧.holds self (tokens t) → IsDocOf d.value t) }
         ensures err { IfErr result (λ e. e ≡ no_memory) }
     {
         let root = self.done.len() as u32;
@@ -240,8 +253,10 @@ fn append_bytes(out: &mut Vec<u8>, bytes: &[u8])
 #[inline(always)]
 fn append_text(out: &mut Vec<u8>, s: Span<'_>)
     requires { vec_len out.old + length s.raw.now ≤ vec_capacity out.old }
-    ensures items { (t : List ℕ) → chars false t s.entry.raw.now → out.new.items ≡ out.old.items ++ t }
-    ensures len { (vec_len out.old ≤ vec_len out.new) × (vec_len out.new ≤ vec_len out.old + length s.entry.raw.now) }
+    ensures items { (t : List ℕ) → chars false t s.entry.raw.now
+        → out.new.items ≡ out.old.items ++ t }
+    ensures grows { vec_len out.old ≤ vec_len out.new }
+    ensures len { vec_len out.new ≤ vec_len out.old + length s.entry.raw.now }
     ensures capacity { vec_capacity out.old ≤ vec_capacity out.new }
 {
     match s.plain() {

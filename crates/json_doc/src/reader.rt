@@ -6,7 +6,7 @@ ghost use Rattle.json_text.specs.Events.{Means, raw_size};
 ghost use Rattle.json_doc.specs.Awaited.{Begins};
 ghost use Rattle.json_doc.specs.State.{MayCome};
 ghost use Rattle.json_doc.specs.Recorded.{visitor_state, Holds, SameRoom};
-ghost use Rattle.json_doc.specs.Reading.{ReadingFails, Follows};
+ghost use Rattle.json_doc.specs.Reading.{ReadingFails, HasRoomFor, Follows};
 ghost use Rattle.json_doc.specs.Docs.{IsDocOf};
 
 use crate::doc::Doc;
@@ -19,8 +19,11 @@ use std::rc::Rc;
 // Whether the event was recorded. There is nothing to record of the end.
 #[inline(always)]
 fn record_event(visitor: &mut DocumentVisitor, event: Event<'_>) -> bool
-    requires { (visitor_state visitor.old).full ≡ false → (x : Token) × Means event x × MayCome (Holds visitor.old) x }
-    ensures follows { (x : Token) (ts : List Token) → Means event.entry x → Follows visitor.old ts → Begins (ts ++ x ∷ []) → ((visitor_state visitor.old).full ≡ false → (visitor_state visitor.old).bytes + raw_size event.entry ≤ (visitor_state visitor.old).text_room) → Follows visitor.new (ts ++ x ∷ []) }
+    requires { (visitor_state visitor.old).full ≡ false
+        → (x : Token) × Means event x × MayCome (Holds visitor.old) x }
+    ensures follows { (x : Token) (ts : List Token) → Means event.entry x
+        → Follows visitor.old ts → Begins (ts ++ x ∷ [])
+        → HasRoomFor visitor.old (raw_size event.entry) → Follows visitor.new (ts ++ x ∷ []) }
     ensures room { (x : Token) → Means event.entry x → SameRoom visitor.old visitor.new }
 {
     match event {
@@ -41,7 +44,8 @@ fn record_event(visitor: &mut DocumentVisitor, event: Event<'_>) -> bool
 /// a reader set such limits). Each fault of the text is told with its place; or memory runs out.
 pub fn read_document(alloc: Global, text: &str) -> Result<Rc<Doc>>
     requires { length text.now < 2 ^ 32 }
-    ensures ok { IfOk result (λ d. (t : Tree) × is_text false t text.now × (depth t ≤ 254) × IsDocOf d.value t) }
+    ensures ok { IfOk result (λ d. (t : Tree) × is_text false t text.now × (depth t ≤ 254)
+        × IsDocOf d.value t) }
     ensures err { IfErr result (λ e. ReadingFails text.now e.code e.place) }
 {
     let mut visitor = DocumentVisitor::new(alloc, text.len())?;

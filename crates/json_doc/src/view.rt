@@ -42,7 +42,8 @@ impl<'a> DocView<'a> {
 
     #[inline(always)]
     fn cell(self) -> Cell
-        ensures { result ≡ slice_index_or (doc_cells (view_doc self.entry)) (view_place self.entry) null_cell }
+        ensures { result
+            ≡ slice_index_or (doc_cells (view_doc self.entry)) (view_place self.entry) null_cell }
     {
         cell_at(self.doc, self.at as usize)
     }
@@ -95,7 +96,8 @@ impl<'a> DocView<'a> {
     pub fn element(self, i: usize) -> Option<DocView<'a>>
         ensures tree { option_map view_tree result ≡ slice_get (elements (view_tree self.entry)) i }
         ensures doc { IfSome result (λ v. view_doc v ≡ view_doc self.entry) }
-        ensures place { IfSome result (λ v. view_place v ≡ child_place (view_doc self.entry) (view_place self.entry) i) }
+        ensures place { IfSome result (λ v. view_place v
+            ≡ child_place (view_doc self.entry) (view_place self.entry) i) }
     {
         match self.cell() {
             Cell::Array { link, len } => {
@@ -131,7 +133,8 @@ impl<'a> DocView<'a> {
     pub fn pair_value(self, i: usize) -> Option<DocView<'a>>
         ensures tree { option_map view_tree result ≡ slice_get (values (view_tree self.entry)) i }
         ensures doc { IfSome result (λ v. view_doc v ≡ view_doc self.entry) }
-        ensures place { IfSome result (λ v. view_place v ≡ child_place (view_doc self.entry) (view_place self.entry) i) }
+        ensures place { IfSome result (λ v. view_place v
+            ≡ child_place (view_doc self.entry) (view_place self.entry) i) }
     {
         match self.cell() {
             Cell::Object { link, len } => {
@@ -150,7 +153,9 @@ impl<'a> DocView<'a> {
     pub fn children(self) -> DocChildren<'a>
         ensures doc { children_doc result ≡ view_doc self.entry }
         ensures trees { children_left result ≡ children (view_tree self.entry) }
-        ensures places { (i : ℕ) → i < length (children (view_tree self.entry)) → slice_get (children_places result) i ≡ Some (child_place (view_doc self.entry) (view_place self.entry) i) }
+        ensures places { (i : ℕ) → i < length (children (view_tree self.entry))
+            → slice_get (children_places result) i
+            ≡ Some (child_place (view_doc self.entry) (view_place self.entry) i) }
     {
         match self.cell() {
             Cell::Array { link, len } => {

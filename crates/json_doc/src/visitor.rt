@@ -31,28 +31,38 @@ pub trait JsonVisitor {
         requires { (state self.old).full ≡ false → MayCome (holds self.old) (boolean_token b) }
         ensures answer { IsTrue result ↔ Fits (state self.old) 1 0 }
         ensures state { state self.new ≡ after_event result 1 0 (state self.old) }
-        ensures held { OnTrue result (HoldsMore (holds self.old) (holds self.new) (boolean_token b)) };
+        ensures held { OnTrue result
+            (HoldsMore (holds self.old) (holds self.new) (boolean_token b)) };
 
     /// A number by its literal.
     fn visit_raw_number(&mut self, literal: &str) -> bool
-        requires { (state self.old).full ≡ false → MayCome (holds self.old) (num_token literal.now) }
+        requires { (state self.old).full ≡ false
+            → MayCome (holds self.old) (num_token literal.now) }
         ensures answer { IsTrue result ↔ Fits (state self.old) 1 (length literal.now) }
-        ensures state { state self.new ≡ after_event result 1 (length literal.now) (state self.old) }
-        ensures held { OnTrue result (HoldsMore (holds self.old) (holds self.new) (num_token literal.now)) };
+        ensures state { state self.new
+            ≡ after_event result 1 (length literal.now) (state self.old) }
+        ensures held { OnTrue result
+            (HoldsMore (holds self.old) (holds self.new) (num_token literal.now)) };
 
     /// A string by what stands between its quotes.
     fn visit_str(&mut self, s: Span<'_>) -> bool
-        requires { (state self.old).full ≡ false → (t : List ℕ) × chars false t s.raw.now × MayCome (holds self.old) (text_token t) }
+        requires { (state self.old).full ≡ false
+            → (t : List ℕ) × chars false t s.raw.now × MayCome (holds self.old) (text_token t) }
         ensures answer { IsTrue result ↔ Fits (state self.old) 1 (length s.entry.raw.now) }
-        ensures state { (t : List ℕ) → chars false t s.entry.raw.now → state self.new ≡ after_event result 1 (length t) (state self.old) }
-        ensures held { OnTrue result ((t : List ℕ) → chars false t s.entry.raw.now → HoldsMore (holds self.old) (holds self.new) (text_token t)) };
+        ensures state { (t : List ℕ) → chars false t s.entry.raw.now
+            → state self.new ≡ after_event result 1 (length t) (state self.old) }
+        ensures held { OnTrue result ((t : List ℕ) → chars false t s.entry.raw.now
+            → HoldsMore (holds self.old) (holds self.new) (text_token t)) };
 
     /// A key by what stands between its quotes.
     fn visit_key(&mut self, s: Span<'_>) -> bool
-        requires { (state self.old).full ≡ false → (t : List ℕ) × chars false t s.raw.now × MayCome (holds self.old) (key_token t) }
+        requires { (state self.old).full ≡ false
+            → (t : List ℕ) × chars false t s.raw.now × MayCome (holds self.old) (key_token t) }
         ensures answer { IsTrue result ↔ Fits (state self.old) 1 (length s.entry.raw.now) }
-        ensures state { (t : List ℕ) → chars false t s.entry.raw.now → state self.new ≡ after_event result 1 (length t) (state self.old) }
-        ensures held { OnTrue result ((t : List ℕ) → chars false t s.entry.raw.now → HoldsMore (holds self.old) (holds self.new) (key_token t)) };
+        ensures state { (t : List ℕ) → chars false t s.entry.raw.now
+            → state self.new ≡ after_event result 1 (length t) (state self.old) }
+        ensures held { OnTrue result ((t : List ℕ) → chars false t s.entry.raw.now
+            → HoldsMore (holds self.old) (holds self.new) (key_token t)) };
 
     /// An array begins.
     fn visit_array_start(&mut self) -> bool
