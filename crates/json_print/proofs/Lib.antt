@@ -13,3 +13,7 @@ pub mod Likeness
 pub mod Texts
 pub mod Prefixes
 pub mod Laws
+pub mod Orders
+pub mod Members
+pub mod Numbering
+pub mod RowPieces

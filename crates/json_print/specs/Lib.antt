@@ -14,3 +14,6 @@ pub mod Steps
 pub mod Stands
 pub mod Written
 pub mod Serializing
+pub mod Orders
+pub mod Members
+pub mod Rows

@@ -8,10 +8,12 @@ mod escape;
 mod events;
 mod formatter;
 mod layout;
+mod order;
 mod part;
 mod pretty;
 mod runs;
 mod serializer;
+mod sorted;
 mod style;
 
 pub use buffered::BufferedWriter;
