@@ -17,3 +17,5 @@ pub mod Orders
 pub mod Members
 pub mod Numbering
 pub mod RowPieces
+pub mod Layers
+pub mod Emptying

@@ -20,8 +20,8 @@ use Rattle.json_print.specs.Members.{row_of, layer_of, IsWithin, AreWithin, Hold
 boundary_on : (bs t : List ℕ) (i : ℕ) → IsUtf8 t → IsCharBoundary bs i → IsCharBoundary (bs ++ t) i
 boundary_on bs t i u h =
     elim (cases_lt i (length bs)) [
-      inl l ↦ (omega (arith, h.0, length-append bs t), λ k a. subst (λ x. 192 ≤ x) (sym (get_or_append_left bs t 0 i l)) (h.1 l (subst (λ x. 128 ≤ x) (get_or_append_left bs t 0 i l) a))) |
-      inr l ↦ let e : length bs ≡ i = omega (arith, h.0, l) in subst (IsCharBoundary (bs ++ t)) e (IsCharBoundary-at_seam (bs ++ t) bs t refl u)
+      | inl l ↦ (omega (arith, h.0, length-append bs t), λ k a. subst (λ x. 192 ≤ x) (sym (get_or_append_left bs t 0 i l)) (h.1 l (subst (λ x. 128 ≤ x) (get_or_append_left bs t 0 i l) a)))
+      | inr l ↦ let e : length bs ≡ i = omega (arith, h.0, l) in subst (IsCharBoundary (bs ++ t)) e (IsCharBoundary-at_seam (bs ++ t) bs t refl u)
     ]
 
 piece_on : (b p : List ℕ) (i j : ℕ) → i ≤ j → j ≤ length b → piece (b ++ p) i j ≡ piece b i j

@@ -3,7 +3,7 @@ use Rattle.std.specs.Prelude.{ℕ, suc, List, [], ◌∷◌, ◌++◌, Bool, tru
 use Rattle.json_print.specs.Calls.{string_call, begin_key, end_key, begin_member, end_member}
 use Rattle.json_print.specs.Layouts.{Form}
 use Rattle.json_print.specs.Orders.{Pair}
-use Rattle.json_print.specs.Printer.{Row}
+use Rattle.json_print.specs.Printer.{Out, Row, gained_put, layers_put}
 
 -- the rows with their numbers, from one on
 abbrev pub numbered : ℕ → List Row → List Pair
@@ -39,3 +39,8 @@ rows_bytes m f first (r ∷ rows) = row_bytes m f first r ++ rows_bytes m (row_n
 abbrev pub rows_next : {F : Type 0} → Form F → F → Bool → List Row → F
 rows_next m f first [] = f
 rows_next m f first (r ∷ rows) = rows_next m (row_next m f first r) false rows
+
+-- all rows were written
+abbrev pub rows_written : {F : Type 0} → Form F → Out F → List Row → Out F
+rows_written m s rows =
+    let p = rows_bytes m s.formatter true rows in record s { formatter = rows_next m s.formatter true rows; gained = gained_put s.layers s.gained p; layers = layers_put s.layers p }
