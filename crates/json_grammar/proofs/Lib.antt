@@ -28,3 +28,7 @@ pub mod PartScan
 pub mod SomeFault
 pub mod SomeValueFault
 pub mod Lossy
+pub mod Steps
+pub mod ExampleTexts
+pub mod ExampleFaults
+pub mod TextUtf8

@@ -1,5 +1,6 @@
--- Which fault an input that is UTF-8 has, and where. p is what stands before the fault, and x the byte behind it.
--- Of bytes that are not UTF-8 the grammar says nothing here: whoever tells a fault tells UTF-8 beside it.
+-- Which fault an input has that is no text of so many levels at most, and at which offset: at the first byte with which no text goes on, at its end,
+-- or at the bracket that opens a level too many. Throughout p is what stands before that byte, a viable prefix, and x is the byte itself.
+-- The input is to be UTF-8. Whoever tells a fault says so beside it, since the beginning of other bytes may have a fault too.
 use Rattle.std.specs.Prelude.{◌≡◌, ◌≢◌, ◌⊎◌, ℕ, suc, pred, max, ◌<◌, ◌≤◌, List, [], ◌∷◌, ◌++◌, length, take, drop, Bool, true, false, cond, ◌==◌, ◌||◌, Some}
 use Rattle.json_grammar.specs.declared.Kind.{Kind}
 use Rattle.json_grammar.specs.declared.Kind.TheVariants.{Array as array, Object as object}
@@ -12,76 +13,96 @@ use Rattle.json_grammar.specs.Lexeme.{TreeEnds}
 
 -- ---- how many brackets are open at once, strings aside
 
--- a byte outside strings, within one, or behind a backslash there
+-- a byte stands outside strings, within one, or behind a backslash there
 pub data Mode : Type 0 where
   outside : Mode
   inside : Mode
   escaped : Mode
 
--- where the next byte stands
+-- where the next byte stands: a quotation mark begins and ends a string, but not behind a backslash
 abbrev pub mode_after : Mode → ℕ → Mode
 mode_after outside x = cond (x == 34) inside outside
 mode_after inside x = cond (x == 34) outside (cond (x == 92) escaped inside)
 mode_after escaped x = inside
 
--- how many are open behind a byte
+-- how many brackets are open behind a byte, where d are open before it
 abbrev pub depth_after : Mode → ℕ → ℕ → ℕ
 depth_after outside d x = cond ((x == 91) || (x == 123)) (suc d) (cond ((x == 93) || (x == 125)) (pred d) d)
 depth_after inside d x = d
 depth_after escaped d x = d
 
--- the most that are open at once, from d on
+-- the most that are open at once, where d are open before the first byte
 abbrev pub opens_from : Mode → ℕ → List ℕ → ℕ
 opens_from m d [] = d
 opens_from m d (x ∷ b) = max d (opens_from (mode_after m x) (depth_after m d x) b)
 
--- the most that are open at once in p, which begins a text
+-- the most brackets that are open at once in p, which is to be a viable prefix
 abbrev pub opens : List ℕ → ℕ
 opens p = opens_from outside 0 p
 
--- ---- where a prefix ends within a token
+-- ---- literal names and surrogates that break off
 
--- a literal (section 3)
+-- a literal name (RFC 8259, section 3)
 abbrev pub is_word : List ℕ → Type 0
 is_word b = (b ≡ null_bytes) ⊎ ((b ≡ boolean_bytes true) ⊎ (b ≡ boolean_bytes false))
 
--- a whole escape of a high surrogate
+-- the escape of a high surrogate (section 7)
 abbrev pub is_high : List ℕ → Type 0
 is_high e = (a b c d h : ℕ) × (e ≡ 92 ∷ 117 ∷ a ∷ b ∷ c ∷ d ∷ []) × (hex4 a b c d ≡ Some h) × IsHighSurrogate h
 
--- e ends behind the escape of a high surrogate or within the escape that must follow it, or the next byte makes it a surrogate that stands alone; never in the lossy mode
+-- what is wrong with the atom that e begins is a surrogate: e is the escape of a high one and perhaps the beginning of the low one that must follow,
+-- or e is `\u` and the digit D, and x, a digit from C to F, would make it a low one; never in the lossy mode
 abbrev pub is_surrogate : Bool → List ℕ → ℕ → Type 0
 is_surrogate true e x = ⊥
 is_surrogate false e x =
-    ((h m : List ℕ) × (e ≡ h ++ m) × is_high h) ⊎ ((d : ℕ) × (e ≡ 92 ∷ 117 ∷ d ∷ []) × ((d ≡ 68) ⊎ (d ≡ 100)) × (((67 ≤ x) × (x ≤ 70)) ⊎ ((99 ≤ x) × (x ≤ 102))))
+    ((h m : List ℕ) × (e ≡ h ++ m) × is_high h)
+    ⊎ ((d : ℕ) × (e ≡ 92 ∷ 117 ∷ d ∷ []) × ((d ≡ 68) ⊎ (d ≡ 100)) × (((67 ≤ x) × (x ≤ 70)) ⊎ ((99 ≤ x) × (x ≤ 102))))
+
+-- ---- faults
 
 -- what is wrong with an input
 pub data FaultCode : Type 0 where
+  -- it ends before its text does
   eof_while_parsing : FaultCode
+  -- a literal name is not spelled `null`, `true` or `false`
   invalid_literal : FaultCode
+  -- a number breaks off, or has a leading zero
   invalid_number : FaultCode
+  -- no colon stands behind a name
   expected_colon : FaultCode
+  -- neither a comma nor `]` stands behind an element
   expected_array_comma_or_end : FaultCode
+  -- neither a comma nor `}` stands behind a member
   expected_object_comma_or_end : FaultCode
+  -- neither a name nor `}` stands behind `{`, or no name behind a comma of an object
   expect_object_key_or_end : FaultCode
+  -- `}` stands behind a comma of an object
   trailing_comma : FaultCode
+  -- no value begins where one must, or neither a value nor `]` stands behind `[`
   invalid_json_value : FaultCode
+  -- a control character, below U+0020, stands unescaped in a string
   control_character : FaultCode
+  -- no escape goes on so behind a backslash
   invalid_escape : FaultCode
+  -- an escape is that of a surrogate outside a pair
   invalid_surrogate : FaultCode
+  -- more than whitespace stands behind a whole text
   trailing_characters : FaultCode
+  -- a bracket opens more levels than are allowed
   recursion_limit_exceeded : FaultCode
 
--- p is the longest prefix of b that is viable, and x the byte behind it
+-- p is the longest prefix of b that is viable, in whichever sense, and x is the byte behind it
 pub record longest (viable : List ℕ → Type 0) (b p : List ℕ) (x : ℕ) : Type 0 where
   pub rest : List ℕ
   pub bytes : b ≡ p ++ x ∷ rest
   pub is_viable : viable p
   pub no_longer : ¬ (viable (p ++ x ∷ []))
 
--- the bracket at k opens more than the limit, and none before it does
+-- the bracket at the offset k opens more levels than the limit, and none before it does
 abbrev pub too_deep : (List ℕ → Type 0) → ℕ → List ℕ → ℕ → Type 0
-too_deep viable limit b k = (p : List ℕ) × (x : ℕ) × (rest : List ℕ) × (b ≡ p ++ x ∷ rest) × (length p ≡ k) × viable (p ++ x ∷ []) × (opens p ≤ limit) × (limit < opens (p ++ x ∷ []))
+too_deep viable limit b k =
+    (p : List ℕ) × (x : ℕ) × (rest : List ℕ) × (b ≡ p ++ x ∷ rest) × (length p ≡ k) × viable (p ++ x ∷ []) × (opens p ≤ limit)
+    × (limit < opens (p ++ x ∷ []))
 
 module _ (lossy : Bool) where
   -- a value may begin behind q
@@ -92,7 +113,7 @@ module _ (lossy : Bool) where
   abbrev pub before_string : List ℕ → Type 0
   before_string q = (c : List Kind) × (w : Spot) × place lossy q c w × (TakesValue w ⊎ TakesKey w)
 
-  -- p ends within a literal
+  -- p ends in r, which begins a literal name and is not the whole of it
   pub record in_word (p : List ℕ) : Type 0 where
     pub q : List ℕ
     pub r : List ℕ
@@ -103,7 +124,7 @@ module _ (lossy : Bool) where
     pub begun : r ≢ []
     pub unfinished : rest ≢ []
 
-  -- p ends within a number that is not whole there
+  -- p ends in r, which begins a number and is none
   pub record in_number (p : List ℕ) : Type 0 where
     pub q : List ℕ
     pub r : List ℕ
@@ -114,7 +135,7 @@ module _ (lossy : Bool) where
     pub goes_on : number (r ++ rest)
     pub unfinished : ¬ (number r)
 
-  -- p ends in a number that is `0` or `-0`
+  -- p ends in a number that is `0` or `-0`, which no digit may follow
   pub record ends_in_zero (p : List ℕ) : Type 0 where
     pub q : List ℕ
     pub r : List ℕ
@@ -122,7 +143,7 @@ module _ (lossy : Bool) where
     pub at : before_value q
     pub zero : (r ≡ 48 ∷ []) ⊎ (r ≡ 45 ∷ 48 ∷ [])
 
-  -- p ends within a string, e into what is read at once there
+  -- p ends within a string, behind whole characters c and in e, which begins an atom and is not the whole of it
   pub record in_string (p e : List ℕ) : Type 0 where
     pub q : List ℕ
     pub c : List ℕ
@@ -134,11 +155,11 @@ module _ (lossy : Bool) where
     pub goes_on : Atom lossy (e ++ rest)
     pub unfinished : rest ≢ []
 
-  -- a number breaks off there, or has a zero before another digit
+  -- a number breaks off before x, or its leading zero stands before the digit x
   abbrev pub is_bad_number : List ℕ → ℕ → Type 0
   is_bad_number p x = in_number p ⊎ (ends_in_zero p × IsDigit x)
 
-  -- the code of a prefix and the byte behind it
+  -- the code that is told of p and x, row by row; no two rows have the same p and x
   abbrev pub row : FaultCode → List ℕ → ℕ → Type 0
   row eof_while_parsing p x = ⊥
   row invalid_literal p x = in_word p
@@ -155,36 +176,45 @@ module _ (lossy : Bool) where
   row trailing_characters p x = place lossy p [] done × ¬ (is_bad_number p x)
   row recursion_limit_exceeded p x = ⊥
 
-  -- the fault of b where the prefixes so named are viable and so much says that it is whole
+  -- the fault of b at the offset k, where `viable` says which prefixes are viable, and `whole` that b lacks nothing
   abbrev pub fault_by : (List ℕ → Type 0) → Type 0 → ℕ → List ℕ → FaultCode → ℕ → Type 0
   fault_by viable whole limit b recursion_limit_exceeded k = too_deep viable limit b k
   fault_by viable whole limit b eof_while_parsing k = (k ≡ length b) × viable b × (opens b ≤ limit) × ¬ whole
   fault_by viable whole limit b code k = (p : List ℕ) × (x : ℕ) × longest viable b p x × (length p ≡ k) × (opens p ≤ limit) × row code p x
 
-  -- b, where it is UTF-8, is no text of a tree so deep at most, and has this fault; of other bytes the beginning may have one too
+  -- b is no text of so many levels at most, and has this fault at the offset k
   abbrev pub fault : ℕ → List ℕ → FaultCode → ℕ → Type 0
   fault limit b code k = fault_by (viable_prefix lossy) ((t : Tree) × is_text lossy t b) limit b code k
 
-  -- the same with less said: no text goes on so, but it is not said that some text begins with p
+  -- the same with less said, which comes to the same: no text goes on so, but it is not said that some text begins with p
   abbrev pub faulty : ℕ → List ℕ → FaultCode → ℕ → Type 0
-  faulty limit b recursion_limit_exceeded k = (p : List ℕ) × (x : ℕ) × (rest : List ℕ) × (c : List Kind) × (w : Spot) × (b ≡ p ++ x ∷ rest) × (length p ≡ k) × place lossy (p ++ x ∷ []) c w × (opens p ≤ limit) × (limit < opens (p ++ x ∷ []))
-  faulty limit b eof_while_parsing k = (k ≡ length b) × (((c : List Kind) × (w : Spot) × place lossy b c w) ⊎ (in_word b ⊎ (in_number b ⊎ ((e : List ℕ) × in_string b e)))) × (opens b ≤ limit) × ((t : Tree) → ¬ (is_text lossy t b))
-  faulty limit b code k = (p : List ℕ) × (x : ℕ) × (rest : List ℕ) × (b ≡ p ++ x ∷ rest) × (length p ≡ k) × (opens p ≤ limit) × row code p x × ¬ (viable_prefix lossy (p ++ x ∷ []))
+  faulty limit b recursion_limit_exceeded k =
+      (p : List ℕ) × (x : ℕ) × (rest : List ℕ) × (c : List Kind) × (w : Spot) × (b ≡ p ++ x ∷ rest) × (length p ≡ k) × place lossy (p ++ x ∷ []) c w
+      × (opens p ≤ limit)
+      × (limit < opens (p ++ x ∷ []))
+  faulty limit b eof_while_parsing k =
+      (k ≡ length b)
+      × (((c : List Kind) × (w : Spot) × place lossy b c w) ⊎ (in_word b ⊎ (in_number b ⊎ ((e : List ℕ) × in_string b e))))
+      × (opens b ≤ limit)
+      × ((t : Tree) → ¬ (is_text lossy t b))
+  faulty limit b code k =
+      (p : List ℕ) × (x : ℕ) × (rest : List ℕ) × (b ≡ p ++ x ∷ rest) × (length p ≡ k) × (opens p ≤ limit) × row code p x
+      × ¬ (viable_prefix lossy (p ++ x ∷ []))
 
   -- ---- one value, whatever follows it
 
-  -- some text of a value, whitespace before it, begins with p
+  -- p begins whitespace and some value
   abbrev pub viable_value : List ℕ → Type 0
   viable_value p = (t : Tree) × (rest : List ℕ) × (ws then value lossy t) (p ++ rest)
 
-  -- the first k bytes of b are whitespace and a value of t; a number goes no further, and no digit follows a zero
+  -- the first k bytes of b are whitespace and a value of t; where it is a number it goes no further, and no digit follows `0` or `-0`
   pub record reads (b : List ℕ) (t : Tree) (k : ℕ) : Type 0 where
     pub fits : k ≤ length b
     pub spells : (ws then value lossy t) (take k b)
     pub ends : TreeEnds t (drop k b)
     pub no_digit : (x : ℕ) (m : List ℕ) → drop k b ≡ x ∷ m → IsDigit x → (t ≡ num (48 ∷ [])) ⊎ (t ≡ num (45 ∷ 48 ∷ [])) → ⊥
 
-  -- b begins with no value so deep at most that reads so, and has this fault; nothing is wrong behind a value
+  -- b reads as no value of so many levels at most, and has this fault at the offset k; nothing is wrong behind a value
   abbrev pub value_fault : ℕ → List ℕ → FaultCode → ℕ → Type 0
   value_fault limit b trailing_characters k = ⊥
   value_fault limit b code k = fault_by viable_value ((t : Tree) × (k : ℕ) × reads b t k) limit b code k

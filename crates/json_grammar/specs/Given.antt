@@ -1,4 +1,4 @@
--- What a reader keeps of an input: the tokens of the bytes that it took.
+-- Where a reader stands in an input, and what it has told of the bytes that it took.
 use Rattle.std.specs.Prelude.{◌≡◌, ℕ, Bool, ◌-◌, ◌≤◌, List, [], ◌∷◌, ◌++◌, length, take, drop}
 use Rattle.json_grammar.specs.declared.Kind.{Kind}
 use Rattle.json_grammar.specs.Tree.{Token, num_token}
@@ -7,11 +7,11 @@ use Rattle.json_grammar.specs.declared.Spot.TheVariants.{Done as done}
 use Rattle.json_grammar.specs.Place.{reading}
 use Rattle.json_grammar.specs.Lexeme.{EndsNumber}
 
--- what stands from i up to j
+-- the bytes of b from the offset i up to j
 abbrev pub piece : List ℕ → ℕ → ℕ → List ℕ
 piece b i j = take (j - i) (drop i b)
 
--- where a number was read last it goes no further: of what was read before `12`, `1` is no number of the text
+-- where a value stands before r and it is a number, the number goes no further with r: of `12` the `1` alone is no number of the text
 abbrev pub LastEnds : Spot → List Token → List ℕ → Type 0
 LastEnds w ts r = w ≡ done → (l : List ℕ) (a : List Token) → ts ≡ a ++ num_token l ∷ [] → EndsNumber l r
 

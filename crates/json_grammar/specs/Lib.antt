@@ -11,3 +11,4 @@ pub mod Sizes
 pub mod Laws
 pub mod ReaderLaws
 pub mod NumberStates
+pub mod Examples

@@ -1,7 +1,7 @@
 // Laws over the definitions alone.
-ghost use Rattle.json_grammar.specs.Laws.{OneTree, SameTokens, TextIsProper, StrictTextIsLossy, OpensIsDepth, PlaceIsViable, TokenIsViable, OnePlace, EventsBegin, OneFault, SomeFault, TextHasNoFault, TextFits, PrefixFits, EventsFit, TokensBring, OneValue, TextReads, ReadsText, ViableValues, ValueEventsBegin, OneValueFault, SomeValueFault, ReadsHasNoFault};
+ghost use Rattle.json_grammar.specs.Laws.{OneTree, SameTokens, TextIsProper, TextIsUtf8, StrictTextIsLossy, OpensIsDepth, PlaceIsViable, TokenIsViable, OnePlace, EventsBegin, OneFault, SomeFault, TextHasNoFault, TextFits, PrefixFits, EventsFit, TokensBring, OneValue, TextReads, ReadsText, ViableValues, ValueEventsBegin, OneValueFault, SomeValueFault, ReadsHasNoFault};
 
-/// A byte string is a text of at most one tree.
+/// Bytes are a text of one tree at most.
 pub fn one_tree()
     ensures { OneTree }
 {}
@@ -11,17 +11,22 @@ pub fn same_tokens()
     ensures { SameTokens }
 {}
 
-/// Each text of a tree has literals that are numbers and texts that are UTF-8.
+/// The tree of each text has literals that are numbers, and strings and names that are UTF-8.
 pub fn text_is_proper()
     ensures { TextIsProper }
 {}
 
-/// A strict text of a tree is a text of the same tree in the lossy mode.
+/// Each text of a tree is UTF-8 (RFC 8259, section 8.1).
+pub fn text_is_utf8()
+    ensures { TextIsUtf8 }
+{}
+
+/// A text of a tree in the strict mode is a text of it in the lossy mode too.
 pub fn strict_text_is_lossy()
     ensures { StrictTextIsLossy }
 {}
 
-/// A text opens as many brackets at once as its tree is deep.
+/// A text opens as many brackets at once as its tree has levels.
 pub fn opens_is_depth()
     ensures { OpensIsDepth }
 {}
@@ -36,7 +41,7 @@ pub fn token_is_viable()
     ensures { TokenIsViable }
 {}
 
-/// A prefix stands at one place.
+/// A prefix stands at one place at most.
 pub fn one_place()
     ensures { OnePlace }
 {}
@@ -61,12 +66,12 @@ pub fn text_has_no_fault()
     ensures { TextHasNoFault }
 {}
 
-/// A text of n bytes has at most (n + 1) / 2 nodes, and its texts, names and literals are at most n bytes.
+/// A text of n bytes has at most (n + 1) / 2 nodes, and its strings, names and number literals are at most n bytes.
 pub fn text_fits()
     ensures { TextFits }
 {}
 
-/// The tokens of a prefix bring no more nodes than it has bytes, and no more bytes of text.
+/// The tokens of a prefix bring no more nodes than it has bytes, and no more bytes of strings, names and literals.
 pub fn prefix_fits()
     ensures { PrefixFits }
 {}
@@ -76,7 +81,7 @@ pub fn events_fit()
     ensures { EventsFit }
 {}
 
-/// The tokens of a tree bring its nodes and its bytes of text.
+/// The tokens of a tree bring its nodes, and the bytes of its strings, names and literals.
 pub fn tokens_bring()
     ensures { TokensBring }
 {}
@@ -86,12 +91,12 @@ pub fn one_value()
     ensures { OneValue }
 {}
 
-/// A text reads as its tree, and whitespace is left.
+/// A text reads as its tree, with whitespace left.
 pub fn text_reads()
     ensures { TextReads }
 {}
 
-/// An input that reads as a value, and whitespace is left, is a text of it.
+/// An input that reads as a value with whitespace left is a text of it.
 pub fn reads_text()
     ensures { ReadsText }
 {}
@@ -111,12 +116,12 @@ pub fn one_value_fault()
     ensures { OneValueFault }
 {}
 
-/// An input that is UTF-8 reads as a value that is not too deep, or has a fault as a value.
+/// An input that is UTF-8 reads as a value within the limit of levels, or has a fault as a value.
 pub fn some_value_fault()
     ensures { SomeValueFault }
 {}
 
-/// An input that reads as a value that is not too deep has no fault.
+/// An input that reads as a value within the limit of levels has no fault as a value.
 pub fn reads_has_no_fault()
     ensures { ReadsHasNoFault }
 {}

@@ -6,7 +6,7 @@ pub fn stuck_at_place()
     ensures { StuckAtPlace }
 {}
 
-/// Within a literal no text goes on with another byte.
+/// Within a literal name no text goes on with another byte.
 pub fn stuck_in_word()
     ensures { StuckInWord }
 {}
@@ -16,12 +16,12 @@ pub fn stuck_in_number()
     ensures { StuckInNumber }
 {}
 
-/// Within a string no text goes on with a byte with which no part of a string does.
+/// Within a string no text goes on with a byte with which no atom of a string does.
 pub fn stuck_in_string()
     ensures { StuckInString }
 {}
 
-/// Where no text goes on so, the prefix is the longest.
+/// Where no text goes on so, the prefix is the longest that is viable.
 pub fn faulty_is_fault()
     ensures { FaultyIsFault }
 {}
@@ -31,12 +31,12 @@ pub fn given_reads()
     ensures { GivenReads }
 {}
 
-/// A fault of a text is one of the value, but at the end and behind a whole value.
+/// A fault of an input is its fault as a value, but for the end of the input and for what stands behind a whole value.
 pub fn faulty_is_value_fault()
     ensures { FaultyIsValueFault }
 {}
 
-/// An input that ends before its value does has that fault.
+/// An input that ends before its value does has the fault that says so.
 pub fn value_breaks_off()
     ensures { ValueBreaksOff }
 {}

@@ -59,6 +59,7 @@ impl<W: Sink> Serializer<W, CompactFormatter> {
     pub fn new(alloc: Global, writer: W) -> Serializer<W, CompactFormatter>
         ensures starts { ⟦<Serializer<W, CompactFormatter> as Events>⟧.state result ≡ start (⟦<Serializer<W, CompactFormatter> as Events>⟧.state result).formatter false (W.state writer) }
         ensures laid { LaidOut (record { piece = ⟦<CompactFormatter as Formatter>⟧.piece; next = ⟦<CompactFormatter as Formatter>⟧.next }) (⟦<Serializer<W, CompactFormatter> as Events>⟧.state result).formatter None 0 false }
+        ensures fresh { ⟦<Serializer<W, CompactFormatter> as Events>⟧.failed result ≡ None }
     {
         Serializer::with_formatter(alloc, writer, CompactFormatter)
     }
@@ -69,6 +70,7 @@ impl<W: Sink> Serializer<W, PrettyFormatter<'static>> {
     pub fn pretty(alloc: Global, writer: W) -> Serializer<W, PrettyFormatter<'static>>
         ensures starts { ⟦<Serializer<W, PrettyFormatter<'static>> as Events>⟧.state result ≡ start (⟦<Serializer<W, PrettyFormatter<'static>> as Events>⟧.state result).formatter false (W.state writer) }
         ensures laid { LaidOut (record { piece = ⟦<PrettyFormatter<'static> as Formatter>⟧.piece; next = ⟦<PrettyFormatter<'static> as Formatter>⟧.next }) (⟦<Serializer<W, PrettyFormatter<'static>> as Events>⟧.state result).formatter (Some (codes "  ")) 0 false }
+        ensures fresh { ⟦<Serializer<W, PrettyFormatter<'static>> as Events>⟧.failed result ≡ None }
     {
         Serializer::with_formatter(alloc, writer, PrettyFormatter::new())
     }
@@ -78,7 +80,8 @@ impl<W: Sink, F: Formatter> Serializer<W, F> {
     /// Writes by the calls of this formatter, which has written nothing yet.
     pub fn with_formatter(alloc: Global, writer: W, formatter: F) -> Serializer<W, F>
         requires { F.fresh formatter }
-        ensures { ⟦<Serializer<W, F> as Events>⟧.state result ≡ start formatter false (W.state writer) }
+        ensures starts { ⟦<Serializer<W, F> as Events>⟧.state result ≡ start formatter false (W.state writer) }
+        ensures fresh { ⟦<Serializer<W, F> as Events>⟧.failed result ≡ None }
     {
         Serializer {
             writer,

@@ -1,4 +1,10 @@
 pub mod Errors
+pub mod Runs
+pub mod Escapes
+pub mod Spelled
+pub mod Unescaped
+pub mod Numbers
+pub mod Literals
 pub mod Known
 pub mod Outside
 pub mod Transfer
@@ -8,3 +14,12 @@ pub mod Fakes
 pub mod FaultText
 pub mod Sources
 pub mod Sinks
+pub mod Stack
+pub mod Faults
+pub mod Standing
+pub mod Misplaced
+pub mod Events
+pub mod Begins
+pub mod Tokens
+pub mod Parsing
+pub mod Laws

@@ -14,15 +14,3 @@ IsUtf8Fault b k = IsValidUpTo b k
 abbrev pub Utf8Cause : List ℕ → ErrorCode → Place → Type 0
 Utf8Cause b InvalidUTF8 place = (k : ℕ) × IsUtf8Fault b k × (place ≡ place_at b k)
 Utf8Cause b code place = ⊥
-
--- bytes have such a fault at one offset at most
-abbrev pub OneUtf8Fault : Type 0
-OneUtf8Fault = (b : List ℕ) (k m : ℕ) → IsUtf8Fault b k → IsUtf8Fault b m → k ≡ m
-
--- bytes that have one are no UTF-8
-abbrev pub Utf8FaultIsNoUtf8 : Type 0
-Utf8FaultIsNoUtf8 = (b : List ℕ) (k : ℕ) → IsUtf8Fault b k → ¬ IsUtf8 b
-
--- bytes are UTF-8 or have one
-abbrev pub SomeUtf8Fault : Type 0
-SomeUtf8Fault = (b : List ℕ) → IsUtf8 b ⊎ ((k : ℕ) × IsUtf8Fault b k)

@@ -1,0 +1,44 @@
+-- There is room for each event of a text.
+use Rattle.std.proofs.Common.{◌≡◌, Bool, false, ℕ, ◌+◌, ◌/◌, ◌≤◌, List, [], ◌∷◌, ◌++◌, length, refl, ap, ◌∙◌, arith, length-append}
+use Rattle.json_grammar.specs.declared.Kind.{Kind}
+use Rattle.json_grammar.specs.declared.Spot.{Spot}
+use Rattle.json_grammar.specs.Tree.{Tree, Token, null_token, boolean_token, num_token, text_token, begin, end, key_token, tokens}
+use Rattle.json_grammar.specs.Grammar.{is_text}
+use Rattle.json_grammar.specs.Place.{reading}
+use Rattle.json_grammar.specs.Sizes.{nodes, token_nodes, token_bytes, nodes_of, bytes_of}
+use Rattle.json_grammar.proofs.Sizes.{nodes_append, nodes_tree, read_fits, text_fits}
+use Rattle.json_doc.specs.Texts.{token_text, tokens_text}
+use Rattle.json_doc.specs.State.{Fits}
+use Rattle.json_doc.specs.Recorded.{visitor_state, Holds}
+use Rattle.json_doc.specs.declared.document_visitor.DocumentVisitor.{DocumentVisitor}
+
+length-token_text : (x : Token) → length (token_text x) ≡ token_bytes x
+length-token_text null_token = refl
+length-token_text (boolean_token b) = refl
+length-token_text (num_token l) = refl
+length-token_text (text_token s) = refl
+length-token_text (begin k) = refl
+length-token_text (end k) = refl
+length-token_text (key_token s) = refl
+
+pub length-tokens_text : (ts : List Token) → length (tokens_text ts) ≡ bytes_of ts
+length-tokens_text [] = refl
+length-tokens_text (x ∷ ts) = let e = length-tokens_text ts in let f = length-token_text x in omega (arith, length-append (token_text x) (tokens_text ts))
+
+-- the bytes recorded are those of the tokens
+pub recorded_bytes : (v : DocumentVisitor) (ts : List Token) → Holds v ts → (visitor_state v).bytes ≡ bytes_of ts
+recorded_bytes v ts h = ap length h.texts ∙ length-tokens_text ts
+
+pub event_fits : (lossy : Bool) (v : DocumentVisitor) (p r : List ℕ) (c : List Kind) (w : Spot) (ts more : List Token) (x : Token) (t : Tree) (m : ℕ)
+    → (visitor_state v).full ≡ false → (length (p ++ r) + 1) / 2 ≤ (visitor_state v).cell_room → length (p ++ r) ≤ (visitor_state v).text_room
+    → Holds v ts → reading lossy p c w ts → is_text lossy t (p ++ r) → tokens t ≡ ts ++ x ∷ more → m ≤ length r → Fits (visitor_state v) (token_nodes x) m
+event_fits lossy v p r c w ts more x t m full cells bytes held read is begins within =
+    let all = (text_fits lossy t (p ++ r) is).0 in
+    let count : nodes t ≡ nodes_of ts + (token_nodes x + nodes_of more) = nodes_tree_so in
+    let counted = held.counted in
+    let taken = (read_fits lossy read).1 in
+    let so_far = recorded_bytes v ts held in
+    (full, omega arith, omega (arith, length-append p r))
+  where
+    nodes_tree_so : nodes t ≡ nodes_of ts + (token_nodes x + nodes_of more)
+    nodes_tree_so = let e = nodes_tree t in let f = ap nodes_of begins in let g = nodes_append ts (x ∷ more) in omega arith

@@ -1,0 +1,15 @@
+pub mod Awaiting
+pub mod Rows
+pub mod Builds
+pub mod Holding
+pub mod OneTree
+pub mod Spelling
+pub mod Apart
+pub mod Shaping
+pub mod Finishing
+pub mod Prefixes
+pub mod Pieces
+pub mod Shown
+pub mod Fitting
+pub mod Following
+pub mod Keeping

@@ -1,0 +1,148 @@
+-- Each cell of a finished tree is in its place.
+use Rattle.std.proofs.Common.{◌≡◌, true, ℕ, zero, suc, ◌+◌, ◌*◌, ◌<◌, ◌≤◌, List, ◌∷◌, ◌++◌, length, Some, refl, sym, ap, subst, ◌∙◌, arith, length-append, append_assoc}
+use Rattle.std.specs.Prelude.{slice_get, slice_index_or}
+use Rattle.std.specs.Str.{IsUtf8, IsCharBoundary}
+use Rattle.std.proofs.lemmas.Str.{IsCharBoundary-start, IsCharBoundary-at_seam, IsUtf8-append}
+use Rattle.std.proofs.lemmas.Option.{get_or_from_slice_get}
+use Rattle.std.proofs.lemmas.Bool.{cases_lt}
+use Rattle.std.proofs.Math.Logic.{⊎_elim}
+use Rattle.json_grammar.specs.Tree.{Tree, null, boolean, num, text, list, pairs, Trees, no_trees, tree_and, Pairs, no_pairs, pair_and}
+use Rattle.json_doc.specs.Texts.{trees_count, pairs_count}
+use Rattle.json_doc.specs.Block.{Stands, TextStands, link_to, text_cell, node, row, pair_row}
+use Rattle.json_doc.specs.Shape.{start_of, span_of, link_of, width_of, keys_of, is_str, CellInPlace}
+use Rattle.json_doc.specs.declared.cell.Cell.{Cell}
+use Rattle.json_doc.specs.declared.cell.Cell.TheVariants as cell
+use Rattle.json_doc.proofs.Spelling.{stands_first, stands_rest, row_up, pair_row_up}
+
+text_begins : (bytes : List ℕ) (at : ℕ) (s : List ℕ) → TextStands bytes at s → IsCharBoundary bytes at
+text_begins bytes at s (h, u, v) = subst (λ (n : ℕ). IsCharBoundary bytes n) h.place (IsCharBoundary-at_seam bytes h.before (s ++ h.after) h.row (IsUtf8-append s h.after u v))
+
+text_ends : (bytes : List ℕ) (at : ℕ) (s : List ℕ) → TextStands bytes at s → IsCharBoundary bytes (at + length s)
+text_ends bytes at s (h, u, v) =
+    subst (λ (n : ℕ). IsCharBoundary bytes n) (length-append h.before s ∙ ap (λ (n : ℕ). n + length s) h.place)
+    (IsCharBoundary-at_seam bytes (h.before ++ s) h.after (h.row ∙ sym (append_assoc h.before s h.after)) v)
+
+link_le : (mid n : ℕ) → link_to mid n ≤ mid
+link_le mid zero = omega arith
+link_le mid (suc n) = omega arith
+
+linked : (mid n i : ℕ) → i < n → link_to mid n ≡ mid
+linked mid zero i h = absurd (omega arith)
+linked mid (suc n) i h = refl
+
+module _ (cells : List Cell) (bytes : List ℕ) (whole : IsUtf8 bytes) where
+  plain : (at : ℕ) (c d : Cell) → c ≡ d → start_of d ≡ 0 → span_of d ≡ 0 → link_of d ≡ 0 → width_of d ≡ 0 → keys_of d ≡ 0 → CellInPlace cells bytes at c
+  plain at c d e p q r s n =
+      let start = IsCharBoundary-start bytes whole in
+      let both : 0 ≡ start_of d + span_of d = omega arith in
+      subst (λ (x : Cell). CellInPlace cells bytes at x) (sym e)
+      (record {
+        begins = subst (λ (k : ℕ). IsCharBoundary bytes k) (sym p) start;
+        ends = subst (λ (k : ℕ). IsCharBoundary bytes k) both start;
+        below = omega arith;
+        keyed = λ i h. absurd (omega arith);
+      })
+
+  texted : (at start len : ℕ) (c d : Cell) → c ≡ d → start_of d ≡ start → span_of d ≡ len → IsCharBoundary bytes start → IsCharBoundary bytes (start + len) → link_of d ≡ 0 → width_of d ≡ 0 → keys_of d ≡ 0 → CellInPlace cells bytes at c
+  texted at start len c d e p q a b r s n =
+      let both : start + len ≡ start_of d + span_of d = omega arith in
+      subst (λ (x : Cell). CellInPlace cells bytes at x) (sym e)
+      (record {
+        begins = subst (λ (k : ℕ). IsCharBoundary bytes k) (sym p) a;
+        ends = subst (λ (k : ℕ). IsCharBoundary bytes k) both b;
+        below = omega arith;
+        keyed = λ i h. absurd (omega arith);
+      })
+
+  pub text_in_place : (at : ℕ) (c : Cell) (s : List ℕ) → text_cell bytes c s → CellInPlace cells bytes at c
+  text_in_place at c s (start, e, h) = texted at start (length s) c (cell.Str start (length s)) e refl refl (text_begins bytes start s h) (text_ends bytes start s h) refl refl refl
+
+  key_there : (cs : List Cell) (lo hi at : ℕ) (ps : Pairs) → pair_row cells bytes cs lo hi ps → Stands cells at cs → (i : ℕ) → i < pairs_count ps → is_str (slice_index_or cells (at + 2 * i) cell.Null) ≡ true
+  key_there cs lo hi at no_pairs r s i h = absurd (omega arith)
+  key_there cs lo hi at (pair_and k t ps) (key, c, rest, mid, e, (start, f, u), n, r) s zero h =
+      let s1 : Stands cells at (key ∷ c ∷ rest) = subst (λ (x : List Cell). Stands cells at x) e s in
+      let zeroth : at + 2 * 0 ≡ at = omega arith in
+      rw zeroth (ap is_str (get_or_from_slice_get cells at key cell.Null (stands_first cells at key (c ∷ rest) s1) ∙ f))
+  key_there cs lo hi at (pair_and k t ps) (key, c, rest, mid, e, first, n, r) s (suc i) h =
+      let s1 : Stands cells at (key ∷ c ∷ rest) = subst (λ (x : List Cell). Stands cells at x) e s in
+      let two : (at + 1) + 1 ≡ at + 2 = omega arith in
+      let s2 = subst (λ (x : ℕ). Stands cells x rest) two (stands_rest cells (at + 1) c rest (stands_rest cells at key (c ∷ rest) s1)) in
+      let next : at + 2 * suc i ≡ (at + 2) + 2 * i = omega arith in
+      rw next (key_there rest mid hi (at + 2) ps r s2 i (omega arith))
+
+  pub node_in_place : (c : Cell) (lo hi at : ℕ) (t : Tree) → node cells bytes c lo hi t → hi ≤ at → CellInPlace cells bytes at c
+  node_in_place c lo hi at null (e, f) h = plain at c cell.Null e refl refl refl refl refl
+  node_in_place c lo hi at (boolean b) (e, f) h = plain at c (cell.Bool b) e refl refl refl refl refl
+  node_in_place c lo hi at (num l) ((start, e, s), f) h = texted at start (length l) c (cell.Raw start (length l)) e refl refl (text_begins bytes start l s) (text_ends bytes start l s) refl refl refl
+  node_in_place c lo hi at (text s) (k, f) h = text_in_place at c s k
+  node_in_place c lo hi at (list ts) (mid, cs, e, s, f, r) h =
+      let start = IsCharBoundary-start bytes whole in
+      subst (λ (x : Cell). CellInPlace cells bytes at x) (sym e)
+      (record {
+        begins = start;
+        ends = start;
+        below = omega (arith, link_le mid (trees_count ts));
+        keyed = λ i q. absurd (omega arith);
+      })
+  node_in_place c lo hi at (pairs ps) (mid, cs, e, s, f, r) h =
+      let start = IsCharBoundary-start bytes whole in
+      subst (λ (x : Cell). CellInPlace cells bytes at x) (sym e)
+      (record {
+        begins = start;
+        ends = start;
+        below = omega (arith, link_le mid (pairs_count ps));
+        keyed = λ i q. rw (linked mid (pairs_count ps) i q) (key_there cs lo mid mid ps r s i q);
+      })
+
+  -- the cell at a place
+  At : ℕ → Type 0
+  At k = CellInPlace cells bytes k (slice_index_or cells k cell.Null)
+
+  cell_at : (k at : ℕ) (c : Cell) → k ≡ at → slice_get cells at ≡ Some c → CellInPlace cells bytes at c → At k
+  unfolding At
+  cell_at k at c e g h =
+      subst (λ (x : ℕ). CellInPlace cells bytes x (slice_index_or cells x cell.Null)) (sym e) (subst (λ (x : Cell). CellInPlace cells bytes at x) (sym (get_or_from_slice_get cells at c cell.Null g)) h)
+
+  mutual
+    -- what stands below a tree
+    below_in_place : (c : Cell) (lo hi : ℕ) (t : Tree) → node cells bytes c lo hi t → (k : ℕ) → lo ≤ k → k < hi → At k
+    below_in_place c lo hi null (e, f) k p q = absurd (omega arith)
+    below_in_place c lo hi (boolean b) (e, f) k p q = absurd (omega arith)
+    below_in_place c lo hi (num l) (e, f) k p q = absurd (omega arith)
+    below_in_place c lo hi (text s) (e, f) k p q = absurd (omega arith)
+    below_in_place c lo hi (list ts) (mid, cs, e, s, f, r) k p q = ⊎_elim (λ h. row_below cs lo mid ts r k p h) (λ h. row_itself cs lo mid mid ts r s (omega arith) k h (omega arith)) (cases_lt k mid)
+    below_in_place c lo hi (pairs ps) (mid, cs, e, s, f, r) k p q = ⊎_elim (λ h. pair_row_below cs lo mid ps r k p h) (λ h. pair_row_itself cs lo mid mid ps r s (omega arith) k h (omega arith)) (cases_lt k mid)
+
+    row_below : (cs : List Cell) (lo hi : ℕ) (ts : Trees) → row cells bytes cs lo hi ts → (k : ℕ) → lo ≤ k → k < hi → At k
+    row_below cs lo hi no_trees (e, f) k p q = absurd (omega arith)
+    row_below cs lo hi (tree_and t ts) (c, rest, mid, e, n, r) k p q = ⊎_elim (λ h. below_in_place c lo mid t n k p h) (λ h. row_below rest mid hi ts r k h q) (cases_lt k mid)
+
+    pair_row_below : (cs : List Cell) (lo hi : ℕ) (ps : Pairs) → pair_row cells bytes cs lo hi ps → (k : ℕ) → lo ≤ k → k < hi → At k
+    pair_row_below cs lo hi no_pairs (e, f) k p q = absurd (omega arith)
+    pair_row_below cs lo hi (pair_and n t ps) (key, c, rest, mid, e, first, h, r) k p q = ⊎_elim (λ l. below_in_place c lo mid t h k p l) (λ l. pair_row_below rest mid hi ps r k l q) (cases_lt k mid)
+
+    row_itself : (cs : List Cell) (lo hi at : ℕ) (ts : Trees) → row cells bytes cs lo hi ts → Stands cells at cs → hi ≤ at → (k : ℕ) → at ≤ k → k < at + trees_count ts → At k
+    row_itself cs lo hi at no_trees r s h k p q = absurd (omega arith)
+    row_itself cs lo hi at (tree_and t ts) (c, rest, mid, e, n, r) s h k p q =
+        let s1 : Stands cells at (c ∷ rest) = subst (λ (x : List Cell). Stands cells at x) e s in
+        let up = row_up cells bytes rest mid hi ts r in
+        ⊎_elim (λ l. cell_at k at c (omega arith) (stands_first cells at c rest s1) (node_in_place c lo mid at t n (omega arith)))
+        (λ l. row_itself rest mid hi (at + 1) ts r (stands_rest cells at c rest s1) (omega arith) k l (omega arith)) (cases_lt k (at + 1))
+
+    pair_row_itself : (cs : List Cell) (lo hi at : ℕ) (ps : Pairs) → pair_row cells bytes cs lo hi ps → Stands cells at cs → hi ≤ at → (k : ℕ) → at ≤ k → k < at + 2 * pairs_count ps → At k
+    pair_row_itself cs lo hi at no_pairs r s h k p q = absurd (omega arith)
+    pair_row_itself cs lo hi at (pair_and n t ps) (key, c, rest, mid, e, first, m, r) s h k p q =
+        let s1 : Stands cells at (key ∷ c ∷ rest) = subst (λ (x : List Cell). Stands cells at x) e s in
+        let s2 = stands_rest cells at key (c ∷ rest) s1 in
+        let two : (at + 1) + 1 ≡ at + 2 = omega arith in
+        let s3 = subst (λ (x : ℕ). Stands cells x rest) two (stands_rest cells (at + 1) c rest s2) in
+        let up = pair_row_up cells bytes rest mid hi ps r in
+        ⊎_elim (λ l. cell_at k at key (omega arith) (stands_first cells at key (c ∷ rest) s1) (text_in_place at key n first))
+        (λ l. ⊎_elim (λ v. cell_at k (at + 1) c (omega arith) (stands_first cells (at + 1) c rest s2) (node_in_place c lo mid (at + 1) t m (omega arith)))
+        (λ v. pair_row_itself rest mid hi (at + 2) ps r s3 (omega arith) k v (omega arith)) (cases_lt k (at + 2)))
+        (cases_lt k (at + 1))
+
+  -- each cell up to a finished tree's own
+  pub all_in_place : (c : Cell) (hi : ℕ) (t : Tree) → node cells bytes c 0 hi t → slice_get cells hi ≡ Some c → (k : ℕ) → k < hi + 1 → CellInPlace cells bytes k (slice_index_or cells k cell.Null)
+  unfolding At
+  all_in_place c hi t n g k h = ⊎_elim (λ l. below_in_place c 0 hi t n k (omega arith) l) (λ l. cell_at k hi c (omega arith) g (node_in_place c 0 hi hi t n (omega arith))) (cases_lt k hi)

@@ -1,0 +1,13 @@
+use Rattle.std.proofs.Common.{◌≡◌, false, [], ◌∷◌, ◌++◌, length}
+use Rattle.json_grammar.proofs.Texts.{chars_utf8}
+use Rattle.json_doc.specs.declared.cell.Cell.TheVariants as cell
+use Rattle.json_doc.proofs.Holding.{held_same, held_key}
+use Rattle.json_doc.proofs.document_visitor.DocumentVisitorJsonVisitor.visit_key.Goals as goal
+
+pub returns-clause-held : goal.returns-clause-held
+returns-clause-held c t h ts held b =
+    let s = c.args.self.now in
+    let is = c.push_text-cell.ensures.cell t h in
+    let behind = c.push_text-cell.ensures.text t h in
+    let front : c.push.new.self.front.items ≡ s.front.items ++ cell.Str (length s.text.items) (length t) ∷ [] = cc (is, s.text.ok.0) in
+    held_same _ _ _ _ _ _ _ _ _ front (cc) (cc behind) (cc) (held_key s.front.items s.done.items s.text.items s.parent ts t (chars_utf8 false h) held b)

@@ -1,0 +1,32 @@
+-- What a builder of documents has recorded.
+use Rattle.std.specs.Prelude.{◌≡◌, ℕ, ◌+◌, List, length, Some}
+use Rattle.std.specs.Str.{IsUtf8}
+use Rattle.json_grammar.specs.Tree.{Token}
+use Rattle.json_grammar.specs.Sizes.{nodes_of}
+use Rattle.json_doc.specs.State.{VisitorState}
+use Rattle.json_doc.specs.Awaited.{Slot, awaits}
+use Rattle.json_doc.specs.Texts.{tokens_text}
+use Rattle.json_doc.specs.Building.{Building}
+use Rattle.json_doc.specs.declared.cell.Cell.{Cell}
+use Rattle.json_doc.specs.declared.document_visitor.DocumentVisitor.{DocumentVisitor}
+
+-- its room, and how much of it is taken
+abbrev pub visitor_state : DocumentVisitor → VisitorState
+visitor_state v = record { cell_room = v.room; text_room = v.text_room; nodes = length v.front.items + length v.done.items; bytes = length v.text.items; full = v.full }
+
+-- these cells and bytes were made of the tokens ts
+pub record Held (front done : List Cell) (bytes : List ℕ) (p : ℕ) (ts : List Token) : Type 0 where
+  pub slots : List Slot
+  pub awaited : awaits ts ≡ Some slots
+  pub built : Building done bytes front p (length done) slots ts
+  pub texts : bytes ≡ tokens_text ts
+  pub utf8 : IsUtf8 bytes
+  pub counted : length front + length done ≡ nodes_of ts
+
+-- while no event was refused, the events so far were ts
+abbrev pub Holds : DocumentVisitor → List Token → Type 0
+Holds v ts = Held v.front.items v.done.items v.text.items v.parent ts
+
+-- the room stays
+abbrev pub SameRoom : DocumentVisitor → DocumentVisitor → Type 0
+SameRoom old new = (new.room ≡ old.room) × (new.text_room ≡ old.text_room)

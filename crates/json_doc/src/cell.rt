@@ -1,0 +1,62 @@
+// One cell of a packed document.
+
+use crate::json_type::JsonType;
+
+/// One node of a document, or a key of an object.
+///
+/// A literal and a text name bytes of the document's text, by their start and their length. The length of
+/// a container counts its elements or pairs, and its link is the place of the first, or 0 where there is
+/// none. The children of a container stand in a row, those of an object a key and its value in turn; how
+/// they lie is this crate's own, and views give them.
+#[derive(Clone, Copy, Debug, PartialEq, Eq)]
+pub enum Cell {
+    Null,
+    Bool(bool),
+    /// The literal of a number.
+    Raw { start: u32, len: u32 },
+    /// A string, or a key.
+    Str { start: u32, len: u32 },
+    Array { link: u32, len: u32 },
+    Object { link: u32, len: u32 },
+}
+
+impl Cell {
+    ghost use Rattle.std.specs.Prelude.{◌≡◌};
+    ghost use Rattle.json_doc.specs.CellReadings.{cell_type, cell_bool, cell_len};
+
+    #[inline(always)]
+    pub(crate) fn get_type(self) -> JsonType
+        ensures { result ≡ cell_type self }
+    {
+        match self {
+            Cell::Null => JsonType::Null,
+            Cell::Bool(_) => JsonType::Boolean,
+            Cell::Raw { .. } => JsonType::Number,
+            Cell::Str { .. } => JsonType::String,
+            Cell::Array { .. } => JsonType::Array,
+            Cell::Object { .. } => JsonType::Object,
+        }
+    }
+
+    #[inline(always)]
+    pub(crate) fn as_bool(self) -> Option<bool>
+        ensures { result ≡ cell_bool self }
+    {
+        match self {
+            Cell::Bool(b) => Some(b),
+            _ => None,
+        }
+    }
+
+    // How many elements or pairs there are; 0 for a scalar.
+    #[inline(always)]
+    pub(crate) fn len(self) -> usize
+        ensures { result ≡ cell_len self }
+    {
+        match self {
+            Cell::Array { len, .. } => len as usize,
+            Cell::Object { len, .. } => len as usize,
+            _ => 0,
+        }
+    }
+}

@@ -1,0 +1,71 @@
+// A packed document.
+ghost use Rattle.std.specs.Prelude.{◌<◌, ◌^◌, length, string_bytes};
+ghost use Rattle.json_doc.specs.Shape.{CellsInPlace};
+
+use crate::cell::Cell;
+use crate::view::DocView;
+
+/// A packed document: one cell for each node and each key, and the texts, keys and literals in a row.
+///
+/// The children of a container stand in a row, at places below its own.
+#[derive(Drop)]
+pub struct Doc {
+    pub(crate) cells: Vec<Cell>,
+    pub(crate) text: String,
+    pub(crate) root: u32,
+    ghost small: { length cells.items < 2 ^ 32 },
+    ghost rooted: { root < length cells.items },
+    ghost in_place: { CellsInPlace cells.items (string_bytes text) },
+}
+
+impl Doc {
+    ghost use Rattle.std.specs.Prelude.{◌≡◌};
+    ghost use Rattle.json_doc.specs.Docs.{doc_cells, doc_text, doc_root, doc_tree};
+    ghost use Rattle.json_doc.specs.Seen.{view_doc, view_place, view_tree};
+
+    /// The cells, one for each node and each key.
+    #[inline]
+    pub fn cells(&self) -> &[Cell]
+        ensures { result.now ≡ doc_cells self.now }
+    {
+        &self.cells
+    }
+
+    /// The texts, keys and literals in the order in which they stand in the JSON text, unescaped.
+    #[inline]
+    pub fn text(&self) -> &str
+        ensures { result.now ≡ doc_text self.now }
+    {
+        self.text.as_str()
+    }
+
+    /// The place of the root's cell.
+    #[inline]
+    pub fn root(&self) -> u32
+        ensures place { result ≡ doc_root self.now }
+        ensures within { result < length (doc_cells self.now) }
+    {
+        self.root
+    }
+
+    /// The whole document.
+    #[inline]
+    pub fn view(&self) -> DocView<'_>
+        ensures doc { view_doc result ≡ self.now }
+        ensures place { view_place result ≡ doc_root self.now }
+        ensures tree { view_tree result ≡ doc_tree self.now (doc_root self.now) }
+    {
+        self.view_at(self.root)
+    }
+
+    /// What stands at a place, which has to be below the number of cells.
+    #[inline]
+    pub fn view_at(&self, at: u32) -> DocView<'_>
+        requires { at < length (doc_cells self.now) }
+        ensures doc { view_doc result ≡ self.now }
+        ensures place { view_place result ≡ at }
+        ensures tree { view_tree result ≡ doc_tree self.now at }
+    {
+        DocView { doc: self, at }
+    }
+}

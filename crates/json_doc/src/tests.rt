@@ -1,0 +1,128 @@
+// What documents hold, and what views show of them.
+use crate::{Cell, Doc, DocumentVisitor, JsonType, JsonVisitor, read_document};
+use json_text::{Error, ErrorCode, Place};
+use std::alloc::Global;
+use std::process::Abort;
+use std::rc::Rc;
+use std::test::Fail;
+
+fn read(rt: &impl Abort, alloc: Global, text: &str) -> json_text::Result<Rc<Doc>> {
+    assert!(rt; text.len() < 1000);
+    read_document(alloc, text)
+}
+
+#[test]
+fn cells_and_text(rt: HostRuntime) -> Result<(), Fail> {
+    let cases = [
+        ("[]", [Cell::Array { link: 0, len: 0 }].as_slice(), ""),
+        (
+            " \"\\u00e9\\n\" ",
+            [Cell::Str { start: 0, len: 3 }].as_slice(),
+            "é\n",
+        ),
+        (
+            "[[1],[\"x\"],2]",
+            [
+                Cell::Raw { start: 0, len: 1 },
+                Cell::Str { start: 1, len: 1 },
+                Cell::Array { link: 0, len: 1 },
+                Cell::Array { link: 1, len: 1 },
+                Cell::Raw { start: 2, len: 1 },
+                Cell::Array { link: 2, len: 3 },
+            ]
+            .as_slice(),
+            "1x2",
+        ),
+        (
+            "{\"a\":[12,[null]],\"b\":{},\"a\":true}",
+            [
+                Cell::Null,
+                Cell::Raw { start: 1, len: 2 },
+                Cell::Array { link: 0, len: 1 },
+                Cell::Str { start: 0, len: 1 },
+                Cell::Array { link: 1, len: 2 },
+                Cell::Str { start: 3, len: 1 },
+                Cell::Object { link: 0, len: 0 },
+                Cell::Str { start: 4, len: 1 },
+                Cell::Bool(true),
+                Cell::Object { link: 3, len: 3 },
+            ]
+            .as_slice(),
+            "a12ba",
+        ),
+    ];
+    for (json, cells, text) in cases {
+        let doc = read(&rt, rt.alloc(), json)?;
+        assert!(rt; doc.cells() == cells, "{json}");
+        assert!(rt; doc.text() == text, "{json}");
+        assert!(rt; doc.root() as usize + 1 == cells.len(), "{json}");
+    }
+    Ok(())
+}
+
+#[test]
+fn faults_past_the_room(rt: HostRuntime) {
+    let at = |offset: usize| Place::At {
+        offset,
+        line: 1,
+        column: offset + 1,
+    };
+    for (json, code, offset) in [
+        ("[[[[", ErrorCode::EofWhileParsing, 4),
+        ("[[[[[[[[[}", ErrorCode::InvalidJsonValue, 9),
+    ] {
+        let answer = read(&rt, rt.alloc(), json);
+        let fault = Error {
+            code,
+            place: at(offset),
+        };
+        assert!(rt; matches!(answer, Err(error) if error == fault), "{json}");
+    }
+}
+
+#[test]
+fn third_start_is_refused(rt: HostRuntime) -> Result<(), Fail> {
+    let mut visitor = DocumentVisitor::new(rt.alloc(), 4)?;
+    assert!(rt; visitor.visit_array_start());
+    assert!(rt; visitor.visit_array_start());
+    assert!(rt; !visitor.visit_array_start());
+    assert!(rt; !visitor.visit_array_end());
+    Ok(())
+}
+
+#[test]
+fn views(rt: HostRuntime) -> Result<(), Fail> {
+    let doc = read(&rt, rt.alloc(), "{\"a\":[12,[null]],\"b\":{},\"a\":true}")?;
+    let root = doc.view();
+    assert!(rt; root.get_type() == JsonType::Object && root.len() == 3);
+    assert_eq!(rt;
+        (root.key(0), root.key(1), root.key(3)),
+        (Some("a"), Some("b"), None)
+    );
+    assert!(rt; root.element(0).is_none() && root.pair_value(3).is_none());
+    let list = root.pair_value(0).ok_or("no value")?;
+    assert!(rt; list.get_type() == JsonType::Array && list.len() == 2 && list.key(0).is_none());
+    let number = list.element(0).ok_or("no element")?;
+    assert_eq!(rt;
+        (number.literal(), number.text(), number.len()),
+        (Some("12"), None, 0)
+    );
+    let last = root.pair_value(2).ok_or("no value")?;
+    assert_eq!(rt;
+        (last.as_bool(), last.place(), last.doc().root()),
+        (Some(true), 8, 9)
+    );
+    let mut types = Vec::new(rt.alloc());
+    for child in root.children() {
+        types.push(child.get_type())?;
+    }
+    assert_eq!(rt;
+        types.as_slice(),
+        [JsonType::Array, JsonType::Object, JsonType::Boolean].as_slice()
+    );
+    assert_eq!(rt;
+        (JsonType::from_u8(4), JsonType::from_u8(6)),
+        (Some(JsonType::Object), None)
+    );
+    Ok(())
+}

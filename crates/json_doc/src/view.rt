@@ -1,0 +1,197 @@
+// A place of a document, seen as a tree.
+ghost use Rattle.std.specs.Prelude.{◌≡◌, ◌+◌, ◌<◌, length, map, option_map, slice_get, slice_index_or, slice_range, string_bytes, IfSome};
+ghost use Rattle.std.specs.Str.{IsCharBoundary};
+ghost use Rattle.json_doc.specs.Docs.{doc_cells, doc_text, doc_tree};
+ghost use Rattle.json_doc.specs.Readings.{type_of, bool_of, literal_of, string_of, elements, keys, values, children};
+ghost use Rattle.json_doc.specs.declared.cell.Cell.TheVariants.{Null as null_cell};
+
+use crate::cell::Cell;
+use crate::children::DocChildren;
+use crate::doc::Doc;
+use crate::json_type::JsonType;
+
+/// A place of a document, which stands for the tree there. Nothing of a view takes memory.
+#[derive(Clone, Copy)]
+pub struct DocView<'a> {
+    pub(crate) doc: &'a Doc,
+    pub(crate) at: u32,
+    ghost inside: { at < length doc.now.cells.items },
+}
+
+impl<'a> DocView<'a> {
+    ghost use Rattle.json_doc.specs.Seen.{view_doc, view_place, view_tree, child_place};
+    ghost use Rattle.std.specs.Prelude.{ℕ, Some};
+    ghost use Rattle.json_doc.specs.Left.{children_doc, children_places, children_left};
+
+    /// The place.
+    #[inline]
+    pub fn place(self) -> u32
+        ensures at { result ≡ view_place self.entry }
+        ensures within { result < length (doc_cells (view_doc self.entry)) }
+    {
+        self.at
+    }
+
+    /// The document.
+    #[inline]
+    pub fn doc(self) -> &'a Doc
+        ensures { result.now ≡ view_doc self.entry }
+    {
+        self.doc
+    }
+
+    #[inline(always)]
+    fn cell(self) -> Cell
+        ensures { result ≡ slice_index_or (doc_cells (view_doc self.entry)) (view_place self.entry) null_cell }
+    {
+        cell_at(self.doc, self.at as usize)
+    }
+
+    /// The kind of the value.
+    #[inline]
+    pub fn get_type(self) -> JsonType
+        ensures { result ≡ type_of (view_tree self.entry) }
+    {
+        self.cell().get_type()
+    }
+
+    /// The boolean; none of another kind.
+    #[inline]
+    pub fn as_bool(self) -> Option<bool>
+        ensures { result ≡ bool_of (view_tree self.entry) }
+    {
+        self.cell().as_bool()
+    }
+
+    /// The literal of the number; none of another kind.
+    #[inline]
+    pub fn literal(self) -> Option<&'a str>
+        ensures { option_map (λ s. s.now) result ≡ literal_of (view_tree self.entry) }
+    {
+        match self.cell() {
+            Cell::Raw { start, len } => Some(text_range(self.doc, start, len)),
+            _ => None,
+        }
+    }
+
+    /// The text of the string; none of another kind.
+    #[inline]
+    pub fn text(self) -> Option<&'a str>
+        ensures { option_map (λ s. s.now) result ≡ string_of (view_tree self.entry) }
+    {
+        text_at(self.doc, self.at as usize)
+    }
+
+    /// How many elements or pairs there are; 0 for a scalar.
+    #[inline]
+    pub fn len(self) -> usize
+        ensures { result ≡ length (children (view_tree self.entry)) }
+    {
+        self.cell().len()
+    }
+
+    /// The element `i`, counted from 0; none of another kind, or past the last.
+    #[inline]
+    pub fn element(self, i: usize) -> Option<DocView<'a>>
+        ensures tree { option_map view_tree result ≡ slice_get (elements (view_tree self.entry)) i }
+        ensures doc { IfSome result (λ v. view_doc v ≡ view_doc self.entry) }
+        ensures place { IfSome result (λ v. view_place v ≡ child_place (view_doc self.entry) (view_place self.entry) i) }
+    {
+        match self.cell() {
+            Cell::Array { link, len } => {
+                if i < len as usize {
+                    Some(self.doc.view_at(link + i as u32))
+                } else {
+                    None
+                }
+            }
+            _ => None,
+        }
+    }
+
+    /// The key of the pair `i`, counted from 0; none of another kind, or past the last.
+    #[inline]
+    pub fn key(self, i: usize) -> Option<&'a str>
+        ensures { option_map (λ s. s.now) result ≡ slice_get (keys (view_tree self.entry)) i }
+    {
+        match self.cell() {
+            Cell::Object { link, len } => {
+                if i < len as usize {
+                    text_at(self.doc, link as usize + 2 * i)
+                } else {
+                    None
+                }
+            }
+            _ => None,
+        }
+    }
+
+    /// The value of the pair `i`, counted from 0; none of another kind, or past the last.
+    #[inline]
+    pub fn pair_value(self, i: usize) -> Option<DocView<'a>>
+        ensures tree { option_map view_tree result ≡ slice_get (values (view_tree self.entry)) i }
+        ensures doc { IfSome result (λ v. view_doc v ≡ view_doc self.entry) }
+        ensures place { IfSome result (λ v. view_place v ≡ child_place (view_doc self.entry) (view_place self.entry) i) }
+    {
+        match self.cell() {
+            Cell::Object { link, len } => {
+                if i < len as usize {
+                    Some(self.doc.view_at(link + 1 + 2 * i as u32))
+                } else {
+                    None
+                }
+            }
+            _ => None,
+        }
+    }
+
+    /// The elements, or the values of the pairs, in order; none of a scalar.
+    #[inline]
+    pub fn children(self) -> DocChildren<'a>
+        ensures doc { children_doc result ≡ view_doc self.entry }
+        ensures trees { children_left result ≡ children (view_tree self.entry) }
+        ensures places { (i : ℕ) → i < length (children (view_tree self.entry)) → slice_get (children_places result) i ≡ Some (child_place (view_doc self.entry) (view_place self.entry) i) }
+    {
+        match self.cell() {
+            Cell::Array { link, len } => {
+                DocChildren::new(self.doc, link as usize, len as usize, 1)
+            }
+            Cell::Object { link, len } => {
+                DocChildren::new(self.doc, link as usize + 1, len as usize, 2)
+            }
+            _ => DocChildren::new(self.doc, 0, 0, 1),
+        }
+    }
+}
+
+// The cell at a place.
+#[inline(always)]
+fn cell_at(doc: &Doc, at: usize) -> Cell
+    requires { at < length (doc_cells doc.now) }
+    ensures { result ≡ slice_index_or (doc_cells doc.now) at null_cell }
+{
+    doc.cells[at]
+}
+
+// The bytes that a cell names.
+#[inline(always)]
+fn text_range(doc: &Doc, start: u32, len: u32) -> &str
+    requires begins { IsCharBoundary (doc_text doc.now) start }
+    requires ends { IsCharBoundary (doc_text doc.now) (start + len) }
+    ensures { result.now ≡ slice_range (doc_text doc.now) start (start + len) }
+{
+    let end = start as usize + len as usize;
+    &doc.text.as_str()[start as usize..end]
+}
+
+// The text of the string or the key at a place.
+#[inline(always)]
+fn text_at(doc: &Doc, at: usize) -> Option<&str>
+    requires { at < length (doc_cells doc.now) }
+    ensures { option_map (λ s. s.now) result ≡ string_of (doc_tree doc.now at) }
+{
+    match cell_at(doc, at) {
+        Cell::Str { start, len } => Some(text_range(doc, start, len)),
+        _ => None,
+    }
+}

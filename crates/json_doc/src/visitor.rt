@@ -1,0 +1,84 @@
+// What takes the events of a tree.
+ghost use Rattle.std.specs.Prelude.{◌≡◌, ℕ, List, [], length, false, IsTrue, ◌↔◌};
+ghost use Rattle.std.specs.Bool.{OnTrue};
+ghost use Rattle.json_grammar.specs.Tree.{Token, null_token, boolean_token, num_token, text_token, key_token, begin, end};
+ghost use Rattle.json_grammar.specs.Grammar.{chars};
+ghost use Rattle.json_grammar.specs.declared.Kind.TheVariants.{Array as array, Object as object};
+ghost use Rattle.json_doc.specs.State.{VisitorState, Fits, after_event, MayCome, HoldsMore};
+
+use json_text::Span;
+
+/// Takes the events of one tree in turn.
+///
+/// Each call answers whether the event was recorded. None is recorded where the room is full, nor after
+/// one that was not. While all were recorded, the events so far and this one begin the events of a tree.
+pub trait JsonVisitor {
+    // while no event was refused, the events so far were these tokens
+    ghost holds: { Self → List Token → Type 0 };
+
+    // the room, and what was recorded
+    ghost state: { Self → VisitorState };
+
+    /// `null`.
+    fn visit_null(&mut self) -> bool
+        requires { (state self.old).full ≡ false → MayCome (holds self.old) null_token }
+        ensures answer { IsTrue result ↔ Fits (state self.old) 1 0 }
+        ensures state { state self.new ≡ after_event result 1 0 (state self.old) }
+        ensures held { OnTrue result (HoldsMore (holds self.old) (holds self.new) null_token) };
+
+    /// `true` or `false`.
+    fn visit_bool(&mut self, b: bool) -> bool
+        requires { (state self.old).full ≡ false → MayCome (holds self.old) (boolean_token b) }
+        ensures answer { IsTrue result ↔ Fits (state self.old) 1 0 }
+        ensures state { state self.new ≡ after_event result 1 0 (state self.old) }
+        ensures held { OnTrue result (HoldsMore (holds self.old) (holds self.new) (boolean_token b)) };
+
+    /// A number by its literal.
+    fn visit_raw_number(&mut self, literal: &str) -> bool
+        requires { (state self.old).full ≡ false → MayCome (holds self.old) (num_token literal.now) }
+        ensures answer { IsTrue result ↔ Fits (state self.old) 1 (length literal.now) }
+        ensures state { state self.new ≡ after_event result 1 (length literal.now) (state self.old) }
+        ensures held { OnTrue result (HoldsMore (holds self.old) (holds self.new) (num_token literal.now)) };
+
+    /// A string by what stands between its quotes.
+    fn visit_str(&mut self, s: Span<'_>) -> bool
+        requires { (state self.old).full ≡ false → (t : List ℕ) × chars false t s.raw.now × MayCome (holds self.old) (text_token t) }
+        ensures answer { IsTrue result ↔ Fits (state self.old) 1 (length s.entry.raw.now) }
+        ensures state { (t : List ℕ) → chars false t s.entry.raw.now → state self.new ≡ after_event result 1 (length t) (state self.old) }
+        ensures held { OnTrue result ((t : List ℕ) → chars false t s.entry.raw.now → HoldsMore (holds self.old) (holds self.new) (text_token t)) };
+
+    /// A key by what stands between its quotes.
+    fn visit_key(&mut self, s: Span<'_>) -> bool
+        requires { (state self.old).full ≡ false → (t : List ℕ) × chars false t s.raw.now × MayCome (holds self.old) (key_token t) }
+        ensures answer { IsTrue result ↔ Fits (state self.old) 1 (length s.entry.raw.now) }
+        ensures state { (t : List ℕ) → chars false t s.entry.raw.now → state self.new ≡ after_event result 1 (length t) (state self.old) }
+        ensures held { OnTrue result ((t : List ℕ) → chars false t s.entry.raw.now → HoldsMore (holds self.old) (holds self.new) (key_token t)) };
+
+    /// An array begins.
+    fn visit_array_start(&mut self) -> bool
+        requires { (state self.old).full ≡ false → MayCome (holds self.old) (begin array) }
+        ensures answer { IsTrue result ↔ Fits (state self.old) 1 0 }
+        ensures state { state self.new ≡ after_event result 1 0 (state self.old) }
+        ensures held { OnTrue result (HoldsMore (holds self.old) (holds self.new) (begin array)) };
+
+    /// The innermost array ends.
+    fn visit_array_end(&mut self) -> bool
+        requires { (state self.old).full ≡ false → MayCome (holds self.old) (end array) }
+        ensures answer { IsTrue result ↔ Fits (state self.old) 0 0 }
+        ensures state { state self.new ≡ after_event result 0 0 (state self.old) }
+        ensures held { OnTrue result (HoldsMore (holds self.old) (holds self.new) (end array)) };
+
+    /// An object begins.
+    fn visit_object_start(&mut self) -> bool
+        requires { (state self.old).full ≡ false → MayCome (holds self.old) (begin object) }
+        ensures answer { IsTrue result ↔ Fits (state self.old) 1 0 }
+        ensures state { state self.new ≡ after_event result 1 0 (state self.old) }
+        ensures held { OnTrue result (HoldsMore (holds self.old) (holds self.new) (begin object)) };
+
+    /// The innermost object ends.
+    fn visit_object_end(&mut self) -> bool
+        requires { (state self.old).full ≡ false → MayCome (holds self.old) (end object) }
+        ensures answer { IsTrue result ↔ Fits (state self.old) 0 0 }
+        ensures state { state self.new ≡ after_event result 0 0 (state self.old) }
+        ensures held { OnTrue result (HoldsMore (holds self.old) (holds self.new) (end object)) };
+}

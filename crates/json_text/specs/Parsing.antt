@@ -1,0 +1,82 @@
+-- What a clause sees of a parser.
+use Rattle.std.specs.Prelude.{◌≡◌, ℕ, ◌+◌, ◌-◌, ◌<◌, ◌≤◌, List, [], ◌∷◌, ◌++◌, length, get_or, take, drop, false, Option, Some, IfSome}
+use Rattle.json_grammar.specs.declared.Kind.{Kind}
+use Rattle.json_grammar.specs.declared.Spot.{Spot}
+use Rattle.json_grammar.specs.Tree.{Tree, depth, Token, tokens}
+use Rattle.json_grammar.specs.Grammar.{is_text}
+use Rattle.json_grammar.specs.Given.{LastEnds}
+use Rattle.json_text.specs.declared.error.Error.{Error}
+use Rattle.json_text.specs.declared.event.Event.{Event}
+use Rattle.json_text.specs.declared.event.Event.TheVariants as event
+use Rattle.json_text.specs.Events.{Means, raw_size, EndsToken}
+use Rattle.json_text.specs.Faults.{FaultFrom}
+use Rattle.json_text.specs.Standing.{Stood}
+
+-- the whole text and where reading began in it; the most levels of a tree; the place behind what was taken, counted from the
+-- beginning of the text; the open containers, the innermost first; what may come next; and what was refused
+pub record ParserState : Type 0 where
+  pub text : List ℕ
+  pub start : ℕ
+  pub limit : ℕ
+  pub index : ℕ
+  pub open_kinds : List Kind
+  pub spot : Spot
+  pub failure : Option Error
+
+-- of a parser that took so many bytes of what it reads
+abbrev pub state_of : List ℕ → ℕ → ℕ → ℕ → List Kind → Spot → Option Error → ParserState
+state_of text start limit at c w f = record { text = text; start = start; limit = limit; index = start + at; open_kinds = c; spot = w; failure = f }
+
+-- what is read
+abbrev pub input : ParserState → List ℕ
+input s = drop s.start s.text
+
+-- how many bytes of it were taken
+abbrev pub taken : ParserState → ℕ
+taken s = s.index - s.start
+
+-- the events so far, End aside, were these tokens
+abbrev pub HasGiven : ParserState → List Token → Type 0
+HasGiven s ts = Stood s.limit (input s) (taken s) s.open_kinds s.spot ts
+
+-- what a parser reads stays
+pub record SameInput (old new : ParserState) : Type 0 where
+  pub text : new.text ≡ old.text
+  pub start : new.start ≡ old.start
+  pub limit : new.limit ≡ old.limit
+
+-- an event of one more token, or the end: then the input is a text of the tree of these tokens, within the limit, and nothing is taken
+abbrev pub Goes : ParserState → Event → ParserState → Type 0
+Goes old event.End new = (new ≡ old) × ((ts : List Token) → HasGiven old ts → (t : Tree) × is_text false t (input old) × (ts ≡ tokens t) × (depth t ≤ old.limit))
+Goes old e new = (ts : List Token) → HasGiven old ts → (x : Token) × Means e x × HasGiven new (ts ++ x ∷ [])
+
+-- the parser stands right behind the event's token: neither whitespace nor a comma or a colon was taken behind it
+pub record TakesToken (old : ParserState) (e : Event) (new : ParserState) : Type 0 where
+  pub forward : old.index < new.index
+  pub room : old.index + raw_size e ≤ new.index
+  pub within : new.index ≤ length new.text
+  pub last : EndsToken (get_or new.text (new.index - 1) 0)
+
+-- so at each event but the end
+abbrev pub IsTight : ParserState → Event → ParserState → Type 0
+IsTight old event.End new = Unit {0}
+IsTight old e new = TakesToken old e new
+
+-- the fault of the input, which is kept and comes again
+pub record Refuses (old : ParserState) (e : Error) (new : ParserState) : Type 0 where
+  pub kept : new ≡ record old { failure = Some e }
+  pub fault : FaultFrom old.limit old.start old.text e.code e.place
+  pub again : IfSome old.failure (λ f. e ≡ f)
+
+-- the events so far begin the tokens of each text that begins so; where the last is a number, of each in which it goes no further
+abbrev pub EventsBegin : ParserState → Type 0
+EventsBegin s = (ts : List Token) → HasGiven s ts → (t : Tree) (b : List ℕ) → is_text false t (take (taken s) (input s) ++ b) → LastEnds s.spot ts b → (m : List Token) × (tokens t ≡ ts ++ m)
+
+-- what is true of each parser, which keeps what is left of the text from the start on
+pub record IsSound (rest : List ℕ) (s : ParserState) : Type 0 where
+  pub rest_is : rest ≡ input s
+  pub given : (ts : List Token) × HasGiven s ts
+  pub failed : IfSome s.failure (λ e. FaultFrom s.limit s.start s.text e.code e.place)
+  pub order : s.start ≤ s.index
+  pub within : s.index ≤ length s.text
+  pub most : s.limit ≤ 1024

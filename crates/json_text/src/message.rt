@@ -1,0 +1,174 @@
+// The text of a refusal, in a field of its own.
+ghost use Rattle.std.specs.Prelude.{Some, ◌≡◌, ℕ, ◌+◌, ◌≤◌, List, [], ◌++◌, length, take, decimal};
+ghost use Rattle.json_text.specs.FaultText.{name_of, place_text, message_of, text_of};
+
+use crate::{Error, ErrorCode, Place};
+use itoa::Buffer;
+use std::fmt;
+use std::marker::Model;
+
+const ROOM: usize = 128;
+
+/// The text of a refusal, at most 128 bytes. Contracts see its bytes.
+#[derive(Drop)]
+pub struct FaultText {
+    field: [u8; ROOM],
+    used: usize,
+}
+
+impl Model for FaultText {
+    ghost Value = { List ℕ };
+
+    ghost view = { λ t. take t.used t.field };
+
+    ghost invariant = { λ t. t.used ≤ 128 };
+}
+
+impl FaultText {
+    fn new() -> FaultText
+        ensures { result ≡ [] }
+    {
+        FaultText {
+            field: [0; ROOM],
+            used: 0,
+        }
+    }
+
+    /// The bytes of the text.
+    pub fn as_bytes(&self) -> &[u8]
+        ensures text { result.now ≡ self.now }
+        ensures short { length result.now ≤ 128 }
+    {
+        &self.field[..self.used]
+    }
+
+    fn push(&mut self, piece: &[u8])
+        requires { length self.old + length piece.now ≤ 128 }
+        ensures { self.new ≡ self.old ++ piece.now }
+    {
+        let end = self.used + piece.len();
+        self.field[self.used..end].copy_from_slice(piece);
+        self.used = end;
+    }
+
+    fn push_number(&mut self, n: usize)
+        requires { length self.old + 20 ≤ 128 }
+        ensures text { self.new ≡ self.old ++ decimal n }
+        ensures short { length self.new ≤ length self.old + 20 }
+    {
+        let mut buffer = Buffer::new();
+        self.push(buffer.format(n).as_bytes());
+    }
+}
+
+impl ErrorCode {
+    fn name(self) -> &'static str
+        ensures { result.now ≡ name_of self }
+    {
+        match self {
+            ErrorCode::NoMemory => "NoMemory",
+            ErrorCode::Io => "Io",
+            ErrorCode::TooLarge => "TooLarge",
+            ErrorCode::InvalidUTF8 => "InvalidUTF8",
+            ErrorCode::EofWhileParsing => "EofWhileParsing",
+            ErrorCode::InvalidLiteral => "InvalidLiteral",
+            ErrorCode::InvalidNumber => "InvalidNumber",
+            ErrorCode::ExpectedColon => "ExpectedColon",
+            ErrorCode::ExpectedArrayCommaOrEnd => "ExpectedArrayCommaOrEnd",
+            ErrorCode::ExpectedObjectCommaOrEnd => "ExpectedObjectCommaOrEnd",
+            ErrorCode::ExpectObjectKeyOrEnd => "ExpectObjectKeyOrEnd",
+            ErrorCode::TrailingComma => "TrailingComma",
+            ErrorCode::InvalidJsonValue => "InvalidJsonValue",
+            ErrorCode::ControlCharacter => "ControlCharacter",
+            ErrorCode::InvalidEscape => "InvalidEscape",
+            ErrorCode::InvalidSurrogate => "InvalidSurrogate",
+            ErrorCode::TrailingCharacters => "TrailingCharacters",
+            ErrorCode::RecursionLimitExceeded => "RecursionLimitExceeded",
+            ErrorCode::BadWords => "BadWords",
+        }
+    }
+}
+
+impl fmt::Display for Error {
+    ghost output = { λ e. Some (message_of e) };
+
+    fn fmt<W: fmt::Write>(&self, f: &mut fmt::Formatter<W>) -> fmt::Result {
+        let name = self.code.name();
+        match self.place {
+            Place::None => write!(f, "{name}"),
+            Place::At {
+                offset,
+                line,
+                column,
+            } => write!(f, "{name} at offset {offset}, line {line} column {column}"),
+            Place::Reading => write!(f, "{name} while reading"),
+            Place::Writing => write!(f, "{name} while writing"),
+        }
+    }
+}
+
+impl std::error::Error for Error {}
+
+/// The name of the code, its place where it has one, and one byte 0A. Takes no memory.
+pub fn fault_text(error: &Error) -> FaultText
+    ensures { result ≡ text_of error.now }
+{
+    let mut text = FaultText::new();
+    text.push(error.code.name().as_bytes());
+    match error.place {
+        Place::None => {}
+        Place::At {
+            offset,
+            line,
+            column,
+        } => {
+            text.push(b" at offset ");
+            text.push_number(offset);
+            text.push(b", line ");
+            text.push_number(line);
+            text.push(b" column ");
+            text.push_number(column);
+        }
+        Place::Reading => text.push(b" while reading"),
+        Place::Writing => text.push(b" while writing"),
+    }
+    text.push(b"\n");
+    text
+}
+
+#[cfg(test)]
+mod tests {
+    use super::*;
+    use std::test::Fail;
+
+    #[test]
+    fn texts_of_refusals(rt: HostRuntime) -> Result<(), Fail> {
+        let at = |offset, line, column| Place::At {
+            offset,
+            line,
+            column,
+        };
+        let cases = [
+            (
+                ErrorCode::EofWhileParsing,
+                at(0, 1, 1),
+                "EofWhileParsing at offset 0, line 1 column 1\n",
+            ),
+            (
+                ErrorCode::InvalidJsonValue,
+                at(19, 4, 7),
+                "InvalidJsonValue at offset 19, line 4 column 7\n",
+            ),
+            (ErrorCode::Io, Place::Reading, "Io while reading\n"),
+            (ErrorCode::Io, Place::Writing, "Io while writing\n"),
+            (ErrorCode::BadWords, Place::None, "BadWords\n"),
+        ];
+        for (code, place, text) in cases {
+            let error = Error { code, place };
+            assert_eq!(rt; fault_text(&error).as_bytes(), text.as_bytes());
+            let shown = format!(in rt.alloc(); "{error}\n")?;
+            assert_eq!(rt; shown.as_str(), text);
+        }
+        Ok(())
+    }
+}

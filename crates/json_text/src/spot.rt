@@ -1,0 +1,110 @@
+// What may come at a place.
+ghost use Rattle.std.specs.Prelude.{◌≡◌, ◌≢◌, ℕ, ◌+◌, ◌<◌, ◌≤◌, List, length, get_or, IfOk, IfErr, None};
+ghost use Rattle.json_grammar.specs.declared.Kind.{Kind};
+ghost use Rattle.json_grammar.specs.declared.Spot.TheVariants as Spot;
+ghost use Rattle.json_grammar.specs.Tree.{Token};
+ghost use Rattle.json_grammar.specs.Grammar.{IsWhitespace};
+ghost use Rattle.json_grammar.specs.Place.{after_comma as spec_after_comma, closing as spec_closing};
+ghost use Rattle.json_text.specs.Stack.{top};
+ghost use Rattle.json_text.specs.Runs.{ByteAt};
+ghost use Rattle.json_text.specs.Faults.{IsFault};
+ghost use Rattle.json_text.specs.Standing.{Stood};
+ghost use Rattle.json_text.specs.Misplaced.{misplaced as spec_misplaced};
+
+use crate::error::ErrorCode;
+use crate::fault::Fault;
+use crate::literal::refuse;
+use crate::runs::{byte_is, ws_end};
+use crate::stack::Kinds;
+use json_grammar::{Kind, Spot};
+
+/// Where the next part begins, and what it may be.
+#[derive(Clone, Copy)]
+pub struct Stand {
+    pub at: usize,
+    pub spot: Spot,
+}
+
+/// Behind whitespace.
+#[inline(always)]
+fn settle(bytes: &[u8], from: usize, spot: Spot) -> Stand
+    requires { from ≤ length bytes.now }
+    ensures spot { result.spot ≡ spot }
+    ensures within { (from ≤ result.at) × (result.at ≤ length bytes.now) }
+    ensures stop { result.at < length bytes.now → ¬ (IsWhitespace (get_or bytes.now result.at 0)) }
+    ensures stood { (limit : ℕ) (c : List Kind) (ts : List Token)
+        → Stood limit bytes.now from c spot ts → Stood limit bytes.now result.at c spot ts }
+{
+    Stand {
+        at: ws_end(bytes, from),
+        spot,
+    }
+}
+
+#[inline(always)]
+fn after_comma(kind: Kind) -> Spot
+    ensures { result ≡ spec_after_comma kind }
+{
+    match kind {
+        Kind::Array => Spot::Value,
+        Kind::Object => Spot::Key,
+    }
+}
+
+/// Behind whitespace and, where one must come, a comma or a colon.
+#[inline(always)]
+pub fn ready(bytes: &[u8], index: usize, spot: Spot, kinds: &Kinds) -> Result<Stand, Fault>
+    requires { index ≤ length bytes.now }
+    ensures within { IfOk result (λ r. (index ≤ r.at) × (r.at ≤ length bytes.now)) }
+    ensures stop { IfOk result (λ r. r.at < length bytes.now → ¬ (IsWhitespace (get_or bytes.now r.at 0))) }
+    ensures apart { IfOk result
+        (λ r. (r.spot ≢ Spot.Colon) × (r.spot ≡ Spot.Done → top kinds.now ≢ None → ¬ (ByteAt bytes.now r.at 44))) }
+    ensures ok { (limit : ℕ) (ts : List Token) → Stood limit bytes.now index kinds.now spot ts
+        → IfOk result (λ r. Stood limit bytes.now r.at kinds.now r.spot ts) }
+    ensures err { (limit : ℕ) (ts : List Token) → Stood limit bytes.now index kinds.now spot ts
+        → IfErr result (λ f. IsFault limit bytes.now f.code f.offset) }
+{
+    let here = settle(bytes, index, spot);
+    match spot {
+        Spot::Colon => {
+            if byte_is(bytes, here.at, b':') {
+                Ok(settle(bytes, here.at + 1, Spot::Value))
+            } else {
+                Err(refuse(bytes, here.at, ErrorCode::ExpectedColon))
+            }
+        }
+        Spot::Done => match kinds.top() {
+            Some(kind) => {
+                if byte_is(bytes, here.at, b',') {
+                    Ok(settle(bytes, here.at + 1, after_comma(kind)))
+                } else {
+                    Ok(here)
+                }
+            }
+            None => Ok(here),
+        },
+        _ => Ok(here),
+    }
+}
+
+#[inline(always)]
+pub fn closing(kind: Kind) -> u8
+    ensures { result ≡ spec_closing kind }
+{
+    match kind {
+        Kind::Array => b']',
+        Kind::Object => b'}',
+    }
+}
+
+/// Why no other byte may come behind a value.
+#[cold]
+pub fn misplaced(kind: Option<Kind>) -> ErrorCode
+    ensures { result ≡ spec_misplaced kind }
+{
+    match kind {
+        None => ErrorCode::TrailingCharacters,
+        Some(Kind::Array) => ErrorCode::ExpectedArrayCommaOrEnd,
+        Some(Kind::Object) => ErrorCode::ExpectedObjectCommaOrEnd,
+    }
+}

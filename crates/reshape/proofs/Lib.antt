@@ -1,0 +1,5 @@
+pub mod Inputs
+pub mod Documents
+pub mod Outcomes
+pub mod Standing
+pub mod Emitting

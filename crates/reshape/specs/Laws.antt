@@ -1,0 +1,17 @@
+-- Laws of inputs.
+use Rattle.std.specs.Prelude.{◌≡◌, ◌⊎◌, ◌≤◌, ℕ, List, length, IsUtf8}
+use Rattle.json_text.specs.declared.error.ErrorCode.{ErrorCode}
+use Rattle.json_text.specs.declared.error.Place.{Place}
+use Rattle.reshape.specs.Input.{most, IsValid, InputFault}
+
+-- an input has one fault at most, at one place
+abbrev pub OneInputFault : Type 0
+OneInputFault = (b : List ℕ) (code code' : ErrorCode) (place place' : Place) → InputFault b code place → InputFault b code' place' → (code ≡ code') × (place ≡ place')
+
+-- an input that is a text of some tree has none
+abbrev pub ValidHasNoFault : Type 0
+ValidHasNoFault = (b : List ℕ) (code : ErrorCode) (place : Place) → IsValid b → ¬ (InputFault b code place)
+
+-- an input is a text of some tree, or has a fault
+abbrev pub SomeInputFault : Type 0
+SomeInputFault = (b : List ℕ) → IsValid b ⊎ ((code : ErrorCode) × (place : Place) × InputFault b code place)

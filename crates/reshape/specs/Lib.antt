@@ -1,0 +1,6 @@
+pub mod Input
+pub mod Emitting
+pub mod Printing
+pub mod Reshape
+pub mod Run
+pub mod Laws

@@ -1,0 +1,82 @@
+// The top call.
+ghost use Rattle.std.specs.Prelude.{◌+◌, ◌≡◌, ◌≢◌, ◌⊎◌, ◌<◌, OnOk, IfErr, IsErrOf};
+ghost use Rattle.json_text.specs.declared.error.ErrorCode.{ErrorCode};
+ghost use Rattle.json_text.specs.declared.error.Place.{Place};
+ghost use Rattle.json_text.specs.Errors.{reading_failed, writing_failed};
+ghost use Rattle.json_text.specs.FaultText.{text_of};
+ghost use Rattle.json_text.specs.Transfer.{TakesAtMost};
+ghost use Rattle.reshape.specs.Input.{most};
+ghost use Rattle.reshape.specs.Reshape.{Reshapes};
+ghost use Rattle.reshape.specs.Run.{IsAsked, status_of, Tells, RunRefuses, Done, Refused, IsGood, IsBad};
+
+use crate::command::Asked;
+use crate::reshape;
+use crate::words::asked;
+use json_text::{Error, ErrorCode, Place, Result, Sink, Source, Words, fault_text, put_all};
+use std::alloc::Global;
+
+fn status(error: Error) -> u8
+    ensures { result ≡ status_of error.code error.place }
+{
+    match (error.code, error.place) {
+        (ErrorCode::NoMemory, _) => 6,
+        (ErrorCode::Io, Place::Writing) => 5,
+        (ErrorCode::Io, _) => 4,
+        (ErrorCode::BadWords, _) => 2,
+        (_, _) => 1,
+    }
+}
+
+fn tell<E: Sink>(errs: &mut E, error: &Error)
+    ensures { Tells (text_of error.now) (E.state errs.old) (E.state errs.new) }
+{
+    let _ = put_all(errs, fault_text(error).as_bytes());
+}
+
+fn carry_out<S: Source, K: Sink>(
+    alloc: Global,
+    words: &Words,
+    source: &mut S,
+    sink: &mut K,
+) -> Result<()>
+    ensures asked { OnOk result (IsAsked words.now) }
+    ensures done { OnOk result (Reshapes (S.state source.old) (S.state source.new) (K.state sink.old) (K.state sink.new)) }
+    ensures refused { IfErr result (λ e. RunRefuses words.now (S.state source.old) (S.state source.new) (K.state sink.old) (K.state sink.new) e.code e.place) }
+    ensures taken { TakesAtMost (most + 1) (S.state source.old) (S.state source.new) }
+    ensures read_told { (S.state source.old).faults < (S.state source.new).faults → IsErrOf result reading_failed }
+    ensures write_told { (K.state sink.old).faults < (K.state sink.new).faults → IsErrOf result writing_failed }
+{
+    match asked(alloc, words)? {
+        Asked::Reshape => reshape(alloc, source, sink),
+    }
+}
+
+/// Does all that the program does, and answers its status: 0 where it is done, 1 where the input is refused, 2 the words,
+/// 4 where reading failed, 5 where writing failed, 6 where memory ran out. On 1 to 6 the text of the refusal goes to `errs`.
+pub fn run<S: Source, K: Sink, E: Sink>(
+    alloc: Global,
+    words: &Words,
+    source: &mut S,
+    sink: &mut K,
+    errs: &mut E,
+) -> u8
+    ensures done { result ≡ 0 → Done words.now (S.state source.old) (S.state source.new)
+        (K.state sink.old) (K.state sink.new) (E.state errs.old) (E.state errs.new) }
+    ensures refused { result ≢ 0 → Refused result words.now (S.state source.old) (S.state source.new)
+        (K.state sink.old) (K.state sink.new) (E.state errs.old) (E.state errs.new) }
+    ensures taken { TakesAtMost (most + 1) (S.state source.old) (S.state source.new) }
+    ensures read_told { (S.state source.old).faults < (S.state source.new).faults → result ≡ 4 }
+    ensures write_told { (K.state sink.old).faults < (K.state sink.new).faults → result ≡ 5 }
+    ensures complete { IsGood words.now (S.state source.old) (S.state source.new) (K.state sink.old) (K.state sink.new)
+        → (result ≡ 0) ⊎ (result ≡ 6) }
+    ensures exact { (code : ErrorCode) (place : Place) → IsBad words.now (S.state source.old) (S.state source.new) code place
+        → ((result ≡ 1) × Tells (text_of (record { code = code; place = place })) (E.state errs.old) (E.state errs.new)) ⊎ (result ≡ 6) }
+{
+    match carry_out(alloc, words, source, sink) {
+        Ok(()) => 0,
+        Err(error) => {
+            tell(errs, &error);
+            status(error)
+        }
+    }
+}

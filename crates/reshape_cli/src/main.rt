@@ -1,0 +1,33 @@
+//! Reads a JSON text from standard input, and writes the compact text of the same tree to standard output.
+#![tactic(auto)]
+
+use json_text::{StdSink, StdSource, Words};
+use reshape::run;
+use std::env;
+use std::io::ErrorKind;
+use std::process::ExitCode;
+
+/// Where memory ran out.
+const NO_MEMORY: u8 = 6;
+
+/// Where the arguments can't be had, as where one is not UTF-8.
+const NO_ARGUMENTS: u8 = 8;
+
+fn main(rt: HostRuntime) -> ExitCode {
+    let alloc = rt.alloc();
+    let args = match env::args(&rt) {
+        Ok(args) => args,
+        Err(error) if error.kind() == ErrorKind::OutOfMemory => return ExitCode::from(NO_MEMORY),
+        Err(_) => return ExitCode::from(NO_ARGUMENTS),
+    };
+    let mut words = Words::new(alloc);
+    for arg in args.skip(1) {
+        if words.push(arg.as_str()).is_err() {
+            return ExitCode::from(NO_MEMORY);
+        }
+    }
+    let mut source = StdSource::new(rt.stdin());
+    let mut sink = StdSink::new(rt.stdout());
+    let mut errs = StdSink::new(rt.stderr());
+    ExitCode::from(run(alloc, &words, &mut source, &mut sink, &mut errs))
+}
