@@ -1,4 +1,3 @@
-pub mod Plain
 pub mod Pieces
 pub mod Escapes
 pub mod Elements

@@ -1,5 +1,4 @@
 pub mod Calls
-pub mod Runs
 pub mod Layouts
 pub mod Indents
 pub mod Shown

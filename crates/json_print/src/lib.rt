@@ -11,7 +11,6 @@ mod layout;
 mod order;
 mod part;
 mod pretty;
-mod runs;
 mod serializer;
 mod sorted;
 mod style;

@@ -100,7 +100,8 @@ impl<W: Sink, F: Formatter> Serializer<W, F> {
     /// yet. An object's members wait in memory for its end.
     pub fn sort_map_keys(mut self) -> Serializer<W, F>
         requires { IsFresh (⟦<Serializer<W, F> as Events>⟧.state self) }
-        ensures { ⟦<Serializer<W, F> as Events>⟧.state result ≡ record (⟦<Serializer<W, F> as Events>⟧.state self) { sorts = true } }
+        ensures sorts { ⟦<Serializer<W, F> as Events>⟧.state result ≡ record (⟦<Serializer<W, F> as Events>⟧.state self) { sorts = true } }
+        ensures failed { ⟦<Serializer<W, F> as Events>⟧.failed result ≡ ⟦<Serializer<W, F> as Events>⟧.failed self }
     {
         self.sorts = true;
         self
