@@ -22,3 +22,6 @@ pub use formatter::Formatter;
 pub use pretty::PrettyFormatter;
 pub use serializer::Serializer;
 pub use style::Style;
+
+#[cfg(test)]
+mod tests;
