@@ -10,7 +10,7 @@ use Rattle.json_text.specs.Outside.{SinkState}
 use Rattle.json_print.specs.Adding.{Adds}
 use Rattle.json_print.proofs.Pieces.{Adds-first, Adds-then}
 use Rattle.json_grammar.specs.Given.{piece}
-use Rattle.json_print.specs.Runs.{IsPlain, plain}
+use Rattle.json_text.specs.Runs.{IsPlain, plain}
 
 -- a byte that has to be escaped and is neither a quote nor a backslash
 control : (x : ℕ) → ¬ (IsPlain x) → (x ≡ 34 → ⊥) → (x ≡ 92 → ⊥) → x < 32

@@ -1,4 +1,3 @@
-pub mod Plain
 pub mod Pieces
 pub mod Escapes
 pub mod Elements
@@ -13,3 +12,9 @@ pub mod Likeness
 pub mod Texts
 pub mod Prefixes
 pub mod Laws
+pub mod Orders
+pub mod Members
+pub mod Numbering
+pub mod RowPieces
+pub mod Layers
+pub mod Emptying

@@ -1,44 +1,24 @@
 -- At every moment what was written begins the text of each tree whose tokens begin so.
 use Rattle.std.proofs.Common.{◌≡◌, ℕ, List, [], ◌∷◌, ◌++◌, length, append_assoc, ◌∙◌, sym, ap, refl, subst, Bool, true, false, Option}
-use Rattle.json_grammar.specs.declared.Kind.{Kind}
-use Rattle.json_grammar.specs.declared.Kind.TheVariants.{Array as array, Object as object}
 use Rattle.json_grammar.specs.Tree.{Tree, Token, null_token, boolean_token, num_token, text_token, begin, end, key_token, tokens}
 use Rattle.json_model.specs.Print.{shown}
 use Rattle.json_text.specs.declared.error.Error.{Error}
 use Rattle.json_text.specs.Known.{append_known}
 use Rattle.json_text.specs.Outside.{SinkState}
-use Rattle.json_print.specs.Calls.{Call, null_call, boolean_call, number_call, string_call, begin_call, end_call, begin_key, end_key, begin_member, end_member}
+use Rattle.json_print.specs.Calls.{Call, null_call, boolean_call, number_call, string_call, begin_call, end_call, begin_key, end_key}
 use Rattle.json_print.specs.Standing.{outside}
 use Rattle.json_print.specs.Layouts.{Form}
-use Rattle.json_print.specs.Printer.{Out, Row, Begins, StopsAt, after, call, put, value_begun, took_scalar, rows_put, row_put, rows_sorted, top_rows, below, emptied, is_first, start}
+use Rattle.json_print.specs.Printer.{Out, Begins, StopsAt, after, call, value_begun, took_scalar, emptied, is_first, start}
 use Rattle.json_print.specs.Layouts.{LaidOut}
 use Rattle.json_print.specs.Taking.{after_all}
 use Rattle.json_print.proofs.Ideals.{Level, ideal, ideal_laid, after_in}
 use Rattle.json_print.proofs.Likeness.{Like, all_like, after_gained}
 use Rattle.json_print.proofs.Asked.{as_asked}
-use Rattle.json_print.proofs.Stopping.{Begins-refl, Begins-trans, call_begins, ended_begins, begin_called, one_begins, put_begins}
+use Rattle.json_print.proofs.Stopping.{Begins-refl, Begins-trans, call_begins, calls_begin, emptied_begins, ended_begins, begin_called, one_begins}
 use Rattle.json_print.proofs.Texts.{all, value_law, all_append, own_is}
 
 scalar_begins : {F : Type 0} (m : Form F) (s : Out F) (c : Call) → Begins s.gained (took_scalar m s c).gained
 scalar_begins m s c = Begins-trans _ _ _ (begin_called m s c) (ended_begins m (call m (value_begun m s) c))
-
-calls_begin : {F : Type 0} (m : Form F) (s : Out F) (a b c : Call) → Begins s.gained (call m (call m (call m s a) b) c).gained
-calls_begin m s a b c = Begins-trans _ _ _ (call_begins m s a) (Begins-trans _ _ _ (call_begins m (call m s a) b) (call_begins m (call m (call m s a) b) c))
-
-row_begins : {F : Type 0} (m : Form F) (s : Out F) (first : Bool) (r : Row) → Begins s.gained (row_put m s first r).gained
-row_begins m s first r =
-    let a = call m (call m (call m s (begin_key first)) (string_call true r.key)) end_key in
-    let b = call m a begin_member in
-    Begins-trans _ _ _ (calls_begin m s (begin_key first) (string_call true r.key) end_key)
-    (Begins-trans _ _ _ (call_begins m a begin_member) (Begins-trans _ _ _ (put_begins b.layers b.gained r.text) (call_begins m (put b r.text) end_member)))
-
-rows_begin : {F : Type 0} (m : Form F) (rows : List Row) (s : Out F) (first : Bool) → Begins s.gained (rows_put m s first rows).gained
-rows_begin m [] s first = Begins-refl s.gained
-rows_begin m (r ∷ rows) s first = Begins-trans _ _ _ (row_begins m s first r) (rows_begin m rows (row_put m s first r) false)
-
-emptied_begins : {F : Type 0} (m : Form F) (s : Out F) (k : Kind) → Begins s.gained (emptied m s k).gained
-emptied_begins m s array = Begins-refl s.gained
-emptied_begins m s object = one_begins s.gained s.sorts _ s (rows_begin m (rows_sorted (top_rows s.layers)) (record s { layers = below s.layers }) true) (Begins-refl s.gained)
 
 after_begins : {F : Type 0} (m : Form F) (s : Out F) (t : Token) → Begins s.gained (after m s t).gained
 after_begins m s null_token = scalar_begins m s null_call

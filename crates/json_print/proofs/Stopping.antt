@@ -10,9 +10,9 @@ use Rattle.json_text.specs.Known.{append_known}
 use Rattle.json_text.proofs.Known.{known-append, known-nil}
 use Rattle.json_print.specs.declared.events.Turn.{Turn}
 use Rattle.json_print.specs.declared.events.Turn.TheVariants.{Value as at_value, Element as at_element, Key as at_key, Member as at_member, Done as at_done}
-use Rattle.json_print.specs.Calls.{Call, end_call, begin_element, end_element, begin_member, end_member}
+use Rattle.json_print.specs.Calls.{Call, string_call, begin_element, end_element, begin_key, end_key, begin_member, end_member}
 use Rattle.json_print.specs.Layouts.{Form}
-use Rattle.json_print.specs.Printer.{Out, Layer, Begins, Stops, StopCause, gained_put, call, lead_in, follow_on, value_begun, value_ended, took_scalar, took_end, emptied}
+use Rattle.json_print.specs.Printer.{Out, Layer, Row, Begins, Stops, StopCause, gained_put, call, put, lead_in, follow_on, value_begun, value_ended, took_scalar, row_put, rows_put, rows_sorted, top_rows, below, emptied, emptied_in}
 use Rattle.json_print.specs.declared.serializer.Halted.{Halted}
 use Rattle.json_print.specs.Steps.{Steps, Stopped}
 
@@ -64,6 +64,38 @@ begun_faults m s = go s.turn
     go (at_key first) = refl
     go at_member = by s.sorts
     go at_done = refl
+
+-- ---- the rows of a sorted object
+
+pub calls_begin : {F : Type 0} (m : Form F) (s : Out F) (a b c : Call) → Begins s.gained (call m (call m (call m s a) b) c).gained
+calls_begin m s a b c = Begins-trans _ _ _ (call_begins m s a) (Begins-trans _ _ _ (call_begins m (call m s a) b) (call_begins m (call m (call m s a) b) c))
+
+pub row_begins : {F : Type 0} (m : Form F) (s : Out F) (first : Bool) (r : Row) → Begins s.gained (row_put m s first r).gained
+row_begins m s first r =
+    let a = call m (call m (call m s (begin_key first)) (string_call true r.key)) end_key in
+    let b = call m a begin_member in
+    Begins-trans _ _ _ (calls_begin m s (begin_key first) (string_call true r.key) end_key)
+    (Begins-trans _ _ _ (call_begins m a begin_member) (Begins-trans _ _ _ (put_begins b.layers b.gained r.text) (call_begins m (put b r.text) end_member)))
+
+pub rows_begin : {F : Type 0} (m : Form F) (rows : List Row) (s : Out F) (first : Bool) → Begins s.gained (rows_put m s first rows).gained
+rows_begin m [] s first = Begins-refl s.gained
+rows_begin m (r ∷ rows) s first = Begins-trans _ _ _ (row_begins m s first r) (rows_begin m rows (row_put m s first r) false)
+
+pub emptied_begins : {F : Type 0} (m : Form F) (s : Out F) (k : Kind) → Begins s.gained (emptied m s k).gained
+emptied_begins m s array = Begins-refl s.gained
+emptied_begins m s object = one_begins s.gained s.sorts _ s (rows_begin m (rows_sorted (top_rows s.layers)) (record s { layers = below s.layers }) true) (Begins-refl s.gained)
+
+rows_faults : {F : Type 0} (m : Form F) (rows : List Row) (s : Out F) (first : Bool) → (rows_put m s first rows).faults ≡ s.faults
+rows_faults m [] s first = refl
+rows_faults m (r ∷ rows) s first = rows_faults m rows (row_put m s first r) false
+
+pub emptied_faults : {F : Type 0} (m : Form F) (s : Out F) (k : Kind) → (emptied m s k).faults ≡ s.faults
+emptied_faults m s array = refl
+emptied_faults m s object = go s.sorts
+  where
+    go : (b : Bool) → (cond b (emptied_in m s) s).faults ≡ s.faults
+    go true = rows_faults m (rows_sorted (top_rows s.layers)) _ true
+    go false = refl
 
 -- ---- steps one after another
 
@@ -121,11 +153,3 @@ popped (x ∷ xs) p e =
 
 pub shut_same : {F : Type 0} (a x : Out F) (o : List Kind) → a ≡ x → o ≡ outside a.opened → ◌≡◌ {A = Out F} (record a { opened = o }) (shut x)
 shut_same {F = F} a x o e h = ap (λ (c : List Kind). let r : Out F = record a { opened = c } in r) h ∙ ap shut e
-
-emptied_flat : {F : Type 0} (m : Form F) (s : Out F) (k : Kind) → s.sorts ≡ false → emptied m s k ≡ s
-emptied_flat m s array e = refl
-emptied_flat m s object e = rw e refl
-
--- where nothing is sorted
-pub ends_flat : {F : Type 0} (m : Form F) (s : Out F) (k : Kind) (new : Out F) (f : Option Error) (r : Result (Unit {0}) Halted) → s.sorts ≡ false → Steps s new (value_ended m (shut (call m s (end_call k)))) f r → Steps s new (took_end m s k) f r
-ends_flat {F = F} m s k new f r e h = subst (λ (x : Out F). Steps s new (value_ended m (shut (call m x (end_call k)))) f r) (sym (emptied_flat m s k e)) h

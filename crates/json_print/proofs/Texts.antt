@@ -36,7 +36,7 @@ laid_next m f i d b c h = λ cs. tail_same _ _ _ _ (h (c ∷ cs))
 abbrev pub wrote : {F : Type 0} → Out F → F → List ℕ → Out F
 wrote s f p = record s { formatter = f; gained = gained_put s.layers s.gained p; layers = layers_put s.layers p }
 
-twice : {F : Type 0} (s : Out F) (f g : F) (p q : List ℕ) → wrote (wrote s f p) g q ≡ wrote s g (p ++ q)
+pub twice : {F : Type 0} (s : Out F) (f g : F) (p q : List ℕ) → wrote (wrote s f p) g q ≡ wrote s g (p ++ q)
 twice {F = F} s f g p q = go s.layers
   where
     go : (ls : List Layer) → ◌≡◌ {A = Out F} (wrote (wrote (record s { layers = ls }) f p) g q) (wrote (record s { layers = ls }) g (p ++ q))
@@ -93,7 +93,7 @@ scalar_law m v i d b c h e =
 
 -- ---- calls in a row
 
-nothing : {F : Type 0} (s : Out F) → wrote s s.formatter [] ≡ s
+pub nothing : {F : Type 0} (s : Out F) → wrote s s.formatter [] ≡ s
 nothing {F = F} s = go s.layers
   where
     go : (ls : List Layer) → ◌≡◌ {A = Out F} (wrote (record s { layers = ls }) s.formatter []) (record s { layers = ls })

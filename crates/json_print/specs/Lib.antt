@@ -1,5 +1,4 @@
 pub mod Calls
-pub mod Runs
 pub mod Layouts
 pub mod Indents
 pub mod Shown
@@ -14,3 +13,6 @@ pub mod Steps
 pub mod Stands
 pub mod Written
 pub mod Serializing
+pub mod Orders
+pub mod Members
+pub mod Rows

@@ -49,6 +49,10 @@ abbrev pub start : {F : Type 0} → F → Bool → SinkState → Out F
 start f sorts w =
     record { formatter = f; turn = at_value; opened = []; sorts = sorts; layers = []; gained = w.gained; faults = w.faults; lacks = w.lacks; deep = false }
 
+-- no token was taken yet
+abbrev pub IsFresh : {F : Type 0} → Out F → Type 0
+IsFresh s = (s.turn ≡ at_value) × (s.opened ≡ [])
+
 abbrev pub gained_put : List Layer → Option (List ℕ) → List ℕ → Option (List ℕ)
 gained_put [] gained p = append_known gained p
 gained_put (l ∷ ls) gained p = gained
@@ -80,10 +84,13 @@ abbrev pub filed : List Layer → List Layer
 filed [] = []
 filed (l ∷ ls) = record { rows = l.rows ++ record { key = l.key; text = l.text } ∷ []; key = []; text = [] } ∷ ls
 
+abbrev pub filed_in : {F : Type 0} → Out F → Out F
+filed_in s = record s { layers = filed s.layers }
+
 abbrev pub follow_on : {F : Type 0} → Form F → Out F → List Kind → Out F
 follow_on m s [] = turned s at_done
 follow_on m s (array ∷ c) = turned (call m s end_element) (at_element false)
-follow_on m s (object ∷ c) = turned (cond s.sorts (record s { layers = filed s.layers }) (call m s end_member)) (at_key false)
+follow_on m s (object ∷ c) = turned (cond s.sorts (filed_in s) (call m s end_member)) (at_key false)
 
 abbrev pub value_begun : {F : Type 0} → Form F → Out F → Out F
 value_begun m s = lead_in m s s.turn
@@ -95,6 +102,9 @@ value_ended m s = follow_on m s s.opened
 
 abbrev pub took_scalar : {F : Type 0} → Form F → Out F → Call → Out F
 took_scalar m s c = value_ended m (call m (value_begun m s) c)
+
+abbrev pub layered_in : {F : Type 0} → Out F → Out F
+layered_in s = record s { layers = record { rows = []; key = []; text = [] } ∷ s.layers }
 
 abbrev pub layered : Kind → Bool → List Layer → List Layer
 layered object true ls = record { rows = []; key = []; text = [] } ∷ ls
@@ -131,9 +141,13 @@ abbrev pub below : List Layer → List Layer
 below [] = []
 below (l ∷ ls) = ls
 
+-- the innermost sorted object is put into its surroundings
+abbrev pub emptied_in : {F : Type 0} → Form F → Out F → Out F
+emptied_in m s = rows_put m (record s { layers = below s.layers }) true (rows_sorted (top_rows s.layers))
+
 abbrev pub emptied : {F : Type 0} → Form F → Out F → Kind → Out F
 emptied m s array = s
-emptied m s object = cond s.sorts (rows_put m (record s { layers = below s.layers }) true (rows_sorted (top_rows s.layers))) s
+emptied m s object = cond s.sorts (emptied_in m s) s
 
 abbrev pub took_end : {F : Type 0} → Form F → Out F → Kind → Out F
 took_end m s k = let a = call m (emptied m s k) (end_call k) in value_ended m (record a { opened = outside a.opened })
@@ -146,9 +160,14 @@ abbrev pub key_put : List Layer → List ℕ → List Layer
 key_put [] k = []
 key_put (l ∷ ls) k = record l { key = l.key ++ k } ∷ ls
 
+abbrev pub key_kept : {F : Type 0} → Out F → List ℕ → Out F
+key_kept s k = record s { layers = key_put s.layers k }
+
+abbrev pub key_written : {F : Type 0} → Form F → Out F → List ℕ → Out F
+key_written m s k = call m (call m (call m s (begin_key (is_first s.turn))) (string_call true k)) end_key
+
 abbrev pub took_key : {F : Type 0} → Form F → Out F → List ℕ → Out F
-took_key m s k =
-    turned (cond s.sorts (record s { layers = key_put s.layers k }) (call m (call m (call m s (begin_key (is_first s.turn))) (string_call true k)) end_key)) at_member
+took_key m s k = turned (cond s.sorts (key_kept s k) (key_written m s k)) at_member
 
 abbrev pub after : {F : Type 0} → Form F → Out F → Token → Out F
 after m s null_token = took_scalar m s null_call

@@ -25,11 +25,14 @@ pub(crate) fn send<W: Sink>(sink: &mut W, bytes: &[u8], sent: &mut usize) -> Add
     Ok(())
 }
 
-// Puts the whole piece into the sink.
+// Puts the whole piece into the sink. An empty piece makes no call.
 #[inline(always)]
 pub(crate) fn add<W: Sink>(sink: &mut W, piece: &[u8]) -> Added
     ensures { Adds (W.state sink.old) (W.state sink.new) piece.now result }
 {
+    if piece.is_empty() {
+        return Ok(());
+    }
     match sink.write(piece) {
         Ok(count) if count == piece.len() => Ok(()),
         Ok(count) => add_rest(sink, piece, count),

@@ -4,12 +4,11 @@ ghost use Rattle.std.specs.Char.{digit_char};
 ghost use Rattle.json_model.specs.Print.{quoted, shown_byte, shown_bytes, unit_escape};
 ghost use Rattle.json_print.specs.Adding.{Adds};
 ghost use Rattle.json_print.specs.Calls.{string_text};
-ghost use Rattle.json_print.specs.Runs.{IsPlain};
+ghost use Rattle.json_text.specs.Runs.{IsPlain};
 
 use crate::adding::{Added, add};
-use crate::runs::plain_run;
 use itoa::{Buffer, Integer};
-use json_text::Sink;
+use json_text::{Sink, plain_run};
 
 #[inline(always)]
 fn hexadecimal(digit: u8) -> u8

@@ -8,10 +8,11 @@ mod escape;
 mod events;
 mod formatter;
 mod layout;
+mod order;
 mod part;
 mod pretty;
-mod runs;
 mod serializer;
+mod sorted;
 mod style;
 
 pub use buffered::BufferedWriter;
@@ -21,3 +22,6 @@ pub use formatter::Formatter;
 pub use pretty::PrettyFormatter;
 pub use serializer::Serializer;
 pub use style::Style;
+
+#[cfg(test)]
+mod tests;

@@ -1,14 +1,18 @@
 // The serializer.
-ghost use Rattle.std.specs.Prelude.{◌≡◌, None, Some, codes, false};
-ghost use Rattle.json_print.specs.Parts.{meaning};
+ghost use Rattle.std.specs.Prelude.{◌≡◌, [], None, Some, codes, true, false, cond, map};
 ghost use Rattle.json_print.specs.Layouts.{LaidOut};
-ghost use Rattle.json_print.specs.Printer.{Out, StopsAt, after, call, is_first, opened_up, stand_of, start, took_scalar, took_begin, took_end, took_key, value_begun, value_ended};
+ghost use Rattle.json_print.specs.Orders.{inserted_all, pair_of};
+ghost use Rattle.json_print.specs.Parts.{meaning};
+ghost use Rattle.json_print.specs.Printer.{IsFresh, Out, StopsAt, after, call, emptied, emptied_in, filed_in, is_first, key_kept, key_written, layered_in, opened_up, rows_put, rows_sorted, stand_of, start, took_scalar, took_begin, took_end, took_key, value_begun, value_ended};
+ghost use Rattle.json_print.specs.Rows.{numbered, rows_written};
 ghost use Rattle.json_print.specs.Serializing.{out_of};
 ghost use Rattle.json_print.specs.Stands.{after_stands};
 ghost use Rattle.json_print.specs.Steps.{Steps, refusal_of};
 ghost use Rattle.json_print.specs.Written.{Written};
 
+use crate::order::Numbered;
 use crate::part::{Part, write_part};
+use crate::sorted::{SortedObject, put_rows};
 use crate::{CompactFormatter, Events, Formatter, PrettyFormatter, Turn};
 use json_grammar::Kind;
 use json_text::{Error, Result, Sink};
@@ -31,6 +35,12 @@ pub struct Serializer<W, F> {
     turn: Turn,
     // The open containers, the innermost last.
     opened: Vec<Kind>,
+    sorts: bool,
+    // Where it sorts, the open objects, the innermost last.
+    objects: Vec<SortedObject>,
+    // Objects whose memory can be used again.
+    spare: Vec<SortedObject>,
+    alloc: Global,
     failed: Option<Error>,
 }
 
@@ -78,8 +88,23 @@ impl<W: Sink, F: Formatter> Serializer<W, F> {
             formatter,
             turn: Turn::Value,
             opened: Vec::new(alloc),
+            sorts: false,
+            objects: Vec::new(alloc),
+            spare: Vec::new(alloc),
+            alloc,
             failed: None,
         }
+    }
+
+    /// Writes the members of each object in the order of their unescaped keys' bytes, those of one key as they came. Nothing was written
+    /// yet. An object's members wait in memory for its end.
+    pub fn sort_map_keys(mut self) -> Serializer<W, F>
+        requires { IsFresh (⟦<Serializer<W, F> as Events>⟧.state self) }
+        ensures sorts { ⟦<Serializer<W, F> as Events>⟧.state result ≡ record (⟦<Serializer<W, F> as Events>⟧.state self) { sorts = true } }
+        ensures failed { ⟦<Serializer<W, F> as Events>⟧.failed result ≡ ⟦<Serializer<W, F> as Events>⟧.failed self }
+    {
+        self.sorts = true;
+        self
     }
 
     /// The writer. Where the calls were those of the tokens of a tree, it has gained the text of the tree in the layout of the formatter;
@@ -107,9 +132,15 @@ impl<W: Sink, F: Formatter> Serializer<W, F> {
         requires { self.old.failed ≡ None }
         ensures { Steps (⟦<Serializer<W, F> as Events>⟧.state self.old) (⟦<Serializer<W, F> as Events>⟧.state self.new) (call (record { piece = F.piece; next = F.next }) (⟦<Serializer<W, F> as Events>⟧.state self.old) (meaning part.entry)) self.new.failed result }
     {
-        match write_part(&mut self.formatter, &mut self.writer, part) {
-            Ok(()) => Ok(()),
-            Err(error) => Err(self.halt(error)),
+        match self.objects.last_mut() {
+            None => match write_part(&mut self.formatter, &mut self.writer, part) {
+                Ok(()) => Ok(()),
+                Err(error) => Err(self.halt(error)),
+            },
+            Some(object) => match object.call(&mut self.formatter, part) {
+                Ok(()) => Ok(()),
+                Err(error) => Err(self.halt(error)),
+            },
         }
     }
 
@@ -122,7 +153,23 @@ impl<W: Sink, F: Formatter> Serializer<W, F> {
         match self.turn {
             Turn::Value | Turn::Key(_) | Turn::Done => Ok(()),
             Turn::Element(first) => self.call(Part::BeginElement(first)),
+            Turn::Member if self.sorts => Ok(()),
             Turn::Member => self.call(Part::BeginMember),
+        }
+    }
+
+    // The open member of the innermost object is finished.
+    #[inline(never)]
+    fn file(&mut self) -> Step
+        requires { self.old.failed ≡ None }
+        ensures { Steps (⟦<Serializer<W, F> as Events>⟧.state self.old) (⟦<Serializer<W, F> as Events>⟧.state self.new) (filed_in (⟦<Serializer<W, F> as Events>⟧.state self.old)) self.new.failed result }
+    {
+        match self.objects.last_mut() {
+            None => Ok(()),
+            Some(object) => match object.file() {
+                Ok(()) => Ok(()),
+                Err(error) => Err(self.halt(error)),
+            },
         }
     }
 
@@ -143,7 +190,11 @@ impl<W: Sink, F: Formatter> Serializer<W, F> {
             }
             Some(Kind::Object) => {
                 self.turn = Turn::Key(false);
-                self.call(Part::EndMember)
+                if self.sorts {
+                    self.file()
+                } else {
+                    self.call(Part::EndMember)
+                }
             }
         }
     }
@@ -158,6 +209,34 @@ impl<W: Sink, F: Formatter> Serializer<W, F> {
         self.value_end()
     }
 
+    // An object without members, in memory that was used before where there is some.
+    fn empty_object(&mut self) -> SortedObject
+        ensures empty { result ≡ record { rows = []; key = []; text = [] } }
+        ensures state { ⟦<Serializer<W, F> as Events>⟧.state self.new ≡ ⟦<Serializer<W, F> as Events>⟧.state self.old }
+        ensures failed { self.new.failed ≡ self.old.failed }
+    {
+        match self.spare.pop() {
+            None => SortedObject::new(self.alloc),
+            Some(mut object) => {
+                object.clear();
+                object
+            }
+        }
+    }
+
+    // Puts an object on those whose members wait.
+    #[inline(never)]
+    fn open_object(&mut self) -> Step
+        requires { self.old.failed ≡ None }
+        ensures { Steps (⟦<Serializer<W, F> as Events>⟧.state self.old) (⟦<Serializer<W, F> as Events>⟧.state self.new) (layered_in (⟦<Serializer<W, F> as Events>⟧.state self.old)) self.new.failed result }
+    {
+        let object = self.empty_object();
+        match self.objects.push(object) {
+            Ok(()) => Ok(()),
+            Err(error) => Err(self.halt(Error::from(error))),
+        }
+    }
+
     // Puts a container on those that are open.
     #[inline(always)]
     fn open(&mut self, kind: Kind) -> Step
@@ -168,11 +247,20 @@ impl<W: Sink, F: Formatter> Serializer<W, F> {
             Ok(()) => {}
             Err(error) => return Err(self.halt(Error::from(error))),
         }
-        self.turn = match kind {
-            Kind::Array => Turn::Element(true),
-            Kind::Object => Turn::Key(true),
-        };
-        Ok(())
+        match kind {
+            Kind::Array => {
+                self.turn = Turn::Element(true);
+                Ok(())
+            }
+            Kind::Object => {
+                self.turn = Turn::Key(true);
+                if self.sorts {
+                    self.open_object()
+                } else {
+                    Ok(())
+                }
+            }
+        }
     }
 
     #[inline(always)]
@@ -185,14 +273,117 @@ impl<W: Sink, F: Formatter> Serializer<W, F> {
         self.open(kind)
     }
 
+    // The rows of an object in this order.
+    fn put_in_order(&mut self, object: &SortedObject, order: &[Numbered<'_>]) -> Step
+        requires goes { self.old.failed ≡ None }
+        requires order { map pair_of order.now ≡ inserted_all (numbered 0 object.now.rows) }
+        ensures { Steps (⟦<Serializer<W, F> as Events>⟧.state self.old) (⟦<Serializer<W, F> as Events>⟧.state self.new) (rows_written (record { piece = F.piece; next = F.next }) (⟦<Serializer<W, F> as Events>⟧.state self.old) (rows_sorted object.now.rows)) self.new.failed result }
+    {
+        match self.objects.last_mut() {
+            None => match put_rows(&mut self.formatter, &mut self.writer, object, order) {
+                Ok(()) => Ok(()),
+                Err(error) => Err(self.halt(error)),
+            },
+            Some(outer) => match outer.take_rows(&mut self.formatter, object, order) {
+                Ok(()) => Ok(()),
+                Err(error) => Err(self.halt(error)),
+            },
+        }
+    }
+
+    // The rows of an object in the order of their keys.
+    fn put_object(&mut self, object: &SortedObject) -> Step
+        requires { self.old.failed ≡ None }
+        ensures { Steps (⟦<Serializer<W, F> as Events>⟧.state self.old) (⟦<Serializer<W, F> as Events>⟧.state self.new) (rows_put (record { piece = F.piece; next = F.next }) (⟦<Serializer<W, F> as Events>⟧.state self.old) true (rows_sorted object.now.rows)) self.new.failed result }
+    {
+        match object.in_order(self.alloc) {
+            Ok(order) => self.put_in_order(object, &order),
+            Err(error) => Err(self.halt(error)),
+        }
+    }
+
+    // The members of the innermost object in their order.
+    #[inline(never)]
+    fn put_members(&mut self) -> Step
+        requires { self.old.failed ≡ None }
+        ensures { Steps (⟦<Serializer<W, F> as Events>⟧.state self.old) (⟦<Serializer<W, F> as Events>⟧.state self.new) (emptied_in (record { piece = F.piece; next = F.next }) (⟦<Serializer<W, F> as Events>⟧.state self.old)) self.new.failed result }
+    {
+        match self.objects.pop() {
+            None => Ok(()),
+            Some(object) => {
+                let went = self.put_object(&object);
+                let _ = self.spare.push(object);
+                went
+            }
+        }
+    }
+
+    // What stands before the end of a container.
+    #[inline(always)]
+    fn empty(&mut self, kind: Kind) -> Step
+        requires { self.old.failed ≡ None }
+        ensures { Steps (⟦<Serializer<W, F> as Events>⟧.state self.old) (⟦<Serializer<W, F> as Events>⟧.state self.new) (emptied (record { piece = F.piece; next = F.next }) (⟦<Serializer<W, F> as Events>⟧.state self.old) kind) self.new.failed result }
+    {
+        match kind {
+            Kind::Array => Ok(()),
+            Kind::Object => {
+                if self.sorts {
+                    self.put_members()
+                } else {
+                    Ok(())
+                }
+            }
+        }
+    }
+
     #[inline(always)]
     fn end(&mut self, kind: Kind) -> Step
         requires { self.old.failed ≡ None }
         ensures { Steps (⟦<Serializer<W, F> as Events>⟧.state self.old) (⟦<Serializer<W, F> as Events>⟧.state self.new) (took_end (record { piece = F.piece; next = F.next }) (⟦<Serializer<W, F> as Events>⟧.state self.old) kind) self.new.failed result }
     {
+        self.empty(kind)?;
         self.call(Part::End(kind))?;
         let _ = self.opened.pop();
         self.value_end()
+    }
+
+    // The key of the open member of the innermost object.
+    #[inline(never)]
+    fn keep_key(&mut self, key: &str) -> Step
+        requires { self.old.failed ≡ None }
+        ensures { Steps (⟦<Serializer<W, F> as Events>⟧.state self.old) (⟦<Serializer<W, F> as Events>⟧.state self.new) (key_kept (⟦<Serializer<W, F> as Events>⟧.state self.old) key.now) self.new.failed result }
+    {
+        match self.objects.last_mut() {
+            None => Ok(()),
+            Some(object) => match object.push_key(key) {
+                Ok(()) => Ok(()),
+                Err(error) => Err(self.halt(error)),
+            },
+        }
+    }
+
+    // A key and what stands around it.
+    #[inline(always)]
+    fn write_key(&mut self, key: &str) -> Step
+        requires { self.old.failed ≡ None }
+        ensures { Steps (⟦<Serializer<W, F> as Events>⟧.state self.old) (⟦<Serializer<W, F> as Events>⟧.state self.new) (key_written (record { piece = F.piece; next = F.next }) (⟦<Serializer<W, F> as Events>⟧.state self.old) key.now) self.new.failed result }
+    {
+        let first = first_key(self.turn);
+        self.call(Part::BeginKey(first))?;
+        self.call(Part::Text(key))?;
+        self.call(Part::EndKey)
+    }
+
+    #[inline(always)]
+    fn put_key(&mut self, key: &str) -> Step
+        requires { self.old.failed ≡ None }
+        ensures { Steps (⟦<Serializer<W, F> as Events>⟧.state self.old) (⟦<Serializer<W, F> as Events>⟧.state self.new) (cond (⟦<Serializer<W, F> as Events>⟧.state self.old).sorts (key_kept (⟦<Serializer<W, F> as Events>⟧.state self.old) key.now) (key_written (record { piece = F.piece; next = F.next }) (⟦<Serializer<W, F> as Events>⟧.state self.old) key.now)) self.new.failed result }
+    {
+        if self.sorts {
+            self.keep_key(key)
+        } else {
+            self.write_key(key)
+        }
     }
 
     #[inline(always)]
@@ -200,10 +391,7 @@ impl<W: Sink, F: Formatter> Serializer<W, F> {
         requires { self.old.failed ≡ None }
         ensures { Steps (⟦<Serializer<W, F> as Events>⟧.state self.old) (⟦<Serializer<W, F> as Events>⟧.state self.new) (took_key (record { piece = F.piece; next = F.next }) (⟦<Serializer<W, F> as Events>⟧.state self.old) key.now) self.new.failed result }
     {
-        let first = first_key(self.turn);
-        self.call(Part::BeginKey(first))?;
-        self.call(Part::Text(key))?;
-        self.call(Part::EndKey)?;
+        self.put_key(key)?;
         self.turn = Turn::Member;
         Ok(())
     }

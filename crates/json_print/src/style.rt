@@ -3,7 +3,7 @@ ghost use Rattle.std.specs.Prelude.{option_map};
 ghost use Rattle.json_model.specs.Print.{IsIndent};
 ghost use Rattle.json_print.specs.Indents.{IsIndent-prop};
 
-use crate::runs::ws_run;
+use json_text::ws_run;
 
 /// How a JSON text is laid out: an indent of whitespace, or none for no whitespace between the tokens, and whether the members of
 /// each object stand in the order of their keys.

@@ -11,14 +11,14 @@ pub returns-in_err-value_begin : goal.returns-in_err-value_begin
 returns-in_err-value_begin g c =
     let m : Form g.row.F.Denot = record { piece = g.F.Formatter.piece; next = g.F.Formatter.next } in
     let old : Out g.row.F.Denot = out_of g.W.Sink.state c.args.self.now in
-    exits _ _ _ _ _ _ (err_from_is_err_and c.from_residual.result c.from_residual.ensures.1)
-    (Stopped-on _ _ _ _ _ c.in_err-value_begin.ensures.stops (call_begins m (value_begun m old) (begin_call c.args.kind)))
+    exits old _ _ _ _ _ (err_from_is_err_and c.from_residual.result c.from_residual.ensures.1)
+    (Stopped-on old _ _ _ _ c.in_err-value_begin.ensures.stops (call_begins m (value_begun m old) (begin_call c.args.kind)))
 
 pub returns-in_err-call : goal.returns-in_err-call
 returns-in_err-call g c =
     let m : Form g.row.F.Denot = record { piece = g.F.Formatter.piece; next = g.F.Formatter.next } in
     let old : Out g.row.F.Denot = out_of g.W.Sink.state c.args.self.now in
-    exits _ _ _ _ _ _ (err_from_is_err_and c.from_residual-in_err-call.result c.from_residual-in_err-call.ensures.1)
+    exits old _ _ _ _ _ (err_from_is_err_and c.from_residual-in_err-call.result c.from_residual-in_err-call.ensures.1)
     (Stopped-step old (value_begun m old) _ _ _ (λ s. call m s (begin_call c.args.kind)) _ _ (begun_begins m old) (begun_faults m old) c.in_ok-value_begin.ensures.ok c.in_err-call.ensures (Begins-refl _))
 
 pub returns : goal.returns

@@ -4,32 +4,31 @@ use Rattle.json_print.specs.Calls.{begin_key, string_call, end_key}
 use Rattle.json_print.specs.Layouts.{Form}
 use Rattle.json_print.specs.Printer.{Out, call}
 use Rattle.json_print.specs.Serializing.{out_of}
-use Rattle.json_print.proofs.Stopping.{exits, Stopped-on, Stopped-step, Begins-refl, Begins-trans, call_begins}
-use Rattle.json_print.proofs.serializer.Serializer.key_text.Goals as goal
+use Rattle.json_print.proofs.Stopping.{exits, Stopped-on, Stopped-step, Steps-from, Begins-trans, call_begins}
+use Rattle.json_print.proofs.serializer.Serializer.write_key.Goals as goal
 
 pub returns-in_err-call : goal.returns-in_err-call
 returns-in_err-call g c =
     let m : Form g.row.F.Denot = record { piece = g.F.Formatter.piece; next = g.F.Formatter.next } in
     let old : Out g.row.F.Denot = out_of g.W.Sink.state c.args.self.now in
     let a = call m old (begin_key c.first_key-first.result) in
-    rw (← c.first_key-first.ensures) (exits _ _ _ _ _ _ (err_from_is_err_and c.from_residual.result c.from_residual.ensures.1)
-    (Stopped-on _ _ _ _ _ c.in_err-call.ensures.stops (Begins-trans _ _ _ (call_begins m a (string_call true c.args.key.now)) (call_begins m (call m a (string_call true c.args.key.now)) end_key))))
+    rw (← c.first_key-first.ensures) (exits old _ _ _ _ _ (err_from_is_err_and c.from_residual.result c.from_residual.ensures.1)
+    (Stopped-on old _ _ _ _ c.in_err-call.ensures.stops (Begins-trans _ _ _ (call_begins m a (string_call true c.args.key.now)) (call_begins m (call m a (string_call true c.args.key.now)) end_key))))
 
 pub returns-in_err-call-2 : goal.returns-in_err-call-2
 returns-in_err-call-2 g c =
     let m : Form g.row.F.Denot = record { piece = g.F.Formatter.piece; next = g.F.Formatter.next } in
     let old : Out g.row.F.Denot = out_of g.W.Sink.state c.args.self.now in
     let a = call m old (begin_key c.first_key-first.result) in
-    rw (← c.first_key-first.ensures) (exits _ _ _ _ _ _ (err_from_is_err_and c.from_residual-in_err-call-2.result c.from_residual-in_err-call-2.ensures.1)
+    rw (← c.first_key-first.ensures) (exits old _ _ _ _ _ (err_from_is_err_and c.from_residual-in_err-call-2.result c.from_residual-in_err-call-2.ensures.1)
     (Stopped-step old a _ _ _ (λ s. call m s (string_call true c.args.key.now)) _ _ (call_begins m old (begin_key c.first_key-first.result)) refl c.in_ok-call.ensures.ok c.in_err-call-2.ensures
     (call_begins m (call m a (string_call true c.args.key.now)) end_key)))
 
-pub returns-in_err-call-3 : goal.returns-in_err-call-3
-returns-in_err-call-3 g c =
+pub returns : goal.returns
+returns g c =
     let m : Form g.row.F.Denot = record { piece = g.F.Formatter.piece; next = g.F.Formatter.next } in
     let old : Out g.row.F.Denot = out_of g.W.Sink.state c.args.self.now in
     let a = call m old (begin_key c.first_key-first.result) in
     let b = call m a (string_call true c.args.key.now) in
-    rw (← c.first_key-first.ensures) (exits _ _ _ _ _ _ (err_from_is_err_and c.from_residual-in_err-call-3.result c.from_residual-in_err-call-3.ensures.1)
-    (Stopped-step old b _ _ _ (λ s. call m s end_key) _ _ (Begins-trans _ _ _ (call_begins m old (begin_key c.first_key-first.result)) (call_begins m a (string_call true c.args.key.now))) refl
-    (c.in_ok-call-2.ensures.ok ∙ ap (λ (s : Out g.row.F.Denot). call m s (string_call true c.args.key.now)) c.in_ok-call.ensures.ok) c.in_err-call-3.ensures (Begins-refl _)))
+    rw (← c.first_key-first.ensures) (Steps-from old b _ _ (λ s. call m s end_key) _ _ (Begins-trans _ _ _ (call_begins m old (begin_key c.first_key-first.result)) (call_begins m a (string_call true c.args.key.now))) refl
+    (c.in_ok-call-2.ensures.ok ∙ ap (λ (s : Out g.row.F.Denot). call m s (string_call true c.args.key.now)) c.in_ok-call.ensures.ok) c.call-3.ensures)

@@ -1,0 +1,46 @@
+-- What a formatter writes of the rows of a sorted object.
+use Rattle.std.specs.Prelude.{ℕ, suc, List, [], ◌∷◌, ◌++◌, Bool, true, false}
+use Rattle.json_print.specs.Calls.{string_call, begin_key, end_key, begin_member, end_member}
+use Rattle.json_print.specs.Layouts.{Form}
+use Rattle.json_print.specs.Orders.{Pair}
+use Rattle.json_print.specs.Printer.{Out, Row, gained_put, layers_put}
+
+-- the rows with their numbers, from one on
+abbrev pub numbered : ℕ → List Row → List Pair
+numbered n [] = []
+numbered n (r ∷ rows) = (r.key, n) ∷ numbered (suc n) rows
+
+-- the pieces of a key, and the formatter behind them
+abbrev pub key_bytes : {F : Type 0} → Form F → F → Bool → List ℕ → List ℕ
+key_bytes m f first k = let g = m.next f (begin_key first) in m.piece f (begin_key first) ++ (m.piece g (string_call true k) ++ m.piece (m.next g (string_call true k)) end_key)
+
+abbrev pub key_next : {F : Type 0} → Form F → F → Bool → List ℕ → F
+key_next m f first k = m.next (m.next (m.next f (begin_key first)) (string_call true k)) end_key
+
+-- the pieces of a value whose text is there, and the formatter behind them
+abbrev pub value_bytes : {F : Type 0} → Form F → F → List ℕ → List ℕ
+value_bytes m f text = m.piece f begin_member ++ (text ++ m.piece (m.next f begin_member) end_member)
+
+abbrev pub value_next : {F : Type 0} → Form F → F → F
+value_next m f = m.next (m.next f begin_member) end_member
+
+-- the pieces of a row, and the formatter behind them
+abbrev pub row_bytes : {F : Type 0} → Form F → F → Bool → Row → List ℕ
+row_bytes m f first r = key_bytes m f first r.key ++ value_bytes m (key_next m f first r.key) r.text
+
+abbrev pub row_next : {F : Type 0} → Form F → F → Bool → Row → F
+row_next m f first r = value_next m (key_next m f first r.key)
+
+-- the pieces of the rows, and the formatter behind them
+abbrev pub rows_bytes : {F : Type 0} → Form F → F → Bool → List Row → List ℕ
+rows_bytes m f first [] = []
+rows_bytes m f first (r ∷ rows) = row_bytes m f first r ++ rows_bytes m (row_next m f first r) false rows
+
+abbrev pub rows_next : {F : Type 0} → Form F → F → Bool → List Row → F
+rows_next m f first [] = f
+rows_next m f first (r ∷ rows) = rows_next m (row_next m f first r) false rows
+
+-- all rows were written
+abbrev pub rows_written : {F : Type 0} → Form F → Out F → List Row → Out F
+rows_written m s rows =
+    let p = rows_bytes m s.formatter true rows in record s { formatter = rows_next m s.formatter true rows; gained = gained_put s.layers s.gained p; layers = layers_put s.layers p }

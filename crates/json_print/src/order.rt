@@ -1,0 +1,18 @@
+// The order of an object's members.
+ghost use Rattle.std.specs.Prelude.{◌≡◌, map};
+ghost use Rattle.json_print.specs.Orders.{Rise, inserted_all, pair_of};
+
+// The unescaped key of a member, and which member of its object it is.
+#[derive(Clone, Copy, PartialEq, Eq, PartialOrd, Ord)]
+pub(crate) struct Numbered<'a> {
+    pub(crate) key: &'a [u8],
+    pub(crate) number: usize,
+}
+
+// Keys never fall, and equal keys keep their order.
+pub(crate) fn sort_pairs(pairs: &mut [Numbered<'_>])
+    requires { Rise (map pair_of pairs.old) }
+    ensures { map pair_of pairs.new ≡ inserted_all (map pair_of pairs.old) }
+{
+    pairs.sort_unstable();
+}
