@@ -29,6 +29,8 @@ number_of code.InvalidEscape = 15
 number_of code.InvalidSurrogate = 16
 number_of code.TrailingCharacters = 17
 number_of code.RecursionLimitExceeded = 18
+number_of code.NotFound = 19
+number_of code.TypeUnmatched = 20
 number_of code.BadWords = 24
 
 -- the category of a code
@@ -38,6 +40,8 @@ category_of code.Io = category.Io
 category_of code.TooLarge = category.Limit
 category_of code.EofWhileParsing = category.Eof
 category_of code.RecursionLimitExceeded = category.Limit
+category_of code.NotFound = category.NotFound
+category_of code.TypeUnmatched = category.TypeUnmatched
 category_of _ = category.Syntax
 
 -- the offset, the line and the column of a place in the input
@@ -68,6 +72,14 @@ writing_failed = record { code = code.Io; place = place.Writing }
 -- more bytes than the limit
 abbrev pub too_large : Error
 too_large = record { code = code.TooLarge; place = place.None }
+
+-- a step names a key or an index that is not there
+abbrev pub not_found : Error
+not_found = record { code = code.NotFound; place = place.None }
+
+-- a key meets no object, or an index no array
+abbrev pub type_unmatched : Error
+type_unmatched = record { code = code.TypeUnmatched; place = place.None }
 
 -- the words have another form
 abbrev pub bad_words : Error

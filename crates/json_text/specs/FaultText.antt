@@ -26,6 +26,8 @@ name_of code.InvalidEscape = codes "InvalidEscape"
 name_of code.InvalidSurrogate = codes "InvalidSurrogate"
 name_of code.TrailingCharacters = codes "TrailingCharacters"
 name_of code.RecursionLimitExceeded = codes "RecursionLimitExceeded"
+name_of code.NotFound = codes "NotFound"
+name_of code.TypeUnmatched = codes "TypeUnmatched"
 name_of code.BadWords = codes "BadWords"
 
 -- the text of a place, behind a name
@@ -34,6 +36,7 @@ place_text place.None = []
 place_text (place.At offset line column) = codes " at offset " ++ decimal offset ++ codes ", line " ++ decimal line ++ codes " column " ++ decimal column
 place_text place.Reading = codes " while reading"
 place_text place.Writing = codes " while writing"
+place_text (place.Edit number) = codes " in edit " ++ decimal number
 
 -- the name and the place
 abbrev pub message_of : Error → List ℕ

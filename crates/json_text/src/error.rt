@@ -43,6 +43,10 @@ pub enum ErrorCode {
     TrailingCharacters = 17,
     /// A bracket opens more levels than are read (section 9).
     RecursionLimitExceeded = 18,
+    /// A step of an edit names a key or an index that is not there.
+    NotFound = 19,
+    /// A key meets no object, or an index no array.
+    TypeUnmatched = 20,
     /// The words of the command line have another form.
     BadWords = 24,
 }
@@ -53,6 +57,8 @@ pub enum Category {
     Io,
     Syntax,
     Eof,
+    TypeUnmatched,
+    NotFound,
     Limit,
     Memory,
 }
@@ -72,6 +78,8 @@ pub enum Place {
     Reading,
     /// The sink.
     Writing,
+    /// The edit of this number, counted from 0.
+    Edit(u32),
 }
 
 /// A refusal: what is wrong, and where.
@@ -108,6 +116,8 @@ impl ErrorCode {
             ErrorCode::InvalidSurrogate => 16,
             ErrorCode::TrailingCharacters => 17,
             ErrorCode::RecursionLimitExceeded => 18,
+            ErrorCode::NotFound => 19,
+            ErrorCode::TypeUnmatched => 20,
             ErrorCode::BadWords => 24,
         }
     }
@@ -130,6 +140,8 @@ impl Error {
             ErrorCode::Io => Category::Io,
             ErrorCode::TooLarge | ErrorCode::RecursionLimitExceeded => Category::Limit,
             ErrorCode::EofWhileParsing => Category::Eof,
+            ErrorCode::NotFound => Category::NotFound,
+            ErrorCode::TypeUnmatched => Category::TypeUnmatched,
             ErrorCode::InvalidUTF8
             | ErrorCode::InvalidLiteral
             | ErrorCode::InvalidNumber

@@ -84,6 +84,8 @@ impl ErrorCode {
             ErrorCode::InvalidSurrogate => "InvalidSurrogate",
             ErrorCode::TrailingCharacters => "TrailingCharacters",
             ErrorCode::RecursionLimitExceeded => "RecursionLimitExceeded",
+            ErrorCode::NotFound => "NotFound",
+            ErrorCode::TypeUnmatched => "TypeUnmatched",
             ErrorCode::BadWords => "BadWords",
         }
     }
@@ -103,6 +105,7 @@ impl fmt::Display for Error {
             } => write!(f, "{name} at offset {offset}, line {line} column {column}"),
             Place::Reading => write!(f, "{name} while reading"),
             Place::Writing => write!(f, "{name} while writing"),
+            Place::Edit(number) => write!(f, "{name} in edit {number}"),
         }
     }
 }
@@ -131,6 +134,10 @@ pub fn fault_text(error: &Error) -> FaultText
         }
         Place::Reading => text.push(b" while reading"),
         Place::Writing => text.push(b" while writing"),
+        Place::Edit(number) => {
+            text.push(b" in edit ");
+            text.push_number(number as usize);
+        }
     }
     text.push(b"\n");
     text
@@ -162,6 +169,12 @@ mod tests {
             (ErrorCode::Io, Place::Reading, "Io while reading\n"),
             (ErrorCode::Io, Place::Writing, "Io while writing\n"),
             (ErrorCode::BadWords, Place::None, "BadWords\n"),
+            (ErrorCode::NotFound, Place::Edit(1), "NotFound in edit 1\n"),
+            (
+                ErrorCode::TypeUnmatched,
+                Place::Edit(0),
+                "TypeUnmatched in edit 0\n",
+            ),
         ];
         for (code, place, text) in cases {
             let error = Error { code, place };
