@@ -58,6 +58,10 @@ is_str (cell.Str start len) = true
 is_str (cell.Array link len) = false
 is_str (cell.Object link len) = false
 
+-- n cells, each two behind the one before, are those of keys
+abbrev pub AllKeys : List Cell → ℕ → ℕ → Type 0
+AllKeys cells at n = (k : ℕ) → k < n → is_str (slice_index_or cells (at + 2 * k) cell.Null) ≡ true
+
 -- the bytes of a cell are a text, the children of a container stand below it, and keys are strings
 pub record CellInPlace (cells : List Cell) (bytes : List ℕ) (at : ℕ) (c : Cell) : Type 0 where
   pub begins : IsCharBoundary bytes (start_of c)
