@@ -2,6 +2,7 @@
 use Rattle.std.proofs.Common.{◌≡◌, ◌≢◌, Bool, true, ℕ, zero, suc, ◌+◌, ◌-◌, ◌*◌, ◌<◌, ◌≤◌, List, [], ◌∷◌, length, map, get_or, take, Some, None, refl, sym, ap, subst, ◌∙◌, arith}
 use Rattle.std.specs.Prelude.{option_map, slice_get, slice_range}
 use Rattle.std.proofs.lemmas.Option.{slice_get-get_or}
+use Rattle.json_grammar.specs.Grammar.{number}
 use Rattle.json_grammar.specs.Tree.{Tree, null, boolean, num, text, list, pairs, Trees, Pairs, pairs_list, trees_list, list_trees}
 use Rattle.json_doc.specs.Shape.{is_str, AllKeys, CellInPlace}
 use Rattle.json_doc.specs.Trees.{text_of, paired, tree_of_cell, trees}
@@ -13,6 +14,7 @@ use Rattle.json_doc.specs.CellReadings.{cell_type, cell_bool, cell_len}
 use Rattle.json_doc.specs.declared.cell.Cell.{Cell}
 use Rattle.json_doc.specs.declared.cell.Cell.TheVariants as cell
 use Rattle.json_doc.specs.declared.doc.Doc.{Doc}
+use Rattle.json_doc.proofs.Numeric.{number_had}
 use Rattle.json_doc.proofs.Pieces.{length-trees, tree_where, range_below, range_cons, range_none}
 
 -- ---- lists
@@ -178,6 +180,11 @@ module _ (d : Doc) (at : ℕ) (c : Cell) (inside : at < length (doc_cells d)) (i
 
   pub literal_at : (start len : ℕ) → c ≡ cell.Raw start len → literal_of (doc_tree d at) ≡ Some (slice_range (doc_text d) start (start + len))
   literal_at start len e = ap literal_of (here ∙ ap (tree_of_cell (doc_text d) below) e)
+
+  pub number_at : (start len : ℕ) → c ≡ cell.Raw start len → number (slice_range (doc_text d) start (start + len))
+  number_at start len e =
+      let there = subst (λ (x : Cell). CellInPlace (doc_cells d) (doc_text d) at x) e in_place_here in
+      number_had (slice_range (doc_text d) start (start + len)) (there.numeric refl)
 
   pub no_literal_at : ((start len : ℕ) → c ≢ cell.Raw start len) → literal_of (doc_tree d at) ≡ None
   no_literal_at h = ap literal_of here ∙ no_literal_in (doc_text d) below c h
@@ -364,6 +371,15 @@ still_below next step left end some h k l = let one : next + step * suc k < end 
 
 pub first_below : (next step left end : ℕ) → 0 < left → AllBelow next step left end → next < end
 first_below next step left end some h = let one : next + step * 0 < end = h 0 some in omega arith
+
+-- the first child is given, by its tree
+pub first_tree : (d : Doc) (next step left : ℕ) (t : Tree) → 0 < left → t ≡ doc_tree d next → map (doc_tree d) (places_from next step left) ≡ t ∷ map (doc_tree d) (places_from (next + step) step (left - 1))
+first_tree d next step zero t h e = absurd (omega arith)
+first_tree d next step (suc n) t h e = let one : suc n - 1 ≡ n = omega arith in rw (one, e) refl
+
+pub first_place : (next step left at : ℕ) → 0 < left → at ≡ next → places_from next step left ≡ at ∷ places_from (next + step) step (left - 1)
+first_place next step zero at h e = absurd (omega arith)
+first_place next step (suc n) at h e = let one : suc n - 1 ≡ n = omega arith in rw (one, e) refl
 
 -- the first pair is given, by its key and its value
 pub first_pair : (d : Doc) (next left : ℕ) (k : List ℕ) (t : Tree) → 0 < left → k ≡ text_of (doc_tree d next) → t ≡ doc_tree d (next + 1)

@@ -24,10 +24,11 @@ pub struct DocView<'a> {
 
 impl<'a> DocView<'a> {
     ghost use Rattle.json_grammar.specs.Tree.{text};
+    ghost use Rattle.json_grammar.specs.Grammar.{number};
     ghost use Rattle.json_doc.specs.Seen.{view_doc, view_place, view_tree, child_place, key_place};
     ghost use Rattle.std.specs.Prelude.{ℕ, Some};
     ghost use Rattle.json_doc.specs.Left.{children_doc, children_places, children_left};
-    ghost use Rattle.json_doc.specs.Nodes.{NodeOf, NodeIn, NodeAt};
+    ghost use Rattle.json_doc.specs.Nodes.{NodeOf, NodeIsNumber, NodeIn, NodeAt};
 
     /// The place.
     #[inline]
@@ -70,10 +71,11 @@ impl<'a> DocView<'a> {
         self.cell().as_bool()
     }
 
-    /// The literal of the number; none of another kind.
+    /// The literal of the number, itself a number (RFC 8259, section 6); none of another kind.
     #[inline]
     pub fn literal(self) -> Option<&'a str>
-        ensures { option_map (λ s. s.now) result ≡ literal_of (view_tree self.entry) }
+        ensures literal { option_map (λ s. s.now) result ≡ literal_of (view_tree self.entry) }
+        ensures number { IfSome result (λ s. number s.now) }
     {
         match self.cell() {
             Cell::Raw { start, len } => Some(text_range(self.doc, start, len)),
@@ -199,6 +201,7 @@ impl<'a> DocView<'a> {
     #[inline]
     pub fn node(self) -> DocNode<'a>
         ensures tree { NodeOf result (view_tree self.entry) }
+        ensures number { NodeIsNumber result }
         ensures doc { NodeIn result (view_doc self.entry) }
         ensures places { NodeAt result (view_doc self.entry) (view_place self.entry) }
     {

@@ -1,9 +1,10 @@
-use Rattle.std.proofs.Common.{ℕ, List, length, sym, ap, ◌∙◌, arith}
+use Rattle.std.proofs.Common.{ℕ, List, length, sym, ap, subst, ◌∙◌, arith}
 use Rattle.std.specs.Prelude.{slice_get}
+use Rattle.json_grammar.specs.Grammar.{number}
 use Rattle.json_grammar.specs.Tree.{num, text}
 use Rattle.json_doc.specs.Docs.{doc_tree}
 use Rattle.json_doc.specs.Left.{doc_pair}
-use Rattle.json_doc.proofs.Shown.{length-of_places, null_at, boolean_at, num_at, text_tree_at, array_at, object_at, element_place, value_place}
+use Rattle.json_doc.proofs.Shown.{length-of_places, null_at, boolean_at, num_at, number_at, text_tree_at, array_at, object_at, element_place, value_place}
 use Rattle.json_doc.proofs.view.DocView.node.Goals as goal
 
 pub returns-in-Null-clause-tree : goal.returns-in-Null-clause-tree
@@ -16,6 +17,11 @@ pub returns-in-Raw-clause-tree : goal.returns-in-Raw-clause-tree
 returns-in-Raw-clause-tree c =
     let s = c.args.self in
     num_at s.doc.now s.at c.cell.result s.inside c.cell.ensures c.in-Raw.start c.in-Raw.len c.in-Raw.is ∙ ap num (sym c.text_range.ensures)
+
+pub returns-in-Raw-clause-number : goal.returns-in-Raw-clause-number
+returns-in-Raw-clause-number c =
+    let s = c.args.self in
+    subst number (sym c.text_range.ensures) (number_at s.doc.now s.at c.cell.result s.inside c.cell.ensures c.in-Raw.start c.in-Raw.len c.in-Raw.is)
 
 pub returns-in-Str-clause-tree : goal.returns-in-Str-clause-tree
 returns-in-Str-clause-tree c =
