@@ -1,0 +1,5 @@
+pub mod Readings
+pub mod Denotes
+pub mod Edits
+pub mod Spots
+pub mod Rows
