@@ -1,3 +1,4 @@
 pub mod Fronts
 pub mod Trees
 pub mod Views
+pub mod Placed
