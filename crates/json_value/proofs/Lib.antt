@@ -2,3 +2,4 @@ pub mod Fronts
 pub mod Trees
 pub mod Views
 pub mod Placed
+pub mod Copies
