@@ -1,0 +1,26 @@
+//! Values of JSON (RFC 8259, section 3) that can be edited: scalars, owned texts and containers, and places of shared
+//! packed documents. The first write to a packed container copies one level of it.
+#![tactic(auto)]
+
+mod applying;
+mod array;
+mod container;
+mod copying;
+mod literal;
+mod making;
+mod object;
+mod pair;
+mod path;
+mod place;
+mod standing;
+#[cfg(test)]
+mod tests;
+mod text;
+mod value;
+
+pub use container::Container;
+pub use literal::Literal;
+pub use pair::Keyed;
+pub use path::{Edit, Path, PointerNode};
+pub use text::Text;
+pub use value::{Array, Object, Pair, Value};

@@ -1,0 +1,79 @@
+// Paths and edits.
+ghost use Rattle.std.specs.Prelude.{◌≡◌, [], ◌∷◌, ◌++◌, OnOk, OnErr, IfErr};
+ghost use Rattle.json_text.specs.Errors.{no_memory};
+ghost use Rattle.json_value.specs.Edits.{step_of, steps_of, path_steps, edit_of, edit_at};
+
+use crate::text::Text;
+use crate::value::Value;
+use json_text::Result;
+use std::alloc::Global;
+
+/// A step into a value.
+#[derive(Drop)]
+pub enum PointerNode {
+    /// To the first member of an object with this key.
+    Key(Text),
+    /// To an element of an array, counted from 0.
+    Index(usize),
+}
+
+/// Steps from a value to a place within it. No steps lead to the value itself.
+#[derive(Drop)]
+pub struct Path {
+    pub(crate) steps: Vec<PointerNode>,
+}
+
+/// A change of a value, at the place to which a path leads.
+#[derive(Drop)]
+pub enum Edit {
+    /// Puts a value at the place.
+    Set { path: Path, value: Value },
+    /// Puts a value at the first member of the key there, or appends such a member.
+    Insert { path: Path, key: Text, value: Value },
+    /// Appends an element there.
+    Push { path: Path, value: Value },
+    /// Takes out all members of a key there, or the element of an index.
+    Remove { path: Path, step: PointerNode },
+}
+
+impl Path {
+    /// The path without steps. Takes no memory.
+    pub fn new(alloc: Global) -> Path
+        ensures { path_steps result ≡ [] }
+    {
+        Path {
+            steps: Vec::new(alloc),
+        }
+    }
+
+    /// Appends a step. `NoMemory`, which keeps the path.
+    pub fn push(&mut self, step: PointerNode) -> Result<()>
+        ensures ok { OnOk result (path_steps self.new ≡ path_steps self.old ++ step_of step ∷ []) }
+        ensures kept { OnErr result (path_steps self.new ≡ path_steps self.old) }
+        ensures only { IfErr result (λ e. e ≡ no_memory) }
+    {
+        self.steps.push(step)?;
+        Ok(())
+    }
+
+    /// The steps, from the first on.
+    pub fn steps(&self) -> &[PointerNode]
+        ensures { steps_of result.now ≡ path_steps self.now }
+    {
+        self.steps.as_slice()
+    }
+}
+
+impl Edit {
+    /// The path to the place of the change.
+    pub fn path(&self) -> &Path
+        ensures { edit_of self.now ≡ edit_at (path_steps result.now) self.now }
+    {
+        match self {
+            Edit::Set { path, .. }
+            | Edit::Insert { path, .. }
+            | Edit::Push { path, .. }
+            | Edit::Remove { path, .. } => path,
+        }
+    }
+}
