@@ -1,0 +1,6 @@
+use Rattle.std.proofs.Common.{sym, arith}
+use Rattle.json_number.proofs.Integers.{long_is_none}
+use Rattle.json_number.proofs.integer.integer_of.Goals as goal
+
+pub returns-then-literal-gt-LONGEST : goal.returns-then-literal-gt-LONGEST
+returns-then-literal-gt-LONGEST c = sym (long_is_none _ c.requires (omega arith))

@@ -1,0 +1,1 @@
+// Integers by value and raw literals, on examples.
