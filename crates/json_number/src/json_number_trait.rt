@@ -14,11 +14,17 @@ pub trait JsonNumberTrait {
 
     /// Whether it stands for an integer that lies in `i64`.
     fn is_i64(&self) -> bool
-        ensures { result ≡ is_some (option_and_then in_i64 (integer self.now)) };
+        ensures { result ≡ is_some (option_and_then in_i64 (integer self.now)) }
+    {
+        self.as_i64().is_some()
+    }
 
     /// Whether it stands for an integer that lies in `u64`.
     fn is_u64(&self) -> bool
-        ensures { result ≡ is_some (option_and_then in_u64 (integer self.now)) };
+        ensures { result ≡ is_some (option_and_then in_u64 (integer self.now)) }
+    {
+        self.as_u64().is_some()
+    }
 
     /// The integer, where it lies in `i64`.
     fn as_i64(&self) -> Option<i64>
@@ -31,14 +37,6 @@ pub trait JsonNumberTrait {
 
 impl JsonNumberTrait for Number {
     ghost integer = { λ n. Some (value_of n) };
-
-    fn is_i64(&self) -> bool {
-        self.as_i64().is_some()
-    }
-
-    fn is_u64(&self) -> bool {
-        self.as_u64().is_some()
-    }
 
     fn as_i64(&self) -> Option<i64> {
         match self.form {
@@ -58,14 +56,6 @@ impl JsonNumberTrait for Number {
 
 impl JsonNumberTrait for RawNumber {
     ghost integer = { λ r. integer_in (raw_literal r) };
-
-    fn is_i64(&self) -> bool {
-        self.as_i64().is_some()
-    }
-
-    fn is_u64(&self) -> bool {
-        self.as_u64().is_some()
-    }
 
     fn as_i64(&self) -> Option<i64> {
         match self.to_number() {

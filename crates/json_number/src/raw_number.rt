@@ -13,7 +13,7 @@ use json_text::{Error, ErrorCode, Place, Result};
 use std::alloc::Global;
 
 /// A number as the literal that spells it (RFC 8259, section 6), of any size and precision.
-#[derive(Drop)]
+#[derive(Debug, Drop)]
 pub struct RawNumber {
     literal: String,
     ghost is_literal: { is_number (string_bytes literal) ≡ true },
