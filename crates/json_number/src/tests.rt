@@ -23,21 +23,32 @@ fn integers_by_value(rt: HostRuntime) -> Result<(), Fail> {
     ];
     for (literal, signed, unsigned) in cases {
         let raw = RawNumber::new(rt.alloc(), literal)?;
+        assert!(rt;
+            (raw.as_i64(), raw.as_u64()) == (signed, unsigned),
+            "{literal}"
+        );
         let Some(number) = integer_of(raw.as_str()) else {
             return Err(Fail::new(format_args!("{literal} by value")));
         };
-        assert!(rt; raw.to_number() == Some(number), "{literal}");
         assert!(rt;
-            number.as_i64() == signed && raw.as_i64() == signed,
+            (number.as_i64(), number.as_u64()) == (signed, unsigned),
             "{literal}"
         );
-        assert!(rt;
-            number.as_u64() == unsigned && raw.as_u64() == unsigned,
-            "{literal}"
-        );
-        assert!(rt; number.is_i64() == signed.is_some(), "{literal}");
-        assert!(rt; raw.is_u64() == unsigned.is_some(), "{literal}");
-        assert_eq!(rt; format!(in rt.alloc(); "{number}")?.as_str(), literal);
+        assert!(rt; (number.is_i64(), raw.is_u64()) == (signed.is_some(), unsigned.is_some()));
+    }
+    Ok(())
+}
+
+#[test]
+fn numbers_shown(rt: HostRuntime) -> Result<(), Fail> {
+    let cases = [
+        (Number::from(0u8), "0"),
+        (Number::from(u64::MAX), "18446744073709551615"),
+        (Number::from(i64::MIN), "-9223372036854775808"),
+    ];
+    for (number, text) in cases {
+        let shown = format!(in rt.alloc(); "{number}")?;
+        assert_eq!(rt; shown.as_str(), text);
     }
     Ok(())
 }
@@ -55,8 +66,7 @@ fn literals_of_no_integer(rt: HostRuntime) -> Result<(), Fail> {
     ];
     for literal in literals {
         let raw = RawNumber::new(rt.alloc(), literal)?;
-        assert!(rt; raw.to_number().is_none(), "{literal}");
-        assert!(rt; !raw.is_i64() && !raw.is_u64(), "{literal}");
+        assert!(rt; raw.to_number().is_none() && !raw.is_i64(), "{literal}");
     }
     Ok(())
 }
