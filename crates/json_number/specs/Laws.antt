@@ -4,7 +4,9 @@ use Rattle.std.specs.Fmt.{signed_decimal}
 use Rattle.json_grammar.specs.Grammar.{number}
 use Rattle.json_number.specs.Integers.{integer_in}
 use Rattle.json_number.specs.Numbers.{value_of, text_of_number}
+use Rattle.json_number.specs.Literals.{raw_literal}
 use Rattle.json_number.specs.declared.number.Number.{Number}
+use Rattle.json_number.specs.declared.raw_number.RawNumber.{RawNumber}
 
 -- the decimal text of the integer that a literal stands for is the literal
 abbrev pub PrintsItsLiteral : Type 0
@@ -25,3 +27,7 @@ SameValue = (x y : Number) → value_of x ≡ value_of y → x ≡ y
 -- numbers of one value have one text, and conversely
 abbrev pub SameText : Type 0
 SameText = (x y : Number) → (value_of x ≡ value_of y) ↔ (text_of_number x ≡ text_of_number y)
+
+-- the literal of a raw number is a number
+abbrev pub LiteralIsNumber : Type 0
+LiteralIsNumber = (r : RawNumber) → number (raw_literal r)

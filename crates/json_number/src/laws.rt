@@ -1,5 +1,5 @@
 // Laws of numbers.
-ghost use Rattle.json_number.specs.Laws.{PrintsItsLiteral, ReadsBack, ValueInRange, SameValue, SameText};
+ghost use Rattle.json_number.specs.Laws.{PrintsItsLiteral, ReadsBack, ValueInRange, SameValue, SameText, LiteralIsNumber};
 
 /// An integer by value prints the literal that it was read from.
 pub fn prints_its_literal()
@@ -24,4 +24,9 @@ pub fn same_value()
 /// Numbers of one value have one text, and conversely.
 pub fn same_text()
     ensures { SameText }
+{}
+
+/// The literal of a raw number is a number.
+pub fn literal_is_number()
+    ensures { LiteralIsNumber }
 {}
