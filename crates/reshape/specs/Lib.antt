@@ -1,4 +1,5 @@
 pub mod Input
+pub mod Words
 pub mod Emitting
 pub mod Printing
 pub mod Reshape
