@@ -3,3 +3,4 @@ pub mod Documents
 pub mod Outcomes
 pub mod Standing
 pub mod Emitting
+pub mod Wording
