@@ -1,0 +1,3 @@
+pub mod Fronts
+pub mod Trees
+pub mod Views
