@@ -4,3 +4,4 @@ pub mod Outcomes
 pub mod Standing
 pub mod Emitting
 pub mod Wording
+pub mod Spelled

@@ -1,9 +1,11 @@
 -- What the words of the command line ask for: the edits that the edits word spells.
-use Rattle.std.specs.Prelude.{◌≡◌, ℕ, ◌^◌, nat_lt, ◌&&◌, List, [], ◌∷◌, Option, Some, None, cond, bytes_eq, codes, option_map}
+use Rattle.std.specs.Prelude.{◌≡◌, ◌⊎◌, ℕ, ◌^◌, nat_lt, ◌&&◌, List, [], ◌∷◌, Option, Some, None, cond, bytes_eq, codes, option_map}
 use Rattle.std.specs.Str.{all_ascii_digits}
 use Rattle.std.specs.Str.Parse.{digits_value}
 use Rattle.json_grammar.specs.Tree.{Tree, num, text, list, tree_and, trees_list}
 use Rattle.json_doc.specs.Readings.{string_of}
+use Rattle.json_text.specs.declared.error.Error.{Error}
+use Rattle.json_text.specs.Errors.{no_memory, bad_words}
 use Rattle.json_model.specs.Edit.{Step, key_step, index_step, Edit, set_at, insert_at, push_at, remove_at}
 use Rattle.reshape.specs.Input.{IsInput}
 
@@ -51,6 +53,10 @@ edit_in _ = None
 abbrev pub edits_in : Tree → Option (List Edit)
 edits_in (list ts) = each_in edit_in (trees_list ts)
 edits_in _ = None
+
+-- why what was asked for is not known: memory ran out, or nothing is spelled
+abbrev pub Unread : {A : Type 0} → Option A → Error → Type 0
+Unread o e = (e ≡ no_memory) ⊎ ((e ≡ bad_words) × (o ≡ None))
 
 -- the word is a text, within the limits of an input, of a tree that spells these edits
 pub record Spells (word : List ℕ) (es : List Edit) : Type 0 where
