@@ -1,3 +1,5 @@
 pub mod Fronts
 pub mod Trees
 pub mod Views
+pub mod Placed
+pub mod Copies
