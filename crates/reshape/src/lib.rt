@@ -21,3 +21,5 @@ pub use words::asked;
 
 #[cfg(test)]
 mod tests;
+#[cfg(test)]
+mod words_tests;
