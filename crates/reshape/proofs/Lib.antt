@@ -3,3 +3,5 @@ pub mod Documents
 pub mod Outcomes
 pub mod Standing
 pub mod Emitting
+pub mod Wording
+pub mod Spelled

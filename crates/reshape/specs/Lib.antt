@@ -1,4 +1,6 @@
 pub mod Input
+pub mod Words
+pub mod Asked
 pub mod Emitting
 pub mod Printing
 pub mod Reshape

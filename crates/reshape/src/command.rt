@@ -1,8 +1,9 @@
 // What the program is asked for.
+use crate::edits::Edits;
 
 /// What is asked for.
-#[derive(Clone, Copy, Debug, PartialEq, Eq)]
+#[derive(Drop)]
 pub enum Asked {
-    /// The compact text of the tree that is read.
-    Reshape,
+    /// The compact text of the tree that is read, behind these edits.
+    Reshape(Edits),
 }
