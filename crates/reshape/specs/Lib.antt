@@ -1,8 +1,0 @@
-pub mod Input
-pub mod Words
-pub mod Asked
-pub mod Emitting
-pub mod Printing
-pub mod Reshape
-pub mod Run
-pub mod Laws

@@ -1,11 +1,12 @@
-//! Reads a JSON text from a source, and writes the compact text of the same tree to a sink: what the program `reshape` does.
+//! Reads a JSON text from a source, edits its value, and writes the text of the edited tree to a sink: what the program `reshape`
+//! does.
 #![tactic(auto)]
 
 mod command;
 mod document;
+mod editing;
 mod edits;
 mod edits_word;
-mod emit;
 mod engine;
 pub mod laws;
 mod output;
@@ -19,6 +20,8 @@ pub use engine::reshape;
 pub use top::run;
 pub use words::asked;
 
+#[cfg(test)]
+mod edit_tests;
 #[cfg(test)]
 mod tests;
 #[cfg(test)]
