@@ -3,3 +3,5 @@ pub mod Denotes
 pub mod Edits
 pub mod Spots
 pub mod Rows
+pub mod Emitting
+pub mod Seen

@@ -1,6 +1,6 @@
 use Rattle.std.proofs.Common.{sym}
-use Rattle.reshape.proofs.Emitting.{emits_one, text_tokens, literal_tokens, bool_tokens, null_tokens}
-use Rattle.reshape.proofs.emit.emit_scalar.Goals as goal
+use Rattle.json_value.proofs.Emitting.{emits_one, text_tokens, literal_tokens, bool_tokens, null_tokens}
+use Rattle.json_value.proofs.emit_packed.emit_scalar.Goals as goal
 
 pub returns-in-Some : goal.returns-in-Some
 returns-in-Some g c = emits_one _ _ _ _ _ _ _ _ _ c.requires.fresh (text_tokens _ _ (sym c.in-Some.ensures)) c.text-in-Some.ensures
