@@ -345,3 +345,7 @@ emits_last after stopped first old new err err' pre x ts (Err e) s fresh w h =
 -- the tokens of a tree are those of an equal one
 pub emits_same : {S : Type 0} (after : S → Token → S) (stopped : S → Token → S → Error → Type 0) (old new : S) (err : Option Error) (t u : Tree) (r : Result (Unit {0}) Error) → t ≡ u → Emits after stopped old new err (tokens t) r → Emits after stopped old new err (tokens u) r
 emits_same after stopped old new err t u r e h = subst (λ x. Emits after stopped old new err (tokens x) r) e h
+
+-- all tokens of a tree were given from the beginning
+pub given_whole : {S : Type 0} (after : S → Token → S) (first begun now : S) (t u : Tree) → now ≡ after_all after first (tokens u) → first ≡ begun → u ≡ t → now ≡ after_all after begun (tokens t)
+given_whole after first begun now t u h s e = h ∙ ap₂ (λ a b. after_all after a (tokens b)) s e

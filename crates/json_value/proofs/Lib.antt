@@ -1,2 +1,4 @@
 pub mod Standing
 pub mod Emitting
+pub mod Views
+pub mod Trees

@@ -12,6 +12,7 @@ mod emit_packed;
 mod literal;
 mod object;
 mod object_view;
+mod owning;
 mod pair;
 mod path;
 mod place;

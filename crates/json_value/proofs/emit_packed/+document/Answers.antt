@@ -14,17 +14,17 @@ use Rattle.json_value.proofs.emit_packed.+document.Goals as goal
 
 pub emit_document-emit_elements-requires : goal.emit_document-emit_elements-requires
 emit_document-emit_elements-requires g t c κs within =
-    (omega arith, (within, (c.requires.fresh, (c.requires.value, subst IsProper (sym (array_itself (view_tree c.args.view) c.in-Array.ensures)) c.requires.proper))))
+    (omega arith, (within, (c.requires.fresh, (c.requires.value, subst IsProper (sym (array_itself (view_tree c.args.view) (sym c.in-Array.ensures))) c.requires.proper))))
 
 pub emit_document-emit_members-requires : goal.emit_document-emit_members-requires
 emit_document-emit_members-requires g t c κs within =
-    (omega arith, (within, (c.requires.fresh, (c.requires.value, subst IsProper (sym (object_itself (view_tree c.args.view) c.in-Object.ensures)) c.requires.proper))))
+    (omega arith, (within, (c.requires.fresh, (c.requires.value, subst IsProper (sym (object_itself (view_tree c.args.view) (sym c.in-Object.ensures))) c.requires.proper))))
 
 pub emit_document-returns-in-Array : goal.emit_document-returns-in-Array
-emit_document-returns-in-Array g t c = emits_same _ _ _ _ _ _ _ _ (array_itself (view_tree c.args.view) c.in-Array.ensures) c.emit_elements.ensures
+emit_document-returns-in-Array g t c = emits_same _ _ _ _ _ _ _ _ (array_itself (view_tree c.args.view) (sym c.in-Array.ensures)) c.emit_elements.ensures
 
 pub emit_document-returns-in-Object : goal.emit_document-returns-in-Object
-emit_document-returns-in-Object g t c = emits_same _ _ _ _ _ _ _ _ (object_itself (view_tree c.args.view) c.in-Object.ensures) c.emit_members.ensures
+emit_document-returns-in-Object g t c = emits_same _ _ _ _ _ _ _ _ (object_itself (view_tree c.args.view) (sym c.in-Object.ensures)) c.emit_members.ensures
 
 pub emit_elements-returns-in_err-begin_array : goal.emit_elements-returns-in_err-begin_array
 emit_elements-returns-in_err-begin_array g t c =
