@@ -119,6 +119,17 @@ value_less (num l) i u e = absurd (cc)
 value_less (text c) i u e = absurd (cc)
 value_less (list ts) i u e = absurd (cc)
 
+-- no element has more nodes than all
+pub element_within : (ts : List Tree) (i : ℕ) (u : Tree) → slice_get ts i ≡ Some u → nodes u ≤ trees_nodes (list_trees ts)
+element_within [] i u e = absurd (cc)
+element_within (t ∷ ts) zero u e = let s : t ≡ u = cc in omega (arith, ap nodes s)
+element_within (t ∷ ts) (suc i) u e = omega (arith, element_within ts i u e)
+
+pub value_within : (ps : List (List ℕ × Tree)) (i : ℕ) (u : Tree) → slice_get (map (λ p. p.1) ps) i ≡ Some u → nodes u ≤ pairs_nodes (list_pairs ps)
+value_within [] i u e = absurd (cc)
+value_within (p ∷ ps) zero u e = let s : p.1 ≡ u = cc in omega (arith, ap nodes s)
+value_within (p ∷ ps) (suc i) u e = omega (arith, value_within ps i u e)
+
 -- each element is proper
 pub element_proper : (ts : List Tree) (i : ℕ) (u : Tree) → AreProper (list_trees ts) → slice_get ts i ≡ Some u → IsProper u
 element_proper [] i u h e = absurd (cc)
