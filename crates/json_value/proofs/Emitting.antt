@@ -13,7 +13,7 @@ use Rattle.json_print.specs.Standing.{Stand, stand_after, TakesValue, TakesKey, 
 use Rattle.json_print.specs.Taking.{after_all, Takes}
 use Rattle.json_value.specs.Readings.{members}
 use Rattle.json_value.specs.Emitting.{StopsAmong, Emits}
-use Rattle.json_value.proofs.Standing.{stand_all, after_append, stand_moves, all_tokens, all_pairs, elements_stand, members_stand}
+use Rattle.json_value.proofs.Turns.{stand_all, after_append, stand_moves, all_tokens, all_pairs, elements_stand, members_stand}
 
 -- ---- one token
 

@@ -1,4 +1,6 @@
-pub mod Standing
-pub mod Emitting
-pub mod Views
+pub mod Fronts
 pub mod Trees
+pub mod Views
+pub mod Turns
+pub mod Emitting
+pub mod WholeTrees

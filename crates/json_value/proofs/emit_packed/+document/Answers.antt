@@ -7,7 +7,7 @@ use Rattle.json_doc.specs.Seen.{view_tree}
 use Rattle.json_doc.specs.Readings.{elements}
 use Rattle.json_print.specs.Taking.{after_all}
 use Rattle.json_value.specs.Readings.{members}
-use Rattle.json_value.proofs.Standing.{after_append}
+use Rattle.json_value.proofs.Turns.{after_append}
 use Rattle.json_value.proofs.Emitting.{emits_refused, emits_last, emits_same, stops_one, stops_within, array_itself, array_tokens, array_around, array_no_more, array_whole, array_front, array_stand, array_step, elements_within, object_itself, object_tokens, object_around, object_no_key, object_no_value, object_whole, object_front, object_stand, object_step, members_within, member_stand, key_there, value_there, value_less, value_proper, element_less, element_proper}
 use Rattle.json_value.proofs.emit_packed.+document.Goals.{emit_elements-in-Some+in_ok-emit_document, emit_elements-in_default, emit_members-in-Some+in-Some-pair_value+in_ok-key+in_ok-emit_document, emit_members-in-Some+in_default-pair_value, emit_members-in_default}
 use Rattle.json_value.proofs.emit_packed.+document.Goals as goal
