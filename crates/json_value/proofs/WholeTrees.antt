@@ -1,7 +1,7 @@
 -- The tree of a value, from what the value was found to be.
-use Rattle.std.proofs.Common.{◌≡◌, ◌<◌, Bool as TestBool, ℕ, zero, suc, List, [], ◌∷◌, Some, length, map, get_or, sym, ap, subst, ◌∙◌, arith}
-use Rattle.std.specs.Prelude.{Vec, slice_get}
-use Rattle.std.specs.declared.alloc.Global.{Global}
+use Rattle.std.proofs.Common.{◌≡◌, ◌<◌, ◌≤◌, Bool as TestBool, ℕ, zero, suc, List, [], ◌∷◌, Some, length, map, get_or, sym, ap, subst, ◌∙◌, arith}
+use Rattle.std.specs.Prelude.{slice_get}
+use Rattle.std.proofs.lemmas.List.{length-map}
 use Rattle.json_grammar.specs.Tree.{Tree, null, boolean, num, text, list, no_trees, list_trees, pairs, no_pairs, list_pairs, Token, tokens, null_token, boolean_token, num_token, text_token}
 use Rattle.json_doc.specs.Readings.{elements}
 use Rattle.json_value.specs.Readings.{members}
@@ -40,7 +40,25 @@ pub object_there : (v : Value) (o : Container (Keyed Value)) (f : Form (Keyed Va
 object_there v o f e h = object_in v o e ∙ ap (λ g. pairs (list_pairs (form_pairs g))) h
 
 -- an element of a list, seen through a function
-pub got_map : {X Y : Type 0} (f : X → Y) (xs : List X) (i : ℕ) (x : X) → i < length xs → x ≡ get_or xs i x → slice_get (map f xs) i ≡ Some (f x)
+got_map : {X Y : Type 0} (f : X → Y) (xs : List X) (i : ℕ) (x : X) → i < length xs → x ≡ get_or xs i x → slice_get (map f xs) i ≡ Some (f x)
 got_map f [] i x h e = absurd (omega arith)
 got_map f (y ∷ ys) zero x h e = ap (λ z. Some (f z)) (sym e)
 got_map f (y ∷ ys) (suc i) x h e = got_map f ys i x (omega arith) e
+
+pub item_there : {X Y : Type 0} (f : X → Y) (xs ys : List X) (i : ℕ) (x : X) → xs ≡ ys → i < length xs → x ≡ get_or xs i x → slice_get (map f ys) i ≡ Some (f x)
+item_there f xs ys i x s h e = subst (λ zs. slice_get (map f zs) i ≡ Some (f x)) s (got_map f xs i x h e)
+
+pub items_end : {X Y : Type 0} (f : X → Y) (xs ys : List X) (i : ℕ) → xs ≡ ys → length xs ≤ i → length (map f ys) ≤ i
+items_end f xs ys i s h = subst (λ zs. length (map f zs) ≤ i) s (omega (arith, h, length-map xs f))
+
+pub map_there : {X Y : Type 0} (f : X → Y) (xs : List X) (i : ℕ) (x : X) → slice_get xs i ≡ Some x → slice_get (map f xs) i ≡ Some (f x)
+map_there f [] i x e = absurd (cc)
+map_there f (y ∷ ys) zero x e = let s : y ≡ x = cc in ap (λ z. Some (f z)) s
+map_there f (y ∷ ys) (suc i) x e = map_there f ys i x e
+
+-- the key and the tree of a member that stands there
+pub key_of_item : (ps : List (List ℕ × Tree)) (i : ℕ) (p : Keyed Value) (k : List ℕ) → slice_get ps i ≡ Some (pair_of p) → k ≡ text_bytes p.key → slice_get (map (λ (q : List ℕ × Tree). q.0) ps) i ≡ Some k
+key_of_item ps i p k e h = map_there (λ (q : List ℕ × Tree). q.0) ps i (pair_of p) e ∙ ap (λ z. Some z) (sym h)
+
+pub tree_of_item : (ps : List (List ℕ × Tree)) (i : ℕ) (p : Keyed Value) → slice_get ps i ≡ Some (pair_of p) → slice_get (map (λ (q : List ℕ × Tree). q.1) ps) i ≡ Some (tree_of p.value)
+tree_of_item ps i p e = map_there (λ (q : List ℕ × Tree). q.1) ps i (pair_of p) e

@@ -7,13 +7,13 @@ use Rattle.json_value.proofs.Emitting.{array_front, object_front}
 use Rattle.json_value.proofs.emit.+value.Given as goal
 
 abbrev pub decreases-emit_value : goal.decreases-emit_value
-decreases-emit_value g l = 2 * nodes (tree_of l.value) + 1
+decreases-emit_value g l = 2 * nodes (tree_of l.value.now) + 1
 
 abbrev pub decreases-emit_values : goal.decreases-emit_values
-decreases-emit_values g l = 2 * trees_nodes (list_trees (map tree_of l.values.items)) + 2
+decreases-emit_values g l = 2 * trees_nodes (list_trees (map tree_of l.values.now.items)) + 2
 
 abbrev pub decreases-emit_pairs : goal.decreases-emit_pairs
-decreases-emit_pairs g l = 2 * pairs_nodes (list_pairs (map pair_of l.values.items)) + 2
+decreases-emit_pairs g l = 2 * pairs_nodes (list_pairs (map pair_of l.values.now.items)) + 2
 
 abbrev pub invariant-emit_values-loop-value : goal.invariant-emit_values-loop-value
 invariant-emit_values-loop-value g l =
