@@ -4,3 +4,4 @@ pub mod Views
 pub mod Turns
 pub mod Emitting
 pub mod WholeTrees
+pub mod KeyLookups
