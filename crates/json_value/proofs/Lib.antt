@@ -1,6 +1,8 @@
 pub mod Fronts
 pub mod Trees
 pub mod Views
+pub mod Placed
+pub mod Copies
 pub mod Turns
 pub mod Emitting
 pub mod WholeTrees

@@ -18,6 +18,8 @@ mod pair;
 mod path;
 mod place;
 mod standing;
+#[cfg(test)]
+mod tests;
 mod text;
 mod value;
 mod view;
