@@ -1,5 +1,5 @@
 -- The tree of a value, from what the value was found to be.
-use Rattle.std.proofs.Common.{◌≡◌, ◌<◌, ◌≤◌, Bool as TestBool, ℕ, zero, suc, List, [], ◌∷◌, Some, length, map, get_or, sym, ap, subst, ◌∙◌, arith}
+use Rattle.std.proofs.Common.{◌≡◌, ◌<◌, ◌≤◌, Bool as TestBool, ℕ, zero, suc, List, [], ◌∷◌, Some, None, length, map, get_or, refl, sym, ap, ap₂, subst, ◌∙◌, arith}
 use Rattle.std.specs.Prelude.{slice_get}
 use Rattle.std.proofs.lemmas.List.{length-map}
 use Rattle.json_grammar.specs.Tree.{Tree, null, boolean, num, text, list, no_trees, list_trees, pairs, no_pairs, list_pairs, Token, tokens, null_token, boolean_token, num_token, text_token}
@@ -62,3 +62,15 @@ key_of_item ps i p k e h = map_there (λ (q : List ℕ × Tree). q.0) ps i (pair
 
 pub tree_of_item : (ps : List (List ℕ × Tree)) (i : ℕ) (p : Keyed Value) → slice_get ps i ≡ Some (pair_of p) → slice_get (map (λ (q : List ℕ × Tree). q.1) ps) i ≡ Some (tree_of p.value)
 tree_of_item ps i p e = map_there (λ (q : List ℕ × Tree). q.1) ps i (pair_of p) e
+
+-- a member is its key and its value
+pub member_there : (ps : List (List ℕ × Tree)) (i : ℕ) (k : List ℕ) (u : Tree) → slice_get (map (λ (q : List ℕ × Tree). q.0) ps) i ≡ Some k → slice_get (map (λ (q : List ℕ × Tree). q.1) ps) i ≡ Some u → slice_get ps i ≡ Some (k, u)
+member_there [] i k u d e = absurd (cc)
+member_there (p ∷ ps) zero k u d e = let s : p.0 ≡ k = cc in let r : p.1 ≡ u = cc in ap₂ (λ a b. Some (a, b)) s r
+member_there (p ∷ ps) (suc i) k u d e = member_there ps i k u d e
+
+pub no_item : {X Y : Type 0} (f : X → Y) (xs : List X) (i : ℕ) → slice_get (map f xs) i ≡ None → slice_get xs i ≡ None
+no_item f [] zero e = refl
+no_item f [] (suc i) e = refl
+no_item f (x ∷ xs) zero e = absurd (cc)
+no_item f (x ∷ xs) (suc i) e = no_item f xs i e
