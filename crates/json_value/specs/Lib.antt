@@ -4,3 +4,5 @@ pub mod Edits
 pub mod Spots
 pub mod Rows
 pub mod Written
+pub mod Emitting
+pub mod Seen
