@@ -23,6 +23,8 @@ mod tests;
 mod text;
 mod value;
 mod view;
+#[cfg(test)]
+mod view_tests;
 
 pub use array_view::ArrayView;
 pub use container::Container;
