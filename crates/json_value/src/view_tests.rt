@@ -6,7 +6,8 @@ ghost use Rattle.json_value.specs.Seen.{seen};
 
 use crate::container::{Container, Form};
 use crate::{Pair, Text, Value, View};
-use json_doc::{Doc, JsonType, laws::trees_are_proper, read_document};
+use json_doc::laws::trees_are_proper;
+use json_doc::{Doc, JsonType, read_document};
 use json_print::Serializer;
 use json_text::VecSink;
 use std::alloc::Global;
@@ -68,7 +69,10 @@ fn values_made_by_hand_are_printed(rt: HostRuntime) -> Result<(), Fail> {
     let alloc = rt.alloc();
     let value = made(alloc)?;
     let text = printed(alloc, value.view())?;
-    assert_eq!(rt; text.as_slice(), b"[null,{\"a\":true,\"b\":[],\"a\":{}},\"x\"]".as_slice());
+    assert_eq!(rt;
+        text.as_slice(),
+        b"[null,{\"a\":true,\"b\":[],\"a\":{}},\"x\"]".as_slice()
+    );
     Ok(())
 }
 
@@ -82,7 +86,11 @@ fn check_object(rt: &impl Abort, view: View<'_>) -> Result<(), Fail> {
     assert!(rt; object.pair(5).is_none() && object.get("e").is_none());
     let (key, value) = object.get_key_value("c").ok_or("no member")?;
     assert!(rt; key == "c" && value.as_bool() == Some(false));
-    let array = object.get("a").ok_or("no value")?.as_array().ok_or("no array")?;
+    let array = object
+        .get("a")
+        .ok_or("no value")?
+        .as_array()
+        .ok_or("no array")?;
     assert!(rt; array.len() == 3 && !array.is_empty() && array.get(3).is_none());
     let number = array.get(1).ok_or("no element")?;
     assert_eq!(rt; (number.literal(), number.text()), (Some("-2.50e3"), None));

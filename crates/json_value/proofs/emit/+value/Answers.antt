@@ -48,8 +48,7 @@ emit_values-returns-in_err-begin_array g t c =
 pub emit_values-emit_value-requires : goal.emit_values-emit_value-requires
 emit_values-emit_value-requires g t c κs within =
     let xs = c.args.values.now.items in let i = c.loop-value.value-index in let u = tree_of c.value-item.result in
-    let e = item_there tree_of _ xs i c.value-item.result c.deref-value-items.ensures.value c.loop-value-test.true c.value-item.is in
-    (
+    let e = item_there tree_of _ xs i c.value-item.result c.deref-value-items.ensures.value c.loop-value-test.true c.value-item.is in (
       omega (arith, element_within (map tree_of xs) i u e),
       (within, (c.loop-value.invariant.1, ((array_stand g.E.Events.after g.E.Events.stand g.met.E.Events.moves _ _ (map tree_of xs) i c.loop-value.invariant.0).0, element_proper (map tree_of xs) i u c.requires.proper e))),
     )
@@ -63,8 +62,7 @@ emit_values-returns-in_err-emit_value g t c =
 
 pub emit_values-loop-value-preserved : goal.emit_values-loop-value-preserved
 emit_values-loop-value-preserved g t c =
-    let xs = c.args.values.now.items in let i = c.loop-value.value-index in
-    (
+    let xs = c.args.values.now.items in let i = c.loop-value.value-index in (
       array_step _ _ _ _ (map tree_of xs) i _ c.loop-value.invariant.0 c.in_ok-emit_value.ensures.all (item_there tree_of _ xs i c.value-item.result c.deref-value-items.ensures.value c.loop-value-test.true c.value-item.is),
       c.in_ok-emit_value.ensures.fresh,
     )
@@ -112,8 +110,7 @@ emit_pairs-returns-in_err-emit_value g t c =
 pub emit_pairs-loop-pair-preserved : goal.emit_pairs-loop-pair-preserved
 emit_pairs-loop-pair-preserved g t c =
     let xs = c.args.values.now.items in let ps = map pair_of xs in let i = c.loop-pair.pair-index in let k = c.as_str.result.now in
-    let e = item_there pair_of _ xs i c.pair-item.result c.deref-pair-items.ensures.value c.loop-pair-test.true c.pair-item.is in
-    (
+    let e = item_there pair_of _ xs i c.pair-item.result c.deref-pair-items.ensures.value c.loop-pair-test.true c.pair-item.is in (
       object_step _ _ _ _ _ ps i k _ c.loop-pair.invariant.0 c.in_ok-key.ensures.ok c.in_ok-emit_value.ensures.all (key_of_item ps i c.pair-item.result k e c.as_str.ensures) (tree_of_item ps i c.pair-item.result e),
       c.in_ok-emit_value.ensures.fresh,
     )

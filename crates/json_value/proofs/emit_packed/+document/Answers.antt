@@ -92,8 +92,7 @@ emit_members-members-preserved g t c =
     let tree = view_tree c.args.view in let ps = members tree in let i = c.members.i in let h = c.members.invariant in
     elim c.match-key.branch [
       | emit_members-in-Some+in-Some-pair_value+in_ok-key+in_ok-emit_document w ↦
-          rw w.out-is
-          (
+          rw w.out-is (
             object_step _ _ _ _ _ ps i w.in-Some.key.now _ h.0 w.in_ok-key.ensures.ok w.in_ok-emit_document.ensures.all (key_there tree i _ w.in-Some.ensures) (value_there tree i _ w.in-Some-pair_value.ensures.tree),
             w.in_ok-emit_document.ensures.fresh,
           )

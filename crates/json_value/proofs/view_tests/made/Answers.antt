@@ -1,4 +1,5 @@
-use Rattle.std.proofs.Common.{◌≡◌, ℕ, List, [], ◌∷◌, ◌++◌, map, refl, sym, ap, subst, ◌∙◌, IsUtf8}
+use Rattle.std.proofs.Common.{◌≡◌, ℕ, List, [], ◌∷◌, ◌++◌, map, refl, sym, ap, subst, ◌∙◌, IsUtf8, rules}
+use Rattle.std.proofs.lemmas.Str.{IsUtf8-from_ascii}
 use Rattle.json_grammar.specs.Tree.{Tree, list_trees, list_pairs}
 use Rattle.json_grammar.specs.Proper.{IsProper, AreProper, ArePairsProper}
 use Rattle.json_value.specs.Denotes.{tree_of, pair_of}
@@ -39,11 +40,11 @@ unfolding AllPairsProper
 no_pair xs e = subst (λ zs. ArePairsProper (list_pairs (map pair_of zs))) (sym e) tt
 
 pub returns : goal.returns
-unfolding (AllProper, AllPairsProper)
+unfolding AllProper AllPairsProper
 returns c =
-    let utf8_a : IsUtf8 (97 ∷ []) = (97 ∷ [], refl, refl) in
-    let utf8_b : IsUtf8 (98 ∷ []) = (98 ∷ [], refl, refl) in
-    let utf8_x : IsUtf8 (120 ∷ []) = (120 ∷ [], refl, refl) in
+    let utf8_a : IsUtf8 (97 ∷ []) = IsUtf8-from_ascii (97 ∷ []) (search rules) in
+    let utf8_b : IsUtf8 (98 ∷ []) = IsUtf8-from_ascii (98 ∷ []) (search rules) in
+    let utf8_x : IsUtf8 (120 ∷ []) = IsUtf8-from_ascii (120 ∷ []) (search rules) in
     let first = more_pairs _ _ c.new.result _ _ (no_pair _ c.new-pairs.ensures.items) c.new.ensures (subst IsUtf8 (sym c.from_static.ensures) utf8_a) (subst IsProper (sym c.new_bool.ensures) tt) c.in_ok-push.ensures.items in
     let second = more_pairs _ _ c.new-2.result _ _ first c.new-2.ensures (subst IsUtf8 (sym c.from_static-2.ensures) utf8_b) (subst IsProper (sym c.new_array.ensures) tt) c.in_ok-push-2.ensures.items in
     let third = more_pairs _ _ c.new-3.result _ _ second c.new-3.ensures (subst IsUtf8 (sym c.from_static-3.ensures) utf8_a) (subst IsProper (sym c.new_object.ensures) tt) c.in_ok-push-3.ensures.items in
