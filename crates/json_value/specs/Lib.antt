@@ -3,3 +3,4 @@ pub mod Denotes
 pub mod Edits
 pub mod Spots
 pub mod Rows
+pub mod FirstMember
