@@ -1,8 +1,8 @@
 -- What is read of a cell is read of the tree there.
 use Rattle.std.proofs.Common.{◌≡◌, ◌≢◌, true, ℕ, zero, suc, ◌+◌, ◌-◌, ◌*◌, ◌<◌, ◌≤◌, List, [], ◌∷◌, length, map, get_or, take, Some, None, refl, sym, ap, subst, ◌∙◌, arith}
-use Rattle.std.specs.Prelude.{slice_get, slice_range}
+use Rattle.std.specs.Prelude.{option_map, slice_get, slice_range}
 use Rattle.std.proofs.lemmas.Option.{slice_get-get_or}
-use Rattle.json_grammar.specs.Tree.{Tree, null, pairs, Pairs, pairs_list, trees_list, list_trees}
+use Rattle.json_grammar.specs.Tree.{Tree, null, text, pairs, Pairs, pairs_list, trees_list, list_trees}
 use Rattle.json_doc.specs.Shape.{is_str, CellInPlace}
 use Rattle.json_doc.specs.Trees.{text_of, paired, tree_of_cell, trees}
 use Rattle.json_doc.specs.Docs.{doc_cells, doc_text, doc_tree}
@@ -119,6 +119,14 @@ string_in bytes ts (cell.Str start len) h = refl
 string_in bytes ts (cell.Array link len) h = absurd (cc)
 string_in bytes ts (cell.Object link len) h = absurd (cc)
 
+text_in : (bytes : List ℕ) (ts : List Tree) (c : Cell) → is_str c ≡ true → tree_of_cell bytes ts c ≡ text (text_of (tree_of_cell bytes ts c))
+text_in bytes ts cell.Null h = absurd (cc)
+text_in bytes ts (cell.Bool b) h = absurd (cc)
+text_in bytes ts (cell.Raw start len) h = absurd (cc)
+text_in bytes ts (cell.Str start len) h = refl
+text_in bytes ts (cell.Array link len) h = absurd (cc)
+text_in bytes ts (cell.Object link len) h = absurd (cc)
+
 no_elements_in : (bytes : List ℕ) (ts : List Tree) (c : Cell) → ((link len : ℕ) → c ≢ cell.Array link len) → elements (tree_of_cell bytes ts c) ≡ []
 no_elements_in bytes ts cell.Null h = refl
 no_elements_in bytes ts (cell.Bool b) h = refl
@@ -177,6 +185,10 @@ module _ (d : Doc) (at : ℕ) (c : Cell) (inside : at < length (doc_cells d)) (i
   -- a cell of a string has its text
   text_there : is_str c ≡ true → string_of (doc_tree d at) ≡ Some (text_of (doc_tree d at))
   text_there h = ap string_of here ∙ string_in (doc_text d) below c h ∙ ap (λ (t : Tree). Some (text_of t)) (sym here)
+
+  -- and is a string
+  string_there : is_str c ≡ true → doc_tree d at ≡ text (text_of (doc_tree d at))
+  string_there h = here ∙ text_in (doc_text d) below c h ∙ ap (λ (t : Tree). text (text_of t)) (sym here)
 
   pub elements_at : (link len : ℕ) → c ≡ cell.Array link len → elements (doc_tree d at) ≡ map (doc_tree d) (places_from link 1 len)
   unfolding below
@@ -256,6 +268,12 @@ key_at d at c link len i inside is e h =
     let k = keyed_at d at c inside is link len i e h in
     text_there d (link + 2 * i) (get_or (doc_cells d) (link + 2 * i) cell.Null) k.1 refl k.0
     ∙ sym (ap (λ (ts : List (List ℕ)). slice_get ts i) (keys_at d at c inside is link len e) ∙ get-of_places (λ k. text_of (doc_tree d k)) link 2 len i h)
+
+pub key_tree_at : (d : Doc) (at : ℕ) (c : Cell) (link len i : ℕ) → at < length (doc_cells d) → c ≡ get_or (doc_cells d) at cell.Null → c ≡ cell.Object link len → i < len → Some (doc_tree d (link + 2 * i)) ≡ option_map text (slice_get (keys (doc_tree d at)) i)
+key_tree_at d at c link len i inside is e h =
+    let k = keyed_at d at c inside is link len i e h in
+    ap Some (string_there d (link + 2 * i) (get_or (doc_cells d) (link + 2 * i) cell.Null) k.1 refl k.0)
+    ∙ sym (ap (λ (ts : List (List ℕ)). option_map text (slice_get ts i)) (keys_at d at c inside is link len e) ∙ ap (option_map text) (get-of_places (λ k. text_of (doc_tree d k)) link 2 len i h))
 
 pub no_key_at : (d : Doc) (at : ℕ) (c : Cell) (link len i : ℕ) → at < length (doc_cells d) → c ≡ get_or (doc_cells d) at cell.Null → c ≡ cell.Object link len → len ≤ i → slice_get (keys (doc_tree d at)) i ≡ None
 no_key_at d at c link len i inside is e h = ap (λ (ts : List (List ℕ)). slice_get ts i) (keys_at d at c inside is link len e) ∙ past-of_places (λ k. text_of (doc_tree d k)) link 2 len i h

@@ -9,6 +9,11 @@ child_of (cell.Array link len) i = link + i
 child_of (cell.Object link len) i = (link + 1) + 2 * i
 child_of _ i = 0
 
+-- the place of the key of the pair i
+abbrev pub key_of : Cell → ℕ → ℕ
+key_of (cell.Object link len) i = link + 2 * i
+key_of _ i = 0
+
 -- n places, each step behind the one before
 abbrev pub places_from : ℕ → ℕ → ℕ → List ℕ
 places_from at step zero = []

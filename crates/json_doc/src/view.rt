@@ -19,7 +19,8 @@ pub struct DocView<'a> {
 }
 
 impl<'a> DocView<'a> {
-    ghost use Rattle.json_doc.specs.Seen.{view_doc, view_place, view_tree, child_place};
+    ghost use Rattle.json_grammar.specs.Tree.{text};
+    ghost use Rattle.json_doc.specs.Seen.{view_doc, view_place, view_tree, child_place, key_place};
     ghost use Rattle.std.specs.Prelude.{ℕ, Some};
     ghost use Rattle.json_doc.specs.Left.{children_doc, children_places, children_left};
 
@@ -120,6 +121,27 @@ impl<'a> DocView<'a> {
             Cell::Object { link, len } => {
                 if i < len as usize {
                     text_at(self.doc, link as usize + 2 * i)
+                } else {
+                    None
+                }
+            }
+            _ => None,
+        }
+    }
+
+    /// The key of the pair `i`, counted from 0, as a string of its own; none of another kind, or past the last.
+    #[inline]
+    pub fn key_view(self, i: usize) -> Option<DocView<'a>>
+        ensures tree { option_map view_tree result
+            ≡ option_map text (slice_get (keys (view_tree self.entry)) i) }
+        ensures doc { IfSome result (λ v. view_doc v ≡ view_doc self.entry) }
+        ensures place { IfSome result (λ v. view_place v
+            ≡ key_place (view_doc self.entry) (view_place self.entry) i) }
+    {
+        match self.cell() {
+            Cell::Object { link, len } => {
+                if i < len as usize {
+                    Some(self.doc.view_at(link + 2 * i as u32))
                 } else {
                     None
                 }

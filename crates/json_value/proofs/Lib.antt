@@ -1,1 +1,5 @@
+pub mod Fronts
+pub mod Trees
+pub mod Views
 pub mod TreeEdits
+pub mod AppliedTrees

@@ -1,6 +1,6 @@
 -- The rows of the types that calls lend, for the clauses on what is written back.
 use denote.RattleType.{RattleType}
-use Rattle.std.specs.Prelude.{Vec, ⊥}
+use Rattle.std.specs.Prelude.{Vec, List, [], ⊥}
 use Rattle.std.specs.declared.alloc.Global.{Global}
 use Rattle.std.specs.contracts.alloc.Global as global
 use Rattle.std.specs.contracts.vec.Vec as vec
@@ -43,6 +43,12 @@ abbrev pub IsOwned : {T : Type 0} → Form T → Type 0
 IsOwned Empty = ⊥
 IsOwned (Owned v) = Unit {0}
 IsOwned (Packed p) = ⊥
+
+-- the owned list; nothing of another form
+abbrev pub owned_items : {T : Type 0} → Form T → List T
+owned_items Empty = []
+owned_items (Owned v) = v.items
+owned_items (Packed p) = []
 
 -- a pair of this key and a value
 abbrev pub keyed_so : Text → Value → Keyed Value

@@ -5,6 +5,7 @@ use Rattle.json_doc.specs.Docs.{doc_cells, doc_text, doc_tree}
 use Rattle.json_doc.specs.Seen.{child_place, key_place}
 use Rattle.json_doc.specs.declared.cell.Cell.{Cell}
 use Rattle.json_doc.specs.declared.doc.Doc.{Doc}
+use Rattle.json_value.specs.declared.place.Place.{Place}
 use Rattle.json_value.specs.declared.literal.LiteralForm.{LiteralForm}
 use Rattle.json_value.specs.declared.literal.LiteralForm.TheVariants as literal
 use Rattle.json_value.specs.declared.text.TextForm.{TextForm}
@@ -76,14 +77,22 @@ IsPacked (Packed p) = Unit {0}
 abbrev pub IsPlace : {T : Type 0} → Container T → Type 0
 IsPlace c = IsPacked c.form
 
+-- each of these is read from the place of the element that it is in a packed array
+abbrev pub PlaceElements : Place → List Value → Type 0
+PlaceElements p items = (i : ℕ) → IfSome (slice_get items i) (λ v. spot_of v ≡ read_spot p.doc.value (child_place p.doc.value p.at i))
+
 -- what a first write makes of an array: an owned list stays, and each element of a packed one is read from its place
 abbrev pub FirstList : Form Value → List Value → Type 0
 FirstList Empty items = items ≡ []
 FirstList (Owned v) items = items ≡ v.items
-FirstList (Packed p) items = (i : ℕ) → IfSome (slice_get items i) (λ v. spot_of v ≡ read_spot p.doc.value (child_place p.doc.value p.at i))
+FirstList (Packed p) items = PlaceElements p items
 
--- so of an object: each key is the place of its string, and each value is read from its place
+-- each of these is the member that it is in a packed object: its key is the place of that string, and its value is read from its place
+abbrev pub PlaceMembers : Place → List (Keyed Value) → Type 0
+PlaceMembers p items = (i : ℕ) → IfSome (slice_get items i) (λ m. (text_spot m.key.form ≡ Some (spot_in p.doc.value (key_place p.doc.value p.at i))) × (spot_of m.value ≡ read_spot p.doc.value (child_place p.doc.value p.at i)))
+
+-- so of an object
 abbrev pub FirstPairs : Form (Keyed Value) → List (Keyed Value) → Type 0
 FirstPairs Empty items = items ≡ []
 FirstPairs (Owned v) items = items ≡ v.items
-FirstPairs (Packed p) items = (i : ℕ) → IfSome (slice_get items i) (λ m. (text_spot m.key.form ≡ Some (spot_in p.doc.value (key_place p.doc.value p.at i))) × (spot_of m.value ≡ read_spot p.doc.value (child_place p.doc.value p.at i)))
+FirstPairs (Packed p) items = PlaceMembers p items

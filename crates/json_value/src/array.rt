@@ -5,8 +5,8 @@ ghost use Rattle.json_grammar.specs.Tree.{list, list_trees};
 ghost use Rattle.json_doc.specs.Readings.{elements};
 ghost use Rattle.json_text.specs.Errors.{no_memory};
 ghost use Rattle.json_value.specs.Denotes.{tree_of, list_in, place_tree};
-ghost use Rattle.json_value.specs.Rows.{array_row, value_row, vec_row, owned, IsOwned};
-ghost use Rattle.json_value.specs.Spots.{IsPlace, FirstList};
+ghost use Rattle.json_value.specs.Rows.{array_row, value_row, vec_row, owned, owned_items, IsOwned};
+ghost use Rattle.json_value.specs.Spots.{IsPlace, FirstList, PlaceElements};
 
 use crate::container::{Container, Form};
 use crate::place::Place;
@@ -17,6 +17,7 @@ use std::alloc::Global;
 // The elements of a packed array, each as a value of its own.
 fn unpack_list(alloc: Global, place: &Place) -> Result<Vec<Value>>
     ensures list { IfOk result (λ v. map tree_of v.items ≡ elements (place_tree place.now)) }
+    ensures children { IfOk result (λ v. PlaceElements place.now v.items) }
     ensures only { IfErr result (λ e. e ≡ no_memory) }
 {
     let packed = place.view();
@@ -60,8 +61,10 @@ impl Container<Value> {
     fn make_owned(&mut self, alloc: Global) -> Result<()>
         ensures ok { OnOk result (IsOwned self.new.form) }
         ensures same { OnOk result (list_in self.new ≡ list_in self.old) }
+        ensures children { OnOk result (FirstList self.old.form (owned_items self.new.form)) }
         ensures err { OnErr result (self.new ≡ self.old) }
         ensures only { IfErr result (λ e. e ≡ no_memory) }
+        ensures free { (IsPlace self.old → ⊥) → IsOk result }
     {
         match &self.form {
             Form::Empty => self.form = Form::Owned(Vec::new(alloc)),

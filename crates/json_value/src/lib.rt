@@ -7,10 +7,12 @@ mod array;
 mod container;
 mod copying;
 mod literal;
+mod making;
 mod object;
 mod pair;
 mod path;
 mod place;
+mod standing;
 mod text;
 mod value;
 

@@ -5,8 +5,8 @@ ghost use Rattle.json_grammar.specs.Tree.{pairs, list_pairs};
 ghost use Rattle.json_text.specs.Errors.{no_memory};
 ghost use Rattle.json_value.specs.Denotes.{tree_of, pair_of, pairs_in, place_tree};
 ghost use Rattle.json_value.specs.Readings.{members};
-ghost use Rattle.json_value.specs.Rows.{object_row, pair_row, vec_row, owned, IsOwned};
-ghost use Rattle.json_value.specs.Spots.{IsPlace, FirstPairs};
+ghost use Rattle.json_value.specs.Rows.{object_row, pair_row, vec_row, owned, owned_items, IsOwned};
+ghost use Rattle.json_value.specs.Spots.{IsPlace, FirstPairs, PlaceMembers};
 
 use crate::container::{Container, Form};
 use crate::pair::Keyed;
@@ -19,6 +19,7 @@ use std::alloc::Global;
 // The members of a packed object, each with a key and a value of its own.
 fn unpack_pairs(alloc: Global, place: &Place) -> Result<Vec<Pair>>
     ensures pairs { IfOk result (λ v. map pair_of v.items ≡ members (place_tree place.now)) }
+    ensures children { IfOk result (λ v. PlaceMembers place.now v.items) }
     ensures only { IfErr result (λ e. e ≡ no_memory) }
 {
     let packed = place.view();
@@ -66,8 +67,10 @@ impl Container<Keyed<Value>> {
     fn make_owned(&mut self, alloc: Global) -> Result<()>
         ensures ok { OnOk result (IsOwned self.new.form) }
         ensures same { OnOk result (pairs_in self.new ≡ pairs_in self.old) }
+        ensures children { OnOk result (FirstPairs self.old.form (owned_items self.new.form)) }
         ensures err { OnErr result (self.new ≡ self.old) }
         ensures only { IfErr result (λ e. e ≡ no_memory) }
+        ensures free { (IsPlace self.old → ⊥) → IsOk result }
     {
         match &self.form {
             Form::Empty => self.form = Form::Owned(Vec::new(alloc)),

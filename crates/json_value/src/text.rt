@@ -1,9 +1,10 @@
 // A text.
-ghost use Rattle.std.specs.Prelude.{◌≡◌, ◌<◌, IfOk, IfErr, length};
+ghost use Rattle.std.specs.Prelude.{◌≡◌, ◌<◌, Some, IfOk, IfErr, length};
 ghost use Rattle.json_text.specs.Errors.{no_memory};
 ghost use Rattle.json_doc.specs.Docs.{doc_cells, doc_tree};
 ghost use Rattle.json_value.specs.Denotes.{text_bytes};
 ghost use Rattle.json_value.specs.Readings.{text_said};
+ghost use Rattle.json_value.specs.Spots.{text_spot, spot_in};
 
 use crate::place::Place;
 use bytes::ByteStr;
@@ -50,6 +51,7 @@ impl Text {
     pub(crate) fn at(doc: &Rc<Doc>, at: u32) -> Result<Text>
         requires { at < length (doc_cells doc.now.value) }
         ensures text { IfOk result (λ t. text_bytes t ≡ text_said (doc_tree doc.now.value at)) }
+        ensures spot { IfOk result (λ t. text_spot t.form ≡ Some (spot_in doc.now.value at)) }
         ensures only { IfErr result (λ e. e ≡ no_memory) }
     {
         let doc = doc.clone()?;

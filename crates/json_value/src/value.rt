@@ -51,7 +51,7 @@ impl Value {
         let view = doc.view_at(at);
         match view.get_type() {
             JsonType::Null => Ok(Value::Null),
-            JsonType::Boolean => Ok(Value::Bool(view.as_bool() == Some(true))),
+            JsonType::Boolean => Ok(Value::Bool(view.as_bool().unwrap_or(false))),
             JsonType::Number => {
                 let doc = doc.clone()?;
                 Ok(Value::Raw(Literal {
