@@ -1,23 +1,26 @@
 -- What edits leave of values.
-use Rattle.std.proofs.Common.{◌≡◌, ℕ, ◌<◌, ◌≤◌, List, [], ◌∷◌, ◌++◌, length, get_or, set, map, filter, not, bytes_eq, Bool, Ok, Err, Some, None, IfSome, Vec, Global, refl, sym, ap, ◌∙◌, subst, arith}
-use Rattle.std.specs.Prelude.{slice_get, remove, take, option_map}
+use Rattle.std.proofs.Common.{◌≡◌, ℕ, suc, cond, Option, ◌<◌, ◌≤◌, List, [], ◌∷◌, ◌++◌, length, get_or, set, map, filter, not, bytes_eq, Bool, Ok, Err, Some, None, IfSome, Vec, Global, refl, sym, ap, ◌∙◌, subst, arith}
+use Rattle.std.specs.Prelude.{◌+◌, slice_get, remove, take, drop, option_map, true, false}
 use Rattle.std.specs.Vec.{with_item}
-use Rattle.std.proofs.lemmas.List.{map-set, length-map, set-get_or}
+use Rattle.std.proofs.lemmas.List.{map-set, length-map, set-get_or, get_or-map, map-append, map_push, map_more, take-map, drop-map, take_all}
 use Rattle.std.proofs.lemmas.Option.{slice_get-map, slice_get_read}
 use Rattle.json_grammar.specs.Tree.{Tree, list, pairs, Trees, Pairs, list_trees, list_pairs}
 use Rattle.json_text.specs.declared.error.ErrorCode.{ErrorCode}
 use Rattle.json_text.specs.declared.error.ErrorCode.TheVariants.{NoMemory, NotFound, TypeUnmatched}
 use Rattle.json_text.specs.declared.error.Place.{Place}
 use Rattle.json_text.specs.declared.error.Place.TheVariants.{None as nowhere}
-use Rattle.json_model.specs.Edit.{Changed, Refusal, within, on_list, on_pairs, at_path, at_key, at_index, key_step, index_step, edited_once, Step, not_found, type_unmatched}
+use Rattle.json_model.specs.Edit.{has_key, inserted, pushed, without_key, without_index, Changed, Refusal, within, on_list, on_pairs, at_path, at_key, at_index, key_step, index_step, edited_once, Step, not_found, type_unmatched}
 use Rattle.json_value.specs.Denotes.{tree_of, list_in, pairs_in, pair_of, text_bytes}
 use Rattle.json_value.specs.Edits.{edit_of, edit_at, change_of, path_steps, RefusesChange}
-use Rattle.json_value.specs.Rows.{owned}
+use Rattle.json_value.specs.FirstMember.{IsFirstOf}
+use Rattle.json_value.specs.Rows.{owned, keyed_so}
+use Rattle.json_value.specs.declared.text.Text.{Text}
 use Rattle.json_value.specs.declared.value.Value.{Value, Array, Object}
 use Rattle.json_value.specs.declared.container.Container.{Container}
 use Rattle.json_value.specs.declared.pair.Keyed.{Keyed}
 use Rattle.json_value.specs.declared.path.Edit.{Edit}
 use Rattle.json_value.specs.declared.path.Edit.TheVariants.{Set, Insert, Push, Remove}
+use Rattle.json_value.proofs.TreeEdits.{at_index-here, at_index-refused, at_index-missed, pushed-list, without_index-here, without_index-missed, at_key-here, at_key-refused, inserted-here, inserted-beside, without_key-list, has_key-push}
 use Rattle.json_value.proofs.Views.{array_tree, object_tree}
 
 -- an edit is its change at the end of its path
@@ -63,3 +66,110 @@ module _ (self : Value) (o : Container (Keyed Value)) (v : Vec (Keyed Value) Glo
 
   pub object_refuses : (f : Pairs → Changed Pairs) (code : ErrorCode) (place : Place) → RefusesChange (f (list_pairs (map pair_of v.items))) code place → RefusesChange (on_pairs f (tree_of self)) code place
   object_refuses f code place = refuses_so (f (list_pairs (map pair_of v.items))) (on_pairs f (tree_of self)) (λ e h. ap (on_pairs f) object_before ∙ ap (within pairs) h) code place
+
+-- ---- members
+
+-- the member at i, seen as its key and its tree
+pair_got : (ps : List (Keyed Value)) (i : ℕ) (p : Keyed Value) → i < length ps → p ≡ get_or ps i p → slice_get (map pair_of ps) i ≡ Some (pair_of p)
+pair_got ps i p h is = slice_get-map pair_of ps i ∙ ap (option_map pair_of) (slice_get_read ps (length ps) i p refl h is)
+
+-- the first member of a key stands here
+pub first_at : (k : List ℕ) (ps : List (Keyed Value)) (i : ℕ) (p : Keyed Value) → i < length ps → p ≡ get_or ps i p → text_bytes p.key ≡ k
+    → has_key k (list_pairs (map pair_of (take i ps))) ≡ false → IsFirstOf k (map pair_of ps) i
+first_at k ps i p h is same front = record {
+  within = rw length-map h;
+  here = subst (λ (o : Option (List ℕ × Tree)). IfSome o (λ q. q.0 ≡ k)) (sym (pair_got ps i p h is)) same;
+  before = ap (λ (qs : List (List ℕ × Tree)). has_key k (list_pairs qs)) (take-map pair_of i ps) ∙ front;
+}
+
+pub not_yet : (k : List ℕ) (ps : List (Keyed Value)) (i : ℕ) (p : Keyed Value) → i < length ps → p ≡ get_or ps i p → bytes_eq (text_bytes p.key) k ≡ false
+    → has_key k (list_pairs (map pair_of (take i ps))) ≡ false → has_key k (list_pairs (map pair_of (take (i + 1) ps))) ≡ false
+not_yet k ps i p h is other front =
+    let more : map pair_of (take (i + 1) ps) ≡ map pair_of (take i ps) ++ pair_of p ∷ [] = map_more pair_of ps i p h ∙ ap (λ (q : Keyed Value). map pair_of (take i ps) ++ pair_of q ∷ []) (sym is) in
+    ap (λ (qs : List (List ℕ × Tree)). has_key k (list_pairs qs)) more ∙ has_key-push k (map pair_of (take i ps)) (pair_of p) front other
+
+pub in_none : (k : List ℕ) (ps : List (Keyed Value)) (i : ℕ) → length ps ≤ i → has_key k (list_pairs (map pair_of (take i ps))) ≡ false → has_key k (list_pairs (map pair_of ps)) ≡ false
+in_none k ps i h front = ap (λ (qs : List (Keyed Value)). has_key k (list_pairs (map pair_of qs))) (sym (take_all i ps h)) ∙ front
+
+module _ (k : List ℕ) (ps : List (Keyed Value)) (i : ℕ) (p : Keyed Value) (is : p ≡ get_or ps i p) (first : IsFirstOf k (map pair_of ps) i) where
+  low : i < length ps
+  low = rw length-map at first.within
+
+  got : slice_get (map pair_of ps) i ≡ Some (pair_of p)
+  got = pair_got ps i p low is
+
+  its_key : text_bytes p.key ≡ k
+  its_key = subst (λ (o : Option (List ℕ × Tree)). IfSome o (λ q. q.0 ≡ k)) got first.here
+
+  pub insert_over : (u : Value) → inserted k (tree_of u) (list_pairs (map pair_of ps)) ≡ list_pairs (map pair_of (set ps i (keyed_so p.key u)))
+  insert_over u =
+      inserted-here k (map pair_of ps) i (text_bytes p.key) (tree_of p.value) (tree_of u) first.before got its_key ∙ sym (ap list_pairs (map-set pair_of ps i (keyed_so p.key u)))
+
+  pub pair_changed : (f : Tree → Changed Tree) (u : Value) → f (tree_of p.value) ≡ Ok (tree_of u) → at_key k f (list_pairs (map pair_of ps)) ≡ Ok (list_pairs (map pair_of (set ps i (keyed_so p.key u))))
+  pair_changed f u e =
+      at_key-here k (map pair_of ps) i (text_bytes p.key) (tree_of p.value) (tree_of u) f first.before got its_key e ∙ sym (ap (λ (qs : List (List ℕ × Tree)). Ok (list_pairs qs)) (map-set pair_of ps i (keyed_so p.key u)))
+
+  pub pair_refuses : (f : Tree → Changed Tree) (code : ErrorCode) (place : Place) → RefusesChange (f (tree_of p.value)) code place → RefusesChange (at_key k f (list_pairs (map pair_of ps))) code place
+  pair_refuses f code place = refuses_so (f (tree_of p.value)) (at_key k f (list_pairs (map pair_of ps))) (λ r e. at_key-refused k (map pair_of ps) i (text_bytes p.key) (tree_of p.value) r f first.before got its_key e) code place
+
+  pub pair_kept : (u : Value) → tree_of u ≡ tree_of p.value → map pair_of (set ps i (keyed_so p.key u)) ≡ map pair_of ps
+  pair_kept u e =
+      let here : get_or (map pair_of ps) i (pair_of p) ≡ pair_of p = get_or-map pair_of ps i p (pair_of p) low ∙ sym (ap pair_of is) in
+      let same : pair_of (keyed_so p.key u) ≡ get_or (map pair_of ps) i (pair_of p) = ap (λ (t : Tree). (text_bytes p.key, t)) e ∙ sym here in
+      map-set pair_of ps i (keyed_so p.key u) ∙ ap (set (map pair_of ps) i) same ∙ set-get_or (map pair_of ps) i (pair_of p)
+
+pub insert_beside : (k : List ℕ) (ps : List (Keyed Value)) (n : Text) (u : Value) → text_bytes n ≡ k → has_key k (list_pairs (map pair_of ps)) ≡ false
+    → inserted k (tree_of u) (list_pairs (map pair_of ps)) ≡ list_pairs (map pair_of (ps ++ keyed_so n u ∷ []))
+insert_beside k ps n u same none =
+    inserted-beside k (map pair_of ps) (tree_of u) none
+    ∙ ap (λ (m : List ℕ). list_pairs (map pair_of ps ++ (m, tree_of u) ∷ [])) (sym same)
+    ∙ sym (ap list_pairs (map_push pair_of ps (keyed_so n u)))
+
+filter_pairs : (k : List ℕ) (ps : List (Keyed Value)) → filter (λ (q : List ℕ × Tree). not (bytes_eq q.0 k)) (map pair_of ps) ≡ map pair_of (filter (λ (p : Keyed Value). not (bytes_eq (text_bytes p.key) k)) ps)
+filter_pairs k [] = refl
+filter_pairs k (p ∷ ps) = by (bytes_eq (text_bytes p.key) k) (filter_pairs k ps)
+  where
+    rest : List (Keyed Value)
+    rest = filter (λ (q : Keyed Value). not (bytes_eq (text_bytes q.key) k)) ps
+
+    by : (b : Bool) → filter (λ (q : List ℕ × Tree). not (bytes_eq q.0 k)) (map pair_of ps) ≡ map pair_of rest
+        → cond (not b) (pair_of p ∷ filter (λ (q : List ℕ × Tree). not (bytes_eq q.0 k)) (map pair_of ps)) (filter (λ (q : List ℕ × Tree). not (bytes_eq q.0 k)) (map pair_of ps)) ≡ map pair_of (cond (not b) (p ∷ rest) rest)
+    by true e = e
+    by false e = ap (λ (qs : List (List ℕ × Tree)). pair_of p ∷ qs) e
+
+pub all_taken_out : (k : List ℕ) (ps qs : List (Keyed Value)) → qs ≡ filter (λ (p : Keyed Value). not (bytes_eq (text_bytes p.key) k)) ps → without_key k (list_pairs (map pair_of ps)) ≡ list_pairs (map pair_of qs)
+all_taken_out k ps qs e = without_key-list k (map pair_of ps) ∙ ap list_pairs (filter_pairs k ps ∙ ap (map pair_of) (sym e))
+
+-- ---- elements
+
+module _ (vs : List Value) (i : ℕ) (v : Value) (low : i < length vs) (is : v ≡ get_or vs i v) where
+  element_got : slice_get (map tree_of vs) i ≡ Some (tree_of v)
+  element_got = slice_get-map tree_of vs i ∙ ap (option_map tree_of) (slice_get_read vs (length vs) i v refl low is)
+
+  pub element_changed : (f : Tree → Changed Tree) (u : Value) → f (tree_of v) ≡ Ok (tree_of u) → at_index i f (list_trees (map tree_of vs)) ≡ Ok (list_trees (map tree_of (set vs i u)))
+  element_changed f u e = at_index-here (map tree_of vs) i (tree_of v) (tree_of u) f element_got e ∙ sym (ap (λ (ts : List Tree). Ok (list_trees ts)) (map-set tree_of vs i u))
+
+  pub element_refuses : (f : Tree → Changed Tree) (code : ErrorCode) (place : Place) → RefusesChange (f (tree_of v)) code place → RefusesChange (at_index i f (list_trees (map tree_of vs))) code place
+  element_refuses f code place = refuses_so (f (tree_of v)) (at_index i f (list_trees (map tree_of vs))) (λ r e. at_index-refused (map tree_of vs) i (tree_of v) r f element_got e) code place
+
+  pub element_kept : (u : Value) → tree_of u ≡ tree_of v → map tree_of (set vs i u) ≡ map tree_of vs
+  element_kept u e =
+      let here : get_or (map tree_of vs) i (tree_of v) ≡ tree_of v = get_or-map tree_of vs i v (tree_of v) low ∙ sym (ap tree_of is) in
+      map-set tree_of vs i u ∙ ap (set (map tree_of vs) i) (e ∙ sym here) ∙ set-get_or (map tree_of vs) i (tree_of v)
+
+pub element_missed : (vs : List Value) (i : ℕ) (f : Tree → Changed Tree) → length vs ≤ i → at_index i f (list_trees (map tree_of vs)) ≡ Err not_found
+element_missed vs i f h = let past : length (map tree_of vs) ≤ i = rw length-map h in at_index-missed (map tree_of vs) i f past
+
+pub element_pushed : (vs : List Value) (u : Value) (t : Tree) → tree_of u ≡ t → pushed t (list_trees (map tree_of vs)) ≡ list_trees (map tree_of (vs ++ u ∷ []))
+element_pushed vs u t e = pushed-list t (map tree_of vs) ∙ ap (λ (x : Tree). list_trees (map tree_of vs ++ x ∷ [])) (sym e) ∙ sym (ap list_trees (map_push tree_of vs u))
+
+map_removed : (vs : List Value) (i : ℕ) → remove (map tree_of vs) i ≡ map tree_of (remove vs i)
+map_removed vs i = ap (λ (ts : List Tree). ts ++ drop (suc i) (map tree_of vs)) (take-map tree_of i vs) ∙ ap (λ (ts : List Tree). map tree_of (take i vs) ++ ts) (drop-map tree_of (suc i) vs) ∙ sym (map-append tree_of (take i vs) (drop (suc i) vs))
+
+pub element_removed : (vs : List Value) (i : ℕ) → i < length vs → without_index i (list_trees (map tree_of vs)) ≡ Ok (list_trees (map tree_of (remove vs i)))
+element_removed vs i h =
+    let low : i < length (map tree_of vs) = rw length-map h in
+    without_index-here i (map tree_of vs) low ∙ ap (λ (ts : List Tree). Ok (list_trees ts)) (map_removed vs i)
+
+pub removal_missed : (vs : List Value) (i : ℕ) → length vs ≤ i → without_index i (list_trees (map tree_of vs)) ≡ Err not_found
+removal_missed vs i h = let past : length (map tree_of vs) ≤ i = rw length-map h in without_index-missed i (map tree_of vs) past

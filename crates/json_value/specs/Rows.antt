@@ -1,6 +1,6 @@
 -- The rows of the types that calls lend, for the clauses on what is written back.
 use denote.RattleType.{RattleType}
-use Rattle.std.specs.Prelude.{Vec, List, [], ⊥}
+use Rattle.std.specs.Prelude.{Vec, List, []}
 use Rattle.std.specs.declared.alloc.Global.{Global}
 use Rattle.std.specs.contracts.alloc.Global as global
 use Rattle.std.specs.contracts.vec.Vec as vec
