@@ -20,7 +20,7 @@ use Rattle.json_value.specs.declared.container.Container.{Container}
 use Rattle.json_value.specs.declared.pair.Keyed.{Keyed}
 use Rattle.json_value.specs.declared.path.Edit.{Edit}
 use Rattle.json_value.specs.declared.path.Edit.TheVariants.{Set, Insert, Push, Remove}
-use Rattle.json_value.proofs.TreeEdits.{at_index-here, at_index-refused, at_index-missed, pushed-list, without_index-here, without_index-missed, at_key-here, at_key-refused, inserted-here, inserted-beside, without_key-list, has_key-push}
+use Rattle.json_value.proofs.TreeEdits.{at_index-here, at_index-refused, at_index-missed, pushed-list, without_index-here, without_index-missed, at_key-here, at_key-refused, inserted-here, inserted-beside, without_key-list, has_key-push, has_key-here}
 use Rattle.json_value.proofs.Views.{array_tree, object_tree}
 
 -- an edit is its change at the end of its path
@@ -90,6 +90,15 @@ not_yet k ps i p h is other front =
 
 pub in_none : (k : List ℕ) (ps : List (Keyed Value)) (i : ℕ) → length ps ≤ i → has_key k (list_pairs (map pair_of (take i ps))) ≡ false → has_key k (list_pairs (map pair_of ps)) ≡ false
 in_none k ps i h front = ap (λ (qs : List (Keyed Value)). has_key k (list_pairs (map pair_of qs))) (sym (take_all i ps h)) ∙ front
+
+pub first_moved : (k l : List ℕ) (ps qs : List (Keyed Value)) (i : ℕ) → k ≡ l → ps ≡ qs → IsFirstOf k (map pair_of ps) i → IsFirstOf l (map pair_of qs) i
+first_moved k l ps qs i d e h = subst (λ (vs : List (Keyed Value)). IsFirstOf l (map pair_of vs) i) e (subst (λ (m : List ℕ). IsFirstOf m (map pair_of ps) i) d h)
+
+pub none_moved : (k l : List ℕ) (ps qs : List (Keyed Value)) → k ≡ l → ps ≡ qs → has_key k (list_pairs (map pair_of ps)) ≡ false → has_key l (list_pairs (map pair_of qs)) ≡ false
+none_moved k l ps qs d e h = subst (λ (vs : List (Keyed Value)). has_key l (list_pairs (map pair_of vs)) ≡ false) e (subst (λ (m : List ℕ). has_key m (list_pairs (map pair_of ps)) ≡ false) d h)
+
+pub key_found : (k : List ℕ) (ps : List (Keyed Value)) (i : ℕ) → IsFirstOf k (map pair_of ps) i → has_key k (list_pairs (map pair_of ps)) ≡ true
+key_found k ps i h = has_key-here k (map pair_of ps) i h.within h.here
 
 module _ (k : List ℕ) (ps : List (Keyed Value)) (i : ℕ) (p : Keyed Value) (is : p ≡ get_or ps i p) (first : IsFirstOf k (map pair_of ps) i) where
   low : i < length ps

@@ -72,11 +72,13 @@ fn remove_pairs(pairs: &mut Vec<Pair>, key: &str) -> bool
     ensures removed { IsTrue result → (has_key key.now (list_pairs (map pair_of pairs.old.items)) ≡ true) × (without_key key.now (list_pairs (map pair_of pairs.old.items)) ≡ list_pairs (map pair_of pairs.new.items)) }
     ensures kept { IsFalse result → (has_key key.now (list_pairs (map pair_of pairs.old.items)) ≡ false) × (pairs.new.items ≡ pairs.old.items) }
 {
-    if find_key(pairs.as_slice(), key).is_none() {
-        return false;
+    match find_key(pairs.as_slice(), key) {
+        Some(_) => {
+            pairs.retain(|pair| pair.key() != key);
+            true
+        }
+        None => false,
     }
-    pairs.retain(|pair| pair.key() != key);
-    true
 }
 
 impl Value {
