@@ -1,5 +1,6 @@
 pub mod Fronts
 pub mod Trees
 pub mod Views
+pub mod Placed
 pub mod TreeEdits
 pub mod AppliedTrees
