@@ -1,23 +1,26 @@
 -- What edits leave of values.
-use Rattle.std.proofs.Common.{◌≡◌, ℕ, suc, cond, Option, ◌<◌, ◌≤◌, List, [], ◌∷◌, ◌++◌, length, get_or, set, map, filter, not, bytes_eq, Bool, Ok, Err, Some, None, IfSome, Vec, Global, refl, sym, ap, ◌∙◌, subst, arith}
+use Rattle.std.proofs.Common.{◌≡◌, ℕ, suc, cond, Option, Result, OnErr, ◌<◌, ◌≤◌, List, [], ◌∷◌, ◌++◌, length, get_or, set, map, filter, not, bytes_eq, Bool, Ok, Err, Some, None, IfSome, Vec, Global, refl, sym, ap, ◌∙◌, subst, arith}
 use Rattle.std.specs.Prelude.{◌+◌, slice_get, remove, take, drop, option_map, true, false}
 use Rattle.std.specs.Vec.{with_item}
 use Rattle.std.proofs.lemmas.List.{map-set, length-map, set-get_or, get_or-map, map-append, map_push, map_more, take-map, drop-map, take_all}
 use Rattle.std.proofs.lemmas.Option.{slice_get-map, slice_get_read}
 use Rattle.json_grammar.specs.Tree.{Tree, list, pairs, Trees, Pairs, list_trees, list_pairs}
+use Rattle.json_text.specs.declared.error.Error.{Error}
 use Rattle.json_text.specs.declared.error.ErrorCode.{ErrorCode}
 use Rattle.json_text.specs.declared.error.ErrorCode.TheVariants.{NoMemory, NotFound, TypeUnmatched}
 use Rattle.json_text.specs.declared.error.Place.{Place}
 use Rattle.json_text.specs.declared.error.Place.TheVariants.{None as nowhere}
-use Rattle.json_model.specs.Edit.{has_key, inserted, pushed, without_key, without_index, Changed, Refusal, within, on_list, on_pairs, at_path, at_key, at_index, key_step, index_step, edited_once, Step, not_found, type_unmatched}
+use Rattle.json_model.specs.Edit.{has_key, inserted, pushed, removed, without_key, without_index, Changed, Refusal, within, on_list, on_pairs, at_path, at_key, at_index, key_step, index_step, edited_once, Step, not_found, type_unmatched}
 use Rattle.json_value.specs.Denotes.{tree_of, list_in, pairs_in, pair_of, text_bytes}
-use Rattle.json_value.specs.Edits.{edit_of, edit_at, change_of, path_steps, RefusesChange}
+use Rattle.json_value.specs.Edits.{step_of, steps_of, edit_of, edit_at, change_of, path_steps, RefusesChange}
 use Rattle.json_value.specs.FirstMember.{IsFirstOf}
 use Rattle.json_value.specs.Rows.{owned, keyed_so}
 use Rattle.json_value.specs.declared.text.Text.{Text}
 use Rattle.json_value.specs.declared.value.Value.{Value, Array, Object}
 use Rattle.json_value.specs.declared.container.Container.{Container}
 use Rattle.json_value.specs.declared.pair.Keyed.{Keyed}
+use Rattle.json_value.specs.declared.path.PointerNode.{PointerNode}
+use Rattle.json_value.specs.declared.path.PointerNode.TheVariants.{Key, Index}
 use Rattle.json_value.specs.declared.path.Edit.{Edit}
 use Rattle.json_value.specs.declared.path.Edit.TheVariants.{Set, Insert, Push, Remove}
 use Rattle.json_value.proofs.TreeEdits.{at_index-here, at_index-refused, at_index-missed, pushed-list, without_index-here, without_index-missed, at_key-here, at_key-refused, inserted-here, inserted-beside, without_key-list, has_key-push, has_key-here}
@@ -37,6 +40,35 @@ refuses_so r s so NotFound nowhere h = so not_found h
 refuses_so r s so TypeUnmatched nowhere h = so type_unmatched h
 refuses_so r s so code place h = absurd h
 
+pub refused_as : {A : Type 0} (r : Changed A) (e d : Error) → e ≡ d → RefusesChange r d.code d.place → RefusesChange r e.code e.place
+refused_as r e d is h = subst (λ (x : Error). RefusesChange r x.code x.place) (sym is) h
+
+-- what holds anyway holds where a call failed
+pub anyway : {T E P : Type 0} (r : Result T E) → P → OnErr r P
+anyway (Ok x) h = tt
+anyway (Err e) h = h
+
+-- a path, step by step
+pub path_key : (ss rest : List PointerNode) (s : PointerNode) (k : Text) (m : List ℕ) (f : Tree → Changed Tree) (t : Tree) → ss ≡ s ∷ rest → s ≡ Key k → m ≡ text_bytes k
+    → at_path (steps_of ss) f t ≡ on_pairs (at_key m (at_path (steps_of rest) f)) t
+path_key ss rest s k m f t e d g =
+    ap (λ (q : List PointerNode). at_path (steps_of q) f t) (e ∙ ap (λ (r : PointerNode). r ∷ rest) d)
+    ∙ ap (λ (n : List ℕ). on_pairs (at_key n (at_path (steps_of rest) f)) t) (sym g)
+
+pub path_index : (ss rest : List PointerNode) (s : PointerNode) (i : ℕ) (f : Tree → Changed Tree) (t : Tree) → ss ≡ s ∷ rest → s ≡ Index i
+    → at_path (steps_of ss) f t ≡ on_list (at_index i (at_path (steps_of rest) f)) t
+path_index ss rest s i f t e d = ap (λ (q : List PointerNode). at_path (steps_of q) f t) (e ∙ ap (λ (r : PointerNode). r ∷ rest) d)
+
+-- what the removal of a key leaves of members
+abbrev pub removal : List ℕ → Pairs → Changed Pairs
+removal k ps = cond (has_key k ps) (Ok (without_key k ps)) (Err not_found)
+
+pub remove_key : (s : PointerNode) (k : Text) (m : List ℕ) (t : Tree) → s ≡ Key k → m ≡ text_bytes k → removed (step_of s) t ≡ on_pairs (removal m) t
+remove_key s k m t d g = ap (λ (r : PointerNode). removed (step_of r) t) d ∙ ap (λ (n : List ℕ). on_pairs (removal n) t) (sym g)
+
+pub remove_index : (s : PointerNode) (i : ℕ) (t : Tree) → s ≡ Index i → removed (step_of s) t ≡ on_list (without_index i) t
+remove_index s i t d = ap (λ (r : PointerNode). removed (step_of r) t) d
+
 -- ---- an array whose list was lent
 
 module _ (self : Value) (a : Container Value) (v : Vec Value Global) (is : self ≡ Array a) (same : map tree_of v.items ≡ list_in a) where
@@ -48,6 +80,9 @@ module _ (self : Value) (a : Container Value) (v : Vec Value Global) (is : self 
 
   pub array_changed : (f : Trees → Changed Trees) (w : Vec Value Global) → f (list_trees (map tree_of v.items)) ≡ Ok (list_trees (map tree_of w.items)) → on_list f (tree_of self) ≡ Ok (tree_of (Array (owned w)))
   array_changed f w e = ap (on_list f) array_before ∙ ap (within list) e ∙ sym (ap Ok (array_tree (owned w)))
+
+  pub array_missed : (f : Trees → Changed Trees) (r : Refusal) → f (list_trees (map tree_of v.items)) ≡ Err r → on_list f (tree_of self) ≡ Err r
+  array_missed f r e = ap (on_list f) array_before ∙ ap (within list) e
 
   pub array_refuses : (f : Trees → Changed Trees) (code : ErrorCode) (place : Place) → RefusesChange (f (list_trees (map tree_of v.items))) code place → RefusesChange (on_list f (tree_of self)) code place
   array_refuses f code place = refuses_so (f (list_trees (map tree_of v.items))) (on_list f (tree_of self)) (λ e h. ap (on_list f) array_before ∙ ap (within list) h) code place
@@ -63,6 +98,9 @@ module _ (self : Value) (o : Container (Keyed Value)) (v : Vec (Keyed Value) Glo
 
   pub object_changed : (f : Pairs → Changed Pairs) (w : Vec (Keyed Value) Global) → f (list_pairs (map pair_of v.items)) ≡ Ok (list_pairs (map pair_of w.items)) → on_pairs f (tree_of self) ≡ Ok (tree_of (Object (owned w)))
   object_changed f w e = ap (on_pairs f) object_before ∙ ap (within pairs) e ∙ sym (ap Ok (object_tree (owned w)))
+
+  pub object_missed : (f : Pairs → Changed Pairs) (r : Refusal) → f (list_pairs (map pair_of v.items)) ≡ Err r → on_pairs f (tree_of self) ≡ Err r
+  object_missed f r e = ap (on_pairs f) object_before ∙ ap (within pairs) e
 
   pub object_refuses : (f : Pairs → Changed Pairs) (code : ErrorCode) (place : Place) → RefusesChange (f (list_pairs (map pair_of v.items))) code place → RefusesChange (on_pairs f (tree_of self)) code place
   object_refuses f code place = refuses_so (f (list_pairs (map pair_of v.items))) (on_pairs f (tree_of self)) (λ e h. ap (on_pairs f) object_before ∙ ap (within pairs) h) code place

@@ -32,7 +32,7 @@ front_more {Y = Y} f ys xs more i x e g m = ap (map f) m ∙ map-append f xs (x 
 pub each_front : {X Y : Type 0} (f : X → Y) (P : ℕ → X → Type 0) (ys : List Y) (xs more : List X) (i : ℕ) (x : X)
     → map f xs ≡ take i ys → slice_get ys i ≡ Some (f x) → more ≡ xs ++ x ∷ [] → P i x → ((k : ℕ) → IfSome (slice_get xs k) (P k)) → (k : ℕ) → IfSome (slice_get more k) (P k)
 each_front {X = X} f P ys xs more i x e g m p h =
-    let at_end : length xs ≡ i = sym (length-map f xs) ∙ ap length e ∙ length_got ys i (f x) g in
+    let at_end : length xs ≡ i = sym (length-map xs f) ∙ ap length e ∙ length_got ys i (f x) g in
     subst (λ (zs : List X). (k : ℕ) → IfSome (slice_get zs k) (P k)) (sym m) (each_more P xs x h (subst (λ (j : ℕ). P j x) (sym at_end) p))
 
 -- nothing is got, and the front stays

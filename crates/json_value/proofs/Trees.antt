@@ -1,6 +1,6 @@
 -- Trees, by what is read of them.
-use Rattle.std.proofs.Common.{◌≡◌, ◌≢◌, false, ℕ, ◌≤◌, List, [], ◌∷◌, Some, length, map, refl, ap, arith}
-use Rattle.std.specs.Prelude.{unwrap_or}
+use Rattle.std.proofs.Common.{◌≡◌, ◌≢◌, false, ℕ, zero, suc, ◌≤◌, List, [], ◌∷◌, Some, None, length, map, refl, ap, ◌∙◌, arith}
+use Rattle.std.specs.Prelude.{option_map, slice_get, unwrap_or}
 use Rattle.std.proofs.lemmas.List.{length-map}
 use Rattle.json_grammar.specs.Tree.{Tree, null, boolean, num, text, list, pairs, Trees, no_trees, tree_and, Pairs, no_pairs, pair_and, trees_list, list_trees, pairs_list, list_pairs}
 use Rattle.json_doc.specs.Readings.{type_of, elements, keys, values, children, bool_of}
@@ -102,5 +102,34 @@ few_elements _ = omega arith
 
 pub few_members : (t : Tree) → length (members t) ≤ length (children t)
 few_members (list ts) = omega arith
-few_members (pairs ps) = omega (arith, length-map (λ (p : List ℕ × Tree). p.1) (pairs_list ps))
+few_members (pairs ps) = omega (arith, length-map (pairs_list ps) (λ (p : List ℕ × Tree). p.1))
 few_members _ = omega arith
+
+-- a member, from its key and its value
+member_got : (ps : List (List ℕ × Tree)) (i : ℕ) (k t : Tree) → Some k ≡ option_map text (slice_get (map (λ (p : List ℕ × Tree). p.0) ps) i) → Some t ≡ slice_get (map (λ (p : List ℕ × Tree). p.1) ps) i → slice_get ps i ≡ Some (text_said k, t)
+member_got [] i k t e f = absurd (cc)
+member_got (p ∷ ps) zero k t e f =
+    let key : k ≡ text p.0 = cc in
+    let value : t ≡ p.1 = cc in
+    rw (key, value) refl
+member_got (p ∷ ps) (suc i) k t e f = member_got ps i k t e f
+
+no_key_got : (ps : List (List ℕ × Tree)) (i : ℕ) → None ≡ option_map text (slice_get (map (λ (p : List ℕ × Tree). p.0) ps) i) → slice_get ps i ≡ None
+no_key_got [] i e = refl
+no_key_got (p ∷ ps) zero e = absurd (cc)
+no_key_got (p ∷ ps) (suc i) e = no_key_got ps i e
+
+no_value_got : (ps : List (List ℕ × Tree)) (i : ℕ) → None ≡ slice_get (map (λ (p : List ℕ × Tree). p.1) ps) i → slice_get ps i ≡ None
+no_value_got [] i e = refl
+no_value_got (p ∷ ps) zero e = absurd (cc)
+no_value_got (p ∷ ps) (suc i) e = no_value_got ps i e
+
+pub member_of : (o : Tree) (i : ℕ) (k t : Tree) → Some k ≡ option_map text (slice_get (keys o) i) → Some t ≡ slice_get (values o) i → slice_get (members o) i ≡ Some (text_said k, t)
+member_of o i k t e f =
+    member_got (members o) i k t (e ∙ ap (λ (ks : List (List ℕ)). option_map text (slice_get ks i)) (keys_members o)) (f ∙ ap (λ (ts : List Tree). slice_get ts i) (values_members o))
+
+pub no_key_of : (o : Tree) (i : ℕ) → None ≡ option_map text (slice_get (keys o) i) → slice_get (members o) i ≡ None
+no_key_of o i e = no_key_got (members o) i (e ∙ ap (λ (ks : List (List ℕ)). option_map text (slice_get ks i)) (keys_members o))
+
+pub no_value_of : (o : Tree) (i : ℕ) → None ≡ slice_get (values o) i → slice_get (members o) i ≡ None
+no_value_of o i e = no_value_got (members o) i (e ∙ ap (λ (ts : List Tree). slice_get ts i) (values_members o))

@@ -6,8 +6,10 @@ use Rattle.json_doc.specs.Seen.{child_place, key_place}
 use Rattle.json_doc.specs.declared.cell.Cell.{Cell}
 use Rattle.json_doc.specs.declared.doc.Doc.{Doc}
 use Rattle.json_value.specs.declared.place.Place.{Place}
+use Rattle.json_value.specs.declared.literal.Literal.{Literal}
 use Rattle.json_value.specs.declared.literal.LiteralForm.{LiteralForm}
 use Rattle.json_value.specs.declared.literal.LiteralForm.TheVariants as literal
+use Rattle.json_value.specs.declared.text.Text.{Text}
 use Rattle.json_value.specs.declared.text.TextForm.{TextForm}
 use Rattle.json_value.specs.declared.text.TextForm.TheVariants as form
 use Rattle.json_value.specs.declared.container.Container.{Container}
@@ -35,6 +37,13 @@ abbrev pub text_spot : TextForm → Option Spot
 text_spot (form.Static s) = None
 text_spot (form.Copied s) = None
 text_spot (form.Packed p) = Some (spot_in p.doc.value p.at)
+
+-- where a literal stands, and a text
+abbrev pub spot_of_literal : Literal → Option Spot
+spot_of_literal l = literal_spot l.form
+
+abbrev pub spot_of_text : Text → Option Spot
+spot_of_text t = text_spot t.form
 
 abbrev pub form_spot : {T : Type 0} → Form T → Option Spot
 form_spot Empty = None
@@ -89,7 +98,7 @@ FirstList (Packed p) items = PlaceElements p items
 
 -- each of these is the member that it is in a packed object: its key is the place of that string, and its value is read from its place
 abbrev pub PlaceMembers : Place → List (Keyed Value) → Type 0
-PlaceMembers p items = (i : ℕ) → IfSome (slice_get items i) (λ m. (text_spot m.key.form ≡ Some (spot_in p.doc.value (key_place p.doc.value p.at i))) × (spot_of m.value ≡ read_spot p.doc.value (child_place p.doc.value p.at i)))
+PlaceMembers p items = (i : ℕ) → IfSome (slice_get items i) (λ m. (spot_of_text m.key ≡ Some (spot_in p.doc.value (key_place p.doc.value p.at i))) × (spot_of m.value ≡ read_spot p.doc.value (child_place p.doc.value p.at i)))
 
 -- so of an object
 abbrev pub FirstPairs : Form (Keyed Value) → List (Keyed Value) → Type 0

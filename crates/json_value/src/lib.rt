@@ -13,6 +13,10 @@ mod pair;
 mod path;
 mod place;
 mod standing;
+#[cfg(test)]
+mod tests;
+#[cfg(test)]
+mod tests_applying;
 mod text;
 mod value;
 

@@ -2,6 +2,7 @@
 ghost use Rattle.std.specs.Prelude.{◌≡◌, IfOk, IfErr};
 ghost use Rattle.json_text.specs.Errors.{no_memory};
 ghost use Rattle.json_value.specs.Denotes.{literal_bytes};
+ghost use Rattle.json_value.specs.Spots.{spot_of_literal};
 
 use crate::place::Place;
 use json_text::Result;
@@ -36,6 +37,7 @@ impl Literal {
     /// The same literal; a place stays one of the same document. `NoMemory`.
     pub fn clone(&self, alloc: Global) -> Result<Literal>
         ensures same { IfOk result (λ l. literal_bytes l ≡ literal_bytes self.now) }
+        ensures spot { IfOk result (λ l. spot_of_literal l ≡ spot_of_literal self.now) }
         ensures only { IfErr result (λ e. e ≡ no_memory) }
     {
         match &self.form {

@@ -4,7 +4,7 @@ ghost use Rattle.json_text.specs.Errors.{no_memory};
 ghost use Rattle.json_doc.specs.Docs.{doc_cells, doc_tree};
 ghost use Rattle.json_value.specs.Denotes.{text_bytes};
 ghost use Rattle.json_value.specs.Readings.{text_said};
-ghost use Rattle.json_value.specs.Spots.{text_spot, spot_in};
+ghost use Rattle.json_value.specs.Spots.{spot_of_text, spot_in};
 
 use crate::place::Place;
 use bytes::ByteStr;
@@ -51,7 +51,7 @@ impl Text {
     pub(crate) fn at(doc: &Rc<Doc>, at: u32) -> Result<Text>
         requires { at < length (doc_cells doc.now.value) }
         ensures text { IfOk result (λ t. text_bytes t ≡ text_said (doc_tree doc.now.value at)) }
-        ensures spot { IfOk result (λ t. text_spot t.form ≡ Some (spot_in doc.now.value at)) }
+        ensures spot { IfOk result (λ t. spot_of_text t ≡ Some (spot_in doc.now.value at)) }
         ensures only { IfErr result (λ e. e ≡ no_memory) }
     {
         let doc = doc.clone()?;
@@ -77,6 +77,7 @@ impl Text {
     /// The same text; a place stays one of the same document. `NoMemory`.
     pub fn clone(&self, alloc: Global) -> Result<Text>
         ensures same { IfOk result (λ t. text_bytes t ≡ text_bytes self.now) }
+        ensures spot { IfOk result (λ t. spot_of_text t ≡ spot_of_text self.now) }
         ensures only { IfErr result (λ e. e ≡ no_memory) }
     {
         match &self.form {
@@ -86,7 +87,12 @@ impl Text {
                     form: TextForm::Static(text),
                 })
             }
-            TextForm::Copied(text) => Text::copy(alloc, text.as_str()),
+            TextForm::Copied(text) => {
+                let text = String::from_str(alloc, text.as_str())?;
+                Ok(Text {
+                    form: TextForm::Copied(text),
+                })
+            }
             TextForm::Packed(place) => {
                 let place = place.copy()?;
                 Ok(Text {
