@@ -74,12 +74,7 @@ fn edited(rt: &impl Abort, alloc: Global, json: &str, edit: &Edit) -> Result<Str
 }
 
 /// Why the edit does not apply to the value of a JSON text.
-fn refused(
-    rt: &impl Abort,
-    alloc: Global,
-    json: &str,
-    edit: &Edit,
-) -> Result<Option<Error>, Fail> {
+fn refused(rt: &impl Abort, alloc: Global, json: &str, edit: &Edit) -> Result<Option<Error>, Fail> {
     let mut value = value_of(rt, alloc, json)?;
     Ok(value.apply(alloc, edit).err())
 }
@@ -95,11 +90,20 @@ fn values_are_set(rt: HostRuntime) -> Result<(), Fail> {
     let root = set(&rt, alloc, Path::new(alloc), "7")?;
     assert_eq!(rt; edited(&rt, alloc, "[1,2]", &root)?.as_str(), "7");
     let by_key = set(&rt, alloc, one(alloc, key("a"))?, "7")?;
-    assert_eq!(rt; edited(&rt, alloc, "{\"b\":1,\"a\":2}", &by_key)?.as_str(), "b:1 a:7 ");
+    assert_eq!(rt;
+        edited(&rt, alloc, "{\"b\":1,\"a\":2}", &by_key)?.as_str(),
+        "b:1 a:7 "
+    );
     let equal_keys = "{\"a\":1,\"b\":2,\"a\":3}";
-    assert_eq!(rt; edited(&rt, alloc, equal_keys, &by_key)?.as_str(), "a:7 b:2 a:3 ");
+    assert_eq!(rt;
+        edited(&rt, alloc, equal_keys, &by_key)?.as_str(),
+        "a:7 b:2 a:3 "
+    );
     let by_index = set(&rt, alloc, one(alloc, PointerNode::Index(1))?, "{}")?;
-    assert_eq!(rt; edited(&rt, alloc, "[1,[2],3]", &by_index)?.as_str(), "1 {..} 3 ");
+    assert_eq!(rt;
+        edited(&rt, alloc, "[1,[2],3]", &by_index)?.as_str(),
+        "1 {..} 3 "
+    );
     Ok(())
 }
 
@@ -150,8 +154,14 @@ fn members_are_inserted(rt: HostRuntime) -> Result<(), Fail> {
         value: value_of(&rt, alloc, "true")?,
     };
     let equal_keys = "{\"a\":1,\"b\":2,\"a\":3}";
-    assert_eq!(rt; edited(&rt, alloc, equal_keys, &edit)?.as_str(), "a:true b:2 a:3 ");
-    assert_eq!(rt; edited(&rt, alloc, "{\"b\":2}", &edit)?.as_str(), "b:2 a:true ");
+    assert_eq!(rt;
+        edited(&rt, alloc, equal_keys, &edit)?.as_str(),
+        "a:true b:2 a:3 "
+    );
+    assert_eq!(rt;
+        edited(&rt, alloc, "{\"b\":2}", &edit)?.as_str(),
+        "b:2 a:true "
+    );
     assert_eq!(rt; edited(&rt, alloc, "{}", &edit)?.as_str(), "a:true ");
     let answer = refused(&rt, alloc, "[]", &edit)?;
     assert!(rt; matches!(answer, Some(error) if error.code == ErrorCode::TypeUnmatched));

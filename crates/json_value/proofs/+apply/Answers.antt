@@ -152,4 +152,3 @@ value::Value::apply_at-returns-in_ok-list-in-Some-array_mut-clause-refused t c =
     IfErr-weaker c.apply_to_element.result (λ e. RefusesChange (at_index i f (list_trees (map tree_of list.items))) e.code e.place) (λ e. RefusesChange whole e.code e.place)
     (λ e h. refuses_so there whole (λ r g. way ∙ g) e.code e.place (array_refuses self c.in-Some-array_mut.array.now list c.in-Some-array_mut.ensures.value c.in_ok-list-in-Some-array_mut.ensures.list (at_index i f) e.code e.place h))
     c.apply_to_element.ensures.refused
-
