@@ -1,7 +1,6 @@
 -- What edits leave of values.
-use Rattle.std.proofs.Common.{◌≡◌, ℕ, suc, cond, Option, Result, OnErr, ◌<◌, ◌≤◌, List, [], ◌∷◌, ◌++◌, length, get_or, set, map, filter, not, bytes_eq, Bool, Ok, Err, Some, None, IfSome, Vec, Global, refl, sym, ap, ◌∙◌, subst, arith}
+use Rattle.std.proofs.Common.{◌≡◌, ℕ, suc, cond, Option, Result, OnErr, ◌<◌, ◌≤◌, List, [], ◌∷◌, ◌++◌, length, get_or, set, map, filter, not, bytes_eq, Bool, Ok, Err, Some, IfSome, Vec, Global, refl, sym, ap, ◌∙◌, subst}
 use Rattle.std.specs.Prelude.{◌+◌, slice_get, remove, take, drop, option_map, true, false}
-use Rattle.std.specs.Vec.{with_item}
 use Rattle.std.proofs.lemmas.List.{map-set, length-map, set-get_or, get_or-map, map-append, map_push, map_more, take-map, drop-map, take_all}
 use Rattle.std.proofs.lemmas.Option.{slice_get-map, slice_get_read}
 use Rattle.json_grammar.specs.Tree.{Tree, list, pairs, Trees, Pairs, list_trees, list_pairs}
@@ -10,9 +9,9 @@ use Rattle.json_text.specs.declared.error.ErrorCode.{ErrorCode}
 use Rattle.json_text.specs.declared.error.ErrorCode.TheVariants.{NoMemory, NotFound, TypeUnmatched}
 use Rattle.json_text.specs.declared.error.Place.{Place}
 use Rattle.json_text.specs.declared.error.Place.TheVariants.{None as nowhere}
-use Rattle.json_model.specs.Edit.{has_key, inserted, pushed, removed, without_key, without_index, Changed, Refusal, within, on_list, on_pairs, at_path, at_key, at_index, key_step, index_step, edited_once, Step, not_found, type_unmatched}
+use Rattle.json_model.specs.Edit.{has_key, inserted, pushed, removed, without_key, without_index, Changed, Refusal, within, on_list, on_pairs, at_path, at_key, at_index, edited_once, Step, not_found, type_unmatched}
 use Rattle.json_value.specs.Denotes.{tree_of, list_in, pairs_in, pair_of, text_bytes}
-use Rattle.json_value.specs.Edits.{step_of, steps_of, edit_of, edit_at, change_of, path_steps, RefusesChange}
+use Rattle.json_value.specs.Edits.{step_of, steps_of, edit_at, change_of, RefusesChange}
 use Rattle.json_value.specs.FirstMember.{IsFirstOf}
 use Rattle.json_value.specs.Rows.{owned, keyed_so}
 use Rattle.json_value.specs.declared.text.Text.{Text}

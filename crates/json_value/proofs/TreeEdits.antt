@@ -1,9 +1,9 @@
 -- Edits of trees whose elements and members are given as lists.
-use Rattle.std.proofs.Common.{◌≡◌, ℕ, zero, suc, ◌<◌, ◌≤◌, List, [], ◌∷◌, ◌++◌, length, get_or, set, take, drop, map, filter, Bool, true, false, not, cond, Ok, Err, Some, None, refl, sym, ap, ◌∙◌, arith, bytes_eq}
+use Rattle.std.proofs.Common.{◌≡◌, ℕ, zero, suc, ◌<◌, ◌≤◌, List, [], ◌∷◌, ◌++◌, length, set, take, filter, Bool, true, false, not, cond, Ok, Err, Some, refl, ap, ◌∙◌, arith, bytes_eq}
 use Rattle.std.specs.Prelude.{slice_get, remove, IfSome}
 use Rattle.std.proofs.lemmas.Slice.Eq.{bytes_eq-Decides}
 use Rattle.std.proofs.lemmas.Option.{none-some, same_Some}
-use Rattle.json_grammar.specs.Tree.{Tree, Trees, no_trees, tree_and, list_trees, Pairs, no_pairs, pair_and, list_pairs}
+use Rattle.json_grammar.specs.Tree.{Tree, tree_and, list_trees, Pairs, pair_and, list_pairs}
 use Rattle.json_model.specs.Edit.{Changed, Refusal, not_found, within, at_key, at_index, inserted, pushed, without_key, has_key, without_index}
 
 -- ---- elements

@@ -1,4 +1,4 @@
-use Rattle.std.proofs.Common.{Bool, not, bytes_eq, refl, rules}
+use Rattle.std.proofs.Common.{not, bytes_eq, refl, rules}
 use Rattle.std.proofs.lemmas.Fn.{filter_same}
 use Rattle.json_value.specs.Denotes.{text_bytes}
 use Rattle.json_value.proofs.AppliedTrees.{first_moved, none_moved, key_found, all_taken_out}
