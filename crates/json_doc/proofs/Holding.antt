@@ -4,6 +4,7 @@ use Rattle.std.proofs.lemmas.List.{take_at, drop_at, get_or_at, length_push, len
 use Rattle.std.specs.Str.{IsUtf8}
 use Rattle.std.proofs.lemmas.Str.{IsUtf8-nil, IsUtf8-append}
 use Rattle.json_grammar.specs.declared.Kind.TheVariants.{Array as array, Object as object}
+use Rattle.json_grammar.specs.Grammar.{number}
 use Rattle.json_grammar.specs.Tree.{Tree, null, boolean, num, text, Token, null_token, boolean_token, num_token, text_token, begin, end, key_token, tokens}
 use Rattle.json_doc.specs.Awaited.{Slot, a_value, past_value, past_token, awaits, Begins}
 use Rattle.json_grammar.specs.Sizes.{token_nodes, nodes_of}
@@ -93,9 +94,9 @@ pub held_boolean : (front done : List Cell) (bytes : List ℕ) (p : ℕ) (ts : L
 held_boolean front done bytes p ts v h b =
     no_bytes _ done bytes p _ (held_leaf front done bytes [] p ts (cell.Bool v) (boolean v) (boolean_token v) IsUtf8-nil (λ w. refl) refl refl refl (λ n. (refl, refl)) h b)
 
-pub held_num : (front done : List Cell) (bytes : List ℕ) (p : ℕ) (ts : List Token) (l : List ℕ) → IsUtf8 l → Held front done bytes p ts → Begins (ts ++ num_token l ∷ []) → Held (front ++ cell.Raw (length bytes) (length l) ∷ []) done (bytes ++ l) p (ts ++ num_token l ∷ [])
-held_num front done bytes p ts l u h b =
-    held_leaf front done bytes l p ts (cell.Raw (length bytes) (length l)) (num l) (num_token l) u (λ w. refl) refl refl refl (λ n. ((length bytes, refl, stands_last bytes l u), refl)) h b
+pub held_num : (front done : List Cell) (bytes : List ℕ) (p : ℕ) (ts : List Token) (l : List ℕ) → IsUtf8 l → number l → Held front done bytes p ts → Begins (ts ++ num_token l ∷ []) → Held (front ++ cell.Raw (length bytes) (length l) ∷ []) done (bytes ++ l) p (ts ++ num_token l ∷ [])
+held_num front done bytes p ts l u is h b =
+    held_leaf front done bytes l p ts (cell.Raw (length bytes) (length l)) (num l) (num_token l) u (λ w. refl) refl refl refl (λ n. (is, (length bytes, refl, stands_last bytes l u), refl)) h b
 
 pub held_text : (front done : List Cell) (bytes : List ℕ) (p : ℕ) (ts : List Token) (s : List ℕ) → IsUtf8 s → Held front done bytes p ts → Begins (ts ++ text_token s ∷ []) → Held (front ++ cell.Str (length bytes) (length s) ∷ []) done (bytes ++ s) p (ts ++ text_token s ∷ [])
 held_text front done bytes p ts s u h b =

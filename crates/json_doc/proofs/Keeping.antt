@@ -18,10 +18,11 @@ use Rattle.json_text.specs.Parsing.{ParserState, input, HasGiven, SameInput, Goe
 use Rattle.json_doc.specs.Awaited.{Begins}
 use Rattle.json_doc.specs.State.{VisitorState}
 use Rattle.json_doc.specs.Recorded.{visitor_state, Holds, SameRoom}
-use Rattle.json_doc.specs.Reading.{ReadingFails, Follows}
+use Rattle.json_doc.specs.Reading.{ReadingFails, EventIsNumber, Follows}
 use Rattle.json_doc.specs.declared.document_visitor.DocumentVisitor.{DocumentVisitor}
 use Rattle.json_doc.proofs.Prefixes.{reading_begins}
 use Rattle.json_doc.proofs.Fitting.{recorded_bytes}
+use Rattle.json_doc.proofs.Numeric.{event_number}
 
 -- the parser has read a text up to here, and the builder was given the same tokens
 pub record Keeps (p : ParserState) (v : DocumentVisitor) (b : List ℕ) (ts : List Token) : Type 0 where
@@ -90,6 +91,11 @@ recorded_within p v ts h held =
 module _ (p q : ParserState) (v : DocumentVisitor) (b : List ℕ) (ts : List Token) (e : Event) (k : Keeps p v b ts) (other : e ≢ event.End) (goes : Goes p e q) (tight : IsTight p e q) (same : SameInput p q) where
   pub next_token : (x : Token) × Means e x × HasGiven q (ts ++ x ∷ [])
   next_token = goes_on p q e other goes ts k.gave
+
+  pub next_number : EventIsNumber e
+  next_number =
+      let h = next_token.2.given.at in
+      event_number e next_token.0 (take next_token.2.base (input q)) q.open_kinds q.spot ts next_token.1 h
 
   pub next_begins : Begins (ts ++ next_token.0 ∷ [])
   next_begins = given_begins q (ts ++ next_token.0 ∷ []) next_token.2

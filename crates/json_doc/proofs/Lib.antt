@@ -9,6 +9,8 @@ pub mod Shaping
 pub mod Finishing
 pub mod Prefixes
 pub mod Pieces
+pub mod Numeric
+pub mod Properness
 pub mod Shown
 pub mod Fitting
 pub mod Following

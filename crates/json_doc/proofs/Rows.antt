@@ -72,7 +72,7 @@ module _ (cells more : List Cell) (bytes extra : List ℕ) (u : IsUtf8 extra) wh
     pub node_more : (c : Cell) (lo hi : ℕ) (t : Tree) → node cells bytes c lo hi t → node (cells ++ more) (bytes ++ extra) c lo hi t
     node_more c lo hi null h = h
     node_more c lo hi (boolean b) h = h
-    node_more c lo hi (num l) ((start, e, h), f) = ((start, e, text_stands_more bytes start l extra u h), f)
+    node_more c lo hi (num l) (n, (start, e, h), f) = (n, (start, e, text_stands_more bytes start l extra u h), f)
     node_more c lo hi (text s) (h, f) = (text_more bytes c s extra u h, f)
     node_more c lo hi (list ts) (mid, cs, e, s, f, h) = (mid, cs, e, stands_more cells mid cs more s, f, row_more cs lo mid ts h)
     node_more c lo hi (pairs ps) (mid, cs, e, s, f, h) = (mid, cs, e, stands_more cells mid cs more s, f, pair_row_more cs lo mid ps h)

@@ -1,18 +1,20 @@
 -- Each cell of a finished tree is in its place.
-use Rattle.std.proofs.Common.{◌≡◌, true, ℕ, zero, suc, ◌+◌, ◌*◌, ◌<◌, ◌≤◌, List, ◌∷◌, ◌++◌, length, Some, refl, sym, ap, subst, ◌∙◌, arith, length-append, append_assoc}
-use Rattle.std.specs.Prelude.{slice_get, slice_index_or}
+use Rattle.std.proofs.Common.{◌≡◌, true, false, ℕ, zero, suc, ◌+◌, ◌*◌, ◌<◌, ◌≤◌, List, ◌∷◌, ◌++◌, length, Some, refl, sym, ap, subst, ◌∙◌, arith, length-append, append_assoc}
+use Rattle.std.specs.Prelude.{slice_get, slice_range, slice_index_or}
 use Rattle.std.specs.Str.{IsUtf8, IsCharBoundary}
 use Rattle.std.proofs.lemmas.Str.{IsCharBoundary-start, IsCharBoundary-at_seam, IsUtf8-append}
+use Rattle.std.proofs.lemmas.Grind.{merely}
 use Rattle.std.proofs.lemmas.Option.{get_or_from_slice_get}
 use Rattle.std.proofs.lemmas.Bool.{cases_lt}
 use Rattle.std.proofs.Math.Logic.{⊎_elim}
+use Rattle.json_grammar.specs.Grammar.{number}
 use Rattle.json_grammar.specs.Tree.{Tree, null, boolean, num, text, list, pairs, Trees, no_trees, tree_and, Pairs, no_pairs, pair_and}
 use Rattle.json_doc.specs.Texts.{trees_count, pairs_count}
 use Rattle.json_doc.specs.Block.{Stands, TextStands, link_to, text_cell, node, row, pair_row}
-use Rattle.json_doc.specs.Shape.{start_of, span_of, link_of, width_of, keys_of, is_str, CellInPlace}
+use Rattle.json_doc.specs.Shape.{start_of, span_of, link_of, width_of, keys_of, is_str, is_raw, CellInPlace}
 use Rattle.json_doc.specs.declared.cell.Cell.{Cell}
 use Rattle.json_doc.specs.declared.cell.Cell.TheVariants as cell
-use Rattle.json_doc.proofs.Spelling.{stands_first, stands_rest, row_up, pair_row_up}
+use Rattle.json_doc.proofs.Spelling.{stands_first, stands_rest, stands_range, row_up, pair_row_up}
 
 text_begins : (bytes : List ℕ) (at : ℕ) (s : List ℕ) → TextStands bytes at s → IsCharBoundary bytes at
 text_begins bytes at s (h, u, v) = subst (λ (n : ℕ). IsCharBoundary bytes n) h.place (IsCharBoundary-at_seam bytes h.before (s ++ h.after) h.row (IsUtf8-append s h.after u v))
@@ -31,8 +33,8 @@ linked mid zero i h = absurd (omega arith)
 linked mid (suc n) i h = refl
 
 module _ (cells : List Cell) (bytes : List ℕ) (whole : IsUtf8 bytes) where
-  plain : (at : ℕ) (c d : Cell) → c ≡ d → start_of d ≡ 0 → span_of d ≡ 0 → link_of d ≡ 0 → width_of d ≡ 0 → keys_of d ≡ 0 → CellInPlace cells bytes at c
-  plain at c d e p q r s n =
+  plain : (at : ℕ) (c d : Cell) → c ≡ d → start_of d ≡ 0 → span_of d ≡ 0 → link_of d ≡ 0 → width_of d ≡ 0 → keys_of d ≡ 0 → is_raw d ≡ false → CellInPlace cells bytes at c
+  plain at c d e p q r s n other =
       let start = IsCharBoundary-start bytes whole in
       let both : 0 ≡ start_of d + span_of d = omega arith in
       subst (λ (x : Cell). CellInPlace cells bytes at x) (sym e)
@@ -41,10 +43,12 @@ module _ (cells : List Cell) (bytes : List ℕ) (whole : IsUtf8 bytes) where
         ends = subst (λ (k : ℕ). IsCharBoundary bytes k) both start;
         below = omega arith;
         keyed = λ i h. absurd (omega arith);
+        numeric = λ h. absurd (cc);
       })
 
-  texted : (at start len : ℕ) (c d : Cell) → c ≡ d → start_of d ≡ start → span_of d ≡ len → IsCharBoundary bytes start → IsCharBoundary bytes (start + len) → link_of d ≡ 0 → width_of d ≡ 0 → keys_of d ≡ 0 → CellInPlace cells bytes at c
-  texted at start len c d e p q a b r s n =
+  texted : (at start len : ℕ) (c d : Cell) → c ≡ d → start_of d ≡ start → span_of d ≡ len → IsCharBoundary bytes start → IsCharBoundary bytes (start + len) → link_of d ≡ 0 → width_of d ≡ 0 → keys_of d ≡ 0
+      → (is_raw d ≡ true → ∥ number (slice_range bytes (start_of d) (start_of d + span_of d)) ∥₁) → CellInPlace cells bytes at c
+  texted at start len c d e p q a b r s n numeric =
       let both : start + len ≡ start_of d + span_of d = omega arith in
       subst (λ (x : Cell). CellInPlace cells bytes at x) (sym e)
       (record {
@@ -52,10 +56,11 @@ module _ (cells : List Cell) (bytes : List ℕ) (whole : IsUtf8 bytes) where
         ends = subst (λ (k : ℕ). IsCharBoundary bytes k) both b;
         below = omega arith;
         keyed = λ i h. absurd (omega arith);
+        numeric = numeric;
       })
 
   pub text_in_place : (at : ℕ) (c : Cell) (s : List ℕ) → text_cell bytes c s → CellInPlace cells bytes at c
-  text_in_place at c s (start, e, h) = texted at start (length s) c (cell.Str start (length s)) e refl refl (text_begins bytes start s h) (text_ends bytes start s h) refl refl refl
+  text_in_place at c s (start, e, h) = texted at start (length s) c (cell.Str start (length s)) e refl refl (text_begins bytes start s h) (text_ends bytes start s h) refl refl refl (λ h. absurd (cc))
 
   key_there : (cs : List Cell) (lo hi at : ℕ) (ps : Pairs) → pair_row cells bytes cs lo hi ps → Stands cells at cs → (i : ℕ) → i < pairs_count ps → is_str (slice_index_or cells (at + 2 * i) cell.Null) ≡ true
   key_there cs lo hi at no_pairs r s i h = absurd (omega arith)
@@ -71,9 +76,11 @@ module _ (cells : List Cell) (bytes : List ℕ) (whole : IsUtf8 bytes) where
       rw next (key_there rest mid hi (at + 2) ps r s2 i (omega arith))
 
   pub node_in_place : (c : Cell) (lo hi at : ℕ) (t : Tree) → node cells bytes c lo hi t → hi ≤ at → CellInPlace cells bytes at c
-  node_in_place c lo hi at null (e, f) h = plain at c cell.Null e refl refl refl refl refl
-  node_in_place c lo hi at (boolean b) (e, f) h = plain at c (cell.Bool b) e refl refl refl refl refl
-  node_in_place c lo hi at (num l) ((start, e, s), f) h = texted at start (length l) c (cell.Raw start (length l)) e refl refl (text_begins bytes start l s) (text_ends bytes start l s) refl refl refl
+  node_in_place c lo hi at null (e, f) h = plain at c cell.Null e refl refl refl refl refl refl
+  node_in_place c lo hi at (boolean b) (e, f) h = plain at c (cell.Bool b) e refl refl refl refl refl refl
+  node_in_place c lo hi at (num l) (is, (start, e, s), f) h =
+      texted at start (length l) c (cell.Raw start (length l)) e refl refl (text_begins bytes start l s) (text_ends bytes start l s) refl refl refl
+      (λ h. merely (subst number (sym (stands_range bytes start (length l) l refl s.0)) is))
   node_in_place c lo hi at (text s) (k, f) h = text_in_place at c s k
   node_in_place c lo hi at (list ts) (mid, cs, e, s, f, r) h =
       let start = IsCharBoundary-start bytes whole in
@@ -83,6 +90,7 @@ module _ (cells : List Cell) (bytes : List ℕ) (whole : IsUtf8 bytes) where
         ends = start;
         below = omega (arith, link_le mid (trees_count ts));
         keyed = λ i q. absurd (omega arith);
+        numeric = λ q. absurd (cc);
       })
   node_in_place c lo hi at (pairs ps) (mid, cs, e, s, f, r) h =
       let start = IsCharBoundary-start bytes whole in
@@ -92,6 +100,7 @@ module _ (cells : List Cell) (bytes : List ℕ) (whole : IsUtf8 bytes) where
         ends = start;
         below = omega (arith, link_le mid (pairs_count ps));
         keyed = λ i q. rw (linked mid (pairs_count ps) i q) (key_there cs lo mid mid ps r s i q);
+        numeric = λ q. absurd (cc);
       })
 
   -- the cell at a place
@@ -108,7 +117,7 @@ module _ (cells : List Cell) (bytes : List ℕ) (whole : IsUtf8 bytes) where
     below_in_place : (c : Cell) (lo hi : ℕ) (t : Tree) → node cells bytes c lo hi t → (k : ℕ) → lo ≤ k → k < hi → At k
     below_in_place c lo hi null (e, f) k p q = absurd (omega arith)
     below_in_place c lo hi (boolean b) (e, f) k p q = absurd (omega arith)
-    below_in_place c lo hi (num l) (e, f) k p q = absurd (omega arith)
+    below_in_place c lo hi (num l) (is, e, f) k p q = absurd (omega arith)
     below_in_place c lo hi (text s) (e, f) k p q = absurd (omega arith)
     below_in_place c lo hi (list ts) (mid, cs, e, s, f, r) k p q = ⊎_elim (λ h. row_below cs lo mid ts r k p h) (λ h. row_itself cs lo mid mid ts r s (omega arith) k h (omega arith)) (cases_lt k mid)
     below_in_place c lo hi (pairs ps) (mid, cs, e, s, f, r) k p q = ⊎_elim (λ h. pair_row_below cs lo mid ps r k p h) (λ h. pair_row_itself cs lo mid mid ps r s (omega arith) k h (omega arith)) (cases_lt k mid)

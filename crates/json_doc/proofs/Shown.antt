@@ -1,17 +1,20 @@
 -- What is read of a cell is read of the tree there.
-use Rattle.std.proofs.Common.{◌≡◌, ◌≢◌, true, ℕ, zero, suc, ◌+◌, ◌-◌, ◌*◌, ◌<◌, ◌≤◌, List, [], ◌∷◌, length, map, get_or, take, Some, None, refl, sym, ap, subst, ◌∙◌, arith}
+use Rattle.std.proofs.Common.{◌≡◌, ◌≢◌, Bool, true, ℕ, zero, suc, ◌+◌, ◌-◌, ◌*◌, ◌<◌, ◌≤◌, List, [], ◌∷◌, length, map, get_or, take, Some, None, refl, sym, ap, subst, ◌∙◌, arith}
 use Rattle.std.specs.Prelude.{option_map, slice_get, slice_range}
 use Rattle.std.proofs.lemmas.Option.{slice_get-get_or}
-use Rattle.json_grammar.specs.Tree.{Tree, null, text, pairs, Pairs, pairs_list, trees_list, list_trees}
-use Rattle.json_doc.specs.Shape.{is_str, CellInPlace}
+use Rattle.json_grammar.specs.Grammar.{number}
+use Rattle.json_grammar.specs.Tree.{Tree, null, boolean, num, text, list, pairs, Trees, Pairs, pairs_list, trees_list, list_trees}
+use Rattle.json_doc.specs.Shape.{is_str, AllKeys, CellInPlace}
 use Rattle.json_doc.specs.Trees.{text_of, paired, tree_of_cell, trees}
 use Rattle.json_doc.specs.Docs.{doc_cells, doc_text, doc_tree}
+use Rattle.json_doc.specs.Left.{doc_pair}
 use Rattle.json_doc.specs.Places.{child_of, places_from, AllBelow}
 use Rattle.json_doc.specs.Readings.{type_of, bool_of, literal_of, string_of, elements, keys, values, children}
 use Rattle.json_doc.specs.CellReadings.{cell_type, cell_bool, cell_len}
 use Rattle.json_doc.specs.declared.cell.Cell.{Cell}
 use Rattle.json_doc.specs.declared.cell.Cell.TheVariants as cell
 use Rattle.json_doc.specs.declared.doc.Doc.{Doc}
+use Rattle.json_doc.proofs.Numeric.{number_had}
 use Rattle.json_doc.proofs.Pieces.{length-trees, tree_where, range_below, range_cons, range_none}
 
 -- ---- lists
@@ -64,6 +67,11 @@ paired_row ts link (suc n) h =
     let second = range_cons ts (link + 1) m null (omega arith) in
     let both = ap (λ (x : ℕ). slice_range ts link (link + x)) count ∙ first ∙ ap (λ (xs : List Tree). get_or ts link null ∷ xs) (second ∙ ap (λ (x : ℕ). get_or ts (link + 1) null ∷ slice_range ts x (x + m)) two) in
     ap (λ (xs : List Tree). pairs_list (paired xs)) both ∙ ap (λ (ps : List (List ℕ × Tree)). (text_of (get_or ts link null), get_or ts (link + 1) null) ∷ ps) (paired_row ts (link + 2) n (omega arith))
+
+pairs_by_places : (ts : List Tree) (link n : ℕ) → map (λ k. (text_of (get_or ts k null), get_or ts (k + 1) null)) (places_from link 2 n) ≡ pairs_row ts link n
+unfolding pairs_row
+pairs_by_places ts link zero = refl
+pairs_by_places ts link (suc n) = ap (λ (x : List (List ℕ × Tree)). (text_of (get_or ts link null), get_or ts (link + 1) null) ∷ x) (pairs_by_places ts (link + 2) n)
 
 keys_row : (ts : List Tree) (link n : ℕ) → map (λ p. p.0) (pairs_row ts link n) ≡ map (λ k. text_of (get_or ts k null)) (places_from link 2 n)
 unfolding pairs_row
@@ -173,6 +181,11 @@ module _ (d : Doc) (at : ℕ) (c : Cell) (inside : at < length (doc_cells d)) (i
   pub literal_at : (start len : ℕ) → c ≡ cell.Raw start len → literal_of (doc_tree d at) ≡ Some (slice_range (doc_text d) start (start + len))
   literal_at start len e = ap literal_of (here ∙ ap (tree_of_cell (doc_text d) below) e)
 
+  pub number_at : (start len : ℕ) → c ≡ cell.Raw start len → number (slice_range (doc_text d) start (start + len))
+  number_at start len e =
+      let there = subst (λ (x : Cell). CellInPlace (doc_cells d) (doc_text d) at x) e in_place_here in
+      number_had (slice_range (doc_text d) start (start + len)) (there.numeric refl)
+
   pub no_literal_at : ((start len : ℕ) → c ≢ cell.Raw start len) → literal_of (doc_tree d at) ≡ None
   no_literal_at h = ap literal_of here ∙ no_literal_in (doc_text d) below c h
 
@@ -211,6 +224,33 @@ module _ (d : Doc) (at : ℕ) (c : Cell) (inside : at < length (doc_cells d)) (i
         here ∙ ap (tree_of_cell (doc_text d) (take at ts)) e,
         ap (λ (xs : List Tree). pairs_list (paired xs)) (range_below ts at link (link + 2 * len) fits (omega arith)) ∙ paired_row ts link len (omega arith),
       )
+
+  -- the tree by the kind of the cell
+
+  pub null_at : c ≡ cell.Null → doc_tree d at ≡ null
+  null_at e = here ∙ ap (tree_of_cell (doc_text d) below) e
+
+  pub boolean_at : (b : Bool) → c ≡ cell.Bool b → doc_tree d at ≡ boolean b
+  boolean_at b e = here ∙ ap (tree_of_cell (doc_text d) below) e
+
+  pub num_at : (start len : ℕ) → c ≡ cell.Raw start len → doc_tree d at ≡ num (slice_range (doc_text d) start (start + len))
+  num_at start len e = here ∙ ap (tree_of_cell (doc_text d) below) e
+
+  pub text_tree_at : (start len : ℕ) → c ≡ cell.Str start len → doc_tree d at ≡ text (slice_range (doc_text d) start (start + len))
+  text_tree_at start len e = here ∙ ap (tree_of_cell (doc_text d) below) e
+
+  pub text_of_at : (start len : ℕ) → c ≡ cell.Str start len → text_of (doc_tree d at) ≡ slice_range (doc_text d) start (start + len)
+  text_of_at start len e = ap text_of (text_tree_at start len e)
+
+  pub array_at : (link len : ℕ) → c ≡ cell.Array link len → (ts : Trees) × (doc_tree d at ≡ list ts) × (map (doc_tree d) (places_from link 1 len) ≡ trees_list ts)
+  array_at link len e =
+      let t = here ∙ ap (tree_of_cell (doc_text d) below) e in
+      (list_trees (slice_range below link (link + len)), t, sym (elements_at link len e) ∙ ap elements t)
+
+  pub object_at : (link len : ℕ) → c ≡ cell.Object link len → (ps : Pairs) × (doc_tree d at ≡ pairs ps) × (map (doc_pair d) (places_from link 2 len) ≡ pairs_list ps)
+  object_at link len e =
+      let p = pairs_at link len e in
+      (p.0, p.1, pairs_by_places (trees (doc_text d) (doc_cells d)) link len ∙ sym p.2)
 
   pub keys_at : (link len : ℕ) → c ≡ cell.Object link len → keys (doc_tree d at) ≡ map (λ k. text_of (doc_tree d k)) (places_from link 2 len)
   keys_at link len e =
@@ -299,16 +339,23 @@ get-places at step (suc n) (suc i) h = get-places (at + step) step n i (omega ar
     next : (at step i : ℕ) → (at + step) + step * i ≡ at + step * suc i
     next at step i = grind arith
 
+pub element_place : (d : Doc) (at : ℕ) (c : Cell) (link len i : ℕ) → c ≡ get_or (doc_cells d) at cell.Null → c ≡ cell.Array link len → i < len → slice_get (places_from link 1 len) i ≡ Some (child_of (get_or (doc_cells d) at cell.Null) i)
+element_place d at c link len i is e h =
+    let here : link + 1 * i ≡ link + i = omega arith in
+    get-places link 1 len i h ∙ ap Some here ∙ ap (λ (x : Cell). Some (child_of x i)) (sym e ∙ is)
+
+pub value_place : (d : Doc) (at : ℕ) (c : Cell) (link len i : ℕ) → c ≡ get_or (doc_cells d) at cell.Null → c ≡ cell.Object link len → i < len → slice_get (places_from (link + 1) 2 len) i ≡ Some (child_of (get_or (doc_cells d) at cell.Null) i)
+value_place d at c link len i is e h = get-places (link + 1) 2 len i h ∙ ap (λ (x : Cell). Some (child_of x i)) (sym e ∙ is)
+
 pub array_place_at : (d : Doc) (at : ℕ) (c : Cell) (link len i : ℕ) → at < length (doc_cells d) → c ≡ get_or (doc_cells d) at cell.Null → c ≡ cell.Array link len → i < length (children (doc_tree d at)) → slice_get (places_from link 1 len) i ≡ Some (child_of (get_or (doc_cells d) at cell.Null) i)
 array_place_at d at c link len i inside is e h =
     let count : length (children (doc_tree d at)) ≡ len = count_at d at c inside is ∙ ap cell_len e in
-    let here : link + 1 * i ≡ link + i = omega arith in
-    get-places link 1 len i (omega arith) ∙ ap Some here ∙ ap (λ (x : Cell). Some (child_of x i)) (sym e ∙ is)
+    element_place d at c link len i is e (omega arith)
 
 pub object_place_at : (d : Doc) (at : ℕ) (c : Cell) (link len i : ℕ) → at < length (doc_cells d) → c ≡ get_or (doc_cells d) at cell.Null → c ≡ cell.Object link len → i < length (children (doc_tree d at)) → slice_get (places_from (link + 1) 2 len) i ≡ Some (child_of (get_or (doc_cells d) at cell.Null) i)
 object_place_at d at c link len i inside is e h =
     let count : length (children (doc_tree d at)) ≡ len = count_at d at c inside is ∙ ap cell_len e in
-    get-places (link + 1) 2 len i (omega arith) ∙ ap (λ (x : Cell). Some (child_of x i)) (sym e ∙ is)
+    value_place d at c link len i is e (omega arith)
 
 -- ---- an iterator's steps
 
@@ -324,3 +371,33 @@ still_below next step left end some h k l = let one : next + step * suc k < end 
 
 pub first_below : (next step left end : ℕ) → 0 < left → AllBelow next step left end → next < end
 first_below next step left end some h = let one : next + step * 0 < end = h 0 some in omega arith
+
+-- the first child is given, by its tree
+pub first_tree : (d : Doc) (next step left : ℕ) (t : Tree) → 0 < left → t ≡ doc_tree d next → map (doc_tree d) (places_from next step left) ≡ t ∷ map (doc_tree d) (places_from (next + step) step (left - 1))
+first_tree d next step zero t h e = absurd (omega arith)
+first_tree d next step (suc n) t h e = let one : suc n - 1 ≡ n = omega arith in rw (one, e) refl
+
+pub first_place : (next step left at : ℕ) → 0 < left → at ≡ next → places_from next step left ≡ at ∷ places_from (next + step) step (left - 1)
+first_place next step zero at h e = absurd (omega arith)
+first_place next step (suc n) at h e = let one : suc n - 1 ≡ n = omega arith in rw (one, e) refl
+
+-- the first pair is given, by its key and its value
+pub first_pair : (d : Doc) (next left : ℕ) (k : List ℕ) (t : Tree) → 0 < left → k ≡ text_of (doc_tree d next) → t ≡ doc_tree d (next + 1)
+    → map (doc_pair d) (places_from next 2 left) ≡ (k, t) ∷ map (doc_pair d) (places_from (next + 2) 2 (left - 1))
+first_pair d next zero k t h e f = absurd (omega arith)
+first_pair d next (suc n) k t h e f = let one : suc n - 1 ≡ n = omega arith in rw (one, e, f) refl
+
+pub first_value : (next left at : ℕ) → 0 < left → at ≡ next + 1 → places_from (next + 1) 2 left ≡ at ∷ places_from ((next + 2) + 1) 2 (left - 1)
+first_value next zero at h e = absurd (omega arith)
+first_value next (suc n) at h e =
+    let one : suc n - 1 ≡ n = omega arith in
+    let same : (next + 2) + 1 ≡ (next + 1) + 2 = omega arith in
+    rw (one, e, same) refl
+
+pub pairs_still_below : (next left end : ℕ) → 0 < left → AllBelow (next + 1) 2 left end → AllBelow ((next + 2) + 1) 2 (left - 1) end
+pairs_still_below next left end some h k l = let one : (next + 1) + 2 * suc k < end = h (suc k) (omega arith) in omega arith
+
+pub still_keys : (cells : List Cell) (next left : ℕ) → 0 < left → AllKeys cells next left → AllKeys cells (next + 2) (left - 1)
+still_keys cells next left some h k l =
+    let same : next + 2 * suc k ≡ (next + 2) + 2 * k = omega arith in
+    ap (λ (i : ℕ). is_str (get_or cells i cell.Null)) (sym same) ∙ h (suc k) (omega arith)

@@ -37,7 +37,7 @@ mutual
   pub node_spells : (cells : List Cell) (bytes : List ℕ) (c : Cell) (lo hi at : ℕ) (t : Tree) → node cells bytes c lo hi t → slice_get cells at ≡ Some c → hi ≤ at → spells cells bytes at t
   node_spells cells bytes c lo hi at null (e, f) g h = g ∙ ap Some e
   node_spells cells bytes c lo hi at (boolean b) (e, f) g h = g ∙ ap Some e
-  node_spells cells bytes c lo hi at (num l) ((start, e, s), f) g h = (start, g ∙ ap Some e, stands_range bytes start (length l) l refl s.0)
+  node_spells cells bytes c lo hi at (num l) (n, (start, e, s), f) g h = (start, g ∙ ap Some e, stands_range bytes start (length l) l refl s.0)
   node_spells cells bytes c lo hi at (text s) (k, f) g h = text_spells cells bytes c at s k g
   node_spells cells bytes c lo hi at (list ts) (mid, cs, e, s, f, r) g h = (mid, g ∙ ap Some e, omega arith, row_spells cells bytes cs lo mid mid ts r s (omega arith))
   node_spells cells bytes c lo hi at (pairs ps) (mid, cs, e, s, f, r) g h = (mid, g ∙ ap Some e, omega arith, pair_row_spells cells bytes cs lo mid mid ps r s (omega arith))
@@ -65,7 +65,7 @@ mutual
   pub node_up : (cells : List Cell) (bytes : List ℕ) (c : Cell) (lo hi : ℕ) (t : Tree) → node cells bytes c lo hi t → lo ≤ hi
   node_up cells bytes c lo hi null (e, f) = omega arith
   node_up cells bytes c lo hi (boolean b) (e, f) = omega arith
-  node_up cells bytes c lo hi (num l) (e, f) = omega arith
+  node_up cells bytes c lo hi (num l) (n, e, f) = omega arith
   node_up cells bytes c lo hi (text s) (e, f) = omega arith
   node_up cells bytes c lo hi (list ts) (mid, cs, e, s, f, r) = let h = row_up cells bytes cs lo mid ts r in omega arith
   node_up cells bytes c lo hi (pairs ps) (mid, cs, e, s, f, r) = let h = pair_row_up cells bytes cs lo mid ps r in omega arith

@@ -1,15 +1,16 @@
 -- Laws of documents.
-use Rattle.std.specs.Prelude.{◌≡◌, ℕ, ◌+◌, ◌/◌, ◌≤◌, List, ◌∷◌, ◌++◌, length, Bool, false}
+use Rattle.std.specs.Prelude.{◌≡◌, ℕ, ◌+◌, ◌/◌, ◌<◌, ◌≤◌, List, ◌∷◌, ◌++◌, length, Bool, false}
 use Rattle.json_grammar.specs.declared.Kind.{Kind}
 use Rattle.json_grammar.specs.declared.Spot.{Spot}
 use Rattle.json_grammar.specs.Tree.{Tree, Token, tokens}
 use Rattle.json_grammar.specs.Grammar.{is_text}
+use Rattle.json_grammar.specs.Proper.{IsProper}
 use Rattle.json_grammar.specs.Sizes.{token_nodes}
 use Rattle.json_grammar.specs.Place.{reading}
 use Rattle.json_doc.specs.Awaited.{Begins}
 use Rattle.json_doc.specs.State.{Fits}
 use Rattle.json_doc.specs.Recorded.{visitor_state, Holds}
-use Rattle.json_doc.specs.Docs.{doc_root, IsDocOf, doc_tree}
+use Rattle.json_doc.specs.Docs.{doc_cells, doc_root, IsDocOf, doc_tree}
 use Rattle.json_doc.specs.declared.doc.Doc.{Doc}
 use Rattle.json_doc.specs.declared.document_visitor.DocumentVisitor.{DocumentVisitor}
 
@@ -20,6 +21,10 @@ OneTree = (d : Doc) (t u : Tree) → IsDocOf d t → IsDocOf d u → t ≡ u
 -- the tree that a document stands for is the one at its root
 abbrev pub TreeAtRoot : Type 0
 TreeAtRoot = (d : Doc) (t : Tree) → IsDocOf d t → doc_tree d (doc_root d) ≡ t
+
+-- the tree at each place of a document is proper: its literals are numbers, and its texts and keys UTF-8
+abbrev pub TreesAreProper : Doc → Type 0
+TreesAreProper d = (at : ℕ) → at < length (doc_cells d) → IsProper (doc_tree d at)
 
 -- what is read of a prefix begins the tokens of a tree
 abbrev pub ReadingBegins : Type 0

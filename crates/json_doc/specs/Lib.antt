@@ -14,5 +14,6 @@ pub mod Readings
 pub mod CellReadings
 pub mod Seen
 pub mod Left
+pub mod Nodes
 pub mod Reading
 pub mod Laws

@@ -1,6 +1,7 @@
 -- What holds of every packed document.
-use Rattle.std.specs.Prelude.{◌≡◌, ℕ, ◌+◌, ◌*◌, ◌<◌, ◌≤◌, List, Bool, true, false, length, slice_index_or}
+use Rattle.std.specs.Prelude.{◌≡◌, ℕ, ◌+◌, ◌*◌, ◌<◌, ◌≤◌, List, Bool, true, false, length, slice_range, slice_index_or}
 use Rattle.std.specs.Str.{IsCharBoundary}
+use Rattle.json_grammar.specs.Grammar.{number}
 use Rattle.json_doc.specs.declared.cell.Cell.{Cell}
 use Rattle.json_doc.specs.declared.cell.Cell.TheVariants as cell
 
@@ -58,12 +59,26 @@ is_str (cell.Str start len) = true
 is_str (cell.Array link len) = false
 is_str (cell.Object link len) = false
 
--- the bytes of a cell are a text, the children of a container stand below it, and keys are strings
+-- whether it is the cell of a number
+abbrev pub is_raw : Cell → Bool
+is_raw cell.Null = false
+is_raw (cell.Bool b) = false
+is_raw (cell.Raw start len) = true
+is_raw (cell.Str start len) = false
+is_raw (cell.Array link len) = false
+is_raw (cell.Object link len) = false
+
+-- n cells, each two behind the one before, are those of keys
+abbrev pub AllKeys : List Cell → ℕ → ℕ → Type 0
+AllKeys cells at n = (k : ℕ) → k < n → is_str (slice_index_or cells (at + 2 * k) cell.Null) ≡ true
+
+-- the bytes of a cell are a text, the children of a container stand below it, keys are strings, and literals are numbers (RFC 8259, section 6)
 pub record CellInPlace (cells : List Cell) (bytes : List ℕ) (at : ℕ) (c : Cell) : Type 0 where
   pub begins : IsCharBoundary bytes (start_of c)
   pub ends : IsCharBoundary bytes (start_of c + span_of c)
   pub below : link_of c + width_of c ≤ at
   pub keyed : (i : ℕ) → i < keys_of c → is_str (slice_index_or cells (link_of c + 2 * i) cell.Null) ≡ true
+  pub numeric : is_raw c ≡ true → ∥ number (slice_range bytes (start_of c) (start_of c + span_of c)) ∥₁
 
 -- so is each cell
 abbrev pub CellsInPlace : List Cell → List ℕ → Type 0

@@ -23,6 +23,7 @@ impl<'a> DocChildren<'a> {
     ghost use Rattle.json_doc.specs.Left.{children_doc, children_places, children_left};
 
     // What stands at `left` places from `next` on, each `step` behind the one before.
+    #[inline]
     pub(crate) fn new(doc: &'a Doc, next: usize, left: usize, step: usize) -> DocChildren<'a>
         requires short { step ≤ 2 }
         requires inside { AllBelow next step left (length (doc_cells doc.now)) }
@@ -49,6 +50,7 @@ impl<'a> Iterator for DocChildren<'a> {
 
     ghost remaining = { item_count children_left };
 
+    #[inline]
     fn next(&mut self) -> Option<DocView<'a>> {
         if self.left == 0 {
             return None;

@@ -7,7 +7,8 @@ use crate::view::DocView;
 
 /// A packed document: one cell for each node and each key, and the texts, keys and literals in a row.
 ///
-/// The children of a container stand in a row, at places below its own.
+/// The children of a container stand in a row, at places below its own. Each literal is a number
+/// (RFC 8259, section 6).
 #[derive(Drop)]
 pub struct Doc {
     pub(crate) cells: Vec<Cell>,

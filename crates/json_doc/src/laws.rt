@@ -1,5 +1,7 @@
-// Laws over the definitions alone.
-ghost use Rattle.json_doc.specs.Laws.{OneTree, TreeAtRoot, ReadingBegins, EventsFit};
+// Laws over the definitions, and of each document.
+ghost use Rattle.json_doc.specs.Laws.{OneTree, TreeAtRoot, TreesAreProper, ReadingBegins, EventsFit};
+
+use crate::doc::Doc;
 
 /// A document stands for at most one tree.
 pub fn one_tree()
@@ -9,6 +11,12 @@ pub fn one_tree()
 /// The tree that a document stands for is the one at its root.
 pub fn tree_at_root()
     ensures { TreeAtRoot }
+{}
+
+/// The tree at each place of a document is proper: its literals are numbers (RFC 8259, section 6), and its
+/// texts and keys UTF-8.
+pub fn trees_are_proper(_doc: &Doc)
+    ensures { TreesAreProper _doc.now }
 {}
 
 /// What is read of a prefix begins the tokens of a tree.

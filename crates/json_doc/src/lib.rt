@@ -7,6 +7,8 @@ mod doc;
 mod document_visitor;
 mod json_type;
 pub mod laws;
+mod node;
+mod pairs;
 mod reader;
 #[cfg(test)]
 mod tests;
@@ -18,6 +20,8 @@ pub use children::DocChildren;
 pub use doc::Doc;
 pub use document_visitor::DocumentVisitor;
 pub use json_type::JsonType;
+pub use node::DocNode;
+pub use pairs::DocPairs;
 pub use reader::read_document;
 pub use view::DocView;
 pub use visitor::JsonVisitor;

@@ -6,7 +6,7 @@ ghost use Rattle.json_text.specs.Events.{Means, raw_size};
 ghost use Rattle.json_doc.specs.Awaited.{Begins};
 ghost use Rattle.json_doc.specs.State.{MayCome};
 ghost use Rattle.json_doc.specs.Recorded.{visitor_state, Holds, SameRoom};
-ghost use Rattle.json_doc.specs.Reading.{ReadingFails, HasRoomFor, Follows};
+ghost use Rattle.json_doc.specs.Reading.{ReadingFails, EventIsNumber, HasRoomFor, Follows};
 ghost use Rattle.json_doc.specs.Docs.{IsDocOf};
 
 use crate::doc::Doc;
@@ -19,7 +19,8 @@ use std::rc::Rc;
 // Whether the event was recorded. There is nothing to record of the end.
 #[inline(always)]
 fn record_event(visitor: &mut DocumentVisitor, event: Event<'_>) -> bool
-    requires { (visitor_state visitor.old).full ≡ false
+    requires number { EventIsNumber event }
+    requires come { (visitor_state visitor.old).full ≡ false
         → (x : Token) × Means event x × MayCome (Holds visitor.old) x }
     ensures follows { (x : Token) (ts : List Token) → Means event.entry x
         → Follows visitor.old ts → Begins (ts ++ x ∷ [])

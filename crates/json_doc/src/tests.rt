@@ -1,5 +1,5 @@
 // What documents hold, and what views show of them.
-use crate::{Cell, Doc, DocumentVisitor, JsonType, JsonVisitor, read_document};
+use crate::{Cell, Doc, DocNode, DocumentVisitor, JsonType, JsonVisitor, read_document};
 use json_text::{Error, ErrorCode, Place};
 use std::alloc::Global;
 use std::process::Abort;
@@ -124,5 +124,77 @@ fn views(rt: HostRuntime) -> Result<(), Fail> {
         (JsonType::from_u8(4), JsonType::from_u8(6)),
         (Some(JsonType::Object), None)
     );
+    Ok(())
+}
+
+#[test]
+fn key_views(rt: HostRuntime) -> Result<(), Fail> {
+    let doc = read(&rt, rt.alloc(), "{\"a\":[12,[null]],\"b\":{},\"a\":true}")?;
+    let root = doc.view();
+    let second = root.key_view(1).ok_or("no key")?;
+    assert_eq!(rt;
+        (second.text(), second.get_type(), second.place()),
+        (Some("b"), JsonType::String, 5)
+    );
+    let value = root.pair_value(0).ok_or("no value")?;
+    assert!(rt; root.key_view(3).is_none() && value.key_view(0).is_none());
+    Ok(())
+}
+
+// The kind of a node, and what it holds where it is a scalar.
+fn scalar<'a>(node: DocNode<'a>) -> (JsonType, Option<bool>, Option<&'a str>) {
+    match node {
+        DocNode::Null => (JsonType::Null, None, None),
+        DocNode::Boolean(b) => (JsonType::Boolean, Some(b), None),
+        DocNode::Number(literal) => (JsonType::Number, None, Some(literal)),
+        DocNode::String(text) => (JsonType::String, None, Some(text)),
+        DocNode::Array(_) => (JsonType::Array, None, None),
+        DocNode::Object(_) => (JsonType::Object, None, None),
+    }
+}
+
+#[test]
+fn nodes(rt: HostRuntime) -> Result<(), Fail> {
+    let doc = read(
+        &rt,
+        rt.alloc(),
+        "{\"n\":null,\"b\":true,\"1\":12,\"s\":\"x\",\"l\":[7,[]],\"o\":{}}",
+    )?;
+    let DocNode::Object(pairs) = doc.view().node() else {
+        return Err("no object".into());
+    };
+    let mut keys = Vec::new(rt.alloc());
+    let mut scalars = Vec::new(rt.alloc());
+    for (key, value) in pairs {
+        keys.push(key)?;
+        scalars.push(scalar(value.node()))?;
+    }
+    assert_eq!(rt; keys.as_slice(), ["n", "b", "1", "s", "l", "o"].as_slice());
+    assert_eq!(rt;
+        scalars.as_slice(),
+        [
+            (JsonType::Null, None, None),
+            (JsonType::Boolean, Some(true), None),
+            (JsonType::Number, None, Some("12")),
+            (JsonType::String, None, Some("x")),
+            (JsonType::Array, None, None),
+            (JsonType::Object, None, None),
+        ]
+        .as_slice()
+    );
+    Ok(())
+}
+
+#[test]
+fn elements_of_a_node(rt: HostRuntime) -> Result<(), Fail> {
+    let doc = read(&rt, rt.alloc(), "[7,[null],\"x\"]")?;
+    let DocNode::Array(elements) = doc.view().node() else {
+        return Err("no array".into());
+    };
+    let mut places = Vec::new(rt.alloc());
+    for element in elements {
+        places.push(element.place())?;
+    }
+    assert_eq!(rt; places.as_slice(), [1, 2, 3].as_slice());
     Ok(())
 }

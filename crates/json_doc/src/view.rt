@@ -1,7 +1,9 @@
 // A place of a document, seen as a tree.
-ghost use Rattle.std.specs.Prelude.{◌≡◌, ◌+◌, ◌<◌, length, map, option_map, slice_get, slice_index_or, slice_range, string_bytes, IfSome};
+ghost use Rattle.std.specs.Prelude.{◌≡◌, ◌+◌, ◌<◌, length, map, true, option_map, slice_get, slice_index_or, slice_range, string_bytes, IfSome};
 ghost use Rattle.std.specs.Str.{IsCharBoundary};
 ghost use Rattle.json_doc.specs.Docs.{doc_cells, doc_text, doc_tree};
+ghost use Rattle.json_doc.specs.Shape.{is_str};
+ghost use Rattle.json_doc.specs.Trees.{text_of};
 ghost use Rattle.json_doc.specs.Readings.{type_of, bool_of, literal_of, string_of, elements, keys, values, children};
 ghost use Rattle.json_doc.specs.declared.cell.Cell.TheVariants.{Null as null_cell};
 
@@ -9,6 +11,8 @@ use crate::cell::Cell;
 use crate::children::DocChildren;
 use crate::doc::Doc;
 use crate::json_type::JsonType;
+use crate::node::DocNode;
+use crate::pairs::DocPairs;
 
 /// A place of a document, which stands for the tree there. Nothing of a view takes memory.
 #[derive(Clone, Copy)]
@@ -20,9 +24,11 @@ pub struct DocView<'a> {
 
 impl<'a> DocView<'a> {
     ghost use Rattle.json_grammar.specs.Tree.{text};
+    ghost use Rattle.json_grammar.specs.Grammar.{number};
     ghost use Rattle.json_doc.specs.Seen.{view_doc, view_place, view_tree, child_place, key_place};
     ghost use Rattle.std.specs.Prelude.{ℕ, Some};
     ghost use Rattle.json_doc.specs.Left.{children_doc, children_places, children_left};
+    ghost use Rattle.json_doc.specs.Nodes.{NodeOf, NodeIsNumber, NodeIn, NodeAt};
 
     /// The place.
     #[inline]
@@ -65,10 +71,11 @@ impl<'a> DocView<'a> {
         self.cell().as_bool()
     }
 
-    /// The literal of the number; none of another kind.
+    /// The literal of the number, itself a number (RFC 8259, section 6); none of another kind.
     #[inline]
     pub fn literal(self) -> Option<&'a str>
-        ensures { option_map (λ s. s.now) result ≡ literal_of (view_tree self.entry) }
+        ensures literal { option_map (λ s. s.now) result ≡ literal_of (view_tree self.entry) }
+        ensures number { IfSome result (λ s. number s.now) }
     {
         match self.cell() {
             Cell::Raw { start, len } => Some(text_range(self.doc, start, len)),
@@ -189,6 +196,28 @@ impl<'a> DocView<'a> {
             _ => DocChildren::new(self.doc, 0, 0, 1),
         }
     }
+
+    /// The value by its kind, with all that can be read of it: one call in place of several.
+    #[inline]
+    pub fn node(self) -> DocNode<'a>
+        ensures tree { NodeOf result (view_tree self.entry) }
+        ensures number { NodeIsNumber result }
+        ensures doc { NodeIn result (view_doc self.entry) }
+        ensures places { NodeAt result (view_doc self.entry) (view_place self.entry) }
+    {
+        match self.cell() {
+            Cell::Null => DocNode::Null,
+            Cell::Bool(b) => DocNode::Boolean(b),
+            Cell::Raw { start, len } => DocNode::Number(text_range(self.doc, start, len)),
+            Cell::Str { start, len } => DocNode::String(text_range(self.doc, start, len)),
+            Cell::Array { link, len } => {
+                DocNode::Array(DocChildren::new(self.doc, link as usize, len as usize, 1))
+            }
+            Cell::Object { link, len } => {
+                DocNode::Object(DocPairs::new(self.doc, link as usize, len as usize))
+            }
+        }
+    }
 }
 
 // The cell at a place.
@@ -220,5 +249,18 @@ fn text_at(doc: &Doc, at: usize) -> Option<&str>
     match cell_at(doc, at) {
         Cell::Str { start, len } => Some(text_range(doc, start, len)),
         _ => None,
+    }
+}
+
+// The text of a key, at its place.
+#[inline(always)]
+pub(crate) fn key_text(doc: &Doc, at: usize) -> &str
+    requires within { at < length (doc_cells doc.now) }
+    requires keyed { is_str (slice_index_or (doc_cells doc.now) at null_cell) ≡ true }
+    ensures { result.now ≡ text_of (doc_tree doc.now at) }
+{
+    match cell_at(doc, at) {
+        Cell::Str { start, len } => text_range(doc, start, len),
+        _ => unreachable!(),
     }
 }

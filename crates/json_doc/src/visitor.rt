@@ -2,7 +2,7 @@
 ghost use Rattle.std.specs.Prelude.{◌≡◌, ℕ, List, [], length, false, IsTrue, ◌↔◌};
 ghost use Rattle.std.specs.Bool.{OnTrue};
 ghost use Rattle.json_grammar.specs.Tree.{Token, null_token, boolean_token, num_token, text_token, key_token, begin, end};
-ghost use Rattle.json_grammar.specs.Grammar.{chars};
+ghost use Rattle.json_grammar.specs.Grammar.{chars, number};
 ghost use Rattle.json_grammar.specs.declared.Kind.TheVariants.{Array as array, Object as object};
 ghost use Rattle.json_doc.specs.State.{VisitorState, Fits, after_event, MayCome, HoldsMore};
 
@@ -34,9 +34,10 @@ pub trait JsonVisitor {
         ensures held { OnTrue result
             (HoldsMore (holds self.old) (holds self.new) (boolean_token b)) };
 
-    /// A number by its literal.
+    /// A number by its literal, which has to be a number (RFC 8259, section 6).
     fn visit_raw_number(&mut self, literal: &str) -> bool
-        requires { (state self.old).full ≡ false
+        requires number { number literal.now }
+        requires come { (state self.old).full ≡ false
             → MayCome (holds self.old) (num_token literal.now) }
         ensures answer { IsTrue result ↔ Fits (state self.old) 1 (length literal.now) }
         ensures state { state self.new

@@ -3,5 +3,9 @@ pub mod Trees
 pub mod Views
 pub mod Placed
 pub mod Copies
+pub mod Turns
+pub mod Emitting
+pub mod WholeTrees
+pub mod KeyLookups
 pub mod TreeEdits
 pub mod AppliedTrees

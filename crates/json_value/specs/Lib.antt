@@ -3,4 +3,7 @@ pub mod Denotes
 pub mod Edits
 pub mod Spots
 pub mod Rows
+pub mod Written
+pub mod Emitting
+pub mod Seen
 pub mod FirstMember

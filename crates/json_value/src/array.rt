@@ -7,6 +7,7 @@ ghost use Rattle.json_text.specs.Errors.{no_memory};
 ghost use Rattle.json_value.specs.Denotes.{tree_of, list_in, place_tree};
 ghost use Rattle.json_value.specs.Rows.{array_row, value_row, vec_row, owned, owned_items, IsOwned};
 ghost use Rattle.json_value.specs.Spots.{IsPlace, FirstList, PlaceElements};
+ghost use Rattle.json_value.specs.Written.{FirstElements};
 
 use crate::container::{Container, Form};
 use crate::place::Place;
@@ -83,7 +84,7 @@ impl Container<Value> {
     pub fn list_mut(&mut self, alloc: Global) -> Result<&mut Vec<Value>>
         ensures* writes_back { sem 𝓛 (LendsIfOk array_row (vec_row value_row) self.entry result owned self.old) }
         ensures list { IfOk result (λ v. map tree_of v.now.items ≡ list_in self.old) }
-        ensures children { IfOk result (λ v. FirstList self.old.form v.now.items) }
+        ensures children { IfOk result (λ v. FirstElements self.old v.now.items) }
         ensures only { IfErr result (λ e. e ≡ no_memory) }
         ensures free { (IsPlace self.old → ⊥) → IsOk result }
     {

@@ -4,11 +4,16 @@
 
 mod applying;
 mod array;
+mod array_view;
 mod container;
 mod copying;
+mod emit;
+mod emit_packed;
 mod literal;
 mod making;
 mod object;
+mod object_view;
+mod owning;
 mod pair;
 mod path;
 mod place;
@@ -19,10 +24,16 @@ mod tests;
 mod tests_applying;
 mod text;
 mod value;
+mod view;
+#[cfg(test)]
+mod view_tests;
 
+pub use array_view::ArrayView;
 pub use container::Container;
 pub use literal::Literal;
+pub use object_view::ObjectView;
 pub use pair::Keyed;
 pub use path::{Edit, Path, PointerNode};
 pub use text::Text;
 pub use value::{Array, Object, Pair, Value};
+pub use view::View;

@@ -7,6 +7,7 @@ ghost use Rattle.json_value.specs.Denotes.{tree_of, pair_of, pairs_in, place_tre
 ghost use Rattle.json_value.specs.Readings.{members};
 ghost use Rattle.json_value.specs.Rows.{object_row, pair_row, vec_row, owned, owned_items, IsOwned};
 ghost use Rattle.json_value.specs.Spots.{IsPlace, FirstPairs, PlaceMembers};
+ghost use Rattle.json_value.specs.Written.{FirstMembers};
 
 use crate::container::{Container, Form};
 use crate::pair::Keyed;
@@ -89,7 +90,7 @@ impl Container<Keyed<Value>> {
     pub fn pairs_mut(&mut self, alloc: Global) -> Result<&mut Vec<Pair>>
         ensures* writes_back { sem 𝓛 (LendsIfOk object_row (vec_row pair_row) self.entry result owned self.old) }
         ensures pairs { IfOk result (λ v. map pair_of v.now.items ≡ pairs_in self.old) }
-        ensures children { IfOk result (λ v. FirstPairs self.old.form v.now.items) }
+        ensures children { IfOk result (λ v. FirstMembers self.old v.now.items) }
         ensures only { IfErr result (λ e. e ≡ no_memory) }
         ensures free { (IsPlace self.old → ⊥) → IsOk result }
     {

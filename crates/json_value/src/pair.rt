@@ -2,7 +2,8 @@
 ghost use Rattle.std.specs.Prelude.{◌≡◌};
 ghost use Rattle.std.specs.Borrow.{Lends, sem};
 ghost use Rattle.json_value.specs.Denotes.{tree_of, text_bytes, pair_of};
-ghost use Rattle.json_value.specs.Rows.{pair_row, value_row, keyed_so};
+ghost use Rattle.json_value.specs.Rows.{pair_row, value_row};
+ghost use Rattle.json_value.specs.Written.{with_value, value_in};
 
 use crate::text::Text;
 use crate::value::{Pair, Value};
@@ -38,8 +39,8 @@ impl Keyed<Value> {
 
     /// The value, to be changed. What is written there is what the member names.
     pub fn value_mut(&mut self) -> &mut Value
-        ensures* writes_back { sem 𝓛 (Lends pair_row value_row self.entry result (keyed_so self.old.key)) }
-        ensures value { result.now ≡ self.old.value }
+        ensures* writes_back { sem 𝓛 (Lends pair_row value_row self.entry result (with_value self.old)) }
+        ensures value { result.now ≡ value_in self.old }
     {
         &mut self.value
     }

@@ -1,26 +1,34 @@
 -- From the bytes of a source to a document.
-use Rattle.std.proofs.Common.{◌≡◌, ℕ, ◌≤◌, List, length, false, Ok, Err, Result, OnOk, None, refl, sym, subst, ◌∙◌, ap, IsUtf8}
+use Rattle.std.proofs.Common.{Bool, true, cond, ◌≡◌, ◌⊎◌, inl, inr, ℕ, ◌≤◌, List, length, false, Ok, Err, Result, OnOk, IfOk, None, refl, sym, subst, ◌∙◌, ap, IsUtf8}
 use Rattle.json_grammar.specs.Tree.{Tree, depth}
 use Rattle.json_grammar.specs.Grammar.{is_text}
 use Rattle.json_grammar.specs.Proper.{IsProper}
 use Rattle.json_grammar.proofs.Texts.{text_proper}
 use Rattle.json_grammar.proofs.Values.{one_tree}
+use Rattle.json_model.specs.Edit.{Edit, edited, AreProperEdits}
+use Rattle.json_model.specs.Sort.{sorted}
+use Rattle.json_model.specs.Print.{IsIndent}
+use Rattle.json_model.proofs.Proper.{edited_proper, sorted_proper}
 use Rattle.json_model.proofs.Printing.{shown_text}
 use Rattle.json_text.specs.declared.error.Error.{Error}
 use Rattle.json_text.specs.Known.{Appends}
 use Rattle.json_text.specs.declared.error.ErrorCode.{ErrorCode}
-use Rattle.json_text.specs.declared.error.ErrorCode.TheVariants.{NoMemory, Io, TooLarge, InvalidUTF8}
+use Rattle.json_text.specs.declared.error.ErrorCode.TheVariants.{NoMemory, Io, TooLarge, InvalidUTF8, NotFound, TypeUnmatched}
 use Rattle.json_text.specs.declared.error.Place.{Place}
-use Rattle.json_text.specs.declared.error.Place.TheVariants.{None as nowhere, Reading}
+use Rattle.json_text.specs.declared.error.Place.TheVariants.{None as nowhere, Reading, Writing, Edit as in_edit}
 use Rattle.json_text.specs.Outside.{SourceState, SinkState}
 use Rattle.json_text.specs.Transfer.{ReadsWithin}
 use Rattle.json_text.specs.Utf8.{Utf8Cause}
 use Rattle.json_doc.specs.declared.doc.Doc.{Doc}
 use Rattle.json_doc.specs.Docs.{IsDocOf, doc_tree, doc_root, doc_cells, doc_text}
 use Rattle.json_doc.specs.Reading.{ReadingFails}
+use Rattle.json_value.specs.declared.value.Value.{Value}
+use Rattle.json_value.specs.Denotes.{tree_of}
 use Rattle.json_doc.proofs.Pieces.{spelled}
+use Rattle.reshape.proofs.Inputs.{no_io, no_not_found, no_type_unmatched}
 use Rattle.reshape.specs.Input.{most, levels, IsInput, InputFault, not_utf8, no_text}
-use Rattle.reshape.specs.Reshape.{compact, Reads, ReadsFault, ReadingRefuses, Reshapes}
+use Rattle.reshape.specs.Printing.{PrintingFails}
+use Rattle.reshape.specs.Reshape.{Layout, laid_out, ordered, Reads, ReadsFault, ReadingRefuses, EditingRefuses, Reshapes, GainsFront, Refuses}
 
 -- bytes that are no UTF-8
 pub utf8_refused : (source source' : SourceState) (bytes seen : List ℕ) (code : ErrorCode) (place : Place) → ReadsWithin most source source' bytes → seen ≡ bytes → Utf8Cause seen code place → ReadingRefuses source source' code place
@@ -50,16 +58,59 @@ doc_reads source source' bytes seen d read same (t, text, shallow, doc) =
 pub doc_proper : (seen : List ℕ) (d : Doc) → Documents seen d → IsProper (doc_tree d (doc_root d))
 doc_proper seen d (t, text, shallow, doc) = subst IsProper (sym (root_is d t doc)) (text_proper false t seen text)
 
--- the text was read, and the compact text of its tree was gained and flushed
-pub reshaped : (source source' : SourceState) (sink sink' : SinkState) (tree : Tree) (r : Result (Unit {0}) Error) → Reads source source' tree → IsProper tree → OnOk r (Appends sink.gained sink'.gained (compact tree)) → OnOk r (sink'.unflushed ≡ false)
-    → OnOk r (Reshapes source source' sink sink')
-reshaped source source' sink sink' tree (Ok u) reads proper gains flushed =
+-- the edited tree of a proper one is proper
+pub changed_proper : (es : List Edit) (tree changed : Tree) → AreProperEdits es → IsProper tree → edited es tree ≡ Ok changed → IsProper changed
+changed_proper es tree changed edits proper applied = subst (λ r. IfOk r IsProper) applied (edited_proper es tree edits proper)
+
+-- the edits of the value at the root are those of the document's tree
+pub applied_to : (es : List Edit) (d d' : Doc) (v w : Value) (at : ℕ) → tree_of v ≡ doc_tree d at → at ≡ doc_root d' → d' ≡ d → edited es (tree_of v) ≡ Ok (tree_of w) → edited es (doc_tree d (doc_root d)) ≡ Ok (tree_of w)
+applied_to es d d' v w at t p s h = ap (edited es) (sym (t ∙ ap (doc_tree d) (p ∙ ap doc_root s))) ∙ h
+
+-- what is sorted is proper too
+ordered_proper : (l : Layout) (tree : Tree) → IsProper tree → IsProper (ordered l tree)
+ordered_proper l tree h = by l.sorts
+  where
+    by : (s : Bool) → IsProper (cond s (sorted tree) tree)
+    by true = sorted_proper tree h
+    by false = h
+
+-- the text was read, the edits applied, and the text of the edited tree was gained and flushed
+pub reshaped : (es : List Edit) (l : Layout) (source source' : SourceState) (sink sink' : SinkState) (tree changed : Tree) (r : Result (Unit {0}) Error) → Reads source source' tree → IsIndent l.indent → IsProper changed → edited es tree ≡ Ok changed
+    → OnOk r (Appends sink.gained sink'.gained (laid_out l changed)) → OnOk r (sink'.unflushed ≡ false) → OnOk r (Reshapes es l source source' sink sink')
+reshaped es l source source' sink sink' tree changed (Ok u) reads indent proper applied gains flushed =
     record {
       tree = tree;
       reads = reads;
       only = λ other h. one_tree false other tree reads.bytes h reads.input.text;
+      changed = changed;
+      applied = applied;
       gains = gains;
-      is_text_of_it = shown_text false None tree tt proper;
+      is_text_of_it = shown_text false l.indent (ordered l changed) indent (ordered_proper l changed proper);
       flushed = flushed;
     }
-reshaped source source' sink sink' tree (Err e) reads proper gains flushed = tt
+reshaped es l source source' sink sink' tree changed (Err e) reads indent proper applied gains flushed = tt
+
+-- reading was refused, and nothing was written
+pub reading_refused : (es : List Edit) (l : Layout) (source source' : SourceState) (sink : SinkState) (code : ErrorCode) (place : Place) → ReadingRefuses source source' code place → Refuses es l source source' sink sink code place
+reading_refused es l source source' sink NoMemory nowhere h = inl refl
+reading_refused es l source source' sink Io Reading h = (h, refl)
+reading_refused es l source source' sink TooLarge nowhere h = (h.0, h.1, refl)
+reading_refused es l source source' sink NotFound (in_edit n) h = absurd (no_not_found h.bytes (in_edit n) h.fault)
+reading_refused es l source source' sink TypeUnmatched (in_edit n) h = absurd (no_type_unmatched h.bytes (in_edit n) h.fault)
+reading_refused es l source source' sink Io Writing h = absurd (no_io h.bytes Writing h.fault)
+reading_refused es l source source' sink code place h = (h, refl)
+
+-- an edit did not apply, and nothing was written
+pub editing_refused : (es : List Edit) (l : Layout) (source source' : SourceState) (sink : SinkState) (tree : Tree) (code : ErrorCode) (place : Place) → Reads source source' tree → EditingRefuses es tree code place → Refuses es l source source' sink sink code place
+editing_refused es l source source' sink tree NoMemory nowhere r h = inl refl
+editing_refused es l source source' sink tree NotFound (in_edit n) r h = (record { tree = tree; reads = r; refused = h }, refl)
+editing_refused es l source source' sink tree TypeUnmatched (in_edit n) r h = (record { tree = tree; reads = r; refused = h }, refl)
+editing_refused es l source source' sink tree code place r h = absurd h
+
+-- the text was not written whole
+pub printing_refused : (es : List Edit) (l : Layout) (source source' : SourceState) (sink sink' : SinkState) (tree changed : Tree) (code : ErrorCode) (place : Place) → Reads source source' tree → edited es tree ≡ Ok changed
+    → PrintingFails sink sink' (laid_out l changed) code place → Refuses es l source source' sink sink' code place
+printing_refused es l source source' sink sink' tree changed NoMemory nowhere r a (inl same) = inl same
+printing_refused es l source source' sink sink' tree changed NoMemory nowhere r a (inr gains) = inr (record { tree = tree; reads = r; changed = changed; applied = a; gains = gains })
+printing_refused es l source source' sink sink' tree changed Io Writing r a h = (h.0, record { tree = tree; reads = r; changed = changed; applied = a; gains = h.1 })
+printing_refused es l source source' sink sink' tree changed code place r a h = absurd h

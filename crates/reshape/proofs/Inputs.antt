@@ -65,3 +65,21 @@ some_input_fault b = elim (cases_lt most (length b)) [ inl l ↦ inr (code.TooLa
     by : length b ≤ most → IsUtf8 b ⊎ ((k : ℕ) × IsUtf8Fault b k) → IsValid b ⊎ ((c : ErrorCode) × (p : Place) × InputFault b c p)
     by s (inl u) = read s u (some_fault_at levels b u)
     by s (inr w) = inr (code.InvalidUTF8, place_at b w.0, not_utf8 s (w.0, w.1, refl))
+
+-- ---- what is no fault of an input
+
+pub no_io : (b : List ℕ) (place : Place) → InputFault b code.Io place → ⊥
+no_io b place (not_utf8 s u) = u
+no_io b place (no_text s u f) = f.2
+
+pub no_words : (b : List ℕ) (place : Place) → InputFault b code.BadWords place → ⊥
+no_words b place (not_utf8 s u) = u
+no_words b place (no_text s u f) = f.2
+
+pub no_not_found : (b : List ℕ) (place : Place) → InputFault b code.NotFound place → ⊥
+no_not_found b place (not_utf8 s u) = u
+no_not_found b place (no_text s u f) = f.2
+
+pub no_type_unmatched : (b : List ℕ) (place : Place) → InputFault b code.TypeUnmatched place → ⊥
+no_type_unmatched b place (not_utf8 s u) = u
+no_type_unmatched b place (no_text s u f) = f.2

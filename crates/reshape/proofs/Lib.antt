@@ -1,5 +1,6 @@
 pub mod Inputs
+pub mod Spelled
+pub mod Wording
+pub mod Applying
 pub mod Documents
 pub mod Outcomes
-pub mod Standing
-pub mod Emitting

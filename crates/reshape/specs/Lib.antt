@@ -1,5 +1,6 @@
 pub mod Input
-pub mod Emitting
+pub mod Words
+pub mod Asked
 pub mod Printing
 pub mod Reshape
 pub mod Run

@@ -1,5 +1,5 @@
 -- What becomes of a sink to which a text is written and which is then flushed.
-use Rattle.std.specs.Prelude.{◌≡◌, ◌⊎◌, ℕ, ◌<◌, List, false, Result, OnOk, IfErr, IsErrOf}
+use Rattle.std.specs.Prelude.{◌≡◌, ◌⊎◌, ℕ, ◌<◌, List, [], Some, false, Result, OnOk, IfErr, IsErrOf}
 use Rattle.json_text.specs.declared.error.Error.{Error}
 use Rattle.json_text.specs.declared.error.ErrorCode.{ErrorCode}
 use Rattle.json_text.specs.declared.error.ErrorCode.TheVariants.{NoMemory, Io}
@@ -9,6 +9,10 @@ use Rattle.json_text.specs.Errors.{writing_failed}
 use Rattle.json_text.specs.Known.{Appends}
 use Rattle.json_text.specs.Outside.{SinkState, Rose}
 use Rattle.json_text.specs.Transfer.{AppendsFront}
+
+-- a sink in memory that has gained nothing
+abbrev pub nothing_gained : SinkState
+nothing_gained = record { gained = Some []; faults = 0; lacks = 0; unflushed = false }
 
 -- why the text was not written, and what that left in the sink
 abbrev pub PrintingFails : SinkState → SinkState → List ℕ → ErrorCode → Place → Type 0

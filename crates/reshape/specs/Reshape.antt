@@ -1,20 +1,41 @@
--- What becomes of a source and a sink: a text comes in, and the text of the same tree goes out.
-use Rattle.std.specs.Prelude.{◌≡◌, ◌⊎◌, ℕ, ◌+◌, ◌<◌, List, length, ⊤, None, IfSome, false}
+-- What becomes of a source and a sink: a text comes in, and the text of the edited tree goes out.
+use Rattle.std.specs.Prelude.{Bool, Option, cond, ◌≡◌, ◌⊎◌, ℕ, ◌+◌, ◌<◌, List, length, ⊤, None, IfSome, false, Ok, Err}
 use Rattle.json_grammar.specs.Tree.{Tree}
 use Rattle.json_grammar.specs.Grammar.{is_text}
-use Rattle.json_model.specs.Print.{shown}
+use Rattle.json_model.specs.Sort.{sorted}
+use Rattle.json_model.specs.Edit.{Edit, edited, Refusal, not_found, type_unmatched}
 use Rattle.json_text.specs.Known.{Appends}
+use Rattle.json_print.specs.Shown.{shown_as}
+use Rattle.json_print.specs.Styles.{indent_of, is_sorted}
+use Rattle.json_print.specs.declared.style.Style.{Style}
 use Rattle.json_text.specs.Outside.{SourceState, SinkState, Rose, RoseBy}
 use Rattle.json_text.specs.Transfer.{ReadsWithin, AppendsFront}
 use Rattle.json_text.specs.declared.error.ErrorCode.{ErrorCode}
-use Rattle.json_text.specs.declared.error.ErrorCode.TheVariants.{NoMemory, Io, TooLarge}
+use Rattle.json_text.specs.declared.error.ErrorCode.TheVariants.{NoMemory, Io, TooLarge, NotFound, TypeUnmatched}
 use Rattle.json_text.specs.declared.error.Place.{Place}
-use Rattle.json_text.specs.declared.error.Place.TheVariants.{None as nowhere, Reading, Writing}
+use Rattle.json_text.specs.declared.error.Place.TheVariants.{None as nowhere, Reading, Writing, Edit as in_edit}
 use Rattle.reshape.specs.Input.{most, IsInput, InputFault}
 
--- the compact text of a tree
-abbrev pub compact : Tree → List ℕ
-compact tree = shown None 0 tree
+-- how a text is laid out: the indent, or none for no whitespace between the tokens, and whether the members of each object are sorted by their keys
+pub record Layout : Type 0 where
+  pub indent : Option (List ℕ)
+  pub sorts : Bool
+
+-- no whitespace, and the members in their order
+abbrev pub compact : Layout
+compact = record { indent = None; sorts = false }
+
+-- the layout that a style asks for
+abbrev pub layout_of : Style → Layout
+layout_of s = record { indent = indent_of s; sorts = is_sorted s }
+
+-- the text of a tree in a layout
+abbrev pub laid_out : Layout → Tree → List ℕ
+laid_out l tree = shown_as l.indent l.sorts tree
+
+-- the tree whose text it is: sorted at every object where that is asked
+abbrev pub ordered : Layout → Tree → Tree
+ordered l tree = cond l.sorts (sorted tree) tree
 
 -- all that the source had was read, no more than the limit, and it is a text of this tree
 pub record Reads (source source' : SourceState) (tree : Tree) : Type 0 where
@@ -22,13 +43,15 @@ pub record Reads (source source' : SourceState) (tree : Tree) : Type 0 where
   pub all : ReadsWithin most source source' bytes
   pub input : IsInput bytes tree
 
--- a text of exactly one tree was read, and the sink gained exactly the compact text of that tree, which is a text of it, and was flushed
-pub record Reshapes (source source' : SourceState) (sink sink' : SinkState) : Type 0 where
+-- a text of exactly one tree was read, every edit applied in turn, and the sink gained exactly the text of the edited tree in the layout, which is a text of it, sorted where asked, and was flushed
+pub record Reshapes (es : List Edit) (l : Layout) (source source' : SourceState) (sink sink' : SinkState) : Type 0 where
   pub tree : Tree
   pub reads : Reads source source' tree
   pub only : (other : Tree) → is_text false other reads.bytes → other ≡ tree
-  pub gains : Appends sink.gained sink'.gained (compact tree)
-  pub is_text_of_it : is_text false tree (compact tree)
+  pub changed : Tree
+  pub applied : edited es tree ≡ Ok changed
+  pub gains : Appends sink.gained sink'.gained (laid_out l changed)
+  pub is_text_of_it : is_text false (ordered l changed) (laid_out l changed)
   pub flushed : sink'.unflushed ≡ false
 
 -- all was read, and it has this fault
@@ -37,11 +60,19 @@ pub record ReadsFault (source source' : SourceState) (code : ErrorCode) (place :
   pub all : ReadsWithin most source source' bytes
   pub fault : InputFault bytes code place
 
--- all was read, and a front of the compact text of its tree was gained
-pub record GainsFront (source source' : SourceState) (sink sink' : SinkState) : Type 0 where
+-- all was read, and the edit of this number is the first that does not apply to its tree
+pub record ReadsUnfit (es : List Edit) (source source' : SourceState) (number : ℕ) (why : Refusal) : Type 0 where
   pub tree : Tree
   pub reads : Reads source source' tree
-  pub gains : AppendsFront sink.gained sink'.gained (compact tree)
+  pub refused : edited es tree ≡ Err (number, why)
+
+-- all was read, every edit applied, and a front of the text of the edited tree in the layout was gained
+pub record GainsFront (es : List Edit) (l : Layout) (source source' : SourceState) (sink sink' : SinkState) : Type 0 where
+  pub tree : Tree
+  pub reads : Reads source source' tree
+  pub changed : Tree
+  pub applied : edited es tree ≡ Ok changed
+  pub gains : AppendsFront sink.gained sink'.gained (laid_out l changed)
 
 -- why no document was read: one row for each answer
 abbrev pub ReadingRefuses : SourceState → SourceState → ErrorCode → Place → Type 0
@@ -50,10 +81,24 @@ ReadingRefuses source source' Io Reading = Rose source.faults source'.faults
 ReadingRefuses source source' TooLarge nowhere = RoseBy (most + 1) source.given source'.given × IfSome source.left (λ b. most < length b)
 ReadingRefuses source source' code place = ReadsFault source source' code place
 
+-- the place of the refusal of an edit with this number: want of memory has none
+abbrev pub place_numbered : ErrorCode → Place → ℕ → Place
+place_numbered NoMemory place number = place
+place_numbered code place number = in_edit number
+
+-- why not every edit was applied to the tree
+abbrev pub EditingRefuses : List Edit → Tree → ErrorCode → Place → Type 0
+EditingRefuses es tree NoMemory nowhere = ⊤
+EditingRefuses es tree NotFound (in_edit number) = edited es tree ≡ Err (number, not_found)
+EditingRefuses es tree TypeUnmatched (in_edit number) = edited es tree ≡ Err (number, type_unmatched)
+EditingRefuses es tree code place = ⊥
+
 -- why it was refused, and what that left in the sink: one row for each answer
-abbrev pub Refuses : SourceState → SourceState → SinkState → SinkState → ErrorCode → Place → Type 0
-Refuses source source' sink sink' NoMemory nowhere = (sink' ≡ sink) ⊎ GainsFront source source' sink sink'
-Refuses source source' sink sink' Io Reading = Rose source.faults source'.faults × (sink' ≡ sink)
-Refuses source source' sink sink' TooLarge nowhere = RoseBy (most + 1) source.given source'.given × IfSome source.left (λ b. most < length b) × (sink' ≡ sink)
-Refuses source source' sink sink' Io Writing = Rose sink.faults sink'.faults × GainsFront source source' sink sink'
-Refuses source source' sink sink' code place = ReadsFault source source' code place × (sink' ≡ sink)
+abbrev pub Refuses : List Edit → Layout → SourceState → SourceState → SinkState → SinkState → ErrorCode → Place → Type 0
+Refuses es l source source' sink sink' NoMemory nowhere = (sink' ≡ sink) ⊎ GainsFront es l source source' sink sink'
+Refuses es l source source' sink sink' Io Reading = Rose source.faults source'.faults × (sink' ≡ sink)
+Refuses es l source source' sink sink' TooLarge nowhere = RoseBy (most + 1) source.given source'.given × IfSome source.left (λ b. most < length b) × (sink' ≡ sink)
+Refuses es l source source' sink sink' NotFound (in_edit number) = ReadsUnfit es source source' number not_found × (sink' ≡ sink)
+Refuses es l source source' sink sink' TypeUnmatched (in_edit number) = ReadsUnfit es source source' number type_unmatched × (sink' ≡ sink)
+Refuses es l source source' sink sink' Io Writing = Rose sink.faults sink'.faults × GainsFront es l source source' sink sink'
+Refuses es l source source' sink sink' code place = ReadsFault source source' code place × (sink' ≡ sink)

@@ -1,20 +1,19 @@
 -- The status of the top call, and what it tells of a refusal.
-use Rattle.std.specs.Prelude.{◌≡◌, ◌⊎◌, ℕ, List, [], Some}
+use Rattle.std.specs.Prelude.{◌≡◌, ◌⊎◌, ℕ, List, Some, Ok, Err}
 use Rattle.json_text.specs.declared.error.Error.{Error}
 use Rattle.json_text.specs.declared.error.ErrorCode.{ErrorCode}
-use Rattle.json_text.specs.declared.error.ErrorCode.TheVariants.{NoMemory, Io, BadWords}
+use Rattle.json_text.specs.declared.error.ErrorCode.TheVariants.{NoMemory, Io, NotFound, TypeUnmatched, BadWords}
 use Rattle.json_text.specs.declared.error.Place.{Place}
 use Rattle.json_text.specs.declared.error.Place.TheVariants.{None as nowhere, Writing}
 use Rattle.json_text.specs.Known.{Appends}
 use Rattle.json_text.specs.Outside.{SourceState, SinkState, Rose}
 use Rattle.json_text.specs.Transfer.{AppendsFront}
 use Rattle.json_text.specs.FaultText.{text_of}
-use Rattle.reshape.specs.Input.{IsValid, InputFault}
-use Rattle.reshape.specs.Reshape.{Reshapes, Refuses}
-
--- no word is known yet, so that no words alone ask for something
-abbrev pub IsAsked : List (List ℕ) → Type 0
-IsAsked words = words ≡ []
+use Rattle.json_grammar.specs.Tree.{Tree}
+use Rattle.json_model.specs.Edit.{Edit, edited, Refusal, not_found, type_unmatched}
+use Rattle.reshape.specs.Input.{IsInput, InputFault}
+use Rattle.reshape.specs.Words.{Asks, IsAsked}
+use Rattle.reshape.specs.Reshape.{compact, Reshapes, GainsFront, Refuses}
 
 -- the status of a refusal
 abbrev pub status_of : ErrorCode → Place → ℕ
@@ -22,22 +21,31 @@ status_of NoMemory place = 6
 status_of Io Writing = 5
 status_of Io place = 4
 status_of BadWords place = 2
+status_of NotFound place = 3
+status_of TypeUnmatched place = 3
 status_of code place = 1
 
 -- the text was told, or a front of it where the call failed or found no memory
 abbrev pub Tells : List ℕ → SinkState → SinkState → Type 0
 Tells text errs errs' = Appends errs.gained errs'.gained text ⊎ (AppendsFront errs.gained errs'.gained text × (Rose errs.faults errs'.faults ⊎ Rose errs.lacks errs'.lacks))
 
+-- the words ask for edits, and with them this holds
+pub record WithEdits (words : List (List ℕ)) (holds : List Edit → Type 0) : Type 0 where
+  pub es : List Edit
+  pub asked : Asks words es
+  pub so : holds es
+
 -- why the call was refused: the words are looked at before anything is read
 abbrev pub RunRefuses : List (List ℕ) → SourceState → SourceState → SinkState → SinkState → ErrorCode → Place → Type 0
-RunRefuses words source source' sink sink' NoMemory nowhere = Refuses source source' sink sink' NoMemory nowhere
+RunRefuses words source source' sink sink' NoMemory nowhere = (sink' ≡ sink) ⊎ WithEdits words (λ es. GainsFront es compact source source' sink sink')
 RunRefuses words source source' sink sink' BadWords nowhere = (¬ IsAsked words) × (source' ≡ source) × (sink' ≡ sink)
-RunRefuses words source source' sink sink' code place = IsAsked words × Refuses source source' sink sink' code place
+RunRefuses words source source' sink sink' code place = WithEdits words (λ es. Refuses es compact source source' sink sink' code place)
 
 -- status 0
 pub record Done (words : List (List ℕ)) (source source' : SourceState) (sink sink' errs errs' : SinkState) : Type 0 where
-  pub asked : IsAsked words
-  pub reshapes : Reshapes source source' sink sink'
+  pub es : List Edit
+  pub asked : Asks words es
+  pub reshapes : Reshapes es compact source source' sink sink'
   pub silent : errs' ≡ errs
 
 -- any other status: one error, with its status, its cause, what it left, and its text on errs
@@ -47,19 +55,39 @@ pub record Refused (status : ℕ) (words : List (List ℕ)) (source source' : So
   pub cause : RunRefuses words source source' sink sink' error.code error.place
   pub tells : Tells (text_of error) errs errs'
 
--- the words ask for something, the source tells a valid text, and nothing failed
+-- the words ask for edits, the source tells a valid text to which they apply, and nothing failed
 pub record IsGood (words : List (List ℕ)) (source source' : SourceState) (sink sink' : SinkState) : Type 0 where
-  pub asked : IsAsked words
+  pub es : List Edit
+  pub asked : Asks words es
   pub b : List ℕ
   pub told : source.left ≡ Some b
-  pub valid : IsValid b
+  pub tree : Tree
+  pub input : IsInput b tree
+  pub changed : Tree
+  pub applies : edited es tree ≡ Ok changed
   pub read : ¬ (Rose source.faults source'.faults)
   pub written : ¬ (Rose sink.faults sink'.faults)
 
--- the words ask for something, the source tells bytes with this fault, and no read failed
+-- the words ask for edits, the source tells bytes with this fault, and no read failed
 pub record IsBad (words : List (List ℕ)) (source source' : SourceState) (code : ErrorCode) (place : Place) : Type 0 where
   pub asked : IsAsked words
   pub b : List ℕ
   pub told : source.left ≡ Some b
   pub fault : InputFault b code place
+  pub read : ¬ (Rose source.faults source'.faults)
+
+-- the code of a refusal of an edit
+abbrev pub code_of : Refusal → ErrorCode
+code_of not_found = NotFound
+code_of type_unmatched = TypeUnmatched
+
+-- the words ask for edits, the source tells a valid text, the edit of this number is the first that does not apply to it, and no read failed
+pub record IsUnfit (words : List (List ℕ)) (source source' : SourceState) (number : ℕ) (why : Refusal) : Type 0 where
+  pub es : List Edit
+  pub asked : Asks words es
+  pub b : List ℕ
+  pub told : source.left ≡ Some b
+  pub tree : Tree
+  pub input : IsInput b tree
+  pub refused : edited es tree ≡ Err (number, why)
   pub read : ¬ (Rose source.faults source'.faults)

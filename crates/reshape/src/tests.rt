@@ -1,5 +1,6 @@
 // Inputs with what they come to: the output, the status, and what is told of a refusal.
 use super::*;
+use json_print::Style;
 use json_text::{FakeSink, FakeSource, SliceSource, VecSink, Words};
 use std::alloc::Global;
 use std::process::Abort;
@@ -222,19 +223,13 @@ fn failed_reads_and_writes_are_told(rt: HostRuntime) -> Result<(), Fail> {
 }
 
 #[test]
-fn no_word_is_known(rt: HostRuntime) -> Result<(), Fail> {
+fn no_words_ask_for_no_edits(rt: HostRuntime) -> Result<(), Fail> {
     let alloc = rt.alloc();
-    let mut words = Words::new(alloc);
-    words.push("--pretty")?;
-    let mut source = SliceSource::new(b"1");
-    let mut sink = VecSink::new(alloc);
-    let mut errs = VecSink::new(alloc);
-    assert_eq!(rt; run(alloc, &words, &mut source, &mut sink, &mut errs), 2);
-    assert_eq!(rt; sink.as_slice(), b"".as_slice());
-    assert_eq!(rt; errs.as_slice(), b"BadWords\n".as_slice());
     assert_eq!(rt; asked(alloc, &Words::new(alloc)).is_ok(), true);
+    let mut source = SliceSource::new(b" 1");
     let mut sink = VecSink::new(alloc);
-    assert_eq!(rt; reshape(alloc, &mut source, &mut sink).is_ok(), true);
+    let compact = Style::new(None, false).ok_or("no indent")?;
+    assert_eq!(rt; reshape(alloc, &mut source, &mut sink, &[], compact).is_ok(), true);
     assert_eq!(rt; sink.as_slice(), b"1".as_slice());
     Ok(())
 }

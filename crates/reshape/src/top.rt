@@ -1,17 +1,20 @@
 // The top call.
-ghost use Rattle.std.specs.Prelude.{◌+◌, ◌≡◌, ◌≢◌, ◌⊎◌, ◌<◌, OnOk, IfErr, IsErrOf};
+ghost use Rattle.std.specs.Prelude.{ℕ, ◌+◌, ◌≡◌, ◌≢◌, ◌⊎◌, ◌<◌, OnOk, IfErr, IsErrOf};
 ghost use Rattle.json_text.specs.declared.error.ErrorCode.{ErrorCode};
 ghost use Rattle.json_text.specs.declared.error.Place.{Place};
 ghost use Rattle.json_text.specs.Errors.{reading_failed, writing_failed};
 ghost use Rattle.json_text.specs.FaultText.{text_of};
 ghost use Rattle.json_text.specs.Transfer.{TakesAtMost};
 ghost use Rattle.reshape.specs.Input.{most};
-ghost use Rattle.reshape.specs.Reshape.{Reshapes};
-ghost use Rattle.reshape.specs.Run.{IsAsked, status_of, Tells, RunRefuses, Done, Refused, IsGood, IsBad};
+ghost use Rattle.reshape.specs.Reshape.{compact, layout_of, Reshapes};
+ghost use Rattle.json_model.specs.Edit.{Refusal};
+ghost use Rattle.json_text.specs.declared.error.Place.TheVariants.{Edit as in_edit};
+ghost use Rattle.reshape.specs.Words.{IsAsked};
+ghost use Rattle.reshape.specs.Run.{WithEdits, status_of, Tells, RunRefuses, Done, Refused, IsGood, IsBad, IsUnfit, code_of};
 
-use crate::command::Asked;
 use crate::reshape;
 use crate::words::asked;
+use json_print::Style;
 use json_text::{Error, ErrorCode, Place, Result, Sink, Source, Words, fault_text, put_all};
 use std::alloc::Global;
 
@@ -23,7 +26,17 @@ fn status(error: Error) -> u8
         (ErrorCode::Io, Place::Writing) => 5,
         (ErrorCode::Io, _) => 4,
         (ErrorCode::BadWords, _) => 2,
+        (ErrorCode::NotFound | ErrorCode::TypeUnmatched, _) => 3,
         (_, _) => 1,
+    }
+}
+
+fn compact() -> Style<'static>
+    ensures { layout_of result ≡ compact }
+{
+    match Style::new(None, false) {
+        Some(style) => style,
+        None => unreachable!(),
     }
 }
 
@@ -39,20 +52,18 @@ fn carry_out<S: Source, K: Sink>(
     source: &mut S,
     sink: &mut K,
 ) -> Result<()>
-    ensures asked { OnOk result (IsAsked words.now) }
-    ensures done { OnOk result (Reshapes (S.state source.old) (S.state source.new) (K.state sink.old) (K.state sink.new)) }
+    ensures done { OnOk result (WithEdits words.now (λ es. Reshapes es compact (S.state source.old) (S.state source.new) (K.state sink.old) (K.state sink.new))) }
     ensures refused { IfErr result (λ e. RunRefuses words.now (S.state source.old) (S.state source.new) (K.state sink.old) (K.state sink.new) e.code e.place) }
     ensures taken { TakesAtMost (most + 1) (S.state source.old) (S.state source.new) }
     ensures read_told { (S.state source.old).faults < (S.state source.new).faults → IsErrOf result reading_failed }
     ensures write_told { (K.state sink.old).faults < (K.state sink.new).faults → IsErrOf result writing_failed }
 {
-    match asked(alloc, words)? {
-        Asked::Reshape => reshape(alloc, source, sink),
-    }
+    let asked = asked(alloc, words)?;
+    reshape(alloc, source, sink, asked.edits(), compact())
 }
 
 /// Does all that the program does, and answers its status: 0 where it is done, 1 where the input is refused, 2 the words,
-/// 4 where reading failed, 5 where writing failed, 6 where memory ran out. On 1 to 6 the text of the refusal goes to `errs`.
+/// 3 an edit, 4 where reading failed, 5 where writing failed, 6 where memory ran out. On 1 to 6 the text of the refusal goes to `errs`.
 pub fn run<S: Source, K: Sink, E: Sink>(
     alloc: Global,
     words: &Words,
@@ -69,6 +80,9 @@ pub fn run<S: Source, K: Sink, E: Sink>(
     ensures write_told { (K.state sink.old).faults < (K.state sink.new).faults → result ≡ 5 }
     ensures complete { IsGood words.now (S.state source.old) (S.state source.new) (K.state sink.old) (K.state sink.new)
         → (result ≡ 0) ⊎ (result ≡ 6) }
+    ensures unfit { (number : ℕ) (why : Refusal) → IsUnfit words.now (S.state source.old) (S.state source.new) number why
+        → ((result ≡ 3) × Tells (text_of (record { code = code_of why; place = in_edit number })) (E.state errs.old) (E.state errs.new)) ⊎ (result ≡ 6) }
+    ensures words { ¬ (IsAsked words.now) → (result ≡ 2) ⊎ (result ≡ 6) }
     ensures exact { (code : ErrorCode) (place : Place) → IsBad words.now (S.state source.old) (S.state source.new) code place
         → ((result ≡ 1) × Tells (text_of (record { code = code; place = place })) (E.state errs.old) (E.state errs.new)) ⊎ (result ≡ 6) }
 {

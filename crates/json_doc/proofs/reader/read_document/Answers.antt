@@ -4,7 +4,7 @@ use Rattle.std.specs.Result.{IsErrAnd, IfErr}
 use Rattle.json_text.specs.declared.error.Error.{Error}
 use Rattle.json_text.specs.declared.event.Event.{Event}
 use Rattle.json_text.specs.Parsing.{Goes}
-use Rattle.json_doc.proofs.Keeping.{keeps_start, next_token, next_begins, goes_forward, next_fits, keeps_on, keeps_end, refused_fails}
+use Rattle.json_doc.proofs.Keeping.{keeps_start, next_token, next_number, next_begins, goes_forward, next_fits, keeps_on, keeps_end, refused_fails}
 use Rattle.json_doc.proofs.reader.read_document.Goals as goal
 
 pub events-init : goal.events-init
@@ -14,11 +14,14 @@ events-init c =
     let p = c.new-parser.ensures in
     ([], keeps_start c.new-parser.result v c.args.text.now p.text p.start.0 p.limit p.fresh.0 q.room q.held)
 
-pub record_event-recorded-requires : goal.record_event-recorded-requires
-record_event-recorded-requires c full =
+pub record_event-recorded-requires-clause-come : goal.record_event-recorded-requires-clause-come
+record_event-recorded-requires-clause-come c full =
     let k = c.events.invariant in
     let next = next_token c.events.parser c.next.new.self c.events.visitor c.args.text.now c.events.invariant.0 c.in_ok-event.event c.events.invariant.1 c.in_default.not-End c.in_ok-event.ensures.ok.2 c.in_ok-event.ensures.tight c.in_ok-event.ensures.same in
     (next.0, next.1, (k.0, k.1.follows.held full, next_begins c.events.parser c.next.new.self c.events.visitor c.args.text.now c.events.invariant.0 c.in_ok-event.event c.events.invariant.1 c.in_default.not-End c.in_ok-event.ensures.ok.2 c.in_ok-event.ensures.tight c.in_ok-event.ensures.same))
+
+pub record_event-recorded-requires-clause-number : goal.record_event-recorded-requires-clause-number
+record_event-recorded-requires-clause-number c = next_number c.events.parser c.next.new.self c.events.visitor c.args.text.now c.events.invariant.0 c.in_ok-event.event c.events.invariant.1 c.in_default.not-End c.in_ok-event.ensures.ok.2 c.in_ok-event.ensures.tight c.in_ok-event.ensures.same
 
 pub events-smaller : goal.events-smaller
 events-smaller c = let on = goes_forward c.events.parser c.next.new.self c.events.visitor c.args.text.now c.events.invariant.0 c.in_ok-event.event c.events.invariant.1 c.in_default.not-End c.in_ok-event.ensures.ok.2 c.in_ok-event.ensures.tight c.in_ok-event.ensures.same in omega (arith, on.0, on.1)

@@ -3,7 +3,11 @@ use Rattle.json_grammar.specs.declared.Kind.TheVariants.{Array as array, Object 
 use Rattle.json_grammar.specs.Tree.{null_token, boolean_token, num_token, text_token, key_token, begin, end}
 use Rattle.json_text.specs.declared.event.Event.TheVariants as event
 use Rattle.json_doc.proofs.Following.{means_at, held_of, follows_event}
+use Rattle.json_doc.proofs.Numeric.{same_event_number}
 use Rattle.json_doc.proofs.reader.record_event.Goals as goal
+
+pub visit_raw_number-requires-clause-number : goal.visit_raw_number-requires-clause-number
+visit_raw_number-requires-clause-number c = same_event_number c.args.event (event.Number c.in-Number.literal) c.in-Number.is c.requires.number
 
 pub returns-in-Null-clause-follows : goal.returns-in-Null-clause-follows
 returns-in-Null-clause-follows c x ts means f b h =

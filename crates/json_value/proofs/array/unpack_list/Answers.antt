@@ -1,5 +1,4 @@
-use Rattle.std.proofs.Common.{◌≡◌, ℕ, Vec, Global, Some, None, ap, ◌∙◌}
-use Rattle.std.specs.Prelude.{slice_get}
+use Rattle.std.proofs.Common.{◌≡◌, ℕ, Vec, Global, ap, ◌∙◌}
 use Rattle.json_doc.specs.Readings.{elements}
 use Rattle.json_doc.specs.Seen.{child_place}
 use Rattle.json_value.specs.Denotes.{tree_of, place_tree}

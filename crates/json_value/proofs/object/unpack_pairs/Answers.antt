@@ -1,4 +1,4 @@
-use Rattle.std.proofs.Common.{◌≡◌, ℕ, Vec, Global, Some, None, ap, ◌∙◌}
+use Rattle.std.proofs.Common.{◌≡◌, ℕ, Vec, Global, Some, ap, ◌∙◌}
 use Rattle.json_doc.specs.Seen.{child_place, key_place}
 use Rattle.json_value.specs.Denotes.{pair_of, place_tree}
 use Rattle.json_value.specs.Readings.{members}

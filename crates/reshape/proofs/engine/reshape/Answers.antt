@@ -1,12 +1,20 @@
-use Rattle.std.proofs.Common.{OnOk, subst}
-use Rattle.json_text.specs.Known.{Appends}
-use Rattle.json_doc.specs.Docs.{doc_root, doc_tree}
-use Rattle.reshape.specs.Reshape.{compact}
-use Rattle.reshape.proofs.Documents.{reshaped}
+use Rattle.std.proofs.Common.{map}
+use Rattle.std.proofs.lemmas.Result.{IfErr-weaker}
+use Rattle.json_value.specs.Edits.{edit_of}
+use Rattle.reshape.specs.Reshape.{layout_of}
+use Rattle.reshape.proofs.Documents.{applied_to, changed_proper, reshaped, printing_refused}
 use Rattle.reshape.proofs.engine.reshape.Goals as goal
+
+pub print-requires : goal.print-requires
+print-requires g c =
+    changed_proper (map edit_of c.args.edits.now) _ _ c.requires.proper c.in_ok-doc.ensures.proper (applied_to (map edit_of c.args.edits.now) c.in_ok-doc.doc.value _ _ _ _ c.in_ok-value.ensures.tree c.root.ensures.place c.deref.ensures c.in_ok-apply_all.ensures.ok)
 
 pub returns-clause-done : goal.returns-clause-done
 returns-clause-done g c =
-    let sink = g.K.Sink.state c.args.sink.now in let sink' = g.K.Sink.state c.print.new.sink in let doc = c.in_ok-doc.doc.value in
-    reshaped _ _ sink sink' (doc_tree doc (doc_root doc)) c.print.result c.in_ok-doc.ensures.read c.in_ok-doc.ensures.proper
-    (subst (λ d. OnOk c.print.result (Appends sink.gained sink'.gained (compact (doc_tree d (doc_root d))))) c.deref.ensures c.print.ensures.ok) c.print.ensures.flushed
+    let applied = applied_to (map edit_of c.args.edits.now) c.in_ok-doc.doc.value _ _ _ _ c.in_ok-value.ensures.tree c.root.ensures.place c.deref.ensures c.in_ok-apply_all.ensures.ok in
+    reshaped (map edit_of c.args.edits.now) (layout_of c.args.style) _ _ _ _ _ _ c.print.result c.in_ok-doc.ensures.read c.args.style.whitespace (changed_proper (map edit_of c.args.edits.now) _ _ c.requires.proper c.in_ok-doc.ensures.proper applied) applied c.print.ensures.ok c.print.ensures.flushed
+
+pub returns-clause-refused : goal.returns-clause-refused
+returns-clause-refused g c =
+    let applied = applied_to (map edit_of c.args.edits.now) c.in_ok-doc.doc.value _ _ _ _ c.in_ok-value.ensures.tree c.root.ensures.place c.deref.ensures c.in_ok-apply_all.ensures.ok in
+    IfErr-weaker c.print.result _ _ (λ e. printing_refused (map edit_of c.args.edits.now) (layout_of c.args.style) _ _ _ _ _ _ e.code e.place c.in_ok-doc.ensures.read applied) c.print.ensures.err

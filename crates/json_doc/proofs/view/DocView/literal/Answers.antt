@@ -1,9 +1,22 @@
-use Rattle.std.proofs.Common.{Some, sym, ap, ◌∙◌}
-use Rattle.json_doc.proofs.Shown.{literal_at, no_literal_at}
+use Rattle.std.proofs.Common.{Some, sym, ap, subst, ◌∙◌}
+use Rattle.json_grammar.specs.Grammar.{number}
+use Rattle.json_doc.proofs.Shown.{literal_at, no_literal_at, number_at}
 use Rattle.json_doc.proofs.view.DocView.literal.Goals as goal
 
-pub returns-in-Raw : goal.returns-in-Raw
-returns-in-Raw c = let s = c.args.self in ap Some c.text_range.ensures ∙ sym (literal_at s.doc.now s.at c.cell.result s.inside c.cell.ensures c.in-Raw.start c.in-Raw.len c.in-Raw.is)
+pub returns-in-Raw-clause-literal : goal.returns-in-Raw-clause-literal
+returns-in-Raw-clause-literal c =
+    let s = c.args.self in
+    ap Some c.text_range.ensures ∙ sym (literal_at s.doc.now s.at c.cell.result s.inside c.cell.ensures c.in-Raw.start c.in-Raw.len c.in-Raw.is)
+
+pub returns-in-Raw-clause-number : goal.returns-in-Raw-clause-number
+returns-in-Raw-clause-number c =
+    let s = c.args.self in
+    subst number (sym c.text_range.ensures) (number_at s.doc.now s.at c.cell.result s.inside c.cell.ensures c.in-Raw.start c.in-Raw.len c.in-Raw.is)
 
 pub returns-in_default : goal.returns-in_default
-returns-in_default c = let s = c.args.self in sym (no_literal_at s.doc.now s.at c.cell.result s.inside c.cell.ensures c.in_default.not-Raw)
+returns-in_default c =
+    let s = c.args.self in
+    record {
+      literal = sym (no_literal_at s.doc.now s.at c.cell.result s.inside c.cell.ensures c.in_default.not-Raw);
+      number = tt;
+    }

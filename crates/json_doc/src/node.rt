@@ -1,0 +1,19 @@
+// What stands at a place of a document, by its kind.
+
+use crate::children::DocChildren;
+use crate::pairs::DocPairs;
+
+/// A value of a document, by its kind (RFC 8259, section 3). Nothing of it takes memory.
+#[derive(Drop)]
+pub enum DocNode<'a> {
+    Null,
+    Boolean(bool),
+    /// The literal of a number.
+    Number(&'a str),
+    /// The text of a string.
+    String(&'a str),
+    /// The elements of an array.
+    Array(DocChildren<'a>),
+    /// The pairs of an object.
+    Object(DocPairs<'a>),
+}

@@ -1,0 +1,33 @@
+-- Laws of numbers.
+use Rattle.std.specs.Prelude.{◌≡◌, ◌↔◌, ℕ, ◌^◌, ℤ, pos, neg_ℤ, ◌≤ℤ◌, ◌<ℤ◌, List, Some}
+use Rattle.std.specs.Fmt.{signed_decimal}
+use Rattle.json_grammar.specs.Grammar.{number}
+use Rattle.json_number.specs.Integers.{integer_in}
+use Rattle.json_number.specs.Numbers.{value_of, text_of_number}
+use Rattle.json_number.specs.Literals.{raw_literal}
+use Rattle.json_number.specs.declared.number.Number.{Number}
+use Rattle.json_number.specs.declared.raw_number.RawNumber.{RawNumber}
+
+-- the decimal text of the integer that a literal stands for is the literal
+abbrev pub PrintsItsLiteral : Type 0
+PrintsItsLiteral = (l : List ℕ) (n : ℤ) → number l → integer_in l ≡ Some n → signed_decimal n ≡ l
+
+-- the text of a number is the literal of a number, which stands for the same integer
+abbrev pub ReadsBack : Type 0
+ReadsBack = (x : Number) → number (text_of_number x) × (integer_in (text_of_number x) ≡ Some (value_of x))
+
+-- a number lies from -2^63 to 2^64 - 1
+abbrev pub ValueInRange : Type 0
+ValueInRange = (x : Number) → (neg_ℤ (pos (2 ^ 63)) ≤ℤ value_of x) × (value_of x <ℤ pos (2 ^ 64))
+
+-- numbers of one value are the same number
+abbrev pub SameValue : Type 0
+SameValue = (x y : Number) → value_of x ≡ value_of y → x ≡ y
+
+-- numbers of one value have one text, and conversely
+abbrev pub SameText : Type 0
+SameText = (x y : Number) → (value_of x ≡ value_of y) ↔ (text_of_number x ≡ text_of_number y)
+
+-- the literal of a raw number is a number
+abbrev pub LiteralIsNumber : Type 0
+LiteralIsNumber = (r : RawNumber) → number (raw_literal r)

@@ -1,0 +1,102 @@
+// Integers by value.
+ghost use Rattle.std.specs.Prelude.{◌≡◌, true, Some, pos};
+ghost use Rattle.std.specs.Ordering.{on, int_eq};
+ghost use Rattle.std.specs.Cmp.Rules.{comparing, hashing};
+ghost use Rattle.std.specs.Hash as fed;
+ghost use Rattle.std.proofs.Common.{rules};
+ghost use Rattle.json_number.specs.Form.{is_formed};
+
+use itoa::Buffer;
+use std::fmt;
+use std::hash::{Hash, Hasher};
+
+/// How an integer is stored.
+#[derive(Clone, Copy, Debug)]
+pub(crate) enum Form {
+    /// An integer from 0 on.
+    Unsigned(u64),
+    /// An integer below 0.
+    Negative(i64),
+}
+
+/// An integer that lies in `i64` or in `u64`: from -2^63 to 2^64 - 1. Equal integers are equal numbers.
+#[derive(Clone, Copy, Debug)]
+pub struct Number {
+    pub(crate) form: Form,
+    ghost formed: { is_formed form ≡ true },
+}
+
+impl Number {
+    ghost use Rattle.json_number.specs.Numbers.{value_of};
+
+    pub(crate) fn unsigned(n: u64) -> Number
+        ensures { value_of result ≡ pos n }
+    {
+        Number {
+            form: Form::Unsigned(n),
+        }
+    }
+
+    pub(crate) fn signed(n: i64) -> Number
+        ensures { value_of result ≡ n }
+    {
+        if n < 0 {
+            Number {
+                form: Form::Negative(n),
+            }
+        } else {
+            Number::unsigned(n as u64)
+        }
+    }
+
+    /// The integer, in a type that has room for each.
+    fn widened(&self) -> i128
+        ensures { result ≡ value_of self.now }
+    {
+        match self.form {
+            Form::Unsigned(n) => n as i128,
+            Form::Negative(n) => n as i128,
+        }
+    }
+}
+
+impl PartialEq for Number {
+    ghost use Rattle.json_number.specs.Numbers.{value_of};
+
+    ghost eq = { on value_of int_eq };
+
+    ghost laws = { Prim.search (comparing, rules) };
+
+    fn eq(&self, other: &Number) -> bool {
+        self.widened() == other.widened()
+    }
+}
+
+impl Eq for Number {
+    ghost laws = { Prim.search (comparing, rules) };
+}
+
+impl Hash for Number {
+    ghost use Rattle.json_number.specs.Numbers.{value_of};
+
+    ghost hash_input = { λ n. fed.i128 (value_of n) };
+
+    ghost respects_eq = { Prim.search (hashing, rules) };
+
+    fn hash<H: Hasher>(&self, state: &mut H) {
+        self.widened().hash(state);
+    }
+}
+
+impl fmt::Display for Number {
+    ghost use Rattle.json_number.specs.Numbers.{text_of_number};
+
+    ghost output = { λ n. Some (text_of_number n) };
+
+    fn fmt<W: fmt::Write>(&self, f: &mut fmt::Formatter<W>) -> fmt::Result {
+        match self.form {
+            Form::Unsigned(n) => f.write_str(Buffer::new().format(n)),
+            Form::Negative(n) => f.write_str(Buffer::new().format(n)),
+        }
+    }
+}

@@ -1,0 +1,69 @@
+// Numbers by their literals.
+ghost use Rattle.std.specs.Prelude.{◌≡◌, ◌⊎◌, true, string_bytes, option_map, IfOk, IfErr, OnOk};
+ghost use Rattle.json_grammar.specs.Grammar.{number};
+ghost use Rattle.json_text.specs.Errors.{no_memory};
+ghost use Rattle.json_number.specs.Errors.{invalid_number};
+ghost use Rattle.json_number.specs.Integers.{integer_in};
+ghost use Rattle.json_number.specs.Tests.{is_number};
+
+use crate::integer::integer_of;
+use crate::number::Number;
+use crate::state::is_number;
+use json_text::{Error, ErrorCode, Place, Result};
+use std::alloc::Global;
+
+/// A number as the literal that spells it (RFC 8259, section 6), of any size and precision.
+#[derive(Debug, Drop)]
+pub struct RawNumber {
+    literal: String,
+    ghost is_literal: { is_number (string_bytes literal) ≡ true },
+}
+
+impl RawNumber {
+    ghost use Rattle.json_number.specs.Literals.{raw_literal};
+    ghost use Rattle.json_number.specs.Numbers.{value_of};
+
+    /// The number that the literal spells. Answers `InvalidNumber` where the text is no number, else `NoMemory` where
+    /// memory runs out.
+    pub fn new(alloc: Global, literal: &str) -> Result<RawNumber>
+        ensures ok { IfOk result (λ r. raw_literal r ≡ literal.now) }
+        ensures number { OnOk result (number literal.now) }
+        ensures err { IfErr result (λ e. ((e ≡ invalid_number) × ¬ (number literal.now))
+            ⊎ ((e ≡ no_memory) × number literal.now)) }
+    {
+        if !is_number(literal) {
+            return Err(Error {
+                code: ErrorCode::InvalidNumber,
+                place: Place::None,
+            });
+        }
+        Ok(RawNumber {
+            literal: String::from_str(alloc, literal)?,
+        })
+    }
+
+    /// The literal.
+    pub fn as_str(&self) -> &str
+        ensures text { result.now ≡ raw_literal self.now }
+        ensures number { number (raw_literal self.now) }
+    {
+        self.literal.as_str()
+    }
+
+    /// The integer that the literal stands for by value, if any.
+    pub fn to_number(&self) -> Option<Number>
+        ensures { option_map value_of result ≡ integer_in (raw_literal self.now) }
+    {
+        integer_of(self.as_str())
+    }
+
+    /// Another number of the same literal, or `NoMemory`.
+    pub fn clone(&self, alloc: Global) -> Result<RawNumber>
+        ensures ok { IfOk result (λ r. raw_literal r ≡ raw_literal self.now) }
+        ensures err { IfErr result (λ e. e ≡ no_memory) }
+    {
+        Ok(RawNumber {
+            literal: String::from_str(alloc, self.as_str())?,
+        })
+    }
+}

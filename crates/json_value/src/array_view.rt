@@ -1,0 +1,118 @@
+// Views of arrays.
+ghost use Rattle.std.specs.Prelude.{◌≡◌, ◌↔◌, [], length, map, option_map, slice_get, IsTrue};
+ghost use Rattle.json_doc.specs.Readings.{elements};
+ghost use Rattle.json_doc.specs.Seen.{view_tree};
+ghost use Rattle.json_value.specs.Denotes.{tree_of, list_in};
+ghost use Rattle.json_value.specs.Seen.{seen, elements_seen, list_of};
+
+use crate::container::{Container, Form};
+use crate::value::Value;
+use crate::view::{View, ViewForm};
+use json_doc::{DocView, JsonType};
+
+#[derive(Clone, Copy)]
+pub(crate) enum ArrayForm<'a> {
+    Packed(DocView<'a>),
+    Whole(&'a [Value]),
+}
+
+/// What is seen of an array. Nothing of a view takes memory.
+#[derive(Clone, Copy)]
+pub struct ArrayView<'a> {
+    pub(crate) form: ArrayForm<'a>,
+}
+
+impl Container<Value> {
+    /// The whole array.
+    #[inline]
+    pub fn view(&self) -> ArrayView<'_>
+        ensures { elements_seen result ≡ list_in self.now }
+    {
+        let form = match &self.form {
+            Form::Empty => ArrayForm::Whole(&[]),
+            Form::Owned(values) => ArrayForm::Whole(values.as_slice()),
+            Form::Packed(place) => ArrayForm::Packed(place.view()),
+        };
+        ArrayView { form }
+    }
+}
+
+impl<'a> ArrayView<'a> {
+    pub(crate) fn of_document(view: DocView<'a>) -> Option<ArrayView<'a>>
+        ensures { option_map elements_seen result ≡ list_of (view_tree view.entry) }
+    {
+        match view.get_type() {
+            JsonType::Array => Some(ArrayView {
+                form: ArrayForm::Packed(view),
+            }),
+            _ => None,
+        }
+    }
+
+    pub(crate) fn of_value(value: &'a Value) -> Option<ArrayView<'a>>
+        ensures { option_map elements_seen result ≡ list_of (tree_of value.now) }
+    {
+        match value {
+            Value::Array(array) => Some(array.view()),
+            _ => None,
+        }
+    }
+
+    /// How many elements there are.
+    #[inline]
+    pub fn len(self) -> usize
+        ensures { result ≡ length (elements_seen self.entry) }
+    {
+        match self.form {
+            ArrayForm::Packed(view) => packed_len(view),
+            ArrayForm::Whole(values) => values.len(),
+        }
+    }
+
+    /// Whether there is none.
+    #[inline]
+    pub fn is_empty(self) -> bool
+        ensures { IsTrue result ↔ (elements_seen self.entry ≡ []) }
+    {
+        self.len() == 0
+    }
+
+    /// The element `i`, counted from 0; none past the last.
+    #[inline]
+    pub fn get(self, i: usize) -> Option<View<'a>>
+        ensures { option_map seen result ≡ slice_get (elements_seen self.entry) i }
+    {
+        match self.form {
+            ArrayForm::Packed(view) => packed_element(view, i),
+            ArrayForm::Whole(values) => whole_element(values, i),
+        }
+    }
+}
+
+fn packed_len(view: DocView<'_>) -> usize
+    ensures { result ≡ length (elements (view_tree view.entry)) }
+{
+    match view.get_type() {
+        JsonType::Array => view.len(),
+        _ => 0,
+    }
+}
+
+fn packed_element(view: DocView<'_>, i: usize) -> Option<View<'_>>
+    ensures { option_map seen result ≡ slice_get (elements (view_tree view.entry)) i }
+{
+    match view.element(i) {
+        Some(element) => Some(View::packed(element)),
+        None => None,
+    }
+}
+
+fn whole_element(values: &[Value], i: usize) -> Option<View<'_>>
+    ensures { option_map seen result ≡ slice_get (map tree_of values.now) i }
+{
+    if i < values.len() {
+        Some(values[i].view())
+    } else {
+        None
+    }
+}

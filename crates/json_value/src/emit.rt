@@ -1,0 +1,103 @@
+// The tokens of what a view shows, from left to right.
+ghost use Rattle.std.specs.Prelude.{◌≡◌, [], map, None};
+ghost use Rattle.json_grammar.specs.Tree.{list, no_trees, list_trees, pairs, no_pairs, list_pairs, tokens};
+ghost use Rattle.json_grammar.specs.Proper.{IsProper, AreProper, ArePairsProper};
+ghost use Rattle.json_print.specs.Standing.{TakesValue};
+ghost use Rattle.json_value.specs.Denotes.{tree_of, pair_of};
+ghost use Rattle.json_value.specs.Emitting.{Emits};
+ghost use Rattle.json_value.specs.Seen.{seen};
+
+use crate::container::Form;
+use crate::emit_packed::{emit_document, emit_elements, emit_members};
+use crate::value::{Pair, Value};
+use crate::view::{View, ViewForm};
+use json_print::Events;
+use json_text::Result;
+
+impl<'a> View<'a> {
+    /// Gives the tokens of the tree that is seen to `out`, up to the first that meets an error, which is answered. The events
+    /// have met none before, and a value may come there; the numbers of the tree are numbers, and its texts UTF-8.
+    pub fn emit<E: Events>(self, out: &mut E) -> Result<()>
+        requires fresh { E.failed out.old ≡ None }
+        requires value { TakesValue (E.stand (E.state out.old)).turn }
+        requires proper { IsProper (seen self) }
+        ensures { Emits E.after E.stopped (E.state out.old) (E.state out.new) (E.failed out.new) (tokens (seen self.entry)) result }
+    {
+        match self.form {
+            ViewForm::Packed(view) => emit_document(view, out),
+            ViewForm::Whole(value) => emit_value(value, out),
+        }
+    }
+}
+
+#[cycle(value)]
+fn emit_value<E: Events>(value: &Value, out: &mut E) -> Result<()>
+    requires fresh { E.failed out.old ≡ None }
+    requires turn { TakesValue (E.stand (E.state out.old)).turn }
+    requires proper { IsProper (tree_of value.now) }
+    ensures { Emits E.after E.stopped (E.state out.old) (E.state out.new) (E.failed out.new) (tokens (tree_of value.now)) result }
+{
+    match value {
+        Value::Null => out.null(),
+        Value::Bool(boolean) => out.boolean(*boolean),
+        Value::Raw(literal) => out.raw_number(literal.as_str()),
+        Value::Text(text) => out.text(text.as_str()),
+        Value::Array(array) => match &array.form {
+            Form::Empty => emit_no_values(out),
+            Form::Owned(values) => emit_values(values, out),
+            Form::Packed(place) => emit_elements(place.view(), out),
+        },
+        Value::Object(object) => match &object.form {
+            Form::Empty => emit_no_pairs(out),
+            Form::Owned(values) => emit_pairs(values, out),
+            Form::Packed(place) => emit_members(place.view(), out),
+        },
+    }
+}
+
+fn emit_no_values<E: Events>(out: &mut E) -> Result<()>
+    requires fresh { E.failed out.old ≡ None }
+    requires turn { TakesValue (E.stand (E.state out.old)).turn }
+    ensures { Emits E.after E.stopped (E.state out.old) (E.state out.new) (E.failed out.new) (tokens (list no_trees)) result }
+{
+    out.begin_array(Some(0))?;
+    out.end_array()
+}
+
+fn emit_no_pairs<E: Events>(out: &mut E) -> Result<()>
+    requires fresh { E.failed out.old ≡ None }
+    requires turn { TakesValue (E.stand (E.state out.old)).turn }
+    ensures { Emits E.after E.stopped (E.state out.old) (E.state out.new) (E.failed out.new) (tokens (pairs no_pairs)) result }
+{
+    out.begin_object(Some(0))?;
+    out.end_object()
+}
+
+#[cycle(value)]
+fn emit_values<E: Events>(values: &Vec<Value>, out: &mut E) -> Result<()>
+    requires fresh { E.failed out.old ≡ None }
+    requires turn { TakesValue (E.stand (E.state out.old)).turn }
+    requires proper { AreProper (list_trees (map tree_of values.now.items)) }
+    ensures { Emits E.after E.stopped (E.state out.old) (E.state out.new) (E.failed out.new) (tokens (list (list_trees (map tree_of values.now.items)))) result }
+{
+    out.begin_array(Some(values.len()))?;
+    for value in values {
+        emit_value(value, out)?;
+    }
+    out.end_array()
+}
+
+#[cycle(value)]
+fn emit_pairs<E: Events>(values: &Vec<Pair>, out: &mut E) -> Result<()>
+    requires fresh { E.failed out.old ≡ None }
+    requires turn { TakesValue (E.stand (E.state out.old)).turn }
+    requires proper { ArePairsProper (list_pairs (map pair_of values.now.items)) }
+    ensures { Emits E.after E.stopped (E.state out.old) (E.state out.new) (E.failed out.new) (tokens (pairs (list_pairs (map pair_of values.now.items)))) result }
+{
+    out.begin_object(Some(values.len()))?;
+    for pair in values {
+        out.key(pair.key.as_str())?;
+        emit_value(&pair.value, out)?;
+    }
+    out.end_object()
+}

@@ -1,0 +1,166 @@
+// Views of objects.
+ghost use Rattle.std.specs.Prelude.{◌≡◌, ◌↔◌, [], length, map, option_map, slice_get, IsTrue};
+ghost use Rattle.json_doc.specs.Seen.{view_tree};
+ghost use Rattle.json_value.specs.Denotes.{tree_of, pair_of, pairs_in};
+ghost use Rattle.json_value.specs.Readings.{members};
+ghost use Rattle.json_value.specs.Seen.{seen, members_seen, pairs_of, first_of};
+
+use crate::container::{Container, Form};
+use crate::pair::Keyed;
+use crate::value::{Pair, Value};
+use crate::view::{View, ViewForm};
+use json_doc::{DocView, JsonType};
+
+#[derive(Clone, Copy)]
+pub(crate) enum ObjectForm<'a> {
+    Packed(DocView<'a>),
+    Whole(&'a [Pair]),
+}
+
+/// What is seen of an object. Keys keep their order and may repeat. Nothing of a view takes memory.
+#[derive(Clone, Copy)]
+pub struct ObjectView<'a> {
+    pub(crate) form: ObjectForm<'a>,
+}
+
+impl Container<Keyed<Value>> {
+    /// The whole object.
+    #[inline]
+    pub fn view(&self) -> ObjectView<'_>
+        ensures { members_seen result ≡ pairs_in self.now }
+    {
+        let form = match &self.form {
+            Form::Empty => ObjectForm::Whole(&[]),
+            Form::Owned(pairs) => ObjectForm::Whole(pairs.as_slice()),
+            Form::Packed(place) => ObjectForm::Packed(place.view()),
+        };
+        ObjectView { form }
+    }
+}
+
+impl<'a> ObjectView<'a> {
+    pub(crate) fn of_document(view: DocView<'a>) -> Option<ObjectView<'a>>
+        ensures { option_map members_seen result ≡ pairs_of (view_tree view.entry) }
+    {
+        match view.get_type() {
+            JsonType::Object => Some(ObjectView {
+                form: ObjectForm::Packed(view),
+            }),
+            _ => None,
+        }
+    }
+
+    pub(crate) fn of_value(value: &'a Value) -> Option<ObjectView<'a>>
+        ensures { option_map members_seen result ≡ pairs_of (tree_of value.now) }
+    {
+        match value {
+            Value::Object(object) => Some(object.view()),
+            _ => None,
+        }
+    }
+
+    /// How many members there are.
+    #[inline]
+    pub fn len(self) -> usize
+        ensures { result ≡ length (members_seen self.entry) }
+    {
+        match self.form {
+            ObjectForm::Packed(view) => packed_len(view),
+            ObjectForm::Whole(pairs) => pairs.len(),
+        }
+    }
+
+    /// Whether there is none.
+    #[inline]
+    pub fn is_empty(self) -> bool
+        ensures { IsTrue result ↔ (members_seen self.entry ≡ []) }
+    {
+        self.len() == 0
+    }
+
+    /// The key and the value of the member `i`, counted from 0; none past the last.
+    #[inline]
+    pub fn pair(self, i: usize) -> Option<(&'a str, View<'a>)>
+        ensures { option_map (λ p. (p.0.now, seen p.1)) result ≡ slice_get (members_seen self.entry) i }
+    {
+        match self.form {
+            ObjectForm::Packed(view) => packed_pair(view, i),
+            ObjectForm::Whole(pairs) => whole_pair(pairs, i),
+        }
+    }
+
+    /// The key and the value of the first member of the key; none where there is none.
+    pub fn get_key_value(self, key: &str) -> Option<(&'a str, View<'a>)>
+        ensures { option_map (λ p. (p.0.now, seen p.1)) result ≡ first_of key.now (members_seen self.entry) }
+    {
+        match self.form {
+            ObjectForm::Packed(view) => packed_first(view, key),
+            ObjectForm::Whole(pairs) => whole_first(pairs, key),
+        }
+    }
+
+    /// The value of the first member of the key; none where there is none.
+    pub fn get(self, key: &str) -> Option<View<'a>>
+        ensures { option_map seen result ≡ option_map (λ p. p.1) (first_of key.now (members_seen self.entry)) }
+    {
+        match self.get_key_value(key) {
+            Some((_, value)) => Some(value),
+            None => None,
+        }
+    }
+}
+
+fn packed_len(view: DocView<'_>) -> usize
+    ensures { result ≡ length (members (view_tree view.entry)) }
+{
+    match view.get_type() {
+        JsonType::Object => view.len(),
+        _ => 0,
+    }
+}
+
+fn packed_pair(view: DocView<'_>, i: usize) -> Option<(&str, View<'_>)>
+    ensures { option_map (λ p. (p.0.now, seen p.1)) result ≡ slice_get (members (view_tree view.entry)) i }
+{
+    match view.key(i) {
+        Some(key) => match view.pair_value(i) {
+            Some(value) => Some((key, View::packed(value))),
+            None => None,
+        },
+        None => None,
+    }
+}
+
+fn whole_pair(pairs: &[Pair], i: usize) -> Option<(&str, View<'_>)>
+    ensures { option_map (λ p. (p.0.now, seen p.1)) result ≡ slice_get (map pair_of pairs.now) i }
+{
+    if i < pairs.len() {
+        Some((pairs[i].key.as_str(), pairs[i].value.view()))
+    } else {
+        None
+    }
+}
+
+fn packed_first<'a>(view: DocView<'a>, key: &str) -> Option<(&'a str, View<'a>)>
+    ensures { option_map (λ p. (p.0.now, seen p.1)) result ≡ first_of key.now (members (view_tree view.entry)) }
+{
+    for i in 0..view.len() {
+        if let Some(found) = view.key(i) {
+            if found == key {
+                return packed_pair(view, i);
+            }
+        }
+    }
+    None
+}
+
+fn whole_first<'a>(pairs: &'a [Pair], key: &str) -> Option<(&'a str, View<'a>)>
+    ensures { option_map (λ p. (p.0.now, seen p.1)) result ≡ first_of key.now (map pair_of pairs.now) }
+{
+    for pair in pairs {
+        if pair.key.as_str() == key {
+            return Some((pair.key.as_str(), pair.value.view()));
+        }
+    }
+    None
+}

@@ -1,0 +1,153 @@
+// Views of values.
+ghost use Rattle.std.specs.Prelude.{◌≡◌, option_map};
+ghost use Rattle.json_doc.specs.Readings.{type_of, bool_of, literal_of, string_of};
+ghost use Rattle.json_doc.specs.Seen.{view_tree};
+ghost use Rattle.json_value.specs.Denotes.{tree_of};
+ghost use Rattle.json_value.specs.Seen.{seen, elements_seen, members_seen, list_of, pairs_of};
+
+use crate::array_view::ArrayView;
+use crate::object_view::ObjectView;
+use crate::value::Value;
+use json_doc::{DocView, JsonType};
+
+#[derive(Clone, Copy)]
+pub(crate) enum ViewForm<'a> {
+    Packed(DocView<'a>),
+    Whole(&'a Value),
+}
+
+/// What is seen of a value, or of a place of a packed document. Nothing of a view takes memory.
+#[derive(Clone, Copy)]
+pub struct View<'a> {
+    pub(crate) form: ViewForm<'a>,
+}
+
+impl Value {
+    /// The whole value.
+    #[inline]
+    pub fn view(&self) -> View<'_>
+        ensures { seen result ≡ tree_of self.now }
+    {
+        View {
+            form: ViewForm::Whole(self),
+        }
+    }
+}
+
+impl<'a> View<'a> {
+    /// A place of a document.
+    #[inline]
+    pub fn packed(view: DocView<'a>) -> View<'a>
+        ensures { seen result ≡ view_tree view.entry }
+    {
+        View {
+            form: ViewForm::Packed(view),
+        }
+    }
+
+    /// The kind of the value.
+    #[inline]
+    pub fn get_type(self) -> JsonType
+        ensures { result ≡ type_of (seen self.entry) }
+    {
+        match self.form {
+            ViewForm::Packed(view) => view.get_type(),
+            ViewForm::Whole(value) => value_type(value),
+        }
+    }
+
+    /// The boolean; none of another kind.
+    #[inline]
+    pub fn as_bool(self) -> Option<bool>
+        ensures { result ≡ bool_of (seen self.entry) }
+    {
+        match self.form {
+            ViewForm::Packed(view) => view.as_bool(),
+            ViewForm::Whole(value) => value_bool(value),
+        }
+    }
+
+    /// The literal of the number; none of another kind.
+    #[inline]
+    pub fn literal(self) -> Option<&'a str>
+        ensures { option_map (λ s. s.now) result ≡ literal_of (seen self.entry) }
+    {
+        match self.form {
+            ViewForm::Packed(view) => view.literal(),
+            ViewForm::Whole(value) => value_literal(value),
+        }
+    }
+
+    /// The text of the string; none of another kind.
+    #[inline]
+    pub fn text(self) -> Option<&'a str>
+        ensures { option_map (λ s. s.now) result ≡ string_of (seen self.entry) }
+    {
+        match self.form {
+            ViewForm::Packed(view) => view.text(),
+            ViewForm::Whole(value) => value_text(value),
+        }
+    }
+
+    /// The array; none of another kind.
+    #[inline]
+    pub fn as_array(self) -> Option<ArrayView<'a>>
+        ensures { option_map elements_seen result ≡ list_of (seen self.entry) }
+    {
+        match self.form {
+            ViewForm::Packed(view) => ArrayView::of_document(view),
+            ViewForm::Whole(value) => ArrayView::of_value(value),
+        }
+    }
+
+    /// The object; none of another kind.
+    #[inline]
+    pub fn as_object(self) -> Option<ObjectView<'a>>
+        ensures { option_map members_seen result ≡ pairs_of (seen self.entry) }
+    {
+        match self.form {
+            ViewForm::Packed(view) => ObjectView::of_document(view),
+            ViewForm::Whole(value) => ObjectView::of_value(value),
+        }
+    }
+}
+
+fn value_type(value: &Value) -> JsonType
+    ensures { result ≡ type_of (tree_of value.now) }
+{
+    match value {
+        Value::Null => JsonType::Null,
+        Value::Bool(_) => JsonType::Boolean,
+        Value::Raw(_) => JsonType::Number,
+        Value::Text(_) => JsonType::String,
+        Value::Array(_) => JsonType::Array,
+        Value::Object(_) => JsonType::Object,
+    }
+}
+
+fn value_bool(value: &Value) -> Option<bool>
+    ensures { result ≡ bool_of (tree_of value.now) }
+{
+    match value {
+        Value::Bool(boolean) => Some(*boolean),
+        _ => None,
+    }
+}
+
+fn value_literal(value: &Value) -> Option<&str>
+    ensures { option_map (λ s. s.now) result ≡ literal_of (tree_of value.now) }
+{
+    match value {
+        Value::Raw(literal) => Some(literal.as_str()),
+        _ => None,
+    }
+}
+
+fn value_text(value: &Value) -> Option<&str>
+    ensures { option_map (λ s. s.now) result ≡ string_of (tree_of value.now) }
+{
+    match value {
+        Value::Text(text) => Some(text.as_str()),
+        _ => None,
+    }
+}

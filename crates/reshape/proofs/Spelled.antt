@@ -1,0 +1,218 @@
+-- What is read of a word, element by element.
+use Rattle.std.proofs.Common.{◌≡◌, ◌≢◌, inl, inr, ℕ, ◌+◌, ◌<◌, ◌≤◌, ◌^◌, List, [], ◌∷◌, ◌++◌, length, drop, get_or, Bool, true, false, cond, ◌&&◌, ltb, eqb, Option, Some, None, option_map, option_and_then, Result, Ok, Err, slice_get, bytes_eq, codes, refl, sym, subst, ap, ◌∙◌, arith, append_assoc}
+use Rattle.std.proofs.lemmas.List.{drop_more}
+use Rattle.std.proofs.lemmas.Option.{slice_get_within, get_or_from_slice_get, slice_get-get_or}
+use Rattle.std.proofs.lemmas.Bool.{false_from_ne_true}
+use Rattle.std.proofs.lemmas.Slice.Eq.{bytes_eq-Decides}
+use Rattle.std.proofs.lemmas.Bool.Decides.{Decides-ltb, nat_tests}
+use Rattle.std.proofs.lemmas.Str.Parse.{IsNumeralModel, numerals_by_value, tells_all_ascii_digits, parse_plain}
+use Rattle.std.specs.Result.{OkIff, result_ok}
+use Rattle.std.specs.Str.{all_ascii_digits}
+use Rattle.std.specs.Str.Parse.{digits_value, ParsesUnsigned}
+use Rattle.json_grammar.specs.Tree.{Tree, null, boolean, num, text, list, pairs, no_trees, tree_and, trees_list, depth}
+use Rattle.json_grammar.specs.Grammar.{is_text}
+use Rattle.json_grammar.proofs.Values.{one_tree}
+use Rattle.json_text.specs.declared.error.Error.{Error}
+use Rattle.json_text.specs.declared.error.ErrorCode.{ErrorCode}
+use Rattle.json_text.specs.declared.error.ErrorCode.TheVariants.{NoMemory}
+use Rattle.json_text.specs.declared.error.Place.{Place}
+use Rattle.json_text.proofs.NoText.{no_text}
+use Rattle.json_doc.specs.declared.doc.Doc.{Doc}
+use Rattle.json_doc.specs.Docs.{IsDocOf, doc_tree, doc_root, doc_cells, doc_text}
+use Rattle.json_doc.specs.Reading.{ReadingFails}
+use Rattle.json_doc.proofs.Pieces.{spelled}
+use Rattle.json_doc.specs.declared.json_type.JsonType.TheVariants.{Array}
+use Rattle.json_doc.specs.Readings.{type_of, string_of, elements, children}
+use Rattle.json_model.specs.Edit.{Edit}
+use Rattle.reshape.specs.Words.{both, each_in, index_in, step_in, path_in, edit_named, edit_in, edits_in, Unread, Spells}
+use Rattle.reshape.specs.Input.{most}
+
+none_some : {A : Type 0} {x : A} → None ≡ Some x → ⊥
+none_some e = cc
+
+-- what is not read of a part is not read of the whole
+pub unread : {A B : Type 0} (o : Option A) (p : Option B) (e : Error) → (o ≡ None → p ≡ None) → Unread o e → Unread p e
+unread o p e h (inl m) = inl m
+unread o p e h (inr (b, n)) = inr (b, h n)
+
+-- ---- indices
+
+abbrev own : IsNumeralModel (λ ds. all_ascii_digits ds ≡ true) (digits_value 10)
+own = numerals_by_value _ tells_all_ascii_digits
+
+picked : (a b : Bool) (v : ℕ) → a ≡ true → b ≡ true → Some v ≡ cond (a && b) (Some v) None
+picked true true v d e = refl
+picked true false v d e = absurd (differ e)
+  where
+    differ : false ≡ true → ⊥
+    differ e = cc
+picked false b v d e = absurd (differ d)
+  where
+    differ : false ≡ true → ⊥
+    differ e = cc
+
+left_out : (a b : Bool) (v : ℕ) → (a ≡ true → b ≡ true → ⊥) → None ≡ cond (a && b) (Some v) None
+left_out true true v h = absurd (h refl refl)
+left_out true false v h = refl
+left_out false b v h = refl
+
+index_by : {E : Type 0} (bs : List ℕ) (r : Result ℕ E) → OkIff r ((all_ascii_digits bs ≡ true) × (0 < length bs) × (digits_value 10 bs < 2 ^ 32)) (digits_value 10 bs) → result_ok r ≡ index_in bs
+index_by [] (Ok x) h = absurd (omega (arith, h.0.1))
+index_by [] (Err e) h = refl
+index_by (x ∷ l) (Ok y) h = ap Some h.1 ∙ picked (all_ascii_digits (x ∷ l)) (ltb (digits_value 10 (x ∷ l)) (2 ^ 32)) (digits_value 10 (x ∷ l)) h.0.0 ((Decides-ltb (digits_value 10 (x ∷ l)) (2 ^ 32)).1 h.0.2)
+index_by (x ∷ l) (Err e) h =
+    left_out (all_ascii_digits (x ∷ l)) (ltb (digits_value 10 (x ∷ l)) (2 ^ 32)) (digits_value 10 (x ∷ l)) (λ d s. h (d, omega arith, (Decides-ltb (digits_value 10 (x ∷ l)) (2 ^ 32)).0 s))
+
+-- what `parse` answers of a literal without a plus sign in front is its index
+pub index_parsed : {E : Type 0} (bs : List ℕ) (r : Result ℕ E) → ParsesUnsigned 32 10 bs r → get_or bs 0 0 ≢ 43 → result_ok r ≡ index_in bs
+index_parsed bs r h n = index_by bs r (parse_plain own 32 bs r h n)
+
+pub first_is : (bs : List ℕ) (r : Bool) → r ≡ eqb (get_or bs 0 0) 43 → r ≡ true → get_or bs 0 0 ≡ 43
+first_is bs r e f = grind (arith, nat_tests)
+
+pub first_is_not : (bs : List ℕ) (r : Bool) → r ≡ eqb (get_or bs 0 0) 43 → r ≡ false → get_or bs 0 0 ≢ 43
+first_is_not bs r e f = grind (arith, nat_tests)
+
+-- no index begins with a plus sign
+pub no_index : (bs : List ℕ) → get_or bs 0 0 ≡ 43 → None ≡ index_in bs
+no_index [] e = refl
+no_index (x ∷ l) e = rw e refl
+
+-- ---- one element after another
+
+-- what the first i trees give is got, and the rest has to give something too
+pub record Taken {A : Type 0} (f : Tree → Option A) (xs : List Tree) (i : ℕ) (got : List A) : Type 0 where
+  pub whole : each_in f xs ≡ option_map (λ r. got ++ r) (each_in f (drop i xs))
+
+drop_seen : (xs : List Tree) (i : ℕ) (t : Tree) → Some t ≡ slice_get xs i → drop i xs ≡ t ∷ drop (i + 1) xs
+drop_seen xs i t e = let s : slice_get xs i ≡ Some t = sym e in drop_more xs i t (slice_get_within xs i t s) ∙ ap (λ u. u ∷ drop (i + 1) xs) (get_or_from_slice_get xs i t t s)
+
+behind : {A : Type 0} (got : List A) (x : A) (o : Option (List A)) → option_map (λ r. got ++ r) (both (λ x xs. x ∷ xs) (Some x) o) ≡ option_map (λ r. (got ++ x ∷ []) ++ r) o
+behind got x None = refl
+behind got x (Some r) = ap Some (sym (append_assoc got (x ∷ []) r))
+
+taken_more : {A : Type 0} (f : Tree → Option A) (xs : List Tree) (i : ℕ) (got : List A) (t : Tree) (x : A) → Taken f xs i got → Some t ≡ slice_get xs i → f t ≡ Some x → Taken f xs (i + 1) (got ++ x ∷ [])
+taken_more f xs i got t x h e k =
+    record {
+      whole =
+          h.whole ∙ ap (λ ys. option_map (λ r. got ++ r) (each_in f ys)) (drop_seen xs i t e) ∙ ap (λ o. option_map (λ r. got ++ r) (both (λ x xs. x ∷ xs) o (each_in f (drop (i + 1) xs)))) k
+          ∙ behind got x (each_in f (drop (i + 1) xs));
+    }
+
+pub taken_next : {A : Type 0} (f : Tree → Option A) (xs : List Tree) (i : ℕ) (got got' : List A) (t : Tree) (x : A) → Taken f xs i got → Some t ≡ slice_get xs i → f t ≡ Some x → got' ≡ got ++ x ∷ [] → Taken f xs (i + 1) got'
+taken_next f xs i got got' t x h e k g = subst (Taken f xs (i + 1)) (sym g) (taken_more f xs i got t x h e k)
+
+both_none : {A B C : Type 0} (f : A → B → C) (o : Option B) → both f None o ≡ None
+both_none f None = refl
+both_none f (Some b) = refl
+
+pub taken_stops : {A : Type 0} (f : Tree → Option A) (xs : List Tree) (i : ℕ) (got : List A) (t : Tree) → Taken f xs i got → Some t ≡ slice_get xs i → f t ≡ None → each_in f xs ≡ None
+taken_stops f xs i got t h e k =
+    h.whole ∙ ap (λ ys. option_map (λ r. got ++ r) (each_in f ys)) (drop_seen xs i t e) ∙ ap (λ o. option_map (λ r. got ++ r) (both (λ x xs. x ∷ xs) o (each_in f (drop (i + 1) xs)))) k
+    ∙ ap (option_map (λ r. got ++ r)) (both_none (λ x xs. x ∷ xs) (each_in f (drop (i + 1) xs)))
+
+-- within the list there is an element
+pub seen_within : {V : Type 0} (view : V → Tree) (o : Option V) (xs : List Tree) (i : ℕ) → option_map view o ≡ slice_get xs i → i < length xs → o ≡ None → ⊥
+seen_within view None xs i e l n = absurd (none_some (e ∙ slice_get-get_or xs i null l))
+seen_within view (Some v) xs i e l n = cc
+
+-- ---- arrays
+
+pub array_children : (t : Tree) → type_of t ≡ Array → children t ≡ elements t
+array_children (list ts) e = refl
+array_children null e = cc
+array_children (boolean b) e = cc
+array_children (num l) e = cc
+array_children (text s) e = cc
+array_children (pairs ps) e = cc
+
+pub path_of_array : (t : Tree) → type_of t ≡ Array → path_in t ≡ each_in step_in (elements t)
+path_of_array (list ts) e = refl
+path_of_array null e = cc
+path_of_array (boolean b) e = cc
+path_of_array (num l) e = cc
+path_of_array (text s) e = cc
+path_of_array (pairs ps) e = cc
+
+pub edits_of_array : (t : Tree) → type_of t ≡ Array → edits_in t ≡ each_in edit_in (elements t)
+edits_of_array (list ts) e = refl
+edits_of_array null e = cc
+edits_of_array (boolean b) e = cc
+edits_of_array (num l) e = cc
+edits_of_array (text s) e = cc
+edits_of_array (pairs ps) e = cc
+
+-- ---- the elements behind the first
+
+two_of : (xs : List Tree) (a b : Tree) → length xs ≡ 3 → Some a ≡ slice_get xs 1 → Some b ≡ slice_get xs 2 → drop 1 xs ≡ a ∷ b ∷ []
+two_of [] a b n e f = absurd (omega arith)
+two_of (x ∷ []) a b n e f = absurd (omega arith)
+two_of (x ∷ y ∷ []) a b n e f = absurd (omega arith)
+two_of (x ∷ y ∷ z ∷ []) a b n e f = cc
+two_of (x ∷ y ∷ z ∷ w ∷ xs) a b n e f = absurd (omega arith)
+
+three_of : (xs : List Tree) (a b d : Tree) → length xs ≡ 4 → Some a ≡ slice_get xs 1 → Some b ≡ slice_get xs 2 → Some d ≡ slice_get xs 3 → drop 1 xs ≡ a ∷ b ∷ d ∷ []
+three_of [] a b d n e f g = absurd (omega arith)
+three_of (x ∷ []) a b d n e f g = absurd (omega arith)
+three_of (x ∷ y ∷ []) a b d n e f g = absurd (omega arith)
+three_of (x ∷ y ∷ z ∷ []) a b d n e f g = absurd (omega arith)
+three_of (x ∷ y ∷ z ∷ w ∷ []) a b d n e f g = cc
+three_of (x ∷ y ∷ z ∷ w ∷ v ∷ xs) a b d n e f g = absurd (omega arith)
+
+pub two_parts : (t a b : Tree) → length (children t) ≡ 3 → Some a ≡ slice_get (elements t) 1 → Some b ≡ slice_get (elements t) 2 → drop 1 (elements t) ≡ a ∷ b ∷ []
+two_parts (list ts) a b n e f = two_of (trees_list ts) a b n e f
+two_parts t a b n e f = absurd (none_some (sym e))
+
+pub three_parts : (t a b d : Tree) → length (children t) ≡ 4 → Some a ≡ slice_get (elements t) 1 → Some b ≡ slice_get (elements t) 2 → Some d ≡ slice_get (elements t) 3 → drop 1 (elements t) ≡ a ∷ b ∷ d ∷ []
+three_parts (list ts) a b d n e f g = three_of (trees_list ts) a b d n e f g
+three_parts t a b d n e f g = absurd (none_some (sym e))
+
+-- ---- the name of an edit
+
+edit_by_name : (t : Tree) (name : List ℕ) → Some name ≡ option_and_then string_of (slice_get (elements t) 0) → edit_in t ≡ edit_named name (drop 1 (elements t))
+edit_by_name (list (tree_and (text n) ts)) name e = let i : n ≡ name = cc in ap (λ n. edit_named n (trees_list ts)) i
+edit_by_name (list (tree_and t ts)) name e = absurd (none_some (sym e))
+edit_by_name (list no_trees) name e = absurd (none_some (sym e))
+edit_by_name t name e = absurd (none_some (sym e))
+
+pub edit_named_so : (t : Tree) (name form : List ℕ) → Some name ≡ option_and_then string_of (slice_get (elements t) 0) → name ≡ form → edit_in t ≡ edit_named form (drop 1 (elements t))
+edit_named_so t name form e f = edit_by_name t name e ∙ ap (λ n. edit_named n (drop 1 (elements t))) f
+
+-- ---- another name
+
+first_false : {A : Type 0} (b : Bool) (x y z : A) → b ≡ false → y ≡ z → cond b x y ≡ z
+first_false false x y z e f = f
+first_false true x y z e f = cc
+
+other : (a b : List ℕ) → a ≢ b → bytes_eq a b ≡ false
+other a b n = false_from_ne_true (bytes_eq a b) (λ e. n ((bytes_eq-Decides a b).0 e))
+
+-- no edit has another name
+pub edit_unknown : (name : List ℕ) (xs : List Tree) → name ≢ codes "set" → name ≢ codes "insert" → name ≢ codes "push" → name ≢ codes "remove" → edit_named name xs ≡ None
+edit_unknown name [] s i p r = refl
+edit_unknown name (q ∷ []) s i p r = refl
+edit_unknown name (q ∷ u ∷ []) s i p r = first_false _ _ _ _ (other name (codes "set") s) (first_false _ _ _ _ (other name (codes "push") p) (first_false _ _ _ _ (other name (codes "remove") r) refl))
+edit_unknown name (q ∷ k ∷ u ∷ []) s i p r = first_false _ _ _ _ (other name (codes "insert") i) refl
+edit_unknown name (q ∷ k ∷ u ∷ t ∷ ts) s i p r = refl
+
+-- ---- a whole word
+
+-- what read_document promises of a document
+abbrev Documents : List ℕ → Doc → Type 0
+Documents word d = (t : Tree) × is_text false t word × (depth t ≤ 254) × IsDocOf d t
+
+abbrev root_tree : Doc → Tree
+root_tree d = doc_tree d (doc_root d)
+
+root_is : (d : Doc) (t : Tree) → IsDocOf d t → root_tree d ≡ t
+root_is d t h = spelled (doc_cells d) (doc_text d) (doc_root d) t h.spelled
+
+pub word_spells : (word : List ℕ) (d : Doc) (es : List Edit) → length word ≤ most → Documents word d → edits_in (root_tree d) ≡ Some es → Spells word es
+word_spells word d es l (t, i, s, doc) h = record { tree = t; input = record { short = l; text = i; shallow = s }; edits = ap edits_in (sym (root_is d t doc)) ∙ h }
+
+pub word_spells_none : (word : List ℕ) (d : Doc) → Documents word d → edits_in (root_tree d) ≡ None → (es : List Edit) → ¬ (Spells word es)
+word_spells_none word d (t, i, l, doc) n es s = none_some (sym n ∙ ap edits_in (root_is d t doc ∙ one_tree false t s.tree word i s.input.text) ∙ s.edits)
+
+pub no_text_spells : (word : List ℕ) (code : ErrorCode) (place : Place) → code ≢ NoMemory → ReadingFails word code place → (es : List Edit) → ¬ (Spells word es)
+no_text_spells word NoMemory place n h es s = absurd (n refl)
+no_text_spells word code place n h es s = no_text 254 word code h.0 h.2 s.tree s.input.text s.input.shallow

@@ -1,0 +1,41 @@
+// Edits in turn.
+ghost use Rattle.std.specs.Prelude.{◌≡◌, ◌<◌, ◌^◌, length, map, Ok, OnOk, IfErr};
+ghost use Rattle.json_model.specs.Edit.{edited};
+ghost use Rattle.json_value.specs.Denotes.{tree_of};
+ghost use Rattle.json_value.specs.Edits.{edit_of};
+ghost use Rattle.reshape.specs.Reshape.{EditingRefuses, place_numbered};
+
+use json_text::{Error, ErrorCode, Place, Result};
+use json_value::{Edit, Value};
+use std::alloc::Global;
+
+// The refusal of one edit, with its number. Want of memory has no place.
+fn numbered(error: Error, number: u32) -> Error
+    ensures code { result.code ≡ error.code }
+    ensures place { result.place ≡ place_numbered error.code error.place number }
+{
+    match error.code {
+        ErrorCode::NoMemory => error,
+        code => Error {
+            code,
+            place: Place::Edit(number),
+        },
+    }
+}
+
+/// Applies the edits in turn, each to what the one before it left. The first that does not apply is told by its number;
+/// or memory runs out. There are fewer than 2^32 edits.
+pub fn apply_all(alloc: Global, value: &mut Value, edits: &[Edit]) -> Result<()>
+    requires { length edits.now < 2 ^ 32 }
+    ensures ok { OnOk result (edited (map edit_of edits.now) (tree_of value.old) ≡ Ok (tree_of value.new)) }
+    ensures refused { IfErr result (λ e. EditingRefuses (map edit_of edits.now) (tree_of value.old) e.code e.place) }
+{
+    let mut number = 0;
+    for edit in edits {
+        match value.apply(alloc, edit) {
+            Ok(()) => number += 1,
+            Err(error) => return Err(numbered(error, number)),
+        }
+    }
+    Ok(())
+}

@@ -1,0 +1,31 @@
+// Edits in turn.
+ghost use Rattle.std.specs.Prelude.{◌≡◌, [], map};
+ghost use Rattle.json_value.specs.Edits.{edit_of};
+ghost use Rattle.reshape.specs.Asked.{edits_of};
+
+use json_value::Edit;
+use std::alloc::Global;
+
+/// The edits that the words ask for, the first of them first.
+#[derive(Drop)]
+pub struct Edits {
+    pub(crate) list: Vec<Edit>,
+}
+
+impl Edits {
+    /// No edits. Takes no memory.
+    pub(crate) fn none(alloc: Global) -> Edits
+        ensures { edits_of result ≡ [] }
+    {
+        Edits {
+            list: Vec::new(alloc),
+        }
+    }
+
+    /// The edits, in the order in which they apply.
+    pub fn as_slice(&self) -> &[Edit]
+        ensures { map edit_of result.now ≡ edits_of self.now }
+    {
+        self.list.as_slice()
+    }
+}

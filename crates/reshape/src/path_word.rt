@@ -1,0 +1,66 @@
+// Steps and paths, as a tree spells them.
+ghost use Rattle.std.specs.Prelude.{◌≡◌, IfOk, IfErr, Some};
+ghost use Rattle.json_doc.specs.Seen.{view_tree};
+ghost use Rattle.json_value.specs.Edits.{step_of, path_steps};
+ghost use Rattle.reshape.specs.Words.{index_in, step_in, path_in, Unread};
+
+use json_doc::{DocView, JsonType};
+use json_text::{Error, ErrorCode, Place, Result};
+use json_value::{Path, PointerNode, Text};
+use std::alloc::Global;
+
+/// The refusal of words that have another form.
+pub const BAD_WORDS: Error = Error {
+    code: ErrorCode::BadWords,
+    place: Place::None,
+};
+
+// The index that a literal spells; none where it has other bytes than digits, or is 2^32 or more.
+fn read_index(literal: &str) -> Option<u32>
+    ensures { result ≡ index_in literal.now }
+{
+    // `parse` would take a plus sign.
+    if literal.starts_with('+') {
+        return None;
+    }
+    match literal.parse::<u32>() {
+        Ok(index) => Some(index),
+        Err(_) => None,
+    }
+}
+
+/// The step that is seen: a key or an index. `BadWords` where it is neither, and `NoMemory`.
+pub fn read_step(alloc: Global, view: DocView<'_>) -> Result<PointerNode>
+    ensures ok { IfOk result (λ s. step_in (view_tree view.entry) ≡ Some (step_of s)) }
+    ensures err { IfErr result (Unread (step_in (view_tree view.entry))) }
+{
+    if let Some(key) = view.text() {
+        let key = Text::copy(alloc, key)?;
+        return Ok(PointerNode::Key(key));
+    }
+    if let Some(literal) = view.literal() {
+        if let Some(index) = read_index(literal) {
+            return Ok(PointerNode::Index(index as usize));
+        }
+    }
+    Err(BAD_WORDS)
+}
+
+/// The path that is seen: an array of steps. `BadWords` where it is none, and `NoMemory`.
+pub fn read_path(alloc: Global, view: DocView<'_>) -> Result<Path>
+    ensures ok { IfOk result (λ p. path_in (view_tree view.entry) ≡ Some (path_steps p)) }
+    ensures err { IfErr result (Unread (path_in (view_tree view.entry))) }
+{
+    if view.get_type() != JsonType::Array {
+        return Err(BAD_WORDS);
+    }
+    let mut path = Path::new(alloc);
+    'steps: for i in 0..view.len() {
+        let Some(element) = view.element(i) else {
+            return Err(BAD_WORDS);
+        };
+        let step = read_step(alloc, element)?;
+        path.push(step)?;
+    }
+    Ok(path)
+}
