@@ -7,3 +7,5 @@ pub mod Turns
 pub mod Emitting
 pub mod WholeTrees
 pub mod KeyLookups
+pub mod TreeEdits
+pub mod AppliedTrees

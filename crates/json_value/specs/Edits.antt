@@ -1,5 +1,5 @@
 -- What edits of values are edits of trees, and what paths lead through them.
-use Rattle.std.specs.Prelude.{◌≡◌, ℕ, List, map, ⊤, Err, Ok}
+use Rattle.std.specs.Prelude.{◌≡◌, List, map, ⊤, Err, Ok}
 use Rattle.json_grammar.specs.Tree.{Tree}
 use Rattle.json_model.specs.Edit.{Step, key_step, index_step, set_at, insert_at, push_at, remove_at, Changed, inserted, pushed, removed, on_list, on_pairs, edited_once, not_found, type_unmatched}
 use Rattle.json_model.specs.Edit as model
@@ -47,8 +47,8 @@ change_of (Insert p k v) t = on_pairs (λ ps. Ok (inserted (text_bytes k) (tree_
 change_of (Push p v) t = on_list (λ ts. Ok (pushed (tree_of v) ts)) t
 change_of (Remove p s) t = removed (step_of s) t
 
--- why a change of a tree was refused, given what it makes of the tree
-abbrev pub RefusesChange : Changed Tree → ErrorCode → Place → Type 0
+-- why a change of a tree or of a part of it was refused, given what it makes of it
+abbrev pub RefusesChange : {A : Type 0} → Changed A → ErrorCode → Place → Type 0
 RefusesChange changed NoMemory nowhere = ⊤
 RefusesChange changed NotFound nowhere = changed ≡ Err not_found
 RefusesChange changed TypeUnmatched nowhere = changed ≡ Err type_unmatched

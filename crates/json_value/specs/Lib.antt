@@ -6,3 +6,4 @@ pub mod Rows
 pub mod Written
 pub mod Emitting
 pub mod Seen
+pub mod FirstMember

@@ -20,6 +20,8 @@ mod place;
 mod standing;
 #[cfg(test)]
 mod tests;
+#[cfg(test)]
+mod tests_applying;
 mod text;
 mod value;
 mod view;

@@ -1,0 +1,23 @@
+use Rattle.std.proofs.Common.{map, Ok, sym, ap, ◌∙◌}
+use Rattle.std.proofs.lemmas.Result.{on_ok_weaker, on_err_weaker}
+use Rattle.json_grammar.specs.Tree.{list_pairs}
+use Rattle.json_model.specs.Edit.{inserted}
+use Rattle.json_value.specs.Denotes.{tree_of, text_bytes, pair_of}
+use Rattle.json_value.proofs.AppliedTrees.{object_changed, object_kept}
+use Rattle.json_value.proofs.value.Value.insert.Goals as goal
+
+pub returns-in_ok-pairs-in-Some-clause-ok : goal.returns-in_ok-pairs-in-Some-clause-ok
+returns-in_ok-pairs-in-Some-clause-ok c =
+    let k = text_bytes c.args.key.now in
+    let t = tree_of c.args.value.now in
+    let pairs = c.in_ok-pairs-in-Some.pairs.now in
+    let before = list_pairs (map pair_of pairs.items) in
+    on_ok_weaker c.insert_pair.result
+    (λ h. object_changed c.args.self.now c.in-Some.object.now pairs c.in-Some.ensures.value c.in_ok-pairs-in-Some.ensures.pairs (λ ps. Ok (inserted k t ps)) c.insert_pair.new.pairs (ap (λ u. Ok (inserted k u before)) (sym c.in_ok-value-in-Some.ensures.tree) ∙ ap Ok h))
+    c.insert_pair.ensures.ok
+
+pub returns-in_ok-pairs-in-Some-clause-kept : goal.returns-in_ok-pairs-in-Some-clause-kept
+returns-in_ok-pairs-in-Some-clause-kept c =
+    on_err_weaker c.insert_pair.result
+    (object_kept c.args.self.now c.in-Some.object.now c.in_ok-pairs-in-Some.pairs.now c.in-Some.ensures.value c.in_ok-pairs-in-Some.ensures.pairs c.insert_pair.new.pairs)
+    c.insert_pair.ensures.kept

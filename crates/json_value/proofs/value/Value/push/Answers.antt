@@ -1,0 +1,18 @@
+use Rattle.std.proofs.Common.{map, Ok, sym, ap, ◌∙◌}
+use Rattle.json_grammar.specs.Tree.{list_trees}
+use Rattle.json_model.specs.Edit.{pushed}
+use Rattle.json_value.specs.Denotes.{tree_of}
+use Rattle.json_value.proofs.AppliedTrees.{array_changed, array_kept, element_pushed, anyway}
+use Rattle.json_value.proofs.value.Value.push.Goals as goal
+
+pub returns-in_err-push-in-Some-clause-kept : goal.returns-in_err-push-in-Some-clause-kept
+returns-in_err-push-in-Some-clause-kept c =
+    anyway c.from_residual-in_err-push-in-Some.result
+    (array_kept c.args.self.now c.in-Some.array.now c.in_ok-list-in-Some.list.now c.in-Some.ensures.value c.in_ok-list-in-Some.ensures.list c.push.new.self (ap (map tree_of) c.in_err-push-in-Some.ensures.items))
+
+pub returns-in_ok-push-in-Some-clause-ok : goal.returns-in_ok-push-in-Some-clause-ok
+returns-in_ok-push-in-Some-clause-ok c =
+    let t = tree_of c.args.value.now in
+    let list = c.in_ok-list-in-Some.list.now in
+    array_changed c.args.self.now c.in-Some.array.now list c.in-Some.ensures.value c.in_ok-list-in-Some.ensures.list (λ ts. Ok (pushed t ts)) c.push.new.self
+    (ap Ok (element_pushed list.items c.in_ok-value-in-Some.value t c.in_ok-value-in-Some.ensures.tree ∙ ap (λ vs. list_trees (map tree_of vs)) (sym c.in_ok-push-in-Some.ensures.items)))
