@@ -21,7 +21,7 @@ mod standing;
 #[cfg(test)]
 mod tests;
 #[cfg(test)]
-mod tests_applying;
+mod applying_tests;
 mod text;
 mod value;
 mod view;
