@@ -1,4 +1,5 @@
-//! Reads a JSON text from standard input, and writes the compact text of the same tree to standard output.
+//! Reads a JSON text from standard input, edits its value by the word that it is given, and writes the compact text of the edited
+//! tree to standard output.
 #![tactic(auto)]
 
 use json_text::{StdSink, StdSource, Words};
