@@ -37,7 +37,6 @@ edited_then n [] bs t u h = ap (λ v. edited_from n bs v) (ok_is t u h) ∙ ap (
   where
     none : (i : ℕ) → i ≡ i + 0
     none i = omega arith
-
 edited_then n (a ∷ ds) bs t u h = first_then n ds bs u (λ v g. edited_then (suc n) ds bs v u g) (edited_once a t) h ∙ ap (λ m. edited_from m bs u) (more n (length ds))
   where
     more : (i k : ℕ) → suc i + k ≡ i + suc k

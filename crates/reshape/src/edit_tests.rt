@@ -45,13 +45,21 @@ const PERSON: &[u8] = b"{
 #[test]
 fn edits_that_apply(rt: HostRuntime) -> Result<(), Fail> {
     let cases: [(&[u8], &str, &[u8]); 20] = [
-        (b"{\"a\": 1, \"a\": true}", "[[\"set\",[\"a\"],2]]", b"{\"a\":2,\"a\":true}"),
+        (
+            b"{\"a\": 1, \"a\": true}",
+            "[[\"set\",[\"a\"],2]]",
+            b"{\"a\":2,\"a\":true}",
+        ),
         (
             b"{\"a\": 1, \"a\": true, \"a\": null}",
             "[[\"set\",[\"a\"],2]]",
             b"{\"a\":2,\"a\":true,\"a\":null}",
         ),
-        (b"{\"a\": 1, \"a\": true, \"a\": null}", "[[\"remove\",[],\"a\"]]", b"{}"),
+        (
+            b"{\"a\": 1, \"a\": true, \"a\": null}",
+            "[[\"remove\",[],\"a\"]]",
+            b"{}",
+        ),
         (b"[1,2,3]", "[[\"remove\",[],1]]", b"[1,3]"),
         (b"1", "[[\"set\",[],{\"x\":[1.50]}]]", b"{\"x\":[1.50]}"),
         (b"{\"\\u0061\":1}", "[[\"set\",[\"a\"],2]]", b"{\"a\":2}"),
@@ -63,9 +71,21 @@ fn edits_that_apply(rt: HostRuntime) -> Result<(), Fail> {
             "[[\"set\",[\"a\",\"b\",1,\"c\"],[]]]",
             b"{\"a\":{\"b\":[0,{\"c\":[]}]}}",
         ),
-        (b"{\"a\":1,\"b\":2}", "[[\"insert\",[],\"b\",3]]", b"{\"a\":1,\"b\":3}"),
-        (b"{\"a\":1}", "[[\"insert\",[],\"b\",null]]", b"{\"a\":1,\"b\":null}"),
-        (b"{\"a\":1,\"a\":2}", "[[\"insert\",[],\"a\",3]]", b"{\"a\":3,\"a\":2}"),
+        (
+            b"{\"a\":1,\"b\":2}",
+            "[[\"insert\",[],\"b\",3]]",
+            b"{\"a\":1,\"b\":3}",
+        ),
+        (
+            b"{\"a\":1}",
+            "[[\"insert\",[],\"b\",null]]",
+            b"{\"a\":1,\"b\":null}",
+        ),
+        (
+            b"{\"a\":1,\"a\":2}",
+            "[[\"insert\",[],\"a\",3]]",
+            b"{\"a\":3,\"a\":2}",
+        ),
         (b"{}", "[[\"insert\",[],\"\",[]]]", b"{\"\":[]}"),
         (b"[]", "[[\"push\",[],1],[\"push\",[],2]]", b"[1,2]"),
         (b"{\"a\":[1]}", "[[\"push\",[\"a\"],{}]]", b"{\"a\":[1,{}]}"),
@@ -79,7 +99,11 @@ fn edits_that_apply(rt: HostRuntime) -> Result<(), Fail> {
             "[[\"set\",[],{\"a\":[]}],[\"push\",[\"a\"],1],[\"set\",[\"a\",0],2]]",
             b"{\"a\":[2]}",
         ),
-        (b"[0,-0,1e400]", "[[\"push\",[],1E+2]]", b"[0,-0,1e400,1E+2]"),
+        (
+            b"[0,-0,1e400]",
+            "[[\"push\",[],1E+2]]",
+            b"[0,-0,1e400,1E+2]",
+        ),
         (
             PERSON,
             "[[\"insert\",[],\"inserted\",true]]",
@@ -95,21 +119,53 @@ fn edits_that_apply(rt: HostRuntime) -> Result<(), Fail> {
 #[test]
 fn the_first_edit_that_does_not_apply_is_told(rt: HostRuntime) -> Result<(), Fail> {
     let cases: [(&[u8], &str, &str); 14] = [
-        (b"{\"a\":[1]}", "[[\"set\",[\"a\",5],0]]", "NotFound in edit 0\n"),
-        (b"null", "[[\"set\",[\"k\"],1]]", "TypeUnmatched in edit 0\n"),
+        (
+            b"{\"a\":[1]}",
+            "[[\"set\",[\"a\",5],0]]",
+            "NotFound in edit 0\n",
+        ),
+        (
+            b"null",
+            "[[\"set\",[\"k\"],1]]",
+            "TypeUnmatched in edit 0\n",
+        ),
         (b"1", "[[\"push\",[],1]]", "TypeUnmatched in edit 0\n"),
         (
             b"{\"a\":[1]}",
             "[[\"push\",[\"a\"],2],[\"set\",[\"a\",5],0]]",
             "NotFound in edit 1\n",
         ),
-        (b"null", "[[\"insert\",[],\"k\",1]]", "TypeUnmatched in edit 0\n"),
+        (
+            b"null",
+            "[[\"insert\",[],\"k\",1]]",
+            "TypeUnmatched in edit 0\n",
+        ),
         (b"[1,2,3]", "[[\"remove\",[],3]]", "NotFound in edit 0\n"),
-        (b"{\"a\":1}", "[[\"remove\",[],\"b\"]]", "NotFound in edit 0\n"),
-        (b"{\"a\":1}", "[[\"remove\",[],0]]", "TypeUnmatched in edit 0\n"),
-        (b"[1]", "[[\"remove\",[],\"a\"]]", "TypeUnmatched in edit 0\n"),
-        (b"{\"a\":1}", "[[\"set\",[\"b\"],2]]", "NotFound in edit 0\n"),
-        (b"{\"a\":\"x\"}", "[[\"set\",[\"a\",\"b\"],2]]", "TypeUnmatched in edit 0\n"),
+        (
+            b"{\"a\":1}",
+            "[[\"remove\",[],\"b\"]]",
+            "NotFound in edit 0\n",
+        ),
+        (
+            b"{\"a\":1}",
+            "[[\"remove\",[],0]]",
+            "TypeUnmatched in edit 0\n",
+        ),
+        (
+            b"[1]",
+            "[[\"remove\",[],\"a\"]]",
+            "TypeUnmatched in edit 0\n",
+        ),
+        (
+            b"{\"a\":1}",
+            "[[\"set\",[\"b\"],2]]",
+            "NotFound in edit 0\n",
+        ),
+        (
+            b"{\"a\":\"x\"}",
+            "[[\"set\",[\"a\",\"b\"],2]]",
+            "TypeUnmatched in edit 0\n",
+        ),
         (b"[[]]", "[[\"set\",[0,0],2]]", "NotFound in edit 0\n"),
         (
             b"{}",
@@ -145,7 +201,7 @@ fn words_of_another_form_leave_the_source(rt: HostRuntime) -> Result<(), Fail> {
         "[[\"push\",[],0,0]]",
         "[[]]",
         "[[\"set\",[],01]]",
-        "--pretty",
+        "--Pretty",
     ];
     for word in cases {
         let mut words = Words::new(alloc);
@@ -203,7 +259,10 @@ fn an_edit_value_of_many_levels(rt: HostRuntime) -> Result<(), Fail> {
     let mut source = SliceSource::new(b"null");
     let mut sink = VecSink::new(alloc);
     let compact = Style::new(None, false).ok_or("no indent")?;
-    assert_eq!(rt; reshape(alloc, &mut source, &mut sink, &edits, compact).is_ok(), true);
+    assert_eq!(rt;
+        reshape(alloc, &mut source, &mut sink, &edits, compact).is_ok(),
+        true
+    );
     let mut output = Vec::new(alloc);
     output.resize(300, b'[')?;
     output.resize(600, b']')?;

@@ -15,11 +15,7 @@ use json_value::Value;
 use std::alloc::Global;
 
 // A serializer that has written nothing.
-fn printer<F: Formatter + Drop>(
-    alloc: Global,
-    sorted: bool,
-    formatter: F,
-) -> Serializer<VecSink, F>
+fn printer<F: Formatter + Drop>(alloc: Global, sorted: bool, formatter: F) -> Serializer<VecSink, F>
     requires { F.fresh formatter }
     ensures starts { ⟦<Serializer<VecSink, F> as Events>⟧.state result ≡ start formatter sorted nothing_gained }
     ensures fresh { ⟦<Serializer<VecSink, F> as Events>⟧.failed result ≡ None }

@@ -229,7 +229,10 @@ fn no_words_ask_for_no_edits(rt: HostRuntime) -> Result<(), Fail> {
     let mut source = SliceSource::new(b" 1");
     let mut sink = VecSink::new(alloc);
     let compact = Style::new(None, false).ok_or("no indent")?;
-    assert_eq!(rt; reshape(alloc, &mut source, &mut sink, &[], compact).is_ok(), true);
+    assert_eq!(rt;
+        reshape(alloc, &mut source, &mut sink, &[], compact).is_ok(),
+        true
+    );
     assert_eq!(rt; sink.as_slice(), b"1".as_slice());
     Ok(())
 }
