@@ -3,6 +3,8 @@
 #![tactic(auto)]
 
 mod applying;
+#[cfg(test)]
+mod applying_tests;
 mod array;
 mod array_view;
 mod container;
@@ -20,8 +22,6 @@ mod place;
 mod standing;
 #[cfg(test)]
 mod tests;
-#[cfg(test)]
-mod applying_tests;
 mod text;
 mod value;
 mod view;
