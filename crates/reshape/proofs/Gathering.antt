@@ -1,13 +1,12 @@
 -- What one more word makes of what was gathered.
-use Rattle.std.proofs.Common.{◌≡◌, inl, inr, ℕ, zero, suc, ◌+◌, ◌<◌, List, [], ◌∷◌, ◌++◌, length, Bool, true, false, cond, not, ◌&&◌, ◌||◌, Option, Some, None, is_some, option_map, option_to_list, slice_get, take, drop, filter, filter_map, refl, sym, subst, ap, ◌∙◌, arith, length-append, take-append-drop, append_assoc, bytes_eq, codes, Bor}
+use Rattle.std.proofs.Common.{◌≡◌, inl, inr, ℕ, zero, suc, ◌+◌, List, [], ◌∷◌, ◌++◌, length, Bool, true, false, cond, not, ◌&&◌, ◌||◌, Option, Some, None, is_some, option_map, option_to_list, slice_get, take, drop, filter, filter_map, refl, sym, subst, ap, ◌∙◌, arith, length-append, take-append-drop, bytes_eq, codes, Bor}
 use Rattle.std.specs.List.{list_all, cons_option}
 use Rattle.std.proofs.lemmas.List.{drop_more, take_more}
 use Rattle.std.proofs.lemmas.Option.{slice_get_within, get_or_from_slice_get}
 use Rattle.json_grammar.specs.Grammar.{ws}
-use Rattle.json_model.specs.Edit.{Edit}
 use Rattle.json_model.specs.Print.{IsIndent}
 use Rattle.reshape.specs.Words.{AsksEdits}
-use Rattle.reshape.specs.Options.{spaces, width_in, is_option, is_edits_word, indent_in, is_sorting, is_known, Command, Asks, IsAsked}
+use Rattle.reshape.specs.Options.{spaces, width_in, is_option, is_edits_word, indent_in, is_sorting, is_known, IsAsked}
 use Rattle.reshape.specs.Gathering.{IsRole, HasRole, Holds}
 use Rattle.reshape.specs.declared.options.Role.{Role}
 use Rattle.reshape.specs.declared.options.Role.TheVariants.{Indent, SortKeys, EditsWord}

@@ -1,5 +1,5 @@
 -- What good and bad input come to.
-use Rattle.std.proofs.Common.{◌≡◌, ◌⊎◌, inl, inr, ℕ, ◌<◌, List, length, Some, None, Option, IfSome, Ok, Err, Result, refl, sym, subst, ap, ◌∙◌, arith, false}
+use Rattle.std.proofs.Common.{◌≡◌, ◌⊎◌, inl, inr, ℕ, ◌<◌, List, length, Some, None, Option, IfSome, Ok, Err, Result, refl, sym, subst, ap, ◌∙◌, false}
 use Rattle.json_grammar.specs.Tree.{Tree}
 use Rattle.json_grammar.specs.Grammar.{is_text}
 use Rattle.json_grammar.proofs.Values.{one_tree}
@@ -8,14 +8,14 @@ use Rattle.json_text.specs.declared.error.ErrorCode.{ErrorCode}
 use Rattle.json_text.specs.declared.error.ErrorCode.TheVariants.{NoMemory, Io, TooLarge, NotFound, TypeUnmatched, BadWords}
 use Rattle.json_text.specs.declared.error.Place.{Place}
 use Rattle.json_text.specs.declared.error.Place.TheVariants.{None as nowhere, Reading, Writing, Edit as in_edit}
-use Rattle.json_text.specs.Known.{Drains, told_as}
+use Rattle.json_text.specs.Known.{Drains}
 use Rattle.json_text.specs.Outside.{SourceState, SinkState}
 use Rattle.json_text.specs.Transfer.{ReadsWithin}
 use Rattle.json_text.specs.FaultText.{text_of}
-use Rattle.reshape.specs.Input.{most, IsInput, IsValid, InputFault, too_large, not_utf8, no_text}
+use Rattle.reshape.specs.Input.{most, IsInput, InputFault, too_large}
 use Rattle.reshape.specs.Options.{Command, Asks, IsAsked}
-use Rattle.reshape.specs.Reshape.{Layout, Reads, Reshapes, ReadsFault, ReadsUnfit, GainsFront, Refuses}
-use Rattle.reshape.specs.Run.{WithCommand, status_of, Tells, RunRefuses, IsGood, IsBad, IsUnfit, code_of}
+use Rattle.reshape.specs.Reshape.{Layout, Reads, Reshapes, ReadsFault, ReadsUnfit, Refuses}
+use Rattle.reshape.specs.Run.{status_of, Tells, RunRefuses, IsGood, IsBad, IsUnfit, code_of}
 use Rattle.reshape.proofs.Inputs.{one_input_fault, valid_no_fault, no_io, no_words, no_not_found, no_type_unmatched}
 use Rattle.reshape.proofs.Wording.{one_asked}
 
