@@ -1,5 +1,5 @@
 -- From the bytes of a source to a document.
-use Rattle.std.proofs.Common.{Bool, true, cond, ◌≡◌, ◌⊎◌, inl, inr, ℕ, ◌≤◌, List, length, false, Ok, Err, Result, OnOk, IfOk, None, refl, sym, subst, ◌∙◌, ap, IsUtf8}
+use Rattle.std.proofs.Common.{Bool, true, cond, ◌≡◌, inl, inr, ℕ, ◌≤◌, List, length, false, Ok, Err, Result, OnOk, IfOk, refl, sym, subst, ◌∙◌, ap, IsUtf8}
 use Rattle.json_grammar.specs.Tree.{Tree, depth}
 use Rattle.json_grammar.specs.Grammar.{is_text}
 use Rattle.json_grammar.specs.Proper.{IsProper}
@@ -26,9 +26,9 @@ use Rattle.json_value.specs.declared.value.Value.{Value}
 use Rattle.json_value.specs.Denotes.{tree_of}
 use Rattle.json_doc.proofs.Pieces.{spelled}
 use Rattle.reshape.proofs.Inputs.{no_io, no_not_found, no_type_unmatched}
-use Rattle.reshape.specs.Input.{most, levels, IsInput, InputFault, not_utf8, no_text}
+use Rattle.reshape.specs.Input.{most, levels, InputFault, not_utf8, no_text}
 use Rattle.reshape.specs.Printing.{PrintingFails}
-use Rattle.reshape.specs.Reshape.{Layout, laid_out, ordered, Reads, ReadsFault, ReadingRefuses, EditingRefuses, Reshapes, GainsFront, Refuses}
+use Rattle.reshape.specs.Reshape.{Layout, laid_out, ordered, Reads, ReadingRefuses, EditingRefuses, Reshapes, Refuses}
 
 -- bytes that are no UTF-8
 pub utf8_refused : (source source' : SourceState) (bytes seen : List ℕ) (code : ErrorCode) (place : Place) → ReadsWithin most source source' bytes → seen ≡ bytes → Utf8Cause seen code place → ReadingRefuses source source' code place

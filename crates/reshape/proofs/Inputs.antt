@@ -17,7 +17,7 @@ use Rattle.json_text.specs.Faults.{FaultAt}
 use Rattle.json_text.proofs.NoText.{no_text as no_text_fault}
 use Rattle.json_text.proofs.OneFaultAt.{one_fault_at, some_fault_at}
 use Rattle.json_text.proofs.Utf8Faults.{some_fault}
-use Rattle.reshape.specs.Input.{most, levels, IsInput, IsValid, InputFault, too_large, not_utf8, no_text}
+use Rattle.reshape.specs.Input.{most, levels, IsValid, InputFault, too_large, not_utf8, no_text}
 
 abbrev Same : ErrorCode → ErrorCode → Place → Place → Type 0
 Same c c' p p' = (c ≡ c') × (p ≡ p')

@@ -1,4 +1,5 @@
 pub mod Inputs
+pub mod Gathering
 pub mod Spelled
 pub mod Wording
 pub mod Applying

@@ -1,5 +1,5 @@
--- Laws of the words: they ask for the edits of one list alone, which are proper, and fewer than a word has bytes.
-use Rattle.std.proofs.Common.{◌≡◌, ℕ, suc, ◌^◌, ◌<◌, ◌≤◌, List, [], ◌∷◌, length, Bool, true, false, cond, Option, Some, None, option_map, refl, sym, subst, ap, ◌∙◌, arith, IsUtf8}
+-- Laws of the words: they ask for one command alone, whose edits are proper, and fewer than a word has bytes.
+use Rattle.std.proofs.Common.{◌≡◌, ℕ, suc, ◌^◌, ◌<◌, ◌≤◌, List, [], ◌∷◌, length, Bool, true, false, cond, Option, Some, None, option_map, option_to_list, filter, refl, sym, subst, ap, ◌∙◌, arith, IsUtf8}
 use Rattle.json_grammar.specs.Tree.{Tree, null, boolean, num, text, list, pairs, Trees, no_trees, tree_and, trees_list}
 use Rattle.json_grammar.specs.Proper.{IsProper, AreProper}
 use Rattle.json_grammar.specs.Sizes.{nodes, trees_nodes}
@@ -8,7 +8,8 @@ use Rattle.json_grammar.proofs.Values.{one_tree}
 use Rattle.json_grammar.proofs.Sizes.{text_fits, nodes_some}
 use Rattle.json_doc.specs.Readings.{string_of}
 use Rattle.json_model.specs.Edit.{Step, Edit, set_at, insert_at, push_at, remove_at, IsProperEdit, AreProperEdits}
-use Rattle.reshape.specs.Words.{both, each_in, step_in, path_in, edit_named, edit_in, edits_in, Spells, Asks}
+use Rattle.reshape.specs.Words.{both, each_in, step_in, path_in, edit_named, edit_in, edits_in, Spells, AsksEdits}
+use Rattle.reshape.specs.Options.{is_edits_word, Command, Asks}
 
 same_some : {A : Type 0} {x y : A} → Some x ≡ Some y → x ≡ y
 same_some e = cc
@@ -16,16 +17,39 @@ same_some e = cc
 none_some : {A : Type 0} {x : A} → None ≡ Some x → ⊥
 none_some e = cc
 
--- ---- one list
+-- ---- one command
 
 one_spelled : (w : List ℕ) (es es' : List Edit) → Spells w es → Spells w es' → es ≡ es'
 one_spelled w es es' h h' =
     let e : h.tree ≡ h'.tree = one_tree false h.tree h'.tree w h.input.text h'.input.text in same_some (sym h.edits ∙ ap edits_in e ∙ h'.edits)
 
-pub one_asked : (words : List (List ℕ)) (es es' : List Edit) → Asks words es → Asks words es' → es ≡ es'
-one_asked [] es es' h h' = h ∙ sym h'
-one_asked (w ∷ []) es es' h h' = one_spelled w es es' h h'
-one_asked (w ∷ v ∷ ws) es es' h h' = absurd h
+one_list : (words : List (List ℕ)) (es es' : List Edit) → AsksEdits words es → AsksEdits words es' → es ≡ es'
+one_list [] es es' h h' = h ∙ sym h'
+one_list (w ∷ []) es es' h h' = one_spelled w es es' h h'
+one_list (w ∷ v ∷ ws) es es' h h' = absurd h
+
+same_listed : {A : Type 0} (o o' : Option A) → option_to_list o ≡ option_to_list o' → o ≡ o'
+same_listed None None e = refl
+same_listed None (Some x) e = cc
+same_listed (Some x) None e = cc
+same_listed (Some x) (Some y) e = cc
+
+same_counted : (b b' : Bool) → ◌≡◌ {A = ℕ} (cond b 1 0) (cond b' 1 0) → b ≡ b'
+same_counted true true e = refl
+same_counted true false e = absurd (omega arith)
+same_counted false true e = absurd (omega arith)
+same_counted false false e = refl
+
+abbrev made : List Edit → Option (List ℕ) → Bool → Command
+made es i s = record { es = es; layout = record { indent = i; sorts = s } }
+
+same_made : (es es' : List Edit) (i i' : Option (List ℕ)) (s s' : Bool) → es ≡ es' → i ≡ i' → s ≡ s' → made es i s ≡ made es' i' s'
+same_made es es' i i' s s' e f g = rw (e, f, g) refl
+
+pub one_asked : (words : List (List ℕ)) (c d : Command) → Asks words c → Asks words d → c ≡ d
+one_asked words c d h k =
+    same_made c.es d.es c.layout.indent d.layout.indent c.layout.sorts d.layout.sorts (one_list (filter is_edits_word words) c.es d.es h.edits k.edits) (same_listed c.layout.indent d.layout.indent (sym h.indent ∙ k.indent))
+    (same_counted c.layout.sorts d.layout.sorts (sym h.sorting ∙ k.sorting))
 
 -- ---- what is made of two, or of one, where there is something
 
@@ -113,10 +137,13 @@ edits_proper (num l) es h e = absurd (none_some e)
 edits_proper (text s) es h e = absurd (none_some e)
 edits_proper (pairs ps) es h e = absurd (none_some e)
 
-pub asked_proper : (words : List (List ℕ)) (es : List Edit) → Asks words es → AreProperEdits es
-asked_proper [] es h = subst AreProperEdits (sym h) tt
-asked_proper (w ∷ []) es h = edits_proper h.tree es (text_proper false h.tree w h.input.text) h.edits
-asked_proper (w ∷ v ∷ ws) es h = absurd h
+list_proper : (words : List (List ℕ)) (es : List Edit) → AsksEdits words es → AreProperEdits es
+list_proper [] es h = subst AreProperEdits (sym h) tt
+list_proper (w ∷ []) es h = edits_proper h.tree es (text_proper false h.tree w h.input.text) h.edits
+list_proper (w ∷ v ∷ ws) es h = absurd h
+
+pub asked_proper : (words : List (List ℕ)) (c : Command) → Asks words c → AreProperEdits c.es
+asked_proper words c h = list_proper (filter is_edits_word words) c.es h.edits
 
 -- ---- few edits
 
@@ -137,7 +164,10 @@ few_edits (num l) es e = absurd (none_some e)
 few_edits (text s) es e = absurd (none_some e)
 few_edits (pairs ps) es e = absurd (none_some e)
 
-pub asked_few : (words : List (List ℕ)) (es : List Edit) → Asks words es → length es < 2 ^ 32
-asked_few [] es h = subst (λ es. length es < 2 ^ 32) (sym h) (omega arith)
-asked_few (w ∷ []) es h = omega (arith, few_edits h.tree es h.edits, (text_fits false h.tree w h.input.text).0, h.input.short)
-asked_few (w ∷ v ∷ ws) es h = absurd h
+list_few : (words : List (List ℕ)) (es : List Edit) → AsksEdits words es → length es < 2 ^ 32
+list_few [] es h = subst (λ es. length es < 2 ^ 32) (sym h) (omega arith)
+list_few (w ∷ []) es h = omega (arith, few_edits h.tree es h.edits, (text_fits false h.tree w h.input.text).0, h.input.short)
+list_few (w ∷ v ∷ ws) es h = absurd h
+
+pub asked_few : (words : List (List ℕ)) (c : Command) → Asks words c → length c.es < 2 ^ 32
+asked_few words c h = list_few (filter is_edits_word words) c.es h.edits

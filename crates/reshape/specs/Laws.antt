@@ -1,8 +1,8 @@
 -- Laws of inputs.
-use Rattle.std.specs.Prelude.{◌≡◌, ◌⊎◌, ◌≤◌, ℕ, List, length, IsUtf8}
+use Rattle.std.specs.Prelude.{◌≡◌, ◌⊎◌, ℕ, List}
 use Rattle.json_text.specs.declared.error.ErrorCode.{ErrorCode}
 use Rattle.json_text.specs.declared.error.Place.{Place}
-use Rattle.reshape.specs.Input.{most, IsValid, InputFault}
+use Rattle.reshape.specs.Input.{IsValid, InputFault}
 
 -- an input has one fault at most, at one place
 abbrev pub OneInputFault : Type 0

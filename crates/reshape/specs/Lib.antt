@@ -1,7 +1,9 @@
 pub mod Input
 pub mod Words
-pub mod Asked
 pub mod Printing
 pub mod Reshape
+pub mod Options
+pub mod Gathering
+pub mod Asked
 pub mod Run
 pub mod Laws

@@ -10,10 +10,10 @@ use Rattle.json_text.specs.Outside.{SourceState, SinkState, Rose}
 use Rattle.json_text.specs.Transfer.{AppendsFront}
 use Rattle.json_text.specs.FaultText.{text_of}
 use Rattle.json_grammar.specs.Tree.{Tree}
-use Rattle.json_model.specs.Edit.{Edit, edited, Refusal, not_found, type_unmatched}
+use Rattle.json_model.specs.Edit.{edited, Refusal, not_found, type_unmatched}
 use Rattle.reshape.specs.Input.{IsInput, InputFault}
-use Rattle.reshape.specs.Words.{Asks, IsAsked}
-use Rattle.reshape.specs.Reshape.{compact, Reshapes, GainsFront, Refuses}
+use Rattle.reshape.specs.Options.{Command, Asks, IsAsked}
+use Rattle.reshape.specs.Reshape.{Reshapes, GainsFront, Refuses}
 
 -- the status of a refusal
 abbrev pub status_of : ErrorCode → Place → ℕ
@@ -29,23 +29,23 @@ status_of code place = 1
 abbrev pub Tells : List ℕ → SinkState → SinkState → Type 0
 Tells text errs errs' = Appends errs.gained errs'.gained text ⊎ (AppendsFront errs.gained errs'.gained text × (Rose errs.faults errs'.faults ⊎ Rose errs.lacks errs'.lacks))
 
--- the words ask for edits, and with them this holds
-pub record WithEdits (words : List (List ℕ)) (holds : List Edit → Type 0) : Type 0 where
-  pub es : List Edit
-  pub asked : Asks words es
-  pub so : holds es
+-- the words ask for a command, and of it this holds
+pub record WithCommand (words : List (List ℕ)) (holds : Command → Type 0) : Type 0 where
+  pub command : Command
+  pub asked : Asks words command
+  pub so : holds command
 
 -- why the call was refused: the words are looked at before anything is read
 abbrev pub RunRefuses : List (List ℕ) → SourceState → SourceState → SinkState → SinkState → ErrorCode → Place → Type 0
-RunRefuses words source source' sink sink' NoMemory nowhere = (sink' ≡ sink) ⊎ WithEdits words (λ es. GainsFront es compact source source' sink sink')
+RunRefuses words source source' sink sink' NoMemory nowhere = (sink' ≡ sink) ⊎ WithCommand words (λ c. GainsFront c.es c.layout source source' sink sink')
 RunRefuses words source source' sink sink' BadWords nowhere = (¬ IsAsked words) × (source' ≡ source) × (sink' ≡ sink)
-RunRefuses words source source' sink sink' code place = WithEdits words (λ es. Refuses es compact source source' sink sink' code place)
+RunRefuses words source source' sink sink' code place = WithCommand words (λ c. Refuses c.es c.layout source source' sink sink' code place)
 
 -- status 0
 pub record Done (words : List (List ℕ)) (source source' : SourceState) (sink sink' errs errs' : SinkState) : Type 0 where
-  pub es : List Edit
-  pub asked : Asks words es
-  pub reshapes : Reshapes es compact source source' sink sink'
+  pub command : Command
+  pub asked : Asks words command
+  pub reshapes : Reshapes command.es command.layout source source' sink sink'
   pub silent : errs' ≡ errs
 
 -- any other status: one error, with its status, its cause, what it left, and its text on errs
@@ -55,20 +55,20 @@ pub record Refused (status : ℕ) (words : List (List ℕ)) (source source' : So
   pub cause : RunRefuses words source source' sink sink' error.code error.place
   pub tells : Tells (text_of error) errs errs'
 
--- the words ask for edits, the source tells a valid text to which they apply, and nothing failed
+-- the words ask for a command, the source tells a valid text to which its edits apply, and nothing failed
 pub record IsGood (words : List (List ℕ)) (source source' : SourceState) (sink sink' : SinkState) : Type 0 where
-  pub es : List Edit
-  pub asked : Asks words es
+  pub command : Command
+  pub asked : Asks words command
   pub b : List ℕ
   pub told : source.left ≡ Some b
   pub tree : Tree
   pub input : IsInput b tree
   pub changed : Tree
-  pub applies : edited es tree ≡ Ok changed
+  pub applies : edited command.es tree ≡ Ok changed
   pub read : ¬ (Rose source.faults source'.faults)
   pub written : ¬ (Rose sink.faults sink'.faults)
 
--- the words ask for edits, the source tells bytes with this fault, and no read failed
+-- the words ask for a command, the source tells bytes with this fault, and no read failed
 pub record IsBad (words : List (List ℕ)) (source source' : SourceState) (code : ErrorCode) (place : Place) : Type 0 where
   pub asked : IsAsked words
   pub b : List ℕ
@@ -81,13 +81,13 @@ abbrev pub code_of : Refusal → ErrorCode
 code_of not_found = NotFound
 code_of type_unmatched = TypeUnmatched
 
--- the words ask for edits, the source tells a valid text, the edit of this number is the first that does not apply to it, and no read failed
+-- the words ask for a command, the source tells a valid text, the edit of this number is the first that does not apply to it, and no read failed
 pub record IsUnfit (words : List (List ℕ)) (source source' : SourceState) (number : ℕ) (why : Refusal) : Type 0 where
-  pub es : List Edit
-  pub asked : Asks words es
+  pub command : Command
+  pub asked : Asks words command
   pub b : List ℕ
   pub told : source.left ≡ Some b
   pub tree : Tree
   pub input : IsInput b tree
-  pub refused : edited es tree ≡ Err (number, why)
+  pub refused : edited command.es tree ≡ Err (number, why)
   pub read : ¬ (Rose source.faults source'.faults)

@@ -1,4 +1,4 @@
--- What the words of the command line ask for: the edits that the edits word spells.
+-- The edits that an edits word spells.
 use Rattle.std.specs.Prelude.{◌≡◌, ◌⊎◌, ℕ, ◌^◌, nat_lt, ◌&&◌, List, [], ◌∷◌, Option, Some, None, cond, bytes_eq, codes, option_map}
 use Rattle.std.specs.Str.{all_ascii_digits}
 use Rattle.std.specs.Str.Parse.{digits_value}
@@ -64,12 +64,8 @@ pub record Spells (word : List ℕ) (es : List Edit) : Type 0 where
   pub input : IsInput word tree
   pub edits : edits_in tree ≡ Some es
 
--- the words ask for these edits: no word asks for none, and one word for those that it spells
-abbrev pub Asks : List (List ℕ) → List Edit → Type 0
-Asks [] es = es ≡ []
-Asks (w ∷ []) es = Spells w es
-Asks _ es = ⊥
-
--- the words ask for some edits
-abbrev pub IsAsked : List (List ℕ) → Type 0
-IsAsked words = (es : List Edit) × Asks words es
+-- these words ask for these edits: no word asks for none, and one word for those that it spells
+abbrev pub AsksEdits : List (List ℕ) → List Edit → Type 0
+AsksEdits [] es = es ≡ []
+AsksEdits (w ∷ []) es = Spells w es
+AsksEdits _ es = ⊥

@@ -1,25 +1,37 @@
 // What the program is asked for.
 ghost use Rattle.std.specs.Prelude.{◌≡◌, map};
 ghost use Rattle.json_value.specs.Edits.{edit_of};
-ghost use Rattle.reshape.specs.Asked.{asked_edits};
+ghost use Rattle.reshape.specs.Reshape.{layout_of};
+ghost use Rattle.reshape.specs.Asked.{asked_command};
 
+use crate::asked_style::AskedStyle;
 use crate::edits::Edits;
+use json_print::Style;
 use json_value::Edit;
 
 /// What is asked for.
 #[derive(Drop)]
 pub enum Asked {
-    /// The compact text of the tree that is read, behind these edits.
-    Reshape(Edits),
+    /// The text of the tree that is read, behind these edits and in this style.
+    Reshape(Edits, AskedStyle),
 }
 
 impl Asked {
     /// The edits, from the first on.
     pub fn edits(&self) -> &[Edit]
-        ensures { map edit_of result.now ≡ asked_edits self.now }
+        ensures { map edit_of result.now ≡ (asked_command self.now).es }
     {
         match self {
-            Asked::Reshape(edits) => edits.as_slice(),
+            Asked::Reshape(edits, _) => edits.as_slice(),
+        }
+    }
+
+    /// The style of the text.
+    pub fn style(&self) -> Style<'static>
+        ensures { layout_of result ≡ (asked_command self.now).layout }
+    {
+        match self {
+            Asked::Reshape(_, style) => style.style(),
         }
     }
 }

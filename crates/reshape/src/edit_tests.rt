@@ -201,7 +201,7 @@ fn words_of_another_form_leave_the_source(rt: HostRuntime) -> Result<(), Fail> {
         "[[\"push\",[],0,0]]",
         "[[]]",
         "[[\"set\",[],01]]",
-        "--pretty",
+        "--Pretty",
     ];
     for word in cases {
         let mut words = Words::new(alloc);

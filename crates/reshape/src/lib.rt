@@ -2,6 +2,7 @@
 //! does.
 #![tactic(auto)]
 
+mod asked_style;
 mod command;
 mod document;
 mod editing;
@@ -9,11 +10,13 @@ mod edits;
 mod edits_word;
 mod engine;
 pub mod laws;
+mod options;
 mod output;
 mod path_word;
 mod top;
 mod words;
 
+pub use asked_style::AskedStyle;
 pub use command::Asked;
 pub use edits::Edits;
 pub use engine::reshape;
@@ -22,6 +25,8 @@ pub use words::asked;
 
 #[cfg(test)]
 mod edit_tests;
+#[cfg(test)]
+mod option_tests;
 #[cfg(test)]
 mod tests;
 #[cfg(test)]

@@ -6,15 +6,14 @@ ghost use Rattle.json_text.specs.Errors.{reading_failed, writing_failed};
 ghost use Rattle.json_text.specs.FaultText.{text_of};
 ghost use Rattle.json_text.specs.Transfer.{TakesAtMost};
 ghost use Rattle.reshape.specs.Input.{most};
-ghost use Rattle.reshape.specs.Reshape.{compact, layout_of, Reshapes};
+ghost use Rattle.reshape.specs.Reshape.{Reshapes};
 ghost use Rattle.json_model.specs.Edit.{Refusal};
 ghost use Rattle.json_text.specs.declared.error.Place.TheVariants.{Edit as in_edit};
-ghost use Rattle.reshape.specs.Words.{IsAsked};
-ghost use Rattle.reshape.specs.Run.{WithEdits, status_of, Tells, RunRefuses, Done, Refused, IsGood, IsBad, IsUnfit, code_of};
+ghost use Rattle.reshape.specs.Options.{IsAsked};
+ghost use Rattle.reshape.specs.Run.{WithCommand, status_of, Tells, RunRefuses, Done, Refused, IsGood, IsBad, IsUnfit, code_of};
 
 use crate::reshape;
 use crate::words::asked;
-use json_print::Style;
 use json_text::{Error, ErrorCode, Place, Result, Sink, Source, Words, fault_text, put_all};
 use std::alloc::Global;
 
@@ -31,15 +30,6 @@ fn status(error: Error) -> u8
     }
 }
 
-fn compact() -> Style<'static>
-    ensures { layout_of result ≡ compact }
-{
-    match Style::new(None, false) {
-        Some(style) => style,
-        None => unreachable!(),
-    }
-}
-
 fn tell<E: Sink>(errs: &mut E, error: &Error)
     ensures { Tells (text_of error.now) (E.state errs.old) (E.state errs.new) }
 {
@@ -52,14 +42,14 @@ fn carry_out<S: Source, K: Sink>(
     source: &mut S,
     sink: &mut K,
 ) -> Result<()>
-    ensures done { OnOk result (WithEdits words.now (λ es. Reshapes es compact (S.state source.old) (S.state source.new) (K.state sink.old) (K.state sink.new))) }
+    ensures done { OnOk result (WithCommand words.now (λ c. Reshapes c.es c.layout (S.state source.old) (S.state source.new) (K.state sink.old) (K.state sink.new))) }
     ensures refused { IfErr result (λ e. RunRefuses words.now (S.state source.old) (S.state source.new) (K.state sink.old) (K.state sink.new) e.code e.place) }
     ensures taken { TakesAtMost (most + 1) (S.state source.old) (S.state source.new) }
     ensures read_told { (S.state source.old).faults < (S.state source.new).faults → IsErrOf result reading_failed }
     ensures write_told { (K.state sink.old).faults < (K.state sink.new).faults → IsErrOf result writing_failed }
 {
     let asked = asked(alloc, words)?;
-    reshape(alloc, source, sink, asked.edits(), compact())
+    reshape(alloc, source, sink, asked.edits(), asked.style())
 }
 
 /// Does all that the program does, and answers its status: 0 where it is done, 1 where the input is refused, 2 the words,

@@ -1,14 +1,17 @@
 // What the words of the command line ask for.
-ghost use Rattle.std.specs.Prelude.{◌≡◌, ◌≢◌, ◌⊎◌, ℕ, List, IfOk, IfErr};
+ghost use Rattle.std.specs.Prelude.{◌≡◌, ◌≢◌, ◌⊎◌, List, IfOk, IfErr, option_map, option_to_list};
 ghost use Rattle.json_text.specs.Errors.{no_memory, bad_words};
 ghost use Rattle.json_text.specs.declared.error.ErrorCode.TheVariants.{NoMemory};
 ghost use Rattle.json_model.specs.Edit.{Edit};
-ghost use Rattle.reshape.specs.Words.{Spells, Asks, IsAsked};
-ghost use Rattle.reshape.specs.Asked.{edits_of, asked_edits};
+ghost use Rattle.reshape.specs.Words.{Spells, AsksEdits};
+ghost use Rattle.reshape.specs.Options.{Asks, IsAsked};
+ghost use Rattle.reshape.specs.Asked.{edits_of, asked_command};
 
+use crate::asked_style::AskedStyle;
 use crate::command::Asked;
 use crate::edits::Edits;
 use crate::edits_word::read_edits;
+use crate::options::gather;
 use crate::path_word::BAD_WORDS;
 use json_doc::read_document;
 use json_text::{Error, ErrorCode, Place, Result, Words};
@@ -44,18 +47,30 @@ fn read_word(alloc: Global, word: &str) -> Result<Edits>
     }
 }
 
-/// What the words ask for: no word asks for no edits, and one word for those that it spells. Answers `BadWords` where there
-/// are more words, or the word has another form, and `NoMemory`.
+// The edits that the edits word spells, or none without that word.
+fn read_edits_word(alloc: Global, word: Option<&str>) -> Result<Edits>
+    ensures ok { IfOk result (λ es. AsksEdits (option_to_list (option_map (λ s. s.now) word.entry)) (edits_of es)) }
+    ensures err { IfErr result (λ e. (e ≡ no_memory) ⊎ ((e ≡ bad_words) × ((es : List Edit) → ¬ (AsksEdits (option_to_list (option_map (λ s. s.now) word.entry)) es)))) }
+{
+    match word {
+        None => Ok(Edits::none(alloc)),
+        Some(word) => read_word(alloc, word),
+    }
+}
+
+/// What the words ask for. A word that begins with `--` is an option: `--pretty` asks for an indent of two spaces, `--tabs` for one
+/// of a tab, `--indent=N` for one of N spaces, which is one digit from 0 to 8, and `--sort-keys` for members in the order of their
+/// keys. Any other word is the edits word, which asks for the edits that it spells. Answers `BadWords` where an option is unknown
+/// or stands twice, where two options ask for an indent, and where there are two edits words or the one has another form; and
+/// `NoMemory`.
 pub fn asked(alloc: Global, words: &Words) -> Result<Asked>
-    ensures ok { IfOk result (λ a. Asks words.now (asked_edits a)) }
+    ensures ok { IfOk result (λ a. Asks words.now (asked_command a)) }
     ensures err { IfErr result (λ e. (e ≡ no_memory) ⊎ ((e ≡ bad_words) × ¬ (IsAsked words.now))) }
 {
-    if words.len() == 0 {
-        return Ok(Asked::Reshape(Edits::none(alloc)));
-    }
-    if words.len() != 1 {
+    let Some(options) = gather(words) else {
         return Err(BAD_WORDS);
-    }
-    let edits = read_word(alloc, words.word(0))?;
-    Ok(Asked::Reshape(edits))
+    };
+    let edits = read_edits_word(alloc, options.edits)?;
+    let style = AskedStyle::new(options.indent, options.sorted);
+    Ok(Asked::Reshape(edits, style))
 }

@@ -12,7 +12,7 @@ fn read(alloc: Global, words: &[&str]) -> Result<Option<Edits>, Fail> {
         list.push(word)?;
     }
     match asked(alloc, &list) {
-        Ok(Asked::Reshape(edits)) => Ok(Some(edits)),
+        Ok(Asked::Reshape(edits, _)) => Ok(Some(edits)),
         Err(error) if error.code == ErrorCode::BadWords => Ok(None),
         Err(error) => Err(error.into()),
     }
@@ -96,7 +96,6 @@ fn a_word_asks_for_its_edits(rt: HostRuntime) -> Result<(), Fail> {
 fn other_words_are_refused(rt: HostRuntime) -> Result<(), Fail> {
     let words = [
         "",
-        "--pretty",
         "[] []",
         "{}",
         "[[]]",

@@ -6,7 +6,7 @@ use Rattle.reshape.proofs.Outcomes.{good_status, bad_status, bad_done, unfit_sta
 use Rattle.reshape.proofs.top.run.Goals as goal
 
 pub returns-in-Ok-clause-exact : goal.returns-in-Ok-clause-exact
-returns-in-Ok-clause-exact g c = λ code place bad. absurd (bad_done _ _ _ (g.K.Sink.state c.args.sink.now) (g.K.Sink.state c.carry_out.new.sink) _ code place c.in-Ok.ensures.done.so bad)
+returns-in-Ok-clause-exact g c = λ code place bad. absurd (bad_done _ _ _ (g.K.Sink.state c.args.sink.now) (g.K.Sink.state c.carry_out.new.sink) _ _ code place c.in-Ok.ensures.done.so bad)
 
 pub returns-in-Err-clause-complete : goal.returns-in-Err-clause-complete
 returns-in-Err-clause-complete g c = λ good. subst (λ n. (n ≡ 0) ⊎ (n ≡ 6)) (sym c.status.ensures) (good_status _ _ _ _ _ _ _ c.in-Err.ensures.refused good)
