@@ -21,10 +21,6 @@ pub record Layout : Type 0 where
   pub indent : Option (List ℕ)
   pub sorts : Bool
 
--- no whitespace, and the members in their order
-abbrev pub compact : Layout
-compact = record { indent = None; sorts = false }
-
 -- the layout that a style asks for
 abbrev pub layout_of : Style → Layout
 layout_of s = record { indent = indent_of s; sorts = is_sorted s }
