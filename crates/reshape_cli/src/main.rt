@@ -1,5 +1,4 @@
-//! Reads a JSON text from standard input, edits its value by the word that it is given, and writes the compact text of the edited
-//! tree to standard output.
+//! Reads a JSON text from standard input, edits its value as the words ask, and writes the text of the edited tree to standard output.
 #![tactic(auto)]
 
 use json_text::{StdSink, StdSource, Words};
