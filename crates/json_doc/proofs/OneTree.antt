@@ -61,8 +61,8 @@ type_there cells bytes at null h = (cell.Null, h, refl)
 type_there cells bytes at (boolean b) h = (cell.Bool b, h, refl)
 type_there cells bytes at (num l) h = number_type (integer_in l) cells bytes at l h
 type_there cells bytes at (text s) (a, e, g) = (cell.Str a (length s), e, refl)
-type_there cells bytes at (list ts) (a, e, h) = (cell.Array (link_to a (trees_count ts)) (trees_count ts), e, refl)
-type_there cells bytes at (pairs ps) (a, e, h) = (cell.Object (link_to a (pairs_count ps)) (pairs_count ps), e, refl)
+type_there cells bytes at (list ts) (a, e, b, h) = (cell.Array (link_to a (trees_count ts)) (trees_count ts), e, refl)
+type_there cells bytes at (pairs ps) (a, e, b, h) = (cell.Object (link_to a (pairs_count ps)) (pairs_count ps), e, refl)
 
 same_type : (cells : List Cell) (bytes : List ℕ) (at : ℕ) (t u : Tree) → spells cells bytes at t → spells cells bytes at u → type_of t ≡ type_of u
 unfolding TypeAt
