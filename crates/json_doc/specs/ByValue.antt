@@ -9,6 +9,12 @@ abbrev pub integer_cell : ℤ → Cell
 integer_cell (pos n) = cell.Unsigned n
 integer_cell (negsuc n) = cell.Negative (negsuc n)
 
+-- the integer of a cell that is one by value
+abbrev pub value_of_cell : Cell → Option ℤ
+value_of_cell (cell.Unsigned n) = Some (pos n)
+value_of_cell (cell.Negative n) = Some n
+value_of_cell _ = None
+
 -- the bytes that are kept of a literal: none where it is an integer by value
 abbrev pub raw_part : Option ℤ → List ℕ → List ℕ
 raw_part (Some n) l = []

@@ -1,8 +1,10 @@
 -- What holds of every packed document.
-use Rattle.std.specs.Prelude.{◌≡◌, None, ℕ, ◌+◌, ◌*◌, ◌<◌, ◌≤◌, List, Bool, true, false, length, slice_range, slice_index_or}
+use Rattle.std.specs.Prelude.{◌≡◌, Some, None, ℕ, ℤ, ◌+◌, ◌*◌, ◌<◌, ◌≤◌, List, Bool, true, false, length, slice_range, slice_index_or}
 use Rattle.std.specs.Str.{IsCharBoundary}
+use Rattle.std.specs.Fmt.{signed_decimal}
 use Rattle.json_grammar.specs.Grammar.{number}
 use Rattle.json_number.specs.Integers.{integer_in}
+use Rattle.json_doc.specs.ByValue.{value_of_cell}
 use Rattle.json_doc.specs.declared.cell.Cell.{Cell}
 use Rattle.json_doc.specs.declared.cell.Cell.TheVariants as cell
 
@@ -87,7 +89,7 @@ is_raw (cell.Object link len) = false
 abbrev pub AllKeys : List Cell → ℕ → ℕ → Type 0
 AllKeys cells at n = (k : ℕ) → k < n → is_str (slice_index_or cells (at + 2 * k) cell.Null) ≡ true
 
--- the bytes of a cell are a text, the children of a container stand below it, keys are strings, and literals are numbers (RFC 8259, section 6) that are no integers by value
+-- the bytes of a cell are a text, the children of a container stand below it, keys are strings, literals are numbers (RFC 8259, section 6) that are no integers by value, and an integer by value is the one that its decimal text stands for
 pub record CellInPlace (cells : List Cell) (bytes : List ℕ) (at : ℕ) (c : Cell) : Type 0 where
   pub begins : IsCharBoundary bytes (start_of c)
   pub ends : IsCharBoundary bytes (start_of c + span_of c)
@@ -95,6 +97,7 @@ pub record CellInPlace (cells : List Cell) (bytes : List ℕ) (at : ℕ) (c : Ce
   pub keyed : (i : ℕ) → i < keys_of c → is_str (slice_index_or cells (link_of c + 2 * i) cell.Null) ≡ true
   pub numeric : is_raw c ≡ true → ∥ number (slice_range bytes (start_of c) (start_of c + span_of c)) ∥₁
   pub raw : is_raw c ≡ true → integer_in (slice_range bytes (start_of c) (start_of c + span_of c)) ≡ None
+  pub valued : (n : ℤ) → value_of_cell c ≡ Some n → integer_in (signed_decimal n) ≡ Some n
 
 -- so is each cell
 abbrev pub CellsInPlace : List Cell → List ℕ → Type 0
