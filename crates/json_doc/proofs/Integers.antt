@@ -52,13 +52,6 @@ is_negative (Negative (negsuc n)) p e = (n, ltb-true _ _ p, refl)
 below_zero_in : (k : ℕ) → k < 2 ^ 63 → in_i64 (negsuc k) ≡ Some (negsuc k)
 below_zero_in k h = rw (lt-ltb k (2 ^ 63) h) refl
 
--- a number lies in `u64` or in `i64`
-pub in_one : (x : Number) → in_u64 (value_of x) ≡ None → in_i64 (value_of x) ≡ None → ⊥
-in_one x e f =
-    let p = is_negative x.form x.formed e in
-    let g : Some (negsuc p.0) ≡ None = sym (below_zero_in p.0 p.1) ∙ ap in_i64 (sym p.2) ∙ f in
-    absurd (cc)
-
 -- ---- what is recorded of a literal by value is the literal
 
 pub unsigned_literal : (l : List ℕ) (x : Number) (n : ℕ) → number l → integer_in l ≡ Some (value_of x) → in_u64 (value_of x) ≡ Some n → signed_decimal (pos n) ≡ l
