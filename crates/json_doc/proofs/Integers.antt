@@ -1,6 +1,6 @@
 -- Integers by value: their literals, and what is kept of those.
 use Rattle.std.proofs.Common.{◌≡◌, ℕ, ◌<◌, ◌≤◌, ◌^◌, ◌⊎◌, inl, inr, ℤ, pos, negsuc, List, [], true, Option, Some, None, SFits, w64, refl, sym, ap, ◌∙◌, subst, arith}
-use Rattle.std.specs.Prelude.{◌<ℤ◌, option_map}
+use Rattle.std.specs.Prelude.{◌<ℤ◌}
 use Rattle.std.specs.Fmt.{signed_decimal}
 use Rattle.std.proofs.lemmas.Bool.{cases_lt, lt-ltb, le-ltb, ltb-true}
 use Rattle.std.proofs.lemmas.Int.{ints}
@@ -15,7 +15,7 @@ use Rattle.json_number.specs.declared.number.Number.{Number}
 use Rattle.json_number.proofs.Integers.{prints_its_literal, negative_number, negative_reads}
 use Rattle.json_doc.specs.ByValue.{integer_cell, raw_part}
 use Rattle.json_doc.specs.Texts.{token_text}
-use Rattle.json_doc.specs.Block.{TextStands, number_cell}
+use Rattle.json_doc.specs.Block.{number_cell}
 use Rattle.json_doc.specs.declared.cell.Cell.{Cell}
 use Rattle.json_doc.specs.declared.cell.Cell.TheVariants as cell
 
