@@ -36,7 +36,7 @@ linked mid zero i h = absurd (omega arith)
 linked mid (suc n) i h = refl
 
 -- an integer by value is the one that its decimal text stands for
-abbrev Valued : Cell → Type 0
+abbrev pub Valued : Cell → Type 0
 Valued c = (n : ℤ) → value_of_cell c ≡ Some n → integer_in (signed_decimal n) ≡ Some n
 
 no_value : (c : Cell) → value_of_cell c ≡ None → Valued c

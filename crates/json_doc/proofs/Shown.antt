@@ -18,6 +18,7 @@ use Rattle.json_doc.specs.declared.cell.Cell.{Cell}
 use Rattle.json_doc.specs.declared.cell.Cell.TheVariants as cell
 use Rattle.json_doc.specs.declared.doc.Doc.{Doc}
 use Rattle.json_doc.proofs.Numeric.{number_had}
+use Rattle.json_doc.proofs.Shaping.{Valued}
 use Rattle.json_doc.proofs.Pieces.{length-trees, tree_where, range_below, range_cons, range_none}
 
 -- ---- lists
@@ -109,10 +110,6 @@ bool_in bytes ts (cell.Raw start len) = refl
 bool_in bytes ts (cell.Str start len) = refl
 bool_in bytes ts (cell.Array link len) = refl
 bool_in bytes ts (cell.Object link len) = refl
-
--- an integer by value is the one that its decimal text stands for
-abbrev Valued : Cell → Type 0
-Valued c = (n : ℤ) → value_of_cell c ≡ Some n → integer_in (signed_decimal n) ≡ Some n
 
 no_literal_in : (bytes : List ℕ) (ts : List Tree) (c : Cell) → Valued c → ((start len : ℕ) → c ≢ cell.Raw start len) → literal_of (tree_of_cell bytes ts c) ≡ None
 no_literal_in bytes ts cell.Null v h = refl
