@@ -1,6 +1,6 @@
 -- Integers by value: their literals, and what is kept of those.
 use Rattle.std.proofs.Common.{◌≡◌, ℕ, ◌<◌, ◌≤◌, ◌^◌, ◌⊎◌, inl, inr, ℤ, pos, negsuc, List, [], true, Option, Some, None, SFits, w64, refl, sym, ap, ◌∙◌, subst, arith}
-use Rattle.std.specs.Prelude.{◌<ℤ◌, option_map}
+use Rattle.std.specs.Prelude.{◌<ℤ◌}
 use Rattle.std.specs.Fmt.{signed_decimal}
 use Rattle.std.proofs.lemmas.Bool.{cases_lt, lt-ltb, le-ltb, ltb-true}
 use Rattle.std.proofs.lemmas.Int.{ints}
@@ -15,7 +15,7 @@ use Rattle.json_number.specs.declared.number.Number.{Number}
 use Rattle.json_number.proofs.Integers.{prints_its_literal, negative_number, negative_reads}
 use Rattle.json_doc.specs.ByValue.{integer_cell, raw_part}
 use Rattle.json_doc.specs.Texts.{token_text}
-use Rattle.json_doc.specs.Block.{TextStands, number_cell}
+use Rattle.json_doc.specs.Block.{number_cell}
 use Rattle.json_doc.specs.declared.cell.Cell.{Cell}
 use Rattle.json_doc.specs.declared.cell.Cell.TheVariants as cell
 
@@ -51,13 +51,6 @@ is_negative (Negative (negsuc n)) p e = (n, ltb-true _ _ p, refl)
 
 below_zero_in : (k : ℕ) → k < 2 ^ 63 → in_i64 (negsuc k) ≡ Some (negsuc k)
 below_zero_in k h = rw (lt-ltb k (2 ^ 63) h) refl
-
--- a number lies in `u64` or in `i64`
-pub in_one : (x : Number) → in_u64 (value_of x) ≡ None → in_i64 (value_of x) ≡ None → ⊥
-in_one x e f =
-    let p = is_negative x.form x.formed e in
-    let g : Some (negsuc p.0) ≡ None = sym (below_zero_in p.0 p.1) ∙ ap in_i64 (sym p.2) ∙ f in
-    absurd (cc)
 
 -- ---- what is recorded of a literal by value is the literal
 

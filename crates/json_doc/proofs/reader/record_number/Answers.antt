@@ -1,4 +1,4 @@
-use Rattle.std.proofs.Common.{◌≡◌, pos, length, SFits, w64, to_z-of_z, rules, arith, refl, sym, ap, ◌∙◌}
+use Rattle.std.proofs.Common.{pos, length, SFits, w64, to_z-of_z, rules, arith, refl, sym, ap, ◌∙◌}
 use Rattle.std.specs.Fmt.{signed_decimal}
 use Rattle.json_grammar.specs.Tree.{num_token}
 use Rattle.json_doc.proofs.Integers.{unsigned_literal, negative_literal}
