@@ -9,6 +9,7 @@ use json_text::plain_run;
 use std::fmt;
 
 /// Writes the characters as a JSON string, between quotes and escaped as the formatters do (RFC 8259, section 7).
+#[derive(Clone, Copy)]
 pub struct Quoted<'a>(pub &'a str);
 
 impl fmt::Display for Quoted<'_> {
