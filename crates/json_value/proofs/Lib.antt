@@ -3,6 +3,7 @@ pub mod Trees
 pub mod Views
 pub mod Placed
 pub mod Copies
+pub mod Showing
 pub mod Turns
 pub mod Emitting
 pub mod WholeTrees

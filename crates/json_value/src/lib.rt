@@ -7,6 +7,7 @@ mod array;
 mod array_view;
 mod container;
 mod copying;
+mod display;
 mod emit;
 mod emit_packed;
 mod literal;
