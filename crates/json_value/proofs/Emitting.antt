@@ -4,7 +4,6 @@ use Rattle.std.specs.Option.{option_map}
 use Rattle.json_grammar.specs.declared.Kind.TheVariants.{Array as array, Object as object}
 use Rattle.json_grammar.specs.Tree.{Tree, null, boolean, num, text, list, pairs, Trees, no_trees, tree_and, Pairs, no_pairs, pair_and, trees_list, pairs_list, list_trees, list_pairs, Token, null_token, boolean_token, num_token, text_token, begin, end, key_token, tokens, trees_tokens, pairs_tokens}
 use Rattle.json_grammar.specs.Sizes.{nodes, trees_nodes, pairs_nodes}
-use Rattle.json_grammar.specs.Proper.{IsProper, AreProper, ArePairsProper}
 use Rattle.json_text.specs.declared.error.Error.{Error}
 use Rattle.json_doc.specs.declared.json_type.JsonType.TheVariants as kind
 use Rattle.json_doc.specs.Readings.{type_of, bool_of, literal_of, string_of, elements, keys, values, children}
@@ -129,18 +128,6 @@ pub value_within : (ps : List (List ℕ × Tree)) (i : ℕ) (u : Tree) → slice
 value_within [] i u e = absurd (cc)
 value_within (p ∷ ps) zero u e = let s : p.1 ≡ u = cc in omega (arith, ap nodes s)
 value_within (p ∷ ps) (suc i) u e = omega (arith, value_within ps i u e)
-
--- each element is proper
-pub element_proper : (ts : List Tree) (i : ℕ) (u : Tree) → AreProper (list_trees ts) → slice_get ts i ≡ Some u → IsProper u
-element_proper [] i u h e = absurd (cc)
-element_proper (t ∷ ts) zero u h e = let s : t ≡ u = cc in subst IsProper s h.0
-element_proper (t ∷ ts) (suc i) u h e = element_proper ts i u h.1 e
-
--- each value is proper
-pub value_proper : (ps : List (List ℕ × Tree)) (i : ℕ) (u : Tree) → ArePairsProper (list_pairs ps) → slice_get (map (λ p. p.1) ps) i ≡ Some u → IsProper u
-value_proper [] i u h e = absurd (cc)
-value_proper (p ∷ ps) zero u h e = let s : p.1 ≡ u = cc in subst IsProper s h.1
-value_proper (p ∷ ps) (suc i) u h e = value_proper ps i u h.2 e
 
 keys_of : (t : Tree) → keys t ≡ map (λ p. p.0) (members t)
 keys_of (pairs ps) = refl

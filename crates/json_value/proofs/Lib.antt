@@ -2,6 +2,7 @@ pub mod Fronts
 pub mod Trees
 pub mod Views
 pub mod Placed
+pub mod Held
 pub mod Copies
 pub mod Turns
 pub mod Emitting

@@ -5,7 +5,8 @@ use Rattle.std.proofs.lemmas.List.{length-map}
 use Rattle.json_grammar.specs.Tree.{Tree, null, boolean, num, text, list, no_trees, list_trees, pairs, no_pairs, list_pairs, Token, tokens, null_token, boolean_token, num_token, text_token}
 use Rattle.json_doc.specs.Readings.{elements}
 use Rattle.json_value.specs.Readings.{members}
-use Rattle.json_value.specs.Denotes.{tree_of, pair_of, form_list, form_pairs, place_tree, text_bytes, literal_bytes}
+use Rattle.json_value.specs.Denotes.{tree_of, pair_of, form_list, form_pairs, text_bytes, literal_bytes}
+use Rattle.json_value.specs.Said.{place_tree}
 use Rattle.json_value.specs.declared.value.Value.{Value, Null, Bool, Raw, Text, Array, Object}
 use Rattle.json_value.specs.declared.container.Container.{Container}
 use Rattle.json_value.specs.declared.container.Form.{Form}

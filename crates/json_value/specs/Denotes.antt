@@ -1,16 +1,11 @@
 -- The tree that a value denotes.
-use Rattle.std.specs.Prelude.{ℕ, List, [], map, string_bytes}
+use Rattle.std.specs.Prelude.{ℕ, List, [], map}
 use Rattle.json_grammar.specs.Tree.{Tree, null, boolean, num, text, list, pairs, list_trees, list_pairs}
-use Rattle.json_doc.specs.Docs.{doc_tree}
 use Rattle.json_doc.specs.Readings.{elements}
-use Rattle.json_value.specs.Readings.{members, text_said, literal_said}
-use Rattle.json_value.specs.declared.place.Place.{Place}
+use Rattle.json_value.specs.Readings.{members}
+use Rattle.json_value.specs.Said.{place_tree, literal_form_bytes, text_form_bytes}
 use Rattle.json_value.specs.declared.literal.Literal.{Literal}
-use Rattle.json_value.specs.declared.literal.LiteralForm.{LiteralForm}
-use Rattle.json_value.specs.declared.literal.LiteralForm.TheVariants as literal
 use Rattle.json_value.specs.declared.text.Text.{Text}
-use Rattle.json_value.specs.declared.text.TextForm.{TextForm}
-use Rattle.json_value.specs.declared.text.TextForm.TheVariants as form
 use Rattle.json_value.specs.declared.container.Container.{Container}
 use Rattle.json_value.specs.declared.container.Form.{Form}
 use Rattle.json_value.specs.declared.container.Form.TheVariants.{Empty, Owned, Packed}
@@ -18,24 +13,11 @@ use Rattle.json_value.specs.declared.pair.Keyed.{Keyed}
 use Rattle.json_value.specs.declared.value.Value.{Value, fold-Value}
 use Rattle.json_value.specs.declared.value.Value.TheOpen.{Value-F}
 
--- the tree at a place of a document
-abbrev pub place_tree : Place → Tree
-place_tree p = doc_tree p.doc.value p.at
-
 -- the bytes of a literal
-abbrev pub literal_form_bytes : LiteralForm → List ℕ
-literal_form_bytes (literal.Copied s) = string_bytes s
-literal_form_bytes (literal.Packed p) = literal_said (place_tree p)
-
 abbrev pub literal_bytes : Literal → List ℕ
 literal_bytes l = literal_form_bytes l.form
 
 -- the bytes of a text
-abbrev pub text_form_bytes : TextForm → List ℕ
-text_form_bytes (form.Static s) = s
-text_form_bytes (form.Copied s) = string_bytes s
-text_form_bytes (form.Packed p) = text_said (place_tree p)
-
 abbrev pub text_bytes : Text → List ℕ
 text_bytes t = text_form_bytes t.form
 

@@ -7,7 +7,7 @@ ghost use Rattle.json_value.specs.Denotes.{tree_of};
 ghost use Rattle.json_value.specs.Spots.{spot_of, read_spot};
 
 use crate::container::{Container, Form};
-use crate::literal::{Literal, LiteralForm};
+use crate::literal::Literal;
 use crate::pair::Keyed;
 use crate::place::Place;
 use crate::text::Text;
@@ -52,12 +52,7 @@ impl Value {
         match view.get_type() {
             JsonType::Null => Ok(Value::Null),
             JsonType::Boolean => Ok(Value::Bool(view.as_bool().unwrap_or(false))),
-            JsonType::Number => {
-                let doc = doc.clone()?;
-                Ok(Value::Raw(Literal {
-                    form: LiteralForm::Packed(Place { doc, at }),
-                }))
-            }
+            JsonType::Number => Ok(Value::Raw(Literal::at(doc, at)?)),
             JsonType::String => Ok(Value::Text(Text::at(doc, at)?)),
             JsonType::Array => {
                 if view.len() == 0 {
