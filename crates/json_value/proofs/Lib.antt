@@ -7,6 +7,7 @@ pub mod Copies
 pub mod Turns
 pub mod Emitting
 pub mod WholeTrees
+pub mod ProperValues
 pub mod KeyLookups
 pub mod TreeEdits
 pub mod AppliedTrees

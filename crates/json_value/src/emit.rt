@@ -8,7 +8,7 @@ ghost use Rattle.json_value.specs.Seen.{seen};
 
 use crate::container::Form;
 use crate::emit_packed::{
-    emit_document, emit_elements, emit_members, emit_no_pairs, emit_no_values,
+    emit_document, emit_elements, emit_members, emit_no_pairs, emit_no_values, emit_number,
 };
 use crate::value::{Pair, Value};
 use crate::view::{View, ViewForm};
@@ -39,6 +39,7 @@ fn emit_value<E: Events>(value: &Value, out: &mut E) -> Result<()>
     match value {
         Value::Null => out.null(),
         Value::Bool(boolean) => out.boolean(*boolean),
+        Value::Number(number) => emit_number(*number, out),
         Value::Raw(literal) => out.raw_number(literal.as_str()),
         Value::Text(text) => out.text(text.as_str()),
         Value::Array(array) => match &array.form {

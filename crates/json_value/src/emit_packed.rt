@@ -1,6 +1,7 @@
 // The tokens of a document's tree, from left to right.
 ghost use Rattle.std.specs.Prelude.{◌≡◌, [], None};
-ghost use Rattle.json_grammar.specs.Tree.{list, no_trees, list_trees, pairs, no_pairs, list_pairs, tokens};
+ghost use Rattle.json_grammar.specs.Tree.{num, list, no_trees, list_trees, pairs, no_pairs, list_pairs, tokens};
+ghost use Rattle.json_number.specs.Numbers.{text_of_number};
 ghost use Rattle.json_doc.specs.Left.{children_left, pairs_left};
 ghost use Rattle.json_doc.specs.Readings.{elements};
 ghost use Rattle.json_doc.specs.Seen.{view_tree};
@@ -9,6 +10,7 @@ ghost use Rattle.json_value.specs.Emitting.{Emits};
 ghost use Rattle.json_value.specs.Readings.{members};
 
 use json_doc::{DocChildren, DocNode, DocPairs, DocView};
+use json_number::{JsonNumberTrait, Number};
 use json_print::Events;
 use json_text::Result;
 
@@ -22,10 +24,26 @@ pub(crate) fn emit_document<E: Events>(view: DocView<'_>, out: &mut E) -> Result
     match view.node() {
         DocNode::Null => out.null(),
         DocNode::Boolean(boolean) => out.boolean(boolean),
-        DocNode::Number(literal) => out.raw_number(literal),
+        DocNode::Number(number) => emit_number(number, out),
+        DocNode::Raw(literal) => out.raw_number(literal),
         DocNode::String(text) => out.text(text),
         DocNode::Array(children) => emit_children(children, view.len(), out),
         DocNode::Object(members) => emit_pairs(members, view.len(), out),
+    }
+}
+
+// Gives the token of an integer by value.
+pub(crate) fn emit_number<E: Events>(number: Number, out: &mut E) -> Result<()>
+    requires fresh { E.failed out.old ≡ None }
+    requires turn { TakesValue (E.stand (E.state out.old)).turn }
+    ensures { Emits E.after E.stopped (E.state out.old) (E.state out.new) (E.failed out.new) (tokens (num (text_of_number number))) result }
+{
+    match number.as_u64() {
+        Some(n) => out.uint(n as u128),
+        None => match number.as_i64() {
+            Some(n) => out.int(n as i128),
+            None => unreachable!(),
+        },
     }
 }
 

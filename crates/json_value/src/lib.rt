@@ -9,6 +9,7 @@ mod container;
 mod copying;
 mod emit;
 mod emit_packed;
+pub mod laws;
 mod literal;
 mod making;
 mod object;

@@ -38,7 +38,8 @@ fn own_document(alloc: Global, view: DocView<'_>) -> Result<Value>
     match view.node() {
         DocNode::Null => Ok(Value::Null),
         DocNode::Boolean(boolean) => Ok(Value::Bool(boolean)),
-        DocNode::Number(literal) => {
+        DocNode::Number(number) => Ok(Value::Number(number)),
+        DocNode::Raw(literal) => {
             let literal = Literal::copy(alloc, literal)?;
             Ok(Value::Raw(literal))
         }

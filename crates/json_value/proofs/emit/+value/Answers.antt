@@ -8,7 +8,7 @@ use Rattle.json_value.specs.Denotes.{tree_of, pair_of}
 use Rattle.json_value.specs.declared.container.Form.TheVariants.{Empty, Owned, Packed}
 use Rattle.json_value.proofs.Turns.{after_append}
 use Rattle.json_value.proofs.Emitting.{emits_one, emits_refused, emits_last, emits_same, stops_one, stops_within, array_tokens, array_around, array_whole, array_front, array_stand, array_step, object_tokens, object_around, object_whole, object_front, object_stand, object_step, member_stand, value_within, element_within}
-use Rattle.json_value.proofs.WholeTrees.{null_in, bool_in, literal_in, text_in, array_there, object_there, item_there, items_end, key_of_item, tree_of_item}
+use Rattle.json_value.proofs.WholeTrees.{null_in, bool_in, number_in, literal_in, text_in, array_there, object_there, item_there, items_end, key_of_item, tree_of_item}
 use Rattle.json_value.proofs.emit.+value.Goals as goal
 
 pub emit_value-returns-in-Null : goal.emit_value-returns-in-Null
@@ -16,6 +16,9 @@ emit_value-returns-in-Null g t c = emits_one _ _ _ _ _ _ _ _ _ c.requires.fresh 
 
 pub emit_value-returns-in-Bool : goal.emit_value-returns-in-Bool
 emit_value-returns-in-Bool g t c = emits_one _ _ _ _ _ _ _ _ _ c.requires.fresh (ap tokens (bool_in _ _ c.in-Bool.is)) c.boolean.ensures
+
+pub emit_value-returns-in-Number : goal.emit_value-returns-in-Number
+emit_value-returns-in-Number g t c = emits_same _ _ _ _ _ _ _ _ (sym (number_in _ c.in-Number.number c.in-Number.is)) c.emit_number.ensures
 
 pub emit_value-returns-in-Raw : goal.emit_value-returns-in-Raw
 emit_value-returns-in-Raw g t c = emits_one _ _ _ _ _ _ _ _ _ c.requires.fresh (ap tokens (literal_in _ c.in-Raw.literal c.in-Raw.is) ∙ ap (λ s. num_token s ∷ []) (sym c.as_str.ensures.literal)) c.raw_number.ensures
