@@ -73,6 +73,21 @@ members_within (num l) n h = omega arith
 members_within (text c) n h = omega arith
 members_within (list ts) n h = omega arith
 
+-- so has none of a list that is taken apart
+pub tree_among : (front rest ts : List Tree) (u : Tree) → front ++ u ∷ rest ≡ ts → nodes u ≤ trees_nodes (list_trees ts)
+tree_among front rest ts u e = subst (λ xs. nodes u ≤ trees_nodes (list_trees xs)) e (among front)
+  where
+    among : (xs : List Tree) → nodes u ≤ trees_nodes (list_trees (xs ++ u ∷ rest))
+    among [] = omega arith
+    among (x ∷ xs) = omega (arith, among xs)
+
+pub value_among : (front rest ps : List (List ℕ × Tree)) (k : List ℕ) (u : Tree) → front ++ (k, u) ∷ rest ≡ ps → nodes u ≤ pairs_nodes (list_pairs ps)
+value_among front rest ps k u e = subst (λ xs. nodes u ≤ pairs_nodes (list_pairs xs)) e (among front)
+  where
+    among : (xs : List (List ℕ × Tree)) → nodes u ≤ pairs_nodes (list_pairs (xs ++ (k, u) ∷ rest))
+    among [] = omega arith
+    among (x ∷ xs) = omega (arith, among xs)
+
 -- ---- what is left of a list
 
 next : (i : ℕ) → i + 1 ≡ suc i

@@ -3,6 +3,7 @@ pub mod Trees
 pub mod Views
 pub mod Placed
 pub mod Held
+pub mod Integers
 pub mod Copies
 pub mod Turns
 pub mod Emitting
