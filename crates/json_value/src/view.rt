@@ -156,7 +156,6 @@ fn value_number(value: &Value) -> Option<Number>
     }
 }
 
-#[tactic(auto, using(crate::proofs::Integers::no_literal_read))]
 fn value_literal(value: &Value) -> Option<&str>
     ensures { option_map (λ s. s.now) result ≡ literal_of (tree_of value.now) }
 {

@@ -1,5 +1,6 @@
-use Rattle.std.proofs.Common.{[], ◌∷◌, SFits, w64, w128, to_z, of_z, to_z-of_z, rules, sym, ap, ◌∙◌}
+use Rattle.std.proofs.Common.{[], ◌∷◌, SFits, w64, to_z, of_z, to_z-of_z, rules, sym, ap, ◌∙◌}
 use Rattle.std.specs.Fmt.{signed_decimal}
+use Rattle.std.specs.Int.{w128}
 use Rattle.json_grammar.specs.Tree.{num_token}
 use Rattle.json_value.proofs.Emitting.{emits_one}
 use Rattle.json_value.proofs.Integers.{unsigned_text, negative_text, widened}
