@@ -1,5 +1,5 @@
 -- The tree of each value is proper.
-use Rattle.std.proofs.Common.{◌≡◌, ℕ, List, [], ◌∷◌, map, refl, sym, ap, subst, ◌∙◌}
+use Rattle.std.proofs.Common.{List, [], ◌∷◌, map, refl, sym, ap, subst, ◌∙◌}
 use Rattle.json_grammar.specs.Tree.{Tree, list_trees, list_pairs, list, pairs}
 use Rattle.json_grammar.specs.Proper.{IsProper, AreProper, ArePairsProper}
 use Rattle.json_number.proofs.Forms.{reads}
@@ -9,8 +9,6 @@ use Rattle.json_value.specs.Denotes.{tree_of, pair_of, list_in, pairs_in, litera
 use Rattle.json_value.specs.Readings.{members}
 use Rattle.json_value.specs.Rows.{keyed_so}
 use Rattle.json_value.specs.Said.{place_tree}
-use Rattle.json_value.specs.declared.place.Place.{Place}
-use Rattle.json_value.specs.declared.container.Container.{Container}
 use Rattle.json_value.specs.declared.container.Form.{Form}
 use Rattle.json_value.specs.declared.container.Form.TheVariants.{Empty, Owned, Packed}
 use Rattle.json_value.specs.declared.pair.Keyed.{Keyed}

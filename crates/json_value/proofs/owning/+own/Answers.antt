@@ -1,4 +1,4 @@
-use Rattle.std.proofs.Common.{List, ◌++◌, map, sym, ap, ◌∙◌, arith}
+use Rattle.std.proofs.Common.{◌++◌, map, sym, ap, ◌∙◌, arith}
 use Rattle.json_grammar.specs.Tree.{list, pairs, list_trees, list_pairs}
 use Rattle.json_grammar.specs.Sizes.{nodes}
 use Rattle.json_doc.specs.Left.{children_left, pairs_left}
