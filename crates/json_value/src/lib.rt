@@ -10,6 +10,7 @@ mod copying;
 mod display;
 mod emit;
 mod emit_packed;
+pub mod laws;
 mod literal;
 mod making;
 mod object;
