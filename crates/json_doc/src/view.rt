@@ -24,10 +24,10 @@ pub struct DocView<'a> {
 }
 
 impl<'a> DocView<'a> {
-    ghost use Rattle.json_grammar.specs.Tree.{text};
+    ghost use Rattle.json_grammar.specs.Tree.{num, text};
     ghost use Rattle.json_grammar.specs.Grammar.{number};
     ghost use Rattle.json_number.specs.Integers.{integer_in};
-    ghost use Rattle.json_number.specs.Numbers.{value_of};
+    ghost use Rattle.json_number.specs.Numbers.{value_of, text_of_number};
     ghost use Rattle.json_doc.specs.Seen.{view_doc, view_place, view_tree, child_place, key_place};
     ghost use Rattle.std.specs.Prelude.{ℕ, Some, None};
     ghost use Rattle.json_doc.specs.Left.{children_doc, children_places, children_left};
@@ -77,7 +77,8 @@ impl<'a> DocView<'a> {
     /// The number, where it is an integer of `u64` or `i64` (RFC 8259, section 6); none of another, nor of another kind.
     #[inline]
     pub fn as_number(self) -> Option<Number>
-        ensures { option_map value_of result ≡ integer_of (view_tree self.entry) }
+        ensures value { option_map value_of result ≡ integer_of (view_tree self.entry) }
+        ensures text { IfSome result (λ n. view_tree self.entry ≡ num (text_of_number n)) }
     {
         match self.cell() {
             Cell::Unsigned(n) => Some(Number::from(n)),

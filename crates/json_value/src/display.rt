@@ -61,6 +61,9 @@ fn show_scalar<W: fmt::Write>(view: View<'_>, f: &mut fmt::Formatter<W>) -> fmt:
     if let Some(text) = view.text() {
         return write!(f, "{}", Quoted(text));
     }
+    if let Some(number) = view.as_number() {
+        return write!(f, "{number}");
+    }
     if let Some(literal) = view.literal() {
         return f.write_str(literal);
     }

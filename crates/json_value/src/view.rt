@@ -1,6 +1,7 @@
 // Views of values.
-ghost use Rattle.std.specs.Prelude.{◌≡◌, option_map};
-ghost use Rattle.json_number.specs.Numbers.{value_of};
+ghost use Rattle.std.specs.Prelude.{◌≡◌, option_map, IfSome};
+ghost use Rattle.json_grammar.specs.Tree.{num};
+ghost use Rattle.json_number.specs.Numbers.{value_of, text_of_number};
 ghost use Rattle.json_doc.specs.Readings.{type_of, bool_of, integer_of, literal_of, string_of};
 ghost use Rattle.json_doc.specs.Seen.{view_tree};
 ghost use Rattle.json_value.specs.Denotes.{tree_of};
@@ -72,7 +73,8 @@ impl<'a> View<'a> {
     /// The number, where it is an integer of `u64` or `i64`; none of another, nor of another kind.
     #[inline]
     pub fn as_number(self) -> Option<Number>
-        ensures { option_map value_of result ≡ integer_of (seen self.entry) }
+        ensures value { option_map value_of result ≡ integer_of (seen self.entry) }
+        ensures text { IfSome result (λ n. seen self.entry ≡ num (text_of_number n)) }
     {
         match self.form {
             ViewForm::Packed(view) => view.as_number(),
@@ -148,7 +150,8 @@ fn value_bool(value: &Value) -> Option<bool>
 }
 
 fn value_number(value: &Value) -> Option<Number>
-    ensures { option_map value_of result ≡ integer_of (tree_of value.now) }
+    ensures value { option_map value_of result ≡ integer_of (tree_of value.now) }
+    ensures text { IfSome result (λ n. tree_of value.now ≡ num (text_of_number n)) }
 {
     match value {
         Value::Number(number) => Some(*number),
