@@ -14,6 +14,8 @@ mod defaults;
 mod emit;
 mod emit_packed;
 mod equality;
+#[cfg(test)]
+mod equality_tests;
 mod literal;
 mod making;
 mod object;

@@ -1,7 +1,7 @@
 use Rattle.std.proofs.Common.{bytes_eq, sym, ap, ◌∙◌}
 use Rattle.std.specs.List.{list_any}
 use Rattle.json_value.specs.Agreeing.{keys_in}
-use Rattle.json_value.specs.Seen.{seen, members_seen}
+use Rattle.json_value.specs.Seen.{members_seen}
 use Rattle.json_value.proofs.Agreeing.{key_at, no_key_at, any_found, any_more, take_more}
 use Rattle.json_value.proofs.equality.has_before.Goals.{in-Some+else-eq, in_default}
 use Rattle.json_value.proofs.equality.has_before.Goals as goal

@@ -1,4 +1,4 @@
-use Rattle.std.proofs.Common.{Some, map, sym, ap, ◌∙◌}
+use Rattle.std.proofs.Common.{map, sym, ap, ◌∙◌}
 use Rattle.json_grammar.specs.Tree.{list, list_trees}
 use Rattle.json_model.specs.Same.{same}
 use Rattle.json_value.specs.Denotes.{tree_of}
