@@ -14,6 +14,9 @@ use crate::equality::{are_arrays_same, are_objects_same, are_same};
 use crate::pair::Keyed;
 use crate::value::{Array, Object, Value};
 
+/// Scalars are equal where their content is, numbers by their literals; arrays element by element; and objects of as many
+/// members where the first values of each key are, in any order of the keys. Takes no memory. Each member of an object is
+/// searched for from the left, so the time grows with the square of its members.
 impl PartialEq for Value {
     ghost eq = { on tree_of same };
 
@@ -28,6 +31,7 @@ impl Eq for Value {
     ghost laws = { on_equiv tree_of same_equivalent };
 }
 
+/// As the arrays are equal as values.
 impl PartialEq for Container<Value> {
     ghost eq = { on tree_of_array same };
 
@@ -42,6 +46,7 @@ impl Eq for Container<Value> {
     ghost laws = { on_equiv tree_of_array same_equivalent };
 }
 
+/// As the objects are equal as values.
 impl PartialEq for Container<Keyed<Value>> {
     ghost eq = { on tree_of_object same };
 
