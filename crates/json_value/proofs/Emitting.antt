@@ -1,5 +1,6 @@
 -- The tokens of a tree, given in turn.
-use Rattle.std.proofs.Common.{Bool, ◌≡◌, ◌≢◌, ℕ, zero, suc, ◌+◌, ◌<◌, ◌≤◌, List, [], ◌∷◌, ◌++◌, length, take, map, Option, Some, None, Ok, Err, Result, refl, sym, ap, ap₂, subst, ◌∙◌, arith, append_assoc, append-nil, slice_get, true}
+use Rattle.std.proofs.Common.{Bool, ◌≡◌, ◌≢◌, ◌⊎◌, inl, inr, ℕ, zero, suc, ◌+◌, ◌*◌, ◌<◌, ◌≤◌, List, [], ◌∷◌, ◌++◌, length, take, map, Option, Some, None, Ok, Err, Result, refl, sym, ap, ap₂, subst, ◌∙◌, arith, append_assoc, append-nil, slice_get, true, false}
+use Rattle.std.specs.Option.{option_map}
 use Rattle.json_grammar.specs.declared.Kind.TheVariants.{Array as array, Object as object}
 use Rattle.json_grammar.specs.Tree.{Tree, null, boolean, num, text, list, pairs, Trees, no_trees, tree_and, Pairs, no_pairs, pair_and, trees_list, pairs_list, list_trees, list_pairs, Token, null_token, boolean_token, num_token, text_token, begin, end, key_token, tokens, trees_tokens, pairs_tokens}
 use Rattle.json_grammar.specs.Sizes.{nodes, trees_nodes, pairs_nodes}
@@ -12,7 +13,7 @@ use Rattle.json_print.specs.Standing.{Stand, stand_after, TakesValue, TakesKey, 
 use Rattle.json_print.specs.Taking.{after_all, Takes}
 use Rattle.json_value.specs.Readings.{members}
 use Rattle.json_value.specs.Emitting.{StopsAmong, Emits}
-use Rattle.json_value.proofs.Turns.{after_append, stand_moves, all_tokens, all_pairs, elements_stand, members_stand}
+use Rattle.json_value.proofs.Turns.{stand_all, after_append, stand_moves, all_tokens, all_pairs, elements_stand, members_stand}
 
 -- ---- one token
 

@@ -1,4 +1,4 @@
-use Rattle.std.proofs.Common.{ℕ, List, Vec, Global, Some, sym, ap, ap₂, ◌∙◌, arith}
+use Rattle.std.proofs.Common.{◌≡◌, ℕ, List, Vec, Global, Some, sym, ap, ap₂, ◌∙◌, arith}
 use Rattle.json_grammar.specs.Tree.{Tree, list, pairs, list_trees, list_pairs}
 use Rattle.json_doc.specs.Readings.{elements}
 use Rattle.json_doc.specs.Seen.{view_tree}
