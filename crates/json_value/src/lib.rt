@@ -3,8 +3,6 @@
 #![tactic(auto)]
 
 mod applying;
-#[cfg(test)]
-mod applying_tests;
 mod array;
 mod array_view;
 mod comparing;

@@ -55,10 +55,6 @@ fn values_of_a_document_are_printed(rt: HostRuntime) -> Result<(), Fail> {
     trees_are_proper(&doc);
     let value = Value::from_place(alloc, &doc, doc.root())?;
     assert_eq!(rt; printed(alloc, value.view())?.as_slice(), TEXT.as_bytes());
-    let view = View::packed(doc.view());
-    assert_eq!(rt; printed(alloc, view)?.as_slice(), TEXT.as_bytes());
-    let copy = view.to_value(alloc)?;
-    assert_eq!(rt; printed(alloc, copy.view())?.as_slice(), TEXT.as_bytes());
     let copy = value.view().to_value(alloc)?;
     assert_eq!(rt; printed(alloc, copy.view())?.as_slice(), TEXT.as_bytes());
     Ok(())
@@ -76,39 +72,17 @@ fn values_made_by_hand_are_printed(rt: HostRuntime) -> Result<(), Fail> {
     Ok(())
 }
 
-// An object of an array under `a`, an object under `b`, an array under `a` and a boolean under `c`.
-fn check_object(rt: &impl Abort, view: View<'_>) -> Result<(), Fail> {
-    assert!(rt; view.get_type() == JsonType::Object && view.as_array().is_none());
-    let object = view.as_object().ok_or("no object")?;
-    assert!(rt; object.len() == 5 && !object.is_empty());
-    let (key, value) = object.pair(1).ok_or("no member")?;
-    assert!(rt; key == "b" && value.as_object().is_some_and(|object| object.is_empty()));
-    assert!(rt; object.pair(5).is_none() && object.get("e").is_none());
-    let (key, value) = object.get_key_value("c").ok_or("no member")?;
-    assert!(rt; key == "c" && value.as_bool() == Some(false));
-    let array = object
-        .get("a")
-        .ok_or("no value")?
-        .as_array()
-        .ok_or("no array")?;
-    assert!(rt; array.len() == 3 && !array.is_empty() && array.get(3).is_none());
-    let number = array.get(1).ok_or("no element")?;
-    assert_eq!(rt; (number.literal(), number.text()), (Some("-2.50e3"), None));
-    let text = array.get(2).ok_or("no element")?;
-    assert_eq!(rt; (text.literal(), text.text()), (None, Some("\n")));
-    Ok(())
-}
-
 #[test]
 fn views_show(rt: HostRuntime) -> Result<(), Fail> {
     let alloc = rt.alloc();
-    let doc = read(&rt, alloc, TEXT)?;
-    check_object(&rt, View::packed(doc.view()))?;
-    let mut value = Value::from_place(alloc, &doc, doc.root())?;
-    check_object(&rt, value.view())?;
-    if let Value::Object(object) = &mut value {
-        let pairs = object.pairs_mut(alloc)?;
-        assert_eq!(rt; pairs.len(), 5);
-    }
-    check_object(&rt, value.view())
+    let doc = read(&rt, alloc, "{\"a\":[true,\"\\n\"],\"b\":-2.50e3}")?;
+    let view = View::packed(doc.view());
+    let object = view.as_object().ok_or("no object")?;
+    assert!(rt; object.len() == 2 && !object.is_empty());
+    let (key, value) = object.get_key_value("b").ok_or("no member")?;
+    assert_eq!(rt; (key, value.literal()), ("b", Some("-2.50e3")));
+    let array = object.get("a").ok_or("no value")?.as_array().ok_or("no array")?;
+    let text = array.get(1).ok_or("no element")?;
+    assert!(rt; text.get_type() == JsonType::String && text.text() == Some("\n"));
+    Ok(())
 }
