@@ -2,10 +2,12 @@ pub mod Fronts
 pub mod Trees
 pub mod Views
 pub mod Placed
+pub mod Held
 pub mod Copies
 pub mod Turns
 pub mod Emitting
 pub mod WholeTrees
+pub mod ProperValues
 pub mod KeyLookups
 pub mod TreeEdits
 pub mod AppliedTrees

@@ -14,6 +14,7 @@ mod emit_packed;
 mod equality;
 #[cfg(test)]
 mod equality_tests;
+pub mod laws;
 mod literal;
 mod making;
 mod object;

@@ -1,8 +1,8 @@
 -- What is read of a word, element by element.
-use Rattle.std.proofs.Common.{◌≡◌, ◌≢◌, inl, inr, ℕ, ◌+◌, ◌<◌, ◌≤◌, ◌^◌, List, [], ◌∷◌, ◌++◌, length, drop, get_or, Bool, true, false, cond, ◌&&◌, ltb, eqb, Option, Some, None, option_map, option_and_then, Result, Ok, Err, slice_get, bytes_eq, codes, refl, sym, subst, ap, ◌∙◌, arith, append_assoc}
+use Rattle.std.proofs.Common.{◌≡◌, ◌≢◌, ◌⊎◌, inl, inr, ℕ, ℤ, pos, negsuc, ◌+◌, ◌<◌, ◌≤◌, ◌^◌, List, [], ◌∷◌, ◌++◌, length, drop, get_or, Bool, true, false, cond, ◌&&◌, ltb, eqb, Option, Some, None, option_map, option_and_then, Result, Ok, Err, slice_get, bytes_eq, codes, refl, sym, subst, ap, ◌∙◌, arith, append_assoc}
 use Rattle.std.proofs.lemmas.List.{drop_more}
 use Rattle.std.proofs.lemmas.Option.{slice_get_within, get_or_from_slice_get, slice_get-get_or}
-use Rattle.std.proofs.lemmas.Bool.{false_from_ne_true}
+use Rattle.std.proofs.lemmas.Bool.{false_from_ne_true, cases_lt, lt-ltb, le-ltb}
 use Rattle.std.proofs.lemmas.Slice.Eq.{bytes_eq-Decides}
 use Rattle.std.proofs.lemmas.Bool.Decides.{Decides-ltb, nat_tests}
 use Rattle.std.proofs.lemmas.Str.Parse.{IsNumeralModel, numerals_by_value, tells_all_ascii_digits, parse_plain}
@@ -17,6 +17,7 @@ use Rattle.json_text.specs.declared.error.ErrorCode.{ErrorCode}
 use Rattle.json_text.specs.declared.error.ErrorCode.TheVariants.{NoMemory}
 use Rattle.json_text.specs.declared.error.Place.{Place}
 use Rattle.json_text.proofs.NoText.{no_text}
+use Rattle.json_number.specs.Integers.{in_u64}
 use Rattle.json_doc.specs.declared.doc.Doc.{Doc}
 use Rattle.json_doc.specs.Docs.{IsDocOf, doc_tree, doc_root, doc_cells, doc_text}
 use Rattle.json_doc.specs.Reading.{ReadingFails}
@@ -24,7 +25,7 @@ use Rattle.json_doc.proofs.Pieces.{spelled}
 use Rattle.json_doc.specs.declared.json_type.JsonType.TheVariants.{Array}
 use Rattle.json_doc.specs.Readings.{type_of, string_of, elements, children}
 use Rattle.json_model.specs.Edit.{Edit}
-use Rattle.reshape.specs.Words.{both, each_in, index_in, step_in, path_in, edit_named, edit_in, edits_in, Unread, Spells}
+use Rattle.reshape.specs.Words.{both, each_in, index_of, step_in, path_in, edit_named, edit_in, edits_in, Unread, Spells}
 use Rattle.reshape.specs.Input.{most}
 
 none_some : {A : Type 0} {x : A} → None ≡ Some x → ⊥
@@ -37,46 +38,27 @@ unread o p e h (inr (b, n)) = inr (b, h n)
 
 -- ---- indices
 
-abbrev own : IsNumeralModel (λ ds. all_ascii_digits ds ≡ true) (digits_value 10)
-own = numerals_by_value _ tells_all_ascii_digits
+index_by : {E : Type 0} (n : ℕ) (r : Result ℕ E) → OkIff r (n < 2 ^ 32) n → result_ok r ≡ index_of (pos n)
+index_by n (Ok x) h = ap Some h.1 ∙ sym (rw (lt-ltb n (2 ^ 32) h.0) refl)
+index_by n (Err e) h = let k : 2 ^ 32 ≤ n = omega (arith, h) in sym (rw (le-ltb n (2 ^ 32) k) refl)
 
-picked : (a b : Bool) (v : ℕ) → a ≡ true → b ≡ true → Some v ≡ cond (a && b) (Some v) None
-picked true true v d e = refl
-picked true false v d e = absurd (differ e)
+-- what `try_from` answers of an integer in `u64` is its index
+pub index_tried : {E : Type 0} (z : ℤ) (n : ℕ) (r : Result ℕ E) → Some n ≡ in_u64 z → OkIff r (n < 2 ^ 32) n → result_ok r ≡ index_of z
+index_tried (pos m) n r e h = by (cases_lt m (2 ^ 64))
   where
-    differ : false ≡ true → ⊥
-    differ e = cc
-picked false b v d e = absurd (differ d)
+    by : (m < 2 ^ 64) ⊎ (2 ^ 64 ≤ m) → result_ok r ≡ index_of (pos m)
+    by (inl k) = let f : Some n ≡ Some m = e ∙ rw (lt-ltb m (2 ^ 64) k) refl in let s : n ≡ m = cc in subst (λ (i : ℕ). result_ok r ≡ index_of (pos i)) s (index_by n r h)
+    by (inr k) = let f : Some n ≡ None = e ∙ rw (le-ltb m (2 ^ 64) k) refl in absurd (cc)
+index_tried (negsuc m) n r e h = absurd (cc)
+
+-- no other integer is one
+pub no_index : (z : ℤ) → None ≡ in_u64 z → None ≡ index_of z
+no_index (pos m) e = by (cases_lt m (2 ^ 64))
   where
-    differ : false ≡ true → ⊥
-    differ e = cc
-
-left_out : (a b : Bool) (v : ℕ) → (a ≡ true → b ≡ true → ⊥) → None ≡ cond (a && b) (Some v) None
-left_out true true v h = absurd (h refl refl)
-left_out true false v h = refl
-left_out false b v h = refl
-
-index_by : {E : Type 0} (bs : List ℕ) (r : Result ℕ E) → OkIff r ((all_ascii_digits bs ≡ true) × (0 < length bs) × (digits_value 10 bs < 2 ^ 32)) (digits_value 10 bs) → result_ok r ≡ index_in bs
-index_by [] (Ok x) h = absurd (omega (arith, h.0.1))
-index_by [] (Err e) h = refl
-index_by (x ∷ l) (Ok y) h = ap Some h.1 ∙ picked (all_ascii_digits (x ∷ l)) (ltb (digits_value 10 (x ∷ l)) (2 ^ 32)) (digits_value 10 (x ∷ l)) h.0.0 ((Decides-ltb (digits_value 10 (x ∷ l)) (2 ^ 32)).1 h.0.2)
-index_by (x ∷ l) (Err e) h =
-    left_out (all_ascii_digits (x ∷ l)) (ltb (digits_value 10 (x ∷ l)) (2 ^ 32)) (digits_value 10 (x ∷ l)) (λ d s. h (d, omega arith, (Decides-ltb (digits_value 10 (x ∷ l)) (2 ^ 32)).0 s))
-
--- what `parse` answers of a literal without a plus sign in front is its index
-pub index_parsed : {E : Type 0} (bs : List ℕ) (r : Result ℕ E) → ParsesUnsigned 32 10 bs r → get_or bs 0 0 ≢ 43 → result_ok r ≡ index_in bs
-index_parsed bs r h n = index_by bs r (parse_plain own 32 bs r h n)
-
-pub first_is : (bs : List ℕ) (r : Bool) → r ≡ eqb (get_or bs 0 0) 43 → r ≡ true → get_or bs 0 0 ≡ 43
-first_is bs r e f = grind (arith, nat_tests)
-
-pub first_is_not : (bs : List ℕ) (r : Bool) → r ≡ eqb (get_or bs 0 0) 43 → r ≡ false → get_or bs 0 0 ≢ 43
-first_is_not bs r e f = grind (arith, nat_tests)
-
--- no index begins with a plus sign
-pub no_index : (bs : List ℕ) → get_or bs 0 0 ≡ 43 → None ≡ index_in bs
-no_index [] e = refl
-no_index (x ∷ l) e = rw e refl
+    by : (m < 2 ^ 64) ⊎ (2 ^ 64 ≤ m) → None ≡ index_of (pos m)
+    by (inl k) = let f : None ≡ Some m = e ∙ rw (lt-ltb m (2 ^ 64) k) refl in absurd (cc)
+    by (inr k) = let l : 2 ^ 32 ≤ m = omega (arith, k) in sym (rw (le-ltb m (2 ^ 32) l) refl)
+no_index (negsuc m) e = refl
 
 -- ---- one element after another
 
