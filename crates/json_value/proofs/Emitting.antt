@@ -1,19 +1,17 @@
 -- The tokens of a tree, given in turn.
-use Rattle.std.proofs.Common.{Bool, ◌≡◌, ◌≢◌, ◌⊎◌, inl, inr, ℕ, zero, suc, ◌+◌, ◌*◌, ◌<◌, ◌≤◌, List, [], ◌∷◌, ◌++◌, length, take, drop, map, Option, Some, None, Ok, Err, Result, refl, sym, ap, ap₂, subst, ◌∙◌, arith, append_assoc, append-nil, slice_get, true, false}
-use Rattle.std.specs.Option.{option_map}
+use Rattle.std.proofs.Common.{◌≡◌, ℕ, zero, suc, ◌+◌, ◌≤◌, List, [], ◌∷◌, ◌++◌, length, take, drop, map, Option, Some, None, Ok, Err, Result, refl, sym, ap, ap₂, subst, ◌∙◌, arith, append_assoc, append-nil, slice_get, true}
 use Rattle.json_grammar.specs.declared.Kind.TheVariants.{Array as array, Object as object}
-use Rattle.json_grammar.specs.Tree.{Tree, null, boolean, num, text, list, pairs, Trees, no_trees, tree_and, Pairs, no_pairs, pair_and, trees_list, pairs_list, list_trees, list_pairs, Token, null_token, boolean_token, num_token, text_token, begin, end, key_token, tokens, trees_tokens, pairs_tokens}
+use Rattle.json_grammar.specs.Tree.{Tree, null, boolean, num, text, list, pairs, Trees, Pairs, trees_list, pairs_list, list_trees, list_pairs, Token, begin, end, key_token, tokens, trees_tokens, pairs_tokens}
 use Rattle.json_grammar.specs.Sizes.{nodes, trees_nodes, pairs_nodes}
 use Rattle.json_text.specs.declared.error.Error.{Error}
-use Rattle.json_doc.specs.declared.json_type.JsonType.TheVariants as kind
-use Rattle.json_doc.specs.Readings.{type_of, bool_of, literal_of, string_of, elements, keys, values, children}
+use Rattle.json_doc.specs.Readings.{keys, values, children}
 use Rattle.std.proofs.lemmas.List.{take_all, length-map}
 use Rattle.json_print.specs.Standing.{Stand, stand_after, TakesValue, TakesKey, TakesEnd}
 use Rattle.json_print.specs.Taking.{after_all, Takes}
 use Rattle.json_value.specs.Readings.{members}
 use Rattle.json_value.specs.Emitting.{StopsAmong, Emits}
 use Rattle.json_value.proofs.Trees.{list_back, pairs_back}
-use Rattle.json_value.proofs.Turns.{stand_all, after_append, stand_moves, all_tokens, all_pairs, elements_stand, members_stand}
+use Rattle.json_value.proofs.Turns.{after_append, stand_moves, all_tokens, all_pairs, elements_stand, members_stand}
 
 -- ---- one token
 
@@ -72,6 +70,21 @@ members_within (boolean b) n h = omega arith
 members_within (num l) n h = omega arith
 members_within (text c) n h = omega arith
 members_within (list ts) n h = omega arith
+
+-- so has none of a list that is taken apart
+pub tree_among : (front rest ts : List Tree) (u : Tree) → front ++ u ∷ rest ≡ ts → nodes u ≤ trees_nodes (list_trees ts)
+tree_among front rest ts u e = subst (λ xs. nodes u ≤ trees_nodes (list_trees xs)) e (among front)
+  where
+    among : (xs : List Tree) → nodes u ≤ trees_nodes (list_trees (xs ++ u ∷ rest))
+    among [] = omega arith
+    among (x ∷ xs) = omega (arith, among xs)
+
+pub value_among : (front rest ps : List (List ℕ × Tree)) (k : List ℕ) (u : Tree) → front ++ (k, u) ∷ rest ≡ ps → nodes u ≤ pairs_nodes (list_pairs ps)
+value_among front rest ps k u e = subst (λ xs. nodes u ≤ pairs_nodes (list_pairs xs)) e (among front)
+  where
+    among : (xs : List (List ℕ × Tree)) → nodes u ≤ pairs_nodes (list_pairs (xs ++ (k, u) ∷ rest))
+    among [] = omega arith
+    among (x ∷ xs) = omega (arith, among xs)
 
 -- ---- what is left of a list
 

@@ -3,6 +3,7 @@ pub mod Trees
 pub mod Views
 pub mod Placed
 pub mod Held
+pub mod Integers
 pub mod Copies
 pub mod Turns
 pub mod Emitting
@@ -12,3 +13,4 @@ pub mod KeyLookups
 pub mod TreeEdits
 pub mod AppliedTrees
 pub mod Agreeing
+pub mod Numbering

@@ -1,5 +1,5 @@
 -- The tree of each value is proper.
-use Rattle.std.proofs.Common.{◌≡◌, ℕ, List, [], ◌∷◌, map, ⊤, refl, sym, ap, subst, ◌∙◌}
+use Rattle.std.proofs.Common.{List, [], ◌∷◌, map, refl, sym, ap, subst, ◌∙◌}
 use Rattle.json_grammar.specs.Tree.{Tree, list_trees, list_pairs, list, pairs}
 use Rattle.json_grammar.specs.Proper.{IsProper, AreProper, ArePairsProper}
 use Rattle.json_number.proofs.Forms.{reads}
@@ -9,8 +9,6 @@ use Rattle.json_value.specs.Denotes.{tree_of, pair_of, list_in, pairs_in, litera
 use Rattle.json_value.specs.Readings.{members}
 use Rattle.json_value.specs.Rows.{keyed_so}
 use Rattle.json_value.specs.Said.{place_tree}
-use Rattle.json_value.specs.declared.place.Place.{Place}
-use Rattle.json_value.specs.declared.container.Container.{Container}
 use Rattle.json_value.specs.declared.container.Form.{Form}
 use Rattle.json_value.specs.declared.container.Form.TheVariants.{Empty, Owned, Packed}
 use Rattle.json_value.specs.declared.pair.Keyed.{Keyed}
@@ -25,11 +23,15 @@ use Rattle.json_value.proofs.Views.{null_tree, bool_tree, number_tree, literal_t
 abbrev Proper : Value → Type 0
 Proper v = IsProper (tree_of v)
 
+-- a value and that its tree is proper
+abbrev Shown : Type 0
+Shown = (v : Value) × Proper v
+
 -- the parts of one level are proper
 Held : Value-F Value → Type 0
 Held (Value-F.Array a) = AreProper (list_trees (list_in a))
 Held (Value-F.Object o) = ArePairsProper (list_pairs (pairs_in o))
-Held _ = ⊤
+Held _ = Unit {0}
 
 -- so is the level
 level_proper : (x : Value-F Value) → Held x → Proper (roll-Value x)
@@ -42,11 +44,11 @@ level_proper (Value-F.Text t) h = subst IsProper (sym (ap tree_of (rolls-Text t)
 level_proper (Value-F.Array a) h = subst IsProper (sym (ap tree_of (rolls-Array a) ∙ array_tree a)) h
 level_proper (Value-F.Object o) h = subst IsProper (sym (ap tree_of (rolls-Object o) ∙ object_tree o)) h
 
-each_proper : (vs : List ((v : Value) × Proper v)) → AreProper (list_trees (map tree_of (map (λ e. e.0) vs)))
+each_proper : (vs : List Shown) → AreProper (list_trees (map tree_of (map (λ e. e.0) vs)))
 each_proper [] = tt
 each_proper (e ∷ vs) = (e.1, each_proper vs)
 
-each_pair : (ps : List (Keyed ((v : Value) × Proper v))) → ArePairsProper (list_pairs (map pair_of (map (λ p. keyed_so p.key p.value.0) ps)))
+each_pair : (ps : List (Keyed Shown)) → ArePairsProper (list_pairs (map pair_of (map (λ p. keyed_so p.key p.value.0) ps)))
 each_pair [] = tt
 each_pair (p ∷ ps) = (text_utf8 p.key, p.value.1, each_pair ps)
 
@@ -59,19 +61,19 @@ members_proper : (t : Tree) → IsProper t → ArePairsProper (list_pairs (membe
 members_proper (pairs ps) h = subst ArePairsProper (sym (pairs_back ps)) h
 members_proper _ h = tt
 
-array_held : (f : Form ((v : Value) × Proper v)) → Held (map-Value (λ e. e.0) (Value-F.Array (record { form = f })))
+array_held : (f : Form Shown) → Held (map-Value Shown Value (λ e. e.0) (Value-F.Array (record { form = f })))
 unfolding Held
 array_held Empty = tt
 array_held (Owned v) = each_proper v.items
 array_held (Packed p) = elements_proper (place_tree p) (doc_proper p.doc.value p.at p.inside)
 
-object_held : (f : Form (Keyed ((v : Value) × Proper v))) → Held (map-Value (λ e. e.0) (Value-F.Object (record { form = f })))
+object_held : (f : Form (Keyed Shown)) → Held (map-Value Shown Value (λ e. e.0) (Value-F.Object (record { form = f })))
 unfolding Held
 object_held Empty = tt
 object_held (Owned v) = each_pair v.items
 object_held (Packed p) = members_proper (place_tree p) (doc_proper p.doc.value p.at p.inside)
 
-held : (y : Value-F ((v : Value) × Proper v)) → Held (map-Value (λ e. e.0) y)
+held : (y : Value-F Shown) → Held (map-Value Shown Value (λ e. e.0) y)
 unfolding Held
 held Value-F.Null = tt
 held (Value-F.Bool b) = tt

@@ -2,13 +2,10 @@
 use Rattle.std.proofs.Common.{◌≡◌, ◌<◌, ◌≤◌, Bool as TestBool, ℕ, zero, suc, List, [], ◌∷◌, Some, None, length, map, get_or, refl, sym, ap, ap₂, subst, ◌∙◌, arith}
 use Rattle.std.specs.Prelude.{slice_get}
 use Rattle.std.proofs.lemmas.List.{length-map}
-use Rattle.json_grammar.specs.Tree.{Tree, null, boolean, num, text, list, no_trees, list_trees, pairs, no_pairs, list_pairs, Token, tokens, null_token, boolean_token, num_token, text_token}
+use Rattle.json_grammar.specs.Tree.{Tree, null, boolean, num, text, list, list_trees, pairs, list_pairs}
 use Rattle.json_number.specs.Numbers.{text_of_number}
 use Rattle.json_number.specs.declared.number.Number.{Number as NumberType}
-use Rattle.json_doc.specs.Readings.{elements}
-use Rattle.json_value.specs.Readings.{members}
 use Rattle.json_value.specs.Denotes.{tree_of, pair_of, form_list, form_pairs, text_bytes, literal_bytes}
-use Rattle.json_value.specs.Said.{place_tree}
 use Rattle.json_value.specs.declared.value.Value.{Value, Null, Bool, Number, Raw, Text, Array, Object}
 use Rattle.json_value.specs.declared.container.Container.{Container}
 use Rattle.json_value.specs.declared.container.Form.{Form}

@@ -2,9 +2,11 @@
 ghost use Rattle.std.specs.Prelude.{◌≡◌, map};
 ghost use Rattle.std.specs.Cmp.{partial_equiv_from_equiv, on_equiv};
 ghost use Rattle.std.specs.Ordering.{on};
-ghost use Rattle.json_grammar.specs.Tree.{boolean, text, list, list_trees};
+ghost use Rattle.std.specs.Fmt.{decimal, signed_decimal};
+ghost use Rattle.json_grammar.specs.Tree.{boolean, num, text, list, list_trees};
 ghost use Rattle.json_model.specs.Same.{same};
 ghost use Rattle.json_model.proofs.Equality.{same_equivalent};
+ghost use Rattle.json_number.specs.Numbers.{text_of_number};
 ghost use Rattle.json_value.specs.Agreeing.{tree_of_array, tree_of_object};
 ghost use Rattle.json_value.specs.Denotes.{tree_of};
 
@@ -13,6 +15,7 @@ use crate::container::Container;
 use crate::equality::{are_arrays_same, are_objects_same, are_same};
 use crate::pair::Keyed;
 use crate::value::{Array, Object, Value};
+use json_number::Number;
 
 /// Scalars are equal where their content is, numbers by their literals; arrays element by element; and objects of as many
 /// members where the first values of each key are, in any order of the keys. Takes no memory. Each member of an object is
@@ -67,6 +70,26 @@ impl Value {
         ensures { result ≡ same (tree_of self.now) (boolean b) }
     {
         self.view().as_bool() == Some(b)
+    }
+
+    /// Whether this is the integer.
+    pub fn eq_i64(&self, n: i64) -> bool
+        ensures { result ≡ same (tree_of self.now) (num (signed_decimal n)) }
+    {
+        self.eq_number(Number::from(n))
+    }
+
+    /// Whether this is the integer.
+    pub fn eq_u64(&self, n: u64) -> bool
+        ensures { result ≡ same (tree_of self.now) (num (decimal n)) }
+    {
+        self.eq_number(Number::from(n))
+    }
+
+    fn eq_number(&self, number: Number) -> bool
+        ensures { result ≡ same (tree_of self.now) (num (text_of_number number)) }
+    {
+        self.view().as_number() == Some(number)
     }
 
     /// Whether this is the string of these characters.

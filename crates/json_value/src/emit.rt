@@ -21,7 +21,7 @@ impl<'a> View<'a> {
     pub fn emit<E: Events>(self, out: &mut E) -> Result<()>
         requires fresh { E.failed out.old ≡ None }
         requires turn { TakesValue (E.stand (E.state out.old)).turn }
-            ensures { Emits E.after E.stopped (E.state out.old) (E.state out.new) (E.failed out.new) (tokens (seen self.entry)) result }
+        ensures { Emits E.after E.stopped (E.state out.old) (E.state out.new) (E.failed out.new) (tokens (seen self.entry)) result }
     {
         match self.form {
             ViewForm::Packed(view) => emit_document(view, out),

@@ -3,6 +3,8 @@ ghost use Rattle.std.specs.Prelude.{◌≡◌, None, map, take, option_map, is_s
 ghost use Rattle.std.specs.List.{list_all, list_any};
 ghost use Rattle.std.specs.Option.{option_eq};
 ghost use Rattle.json_grammar.specs.Tree.{list, list_trees, pairs, list_pairs};
+ghost use Rattle.json_doc.specs.Readings.{type_of};
+ghost use Rattle.json_doc.specs.declared.json_type.JsonType.TheVariants as JsonType;
 ghost use Rattle.json_model.specs.Same.{same};
 ghost use Rattle.json_value.specs.Agreeing.{agree_at, keys_in};
 ghost use Rattle.json_value.specs.Seen.{seen, elements_seen, members_seen, list_of, pairs_of, first_of};
@@ -40,9 +42,17 @@ fn are_scalars_same(first: View<'_>, second: View<'_>) -> bool
     match first.get_type() {
         JsonType::Null => second.get_type() == JsonType::Null,
         JsonType::Boolean => first.as_bool() == second.as_bool(),
-        JsonType::Number => first.literal() == second.literal(),
+        JsonType::Number => are_numbers_same(first, second),
         _ => first.text() == second.text(),
     }
+}
+
+// Of two integers of `u64` or `i64` the integers are compared, of other numbers the literals.
+fn are_numbers_same(first: View<'_>, second: View<'_>) -> bool
+    requires { type_of (seen first) ≡ JsonType.Number }
+    ensures { result ≡ same (seen first.entry) (seen second.entry) }
+{
+    first.as_number() == second.as_number() && first.literal() == second.literal()
 }
 
 // Whether both are there and the same, or neither is there.

@@ -34,6 +34,7 @@ fn values_of_their_own_are_compared(rt: HostRuntime) -> Result<(), Fail> {
     items.push(Array::default().into_value())?;
     assert!(rt; items[0].eq_bool(true) && items[1].eq_str("x"));
     assert!(rt; !items[0].eq_bool(false) && !items[1].eq_str("y"));
+    assert!(rt; Value::new_u64(12).eq_i64(12) && !Value::new_i64(-1).eq_u64(1));
     assert!(rt; value.eq_slice(items.as_slice()) && value == Value::from_vec(items));
     assert!(rt; Value::default() == Value::new() && Array::default() == Array::new());
     assert!(rt; Object::default() == Object::new());

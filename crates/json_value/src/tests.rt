@@ -86,9 +86,7 @@ fn a_list_is_taken_and_copied(rt: HostRuntime) -> Result<(), Fail> {
     let mut copy = value.take().clone(alloc)?;
     assert!(rt; matches!(value, Value::Null));
     let list = array_in(&mut copy).ok_or("no array")?.list_mut(alloc)?;
-    assert!(rt;
-        matches!(list.as_slice(), [x, y] if said(x) == Some("x") && said(y) == Some("y"))
-    );
+    assert!(rt; matches!(list.as_slice(), [x, y] if said(x) == Some("x") && said(y) == Some("y")));
     Ok(())
 }
 

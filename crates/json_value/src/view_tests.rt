@@ -16,16 +16,14 @@ fn read(rt: &impl Abort, alloc: Global, text: &str) -> json_text::Result<Rc<Doc>
 }
 
 // The compact text of what is seen.
-fn printed(alloc: Global, view: View<'_>) -> json_text::Result<Vec<u8>>
-{
+fn printed(alloc: Global, view: View<'_>) -> json_text::Result<Vec<u8>> {
     let mut out = Serializer::new(alloc, VecSink::new(alloc));
     view.emit(&mut out)?;
     Ok(out.into_inner().into_vec())
 }
 
 // `[null,{"a":true,"b":[],"a":{}},"x"]`, made by hand.
-fn made(alloc: Global) -> json_text::Result<Value>
-{
+fn made(alloc: Global) -> json_text::Result<Value> {
     let mut pairs = Vec::new(alloc);
     pairs.push(Pair::new(Text::from_static("a"), Value::new_bool(true)))?;
     pairs.push(Pair::new(Text::from_static("b"), Value::new_array()))?;
@@ -74,7 +72,10 @@ fn numbers_are_printed(rt: HostRuntime) -> Result<(), Fail> {
     items.push(Value::from_raw_number(RawNumber::new(alloc, "-0")?))?;
     let value = Value::from_vec(items);
     let text = printed(alloc, value.view())?;
-    assert_eq!(rt; text.as_slice(), b"[18446744073709551615,-7,1,-0]".as_slice());
+    assert_eq!(rt;
+        text.as_slice(),
+        b"[18446744073709551615,-7,1,-0]".as_slice()
+    );
     Ok(())
 }
 
@@ -87,7 +88,11 @@ fn views_show(rt: HostRuntime) -> Result<(), Fail> {
     assert!(rt; object.len() == 2 && !object.is_empty());
     let (key, value) = object.get_key_value("b").ok_or("no member")?;
     assert_eq!(rt; (key, value.literal()), ("b", Some("-2.50e3")));
-    let array = object.get("a").ok_or("no value")?.as_array().ok_or("no array")?;
+    let array = object
+        .get("a")
+        .ok_or("no value")?
+        .as_array()
+        .ok_or("no array")?;
     let number = array.get(0).ok_or("no element")?;
     assert!(rt; number.as_number() == Some(Number::from(7u8)) && number.literal().is_none());
     let text = array.get(1).ok_or("no element")?;
