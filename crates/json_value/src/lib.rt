@@ -9,6 +9,7 @@ mod comparing;
 mod container;
 mod copying;
 mod defaults;
+mod display;
 mod emit;
 mod emit_packed;
 mod equality;

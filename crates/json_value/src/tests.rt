@@ -114,3 +114,20 @@ fn an_edit_is_applied(rt: HostRuntime) -> Result<(), Fail> {
     assert!(rt; value.apply(alloc, &edit).is_ok() && value.apply(alloc, &edit).is_err());
     Ok(())
 }
+
+#[test]
+fn values_are_displayed(rt: HostRuntime) -> Result<(), Fail> {
+    let alloc = rt.alloc();
+    let text = "{\"a\":[\"\\u001f\\\"é\",-2.50e3],\"b\":{}}";
+    let mut value = value_of(&rt, alloc, text)?;
+    assert_eq!(rt; value.to_string(alloc)?.as_str(), text);
+    let object = object_in(&mut value).ok_or("no object")?;
+    let first = object.pairs_mut(alloc)?.first_mut().ok_or("no member")?;
+    let array = array_in(first.value_mut()).ok_or("no array")?;
+    assert_eq!(rt;
+        array.to_string(alloc)?.as_str(),
+        "[\"\\u001f\\\"é\",-2.50e3]"
+    );
+    assert_eq!(rt; object.to_string(alloc)?.as_str(), text);
+    Ok(())
+}

@@ -1,5 +1,5 @@
 -- From the bytes of a source to a document.
-use Rattle.std.proofs.Common.{Bool, true, cond, ◌≡◌, inl, inr, ℕ, ◌≤◌, List, length, false, Ok, Err, Result, OnOk, IfOk, refl, sym, subst, ◌∙◌, ap, IsUtf8}
+use Rattle.std.proofs.Common.{Bool, true, cond, ◌≡◌, inl, inr, ℕ, ◌≤◌, List, length, false, Ok, Err, Result, OnOk, refl, sym, subst, ◌∙◌, ap, IsUtf8}
 use Rattle.json_grammar.specs.Tree.{Tree, depth}
 use Rattle.json_grammar.specs.Grammar.{is_text}
 use Rattle.json_grammar.specs.Proper.{IsProper}

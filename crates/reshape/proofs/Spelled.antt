@@ -1,14 +1,9 @@
 -- What is read of a word, element by element.
-use Rattle.std.proofs.Common.{◌≡◌, ◌≢◌, ◌⊎◌, inl, inr, ℕ, ℤ, pos, negsuc, ◌+◌, ◌<◌, ◌≤◌, ◌^◌, List, [], ◌∷◌, ◌++◌, length, drop, get_or, Bool, true, false, cond, ◌&&◌, ltb, eqb, Option, Some, None, option_map, option_and_then, Result, Ok, Err, slice_get, bytes_eq, codes, refl, sym, subst, ap, ◌∙◌, arith, append_assoc}
+use Rattle.std.proofs.Common.{◌≡◌, ◌≢◌, inl, inr, ℕ, ◌+◌, ◌<◌, ◌≤◌, List, [], ◌∷◌, ◌++◌, length, drop, Bool, true, false, cond, Option, Some, None, option_map, option_and_then, slice_get, bytes_eq, codes, refl, sym, subst, ap, ◌∙◌, arith, append_assoc}
 use Rattle.std.proofs.lemmas.List.{drop_more}
 use Rattle.std.proofs.lemmas.Option.{slice_get_within, get_or_from_slice_get, slice_get-get_or}
-use Rattle.std.proofs.lemmas.Bool.{false_from_ne_true, cases_lt, lt-ltb, le-ltb}
+use Rattle.std.proofs.lemmas.Bool.{false_from_ne_true}
 use Rattle.std.proofs.lemmas.Slice.Eq.{bytes_eq-Decides}
-use Rattle.std.proofs.lemmas.Bool.Decides.{Decides-ltb, nat_tests}
-use Rattle.std.proofs.lemmas.Str.Parse.{IsNumeralModel, numerals_by_value, tells_all_ascii_digits, parse_plain}
-use Rattle.std.specs.Result.{OkIff, result_ok}
-use Rattle.std.specs.Str.{all_ascii_digits}
-use Rattle.std.specs.Str.Parse.{digits_value, ParsesUnsigned}
 use Rattle.json_grammar.specs.Tree.{Tree, null, boolean, num, text, list, pairs, no_trees, tree_and, trees_list, depth}
 use Rattle.json_grammar.specs.Grammar.{is_text}
 use Rattle.json_grammar.proofs.Values.{one_tree}
@@ -17,7 +12,6 @@ use Rattle.json_text.specs.declared.error.ErrorCode.{ErrorCode}
 use Rattle.json_text.specs.declared.error.ErrorCode.TheVariants.{NoMemory}
 use Rattle.json_text.specs.declared.error.Place.{Place}
 use Rattle.json_text.proofs.NoText.{no_text}
-use Rattle.json_number.specs.Integers.{in_u64}
 use Rattle.json_doc.specs.declared.doc.Doc.{Doc}
 use Rattle.json_doc.specs.Docs.{IsDocOf, doc_tree, doc_root, doc_cells, doc_text}
 use Rattle.json_doc.specs.Reading.{ReadingFails}
@@ -25,7 +19,7 @@ use Rattle.json_doc.proofs.Pieces.{spelled}
 use Rattle.json_doc.specs.declared.json_type.JsonType.TheVariants.{Array}
 use Rattle.json_doc.specs.Readings.{type_of, string_of, elements, children}
 use Rattle.json_model.specs.Edit.{Edit}
-use Rattle.reshape.specs.Words.{both, each_in, index_of, step_in, path_in, edit_named, edit_in, edits_in, Unread, Spells}
+use Rattle.reshape.specs.Words.{both, each_in, step_in, path_in, edit_named, edit_in, edits_in, Unread, Spells}
 use Rattle.reshape.specs.Input.{most}
 
 none_some : {A : Type 0} {x : A} → None ≡ Some x → ⊥
@@ -35,30 +29,6 @@ none_some e = cc
 pub unread : {A B : Type 0} (o : Option A) (p : Option B) (e : Error) → (o ≡ None → p ≡ None) → Unread o e → Unread p e
 unread o p e h (inl m) = inl m
 unread o p e h (inr (b, n)) = inr (b, h n)
-
--- ---- indices
-
-index_by : {E : Type 0} (n : ℕ) (r : Result ℕ E) → OkIff r (n < 2 ^ 32) n → result_ok r ≡ index_of (pos n)
-index_by n (Ok x) h = ap Some h.1 ∙ sym (rw (lt-ltb n (2 ^ 32) h.0) refl)
-index_by n (Err e) h = let k : 2 ^ 32 ≤ n = omega (arith, h) in sym (rw (le-ltb n (2 ^ 32) k) refl)
-
--- what `try_from` answers of an integer in `u64` is its index
-pub index_tried : {E : Type 0} (z : ℤ) (n : ℕ) (r : Result ℕ E) → Some n ≡ in_u64 z → OkIff r (n < 2 ^ 32) n → result_ok r ≡ index_of z
-index_tried (pos m) n r e h = by (cases_lt m (2 ^ 64))
-  where
-    by : (m < 2 ^ 64) ⊎ (2 ^ 64 ≤ m) → result_ok r ≡ index_of (pos m)
-    by (inl k) = let f : Some n ≡ Some m = e ∙ rw (lt-ltb m (2 ^ 64) k) refl in let s : n ≡ m = cc in subst (λ (i : ℕ). result_ok r ≡ index_of (pos i)) s (index_by n r h)
-    by (inr k) = let f : Some n ≡ None = e ∙ rw (le-ltb m (2 ^ 64) k) refl in absurd (cc)
-index_tried (negsuc m) n r e h = absurd (cc)
-
--- no other integer is one
-pub no_index : (z : ℤ) → None ≡ in_u64 z → None ≡ index_of z
-no_index (pos m) e = by (cases_lt m (2 ^ 64))
-  where
-    by : (m < 2 ^ 64) ⊎ (2 ^ 64 ≤ m) → None ≡ index_of (pos m)
-    by (inl k) = let f : None ≡ Some m = e ∙ rw (lt-ltb m (2 ^ 64) k) refl in absurd (cc)
-    by (inr k) = let l : 2 ^ 32 ≤ m = omega (arith, k) in sym (rw (le-ltb m (2 ^ 32) l) refl)
-no_index (negsuc m) e = refl
 
 -- ---- one element after another
 

@@ -1,14 +1,11 @@
 -- Laws of the words: they ask for one command alone, and for fewer edits than a word has bytes.
-use Rattle.std.proofs.Common.{◌≡◌, ℕ, suc, ◌^◌, ◌<◌, ◌≤◌, List, [], ◌∷◌, length, Bool, true, false, cond, Option, Some, None, option_map, option_to_list, filter, refl, sym, subst, ap, ◌∙◌, arith, IsUtf8}
+use Rattle.std.proofs.Common.{◌≡◌, ℕ, suc, ◌^◌, ◌<◌, ◌≤◌, List, [], ◌∷◌, length, Bool, true, false, cond, Option, Some, None, option_to_list, filter, refl, sym, subst, ap, ◌∙◌, arith}
 use Rattle.json_grammar.specs.Tree.{Tree, null, boolean, num, text, list, pairs, Trees, no_trees, tree_and, trees_list}
-use Rattle.json_grammar.specs.Proper.{IsProper, AreProper}
 use Rattle.json_grammar.specs.Sizes.{nodes, trees_nodes}
-use Rattle.json_grammar.proofs.Texts.{text_proper}
 use Rattle.json_grammar.proofs.Values.{one_tree}
 use Rattle.json_grammar.proofs.Sizes.{text_fits, nodes_some}
-use Rattle.json_doc.specs.Readings.{string_of}
-use Rattle.json_model.specs.Edit.{Step, Edit, set_at, insert_at, push_at, remove_at, IsProperEdit, AreProperEdits}
-use Rattle.reshape.specs.Words.{both, each_in, step_in, path_in, edit_named, edit_in, edits_in, Spells, AsksEdits}
+use Rattle.json_model.specs.Edit.{Edit}
+use Rattle.reshape.specs.Words.{both, each_in, edit_in, edits_in, Spells, AsksEdits}
 use Rattle.reshape.specs.Options.{is_edits_word, Command, Asks}
 
 same_some : {A : Type 0} {x y : A} → Some x ≡ Some y → x ≡ y
