@@ -13,3 +13,5 @@ pub mod ProperValues
 pub mod KeyLookups
 pub mod TreeEdits
 pub mod AppliedTrees
+pub mod Agreeing
+pub mod Numbering

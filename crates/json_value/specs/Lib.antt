@@ -8,3 +8,4 @@ pub mod Written
 pub mod Emitting
 pub mod Seen
 pub mod FirstMember
+pub mod Agreeing

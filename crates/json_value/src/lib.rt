@@ -5,11 +5,16 @@
 mod applying;
 mod array;
 mod array_view;
+mod comparing;
 mod container;
 mod copying;
+mod defaults;
 mod display;
 mod emit;
 mod emit_packed;
+mod equality;
+#[cfg(test)]
+mod equality_tests;
 pub mod laws;
 mod literal;
 mod making;
