@@ -7,3 +7,4 @@ pub mod Written
 pub mod Emitting
 pub mod Seen
 pub mod FirstMember
+pub mod Steps

@@ -11,6 +11,7 @@ mod container;
 mod copying;
 mod emit;
 mod emit_packed;
+mod index;
 mod literal;
 mod making;
 mod object;
@@ -30,6 +31,7 @@ mod view_tests;
 
 pub use array_view::ArrayView;
 pub use container::Container;
+pub use index::Index;
 pub use literal::Literal;
 pub use object_view::ObjectView;
 pub use pair::Keyed;
