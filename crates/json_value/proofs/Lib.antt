@@ -7,5 +7,8 @@ pub mod Turns
 pub mod Emitting
 pub mod WholeTrees
 pub mod KeyLookups
+pub mod Iterations
+pub mod Merging
+pub mod PlaceReadings
 pub mod TreeEdits
 pub mod AppliedTrees

@@ -8,3 +8,7 @@ pub mod Emitting
 pub mod Seen
 pub mod FirstMember
 pub mod Steps
+pub mod Parts
+pub mod Left
+pub mod Merged
+pub mod Standing

@@ -14,6 +14,8 @@ use json_doc::{DocView, JsonType};
 pub(crate) enum ViewForm<'a> {
     Packed(DocView<'a>),
     Whole(&'a Value),
+    // Null, which stands nowhere.
+    Absent,
 }
 
 /// What is seen of a value, or of a place of a packed document. Nothing of a view takes memory.
@@ -53,6 +55,7 @@ impl<'a> View<'a> {
         match self.form {
             ViewForm::Packed(view) => view.get_type(),
             ViewForm::Whole(value) => value_type(value),
+            ViewForm::Absent => JsonType::Null,
         }
     }
 
@@ -64,6 +67,7 @@ impl<'a> View<'a> {
         match self.form {
             ViewForm::Packed(view) => view.as_bool(),
             ViewForm::Whole(value) => value_bool(value),
+            ViewForm::Absent => None,
         }
     }
 
@@ -75,6 +79,7 @@ impl<'a> View<'a> {
         match self.form {
             ViewForm::Packed(view) => view.literal(),
             ViewForm::Whole(value) => value_literal(value),
+            ViewForm::Absent => None,
         }
     }
 
@@ -86,6 +91,7 @@ impl<'a> View<'a> {
         match self.form {
             ViewForm::Packed(view) => view.text(),
             ViewForm::Whole(value) => value_text(value),
+            ViewForm::Absent => None,
         }
     }
 
@@ -97,6 +103,7 @@ impl<'a> View<'a> {
         match self.form {
             ViewForm::Packed(view) => ArrayView::of_document(view),
             ViewForm::Whole(value) => ArrayView::of_value(value),
+            ViewForm::Absent => None,
         }
     }
 
@@ -108,6 +115,7 @@ impl<'a> View<'a> {
         match self.form {
             ViewForm::Packed(view) => ObjectView::of_document(view),
             ViewForm::Whole(value) => ObjectView::of_value(value),
+            ViewForm::Absent => None,
         }
     }
 }
