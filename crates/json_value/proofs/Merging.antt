@@ -1,5 +1,5 @@
 -- Members put into an object in turn, one more at the end.
-use Rattle.std.proofs.Common.{◌≡◌, ℕ, List, [], ◌∷◌, ◌++◌, map, refl, sym, ap, ◌∙◌}
+use Rattle.std.proofs.Common.{◌≡◌, List, [], ◌∷◌, ◌++◌, map, refl, sym, ap, ◌∙◌}
 use Rattle.std.proofs.lemmas.List.{map-id}
 use Rattle.json_grammar.specs.Tree.{Pairs}
 use Rattle.json_model.specs.Edit.{inserted}

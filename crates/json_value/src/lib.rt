@@ -17,6 +17,8 @@ mod index;
 mod iter;
 mod literal;
 mod lookup;
+#[cfg(test)]
+mod lookup_tests;
 mod making;
 mod object;
 mod object_view;
