@@ -18,10 +18,10 @@ form_spot_seen whole.Absent = None
 abbrev pub spot_seen : View → Option Spot
 spot_seen v = form_spot_seen v.form
 
--- what a place says, read as the kind that the first tree is
+-- what the second tree says, read as the kind that the first one is
 abbrev pub read_as : Tree → Tree → Tree
-read_as null u = null
-read_as (boolean b) u = boolean b
+read_as null u = u
+read_as (boolean b) u = u
 read_as (num l) u = num (literal_said u)
 read_as (text s) u = text (text_said u)
 read_as (list ts) u = list (list_trees (elements u))
