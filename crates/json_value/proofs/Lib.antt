@@ -11,6 +11,9 @@ pub mod Emitting
 pub mod WholeTrees
 pub mod ProperValues
 pub mod KeyLookups
+pub mod Iterations
+pub mod Merging
+pub mod PlaceReadings
 pub mod TreeEdits
 pub mod AppliedTrees
 pub mod Agreeing

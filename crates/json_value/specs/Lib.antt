@@ -9,3 +9,8 @@ pub mod Emitting
 pub mod Seen
 pub mod FirstMember
 pub mod Agreeing
+pub mod Steps
+pub mod Parts
+pub mod Left
+pub mod Merged
+pub mod Standing

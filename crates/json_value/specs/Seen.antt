@@ -1,6 +1,6 @@
 -- The trees that views show, and what can be read of a tree at once.
 use Rattle.std.specs.Prelude.{ℕ, List, [], ◌∷◌, Option, None, Some, cond, map, bytes_eq}
-use Rattle.json_grammar.specs.Tree.{Tree, list, pairs, trees_list, pairs_list}
+use Rattle.json_grammar.specs.Tree.{Tree, null, list, pairs, trees_list, pairs_list}
 use Rattle.json_doc.specs.Seen.{view_tree}
 use Rattle.json_doc.specs.Readings.{elements}
 use Rattle.json_value.specs.Denotes.{tree_of, pair_of}
@@ -19,6 +19,7 @@ use Rattle.json_value.specs.declared.object_view.ObjectForm.TheVariants as objec
 abbrev pub form_seen : ViewForm → Tree
 form_seen (whole.Packed v) = view_tree v
 form_seen (whole.Whole v) = tree_of v.now
+form_seen whole.Absent = null
 
 abbrev pub seen : View → Tree
 seen v = form_seen v.form

@@ -36,7 +36,7 @@ fn type_unmatched() -> Error
 }
 
 // The place of the first member of the key.
-fn find_key(pairs: &[Pair], key: &str) -> Option<usize>
+pub(crate) fn find_key(pairs: &[Pair], key: &str) -> Option<usize>
     ensures first { IfSome result (λ i. IsFirstOf key.now (map pair_of pairs.now) i) }
     ensures none { IfNone result (has_key key.now (list_pairs (map pair_of pairs.now)) ≡ false) }
 {

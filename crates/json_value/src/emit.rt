@@ -26,6 +26,7 @@ impl<'a> View<'a> {
         match self.form {
             ViewForm::Packed(view) => emit_document(view, out),
             ViewForm::Whole(value) => emit_value(value, out),
+            ViewForm::Absent => out.null(),
         }
     }
 }

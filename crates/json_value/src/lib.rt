@@ -4,9 +4,11 @@
 
 mod applying;
 mod array;
+mod array_iter;
 mod array_view;
 mod comparing;
 mod container;
+mod conversion;
 mod copying;
 mod defaults;
 mod display;
@@ -15,8 +17,13 @@ mod emit_packed;
 mod equality;
 #[cfg(test)]
 mod equality_tests;
+mod index;
+mod iter;
 pub mod laws;
 mod literal;
+mod lookup;
+#[cfg(test)]
+mod lookup_tests;
 mod making;
 mod object;
 mod object_view;
@@ -29,16 +36,22 @@ mod standing;
 mod tests;
 mod text;
 mod value;
+mod value_ref;
 mod view;
+mod view_place;
 #[cfg(test)]
 mod view_tests;
 
+pub use array_iter::ArrayIter;
 pub use array_view::ArrayView;
 pub use container::Container;
+pub use index::Index;
+pub use iter::Iter;
 pub use literal::Literal;
 pub use object_view::ObjectView;
 pub use pair::Keyed;
 pub use path::{Edit, Path, PointerNode};
 pub use text::Text;
 pub use value::{Array, Object, Pair, Value};
+pub use value_ref::ValueRef;
 pub use view::View;

@@ -26,6 +26,7 @@ impl<'a> View<'a> {
         match self.form {
             ViewForm::Packed(view) => own_document(alloc, view),
             ViewForm::Whole(value) => value.clone(alloc),
+            ViewForm::Absent => Ok(Value::Null),
         }
     }
 }

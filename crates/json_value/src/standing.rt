@@ -1,5 +1,6 @@
 // Where values stand.
-ghost use Rattle.std.specs.Prelude.{◌≡◌, option_map};
+ghost use Rattle.std.specs.Prelude.{◌≡◌, ◌<◌, length, option_map, IfSome};
+ghost use Rattle.json_doc.specs.Docs.{doc_cells};
 ghost use Rattle.json_value.specs.Spots.{spot_of, spot_in, literal_spot, text_spot, form_spot};
 
 use crate::container::Form;
@@ -11,7 +12,8 @@ use json_doc::Doc;
 impl Value {
     /// The document and the place in it, where the value is a place of one; else none.
     pub fn place(&self) -> Option<(&Doc, u32)>
-        ensures { option_map (λ p. spot_in p.0.now p.1) result ≡ spot_of self.now }
+        ensures spot { option_map (λ p. spot_in p.0.now p.1) result ≡ spot_of self.now }
+        ensures within { IfSome result (λ p. p.1 < length (doc_cells p.0.now)) }
     {
         match self {
             Value::Null | Value::Bool(_) | Value::Number(_) => None,
@@ -25,7 +27,8 @@ impl Value {
 
 impl LiteralForm {
     fn place(&self) -> Option<(&Doc, u32)>
-        ensures { option_map (λ p. spot_in p.0.now p.1) result ≡ literal_spot self.now }
+        ensures spot { option_map (λ p. spot_in p.0.now p.1) result ≡ literal_spot self.now }
+        ensures within { IfSome result (λ p. p.1 < length (doc_cells p.0.now)) }
     {
         match self {
             LiteralForm::Packed(place) => Some((&place.doc, place.at)),
@@ -36,7 +39,8 @@ impl LiteralForm {
 
 impl TextForm {
     fn place(&self) -> Option<(&Doc, u32)>
-        ensures { option_map (λ p. spot_in p.0.now p.1) result ≡ text_spot self.now }
+        ensures spot { option_map (λ p. spot_in p.0.now p.1) result ≡ text_spot self.now }
+        ensures within { IfSome result (λ p. p.1 < length (doc_cells p.0.now)) }
     {
         match self {
             TextForm::Packed(place) => Some((&place.doc, place.at)),
@@ -47,7 +51,8 @@ impl TextForm {
 
 impl<T> Form<T> {
     fn place(&self) -> Option<(&Doc, u32)>
-        ensures { option_map (λ p. spot_in p.0.now p.1) result ≡ form_spot self.now }
+        ensures spot { option_map (λ p. spot_in p.0.now p.1) result ≡ form_spot self.now }
+        ensures within { IfSome result (λ p. p.1 < length (doc_cells p.0.now)) }
     {
         match self {
             Form::Packed(place) => Some((&place.doc, place.at)),

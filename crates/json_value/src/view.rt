@@ -17,6 +17,8 @@ use json_number::Number;
 pub(crate) enum ViewForm<'a> {
     Packed(DocView<'a>),
     Whole(&'a Value),
+    // Null, which stands nowhere.
+    Absent,
 }
 
 /// What is seen of a value, or of a place of a packed document. Nothing of a view takes memory.
@@ -56,6 +58,7 @@ impl<'a> View<'a> {
         match self.form {
             ViewForm::Packed(view) => view.get_type(),
             ViewForm::Whole(value) => value_type(value),
+            ViewForm::Absent => JsonType::Null,
         }
     }
 
@@ -67,6 +70,7 @@ impl<'a> View<'a> {
         match self.form {
             ViewForm::Packed(view) => view.as_bool(),
             ViewForm::Whole(value) => value_bool(value),
+            ViewForm::Absent => None,
         }
     }
 
@@ -79,6 +83,7 @@ impl<'a> View<'a> {
         match self.form {
             ViewForm::Packed(view) => view.as_number(),
             ViewForm::Whole(value) => value_number(value),
+            ViewForm::Absent => None,
         }
     }
 
@@ -90,6 +95,7 @@ impl<'a> View<'a> {
         match self.form {
             ViewForm::Packed(view) => view.literal(),
             ViewForm::Whole(value) => value_literal(value),
+            ViewForm::Absent => None,
         }
     }
 
@@ -101,6 +107,7 @@ impl<'a> View<'a> {
         match self.form {
             ViewForm::Packed(view) => view.text(),
             ViewForm::Whole(value) => value_text(value),
+            ViewForm::Absent => None,
         }
     }
 
@@ -112,6 +119,7 @@ impl<'a> View<'a> {
         match self.form {
             ViewForm::Packed(view) => ArrayView::of_document(view),
             ViewForm::Whole(value) => ArrayView::of_value(value),
+            ViewForm::Absent => None,
         }
     }
 
@@ -123,6 +131,7 @@ impl<'a> View<'a> {
         match self.form {
             ViewForm::Packed(view) => ObjectView::of_document(view),
             ViewForm::Whole(value) => ObjectView::of_value(value),
+            ViewForm::Absent => None,
         }
     }
 }

@@ -1,0 +1,189 @@
+// What can be read of a value at once.
+ghost use Rattle.std.specs.Prelude.{◌≡◌, ◌↔◌, true, false, option_map, IsTrue};
+ghost use Rattle.json_grammar.specs.Tree.{Tree, null, boolean};
+ghost use Rattle.json_doc.specs.Readings.{type_of, bool_of, string_of};
+ghost use Rattle.json_doc.specs.declared.json_type.JsonType.TheVariants as kind;
+ghost use Rattle.json_value.specs.Denotes.{tree_of};
+ghost use Rattle.json_value.specs.Seen.{seen};
+ghost use Rattle.json_access.specs.Trees.{option_tree, result_tree};
+
+use json_doc::JsonType;
+use json_value::{Value, View};
+
+/// What stands for a JSON value. What is missing and what was refused count as null.
+pub trait JsonValueTrait {
+    /// The tree that it stands for.
+    ghost tree: { Self → Tree };
+
+    /// The kind of the value.
+    fn get_type(&self) -> JsonType
+        ensures { result ≡ type_of (tree self.now) };
+
+    /// The boolean; none of another kind.
+    fn as_bool(&self) -> Option<bool>
+        ensures { result ≡ bool_of (tree self.now) };
+
+    /// The text of the string; none of another kind.
+    fn as_str(&self) -> Option<&str>
+        ensures { option_map (λ s. s.now) result ≡ string_of (tree self.now) };
+
+    /// Whether it is null.
+    fn is_null(&self) -> bool
+        ensures { IsTrue result ↔ (type_of (tree self.now) ≡ kind.Null) }
+    {
+        self.get_type() == JsonType::Null
+    }
+
+    /// Whether it is true or false.
+    fn is_boolean(&self) -> bool
+        ensures { IsTrue result ↔ (type_of (tree self.now) ≡ kind.Boolean) }
+    {
+        self.get_type() == JsonType::Boolean
+    }
+
+    /// Whether it is true.
+    fn is_true(&self) -> bool
+        ensures { IsTrue result ↔ (tree self.now ≡ boolean true) }
+    {
+        self.as_bool() == Some(true)
+    }
+
+    /// Whether it is false.
+    fn is_false(&self) -> bool
+        ensures { IsTrue result ↔ (tree self.now ≡ boolean false) }
+    {
+        self.as_bool() == Some(false)
+    }
+
+    /// Whether it is a number.
+    fn is_number(&self) -> bool
+        ensures { IsTrue result ↔ (type_of (tree self.now) ≡ kind.Number) }
+    {
+        self.get_type() == JsonType::Number
+    }
+
+    /// Whether it is a string.
+    fn is_str(&self) -> bool
+        ensures { IsTrue result ↔ (type_of (tree self.now) ≡ kind.String) }
+    {
+        self.get_type() == JsonType::String
+    }
+
+    /// Whether it is an array.
+    fn is_array(&self) -> bool
+        ensures { IsTrue result ↔ (type_of (tree self.now) ≡ kind.Array) }
+    {
+        self.get_type() == JsonType::Array
+    }
+
+    /// Whether it is an object.
+    fn is_object(&self) -> bool
+        ensures { IsTrue result ↔ (type_of (tree self.now) ≡ kind.Object) }
+    {
+        self.get_type() == JsonType::Object
+    }
+}
+
+impl<'a> JsonValueTrait for View<'a> {
+    ghost tree = { seen };
+
+    fn get_type(&self) -> JsonType {
+        let view = *self;
+        view.get_type()
+    }
+
+    fn as_bool(&self) -> Option<bool> {
+        let view = *self;
+        view.as_bool()
+    }
+
+    fn as_str(&self) -> Option<&str> {
+        let view = *self;
+        view.text()
+    }
+}
+
+impl JsonValueTrait for Value {
+    ghost tree = { tree_of };
+
+    fn get_type(&self) -> JsonType {
+        let view = self.view();
+        view.get_type()
+    }
+
+    fn as_bool(&self) -> Option<bool> {
+        let view = self.view();
+        view.as_bool()
+    }
+
+    fn as_str(&self) -> Option<&str> {
+        let view = self.view();
+        view.text()
+    }
+}
+
+impl<V: JsonValueTrait> JsonValueTrait for &V {
+    ghost tree = { λ v. V.tree v.now };
+
+    fn get_type(&self) -> JsonType {
+        (**self).get_type()
+    }
+
+    fn as_bool(&self) -> Option<bool> {
+        (**self).as_bool()
+    }
+
+    fn as_str(&self) -> Option<&str> {
+        (**self).as_str()
+    }
+}
+
+impl<V: JsonValueTrait> JsonValueTrait for Option<V> {
+    ghost tree = { option_tree V.tree };
+
+    fn get_type(&self) -> JsonType {
+        match self {
+            Some(value) => value.get_type(),
+            None => JsonType::Null,
+        }
+    }
+
+    fn as_bool(&self) -> Option<bool> {
+        match self {
+            Some(value) => value.as_bool(),
+            None => None,
+        }
+    }
+
+    fn as_str(&self) -> Option<&str> {
+        match self {
+            Some(value) => value.as_str(),
+            None => None,
+        }
+    }
+}
+
+impl<V: JsonValueTrait, E> JsonValueTrait for Result<V, E> {
+    ghost tree = { result_tree V.tree };
+
+    fn get_type(&self) -> JsonType {
+        match self {
+            Ok(value) => value.get_type(),
+            Err(_) => JsonType::Null,
+        }
+    }
+
+    fn as_bool(&self) -> Option<bool> {
+        match self {
+            Ok(value) => value.as_bool(),
+            Err(_) => None,
+        }
+    }
+
+    fn as_str(&self) -> Option<&str> {
+        match self {
+            Ok(value) => value.as_str(),
+            Err(_) => None,
+        }
+    }
+}

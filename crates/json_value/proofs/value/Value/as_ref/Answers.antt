@@ -1,0 +1,6 @@
+use Rattle.std.proofs.Common.{sym}
+use Rattle.json_value.proofs.WholeTrees.{object_in}
+use Rattle.json_value.proofs.value.Value.as_ref.Goals as goal
+
+pub returns-in-Object : goal.returns-in-Object
+returns-in-Object c = sym (object_in _ c.in-Object.object c.in-Object.is)

@@ -1,0 +1,8 @@
+use Rattle.std.proofs.Common.{Some, sym, ap, ◌∙◌}
+use Rattle.json_value.specs.Seen.{list_of}
+use Rattle.json_value.proofs.Trees.{list_again}
+use Rattle.json_value.proofs.WholeTrees.{array_in}
+use Rattle.json_value.proofs.value.Value.into_array.Goals as goal
+
+pub returns-in-Array : goal.returns-in-Array
+returns-in-Array c = ap (λ ts. Some ts) (sym (list_again _)) ∙ ap list_of (sym (array_in _ c.in-Array.array c.in-Array.is))

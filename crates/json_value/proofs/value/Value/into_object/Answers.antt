@@ -1,0 +1,8 @@
+use Rattle.std.proofs.Common.{Some, sym, ap, ◌∙◌}
+use Rattle.json_value.specs.Seen.{pairs_of}
+use Rattle.json_value.proofs.Trees.{pairs_again}
+use Rattle.json_value.proofs.WholeTrees.{object_in}
+use Rattle.json_value.proofs.value.Value.into_object.Goals as goal
+
+pub returns-in-Object : goal.returns-in-Object
+returns-in-Object c = ap (λ ps. Some ps) (sym (pairs_again _)) ∙ ap pairs_of (sym (object_in _ c.in-Object.object c.in-Object.is))

@@ -1,0 +1,119 @@
+// Values from what is none yet.
+ghost use Rattle.std.specs.Prelude.{◌≡◌, map, option_map, IfOk, IfErr, OnOk};
+ghost use Rattle.std.specs.Char.{encode_utf8};
+ghost use Rattle.json_grammar.specs.Tree.{null, text, list, pairs as object, no_trees, no_pairs, list_trees, list_pairs};
+ghost use Rattle.json_text.specs.Errors.{no_memory};
+ghost use Rattle.json_model.specs.Edit.{inserted};
+ghost use Rattle.json_value.specs.Denotes.{tree_of, pair_of};
+ghost use Rattle.json_value.specs.Merged.{inserted_all};
+ghost use Rattle.json_value.specs.Steps.{tree_or_null};
+
+use crate::applying::find_key;
+use crate::container::{Container, Form};
+use crate::text::{Text, TextForm};
+use crate::value::{Pair, Value};
+use json_text::Result;
+use std::alloc::Global;
+
+// Puts the value of a pair at the first member of its key, or appends the pair.
+fn put_pair(members: &mut Vec<Pair>, pair: Pair) -> Result<()>
+    ensures ok { OnOk result (inserted (pair_of pair).0 (pair_of pair).1 (list_pairs (map pair_of members.old.items)) ≡ list_pairs (map pair_of members.new.items)) }
+    ensures only { IfErr result (λ e. e ≡ no_memory) }
+{
+    match find_key(members.as_slice(), pair.key()) {
+        Some(i) => {
+            members[i].value = pair.value;
+            Ok(())
+        }
+        None => {
+            members.push(pair)?;
+            Ok(())
+        }
+    }
+}
+
+impl Value {
+    /// The value; null for none. Takes no memory.
+    pub fn from_option(value: Option<Value>) -> Value
+        ensures { tree_of result ≡ tree_or_null (option_map tree_of value) }
+    {
+        match value {
+            Some(value) => value,
+            None => Value::Null,
+        }
+    }
+
+    /// Null. Takes no memory.
+    pub fn from_unit() -> Value
+        ensures { tree_of result ≡ null }
+    {
+        Value::Null
+    }
+
+    /// A string of these characters, of its own: nothing is parsed. `NoMemory`.
+    pub fn from_str(alloc: Global, val: &str) -> Result<Value>
+        ensures tree { IfOk result (λ v. tree_of v ≡ text val.now) }
+        ensures only { IfErr result (λ e. e ≡ no_memory) }
+    {
+        Value::copy_str(alloc, val)
+    }
+
+    /// A string of this character. `NoMemory`.
+    pub fn from_char(alloc: Global, c: char) -> Result<Value>
+        ensures tree { IfOk result (λ v. tree_of v ≡ text (encode_utf8 c)) }
+        ensures only { IfErr result (λ e. e ≡ no_memory) }
+    {
+        let mut copied = String::new(alloc);
+        copied.push(c)?;
+        Ok(Value::Text(Text {
+            form: TextForm::Copied(copied),
+        }))
+    }
+
+    /// An array without elements, which takes `capacity` of them before it asks for memory again. `NoMemory`.
+    pub fn new_array_with(alloc: Global, capacity: usize) -> Result<Value>
+        ensures tree { IfOk result (λ v. tree_of v ≡ list no_trees) }
+        ensures only { IfErr result (λ e. e ≡ no_memory) }
+    {
+        let items = Vec::with_capacity(alloc, capacity)?;
+        Ok(Value::from_vec(items))
+    }
+
+    /// An object without members, which takes `capacity` of them before it asks for memory again. `NoMemory`.
+    pub fn new_object_with(alloc: Global, capacity: usize) -> Result<Value>
+        ensures tree { IfOk result (λ v. tree_of v ≡ object no_pairs) }
+        ensures only { IfErr result (λ e. e ≡ no_memory) }
+    {
+        let members = Vec::with_capacity(alloc, capacity)?;
+        Ok(Value::Object(Container {
+            form: Form::Owned(members),
+        }))
+    }
+
+    /// An array of clones of the items. `NoMemory`.
+    pub fn from_slice_of(alloc: Global, items: &[Value]) -> Result<Value>
+        ensures tree { IfOk result (λ v. tree_of v ≡ list (list_trees (map tree_of items.now))) }
+        ensures only { IfErr result (λ e. e ≡ no_memory) }
+    {
+        let mut copies = Vec::with_capacity(alloc, items.len())?;
+        for item in items {
+            copies.push(item.clone(alloc)?)?;
+        }
+        Ok(Value::from_vec(copies))
+    }
+
+    /// The object into which the pairs are put in turn, from the first on: a pair whose key is there gives the member its
+    /// value, another is appended. `NoMemory`.
+    pub fn from_pairs(alloc: Global, pairs: Vec<Pair>) -> Result<Value>
+        ensures tree { IfOk result (λ v. tree_of v ≡ object (inserted_all (map pair_of pairs.items) no_pairs)) }
+        ensures only { IfErr result (λ e. e ≡ no_memory) }
+    {
+        let mut members = Vec::with_capacity(alloc, pairs.len())?;
+        for pair in pairs {
+            put_pair(&mut members, pair)?;
+        }
+        Ok(Value::Object(Container {
+            form: Form::Owned(members),
+        }))
+    }
+}

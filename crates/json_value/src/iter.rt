@@ -1,0 +1,62 @@
+// The members of an object that is seen, in order.
+ghost use Rattle.std.specs.Prelude.{◌≡◌, ◌≤◌, length};
+ghost use Rattle.json_value.specs.Seen.{members_seen};
+
+use crate::object_view::ObjectView;
+use crate::view::View;
+
+/// The members of an object that are still to come, in order.
+#[derive(Drop)]
+pub struct Iter<'a> {
+    view: ObjectView<'a>,
+    next: usize,
+    len: usize,
+    ghost whole: { len ≡ length (members_seen view) },
+    ghost within: { next ≤ len },
+}
+
+impl<'a> ObjectView<'a> {
+    ghost use Rattle.json_value.specs.Left.{members_left};
+
+    /// The members, each its key and its value, in order.
+    #[inline]
+    pub fn iter(self) -> Iter<'a>
+        ensures { members_left result ≡ members_seen self.entry }
+    {
+        Iter {
+            view: self,
+            next: 0,
+            len: self.len(),
+        }
+    }
+}
+
+impl<'a> Iter<'a> {
+    ghost use Rattle.json_value.specs.Left.{members_left};
+
+    /// How many members are still to come.
+    #[inline]
+    pub fn len(&self) -> usize
+        ensures { result ≡ length (members_left self.now) }
+    {
+        self.len - self.next
+    }
+}
+
+impl<'a> Iterator for Iter<'a> {
+    ghost use Rattle.std.specs.Iterator.{item_count, YieldsFirstBy};
+    ghost use Rattle.json_value.specs.Left.{members_left, member_seen};
+
+    type Item = (&'a str, View<'a>);
+
+    ghost next_gives = { YieldsFirstBy member_seen members_left };
+
+    ghost remaining = { item_count members_left };
+
+    #[inline]
+    fn next(&mut self) -> Option<(&'a str, View<'a>)> {
+        let member = self.view.pair(self.next)?;
+        self.next += 1;
+        Some(member)
+    }
+}

@@ -1,0 +1,59 @@
+// What a value is, with what is in it behind references.
+ghost use Rattle.std.specs.Prelude.{◌≡◌, option_map};
+ghost use Rattle.json_value.specs.Denotes.{tree_of, list_in, pairs_in};
+ghost use Rattle.json_value.specs.Parts.{ref_tree};
+ghost use Rattle.json_value.specs.Seen.{list_of, pairs_of};
+
+use crate::value::{Array, Object, Value};
+use json_number::Number;
+
+/// What a value is (RFC 8259, section 3), with what is in it behind references.
+#[derive(Clone, Copy)]
+pub enum ValueRef<'a> {
+    Null,
+    Bool(bool),
+    /// An integer of `u64` or `i64`.
+    Number(Number),
+    /// A number that is no such integer, as its literal.
+    RawNumber(&'a str),
+    String(&'a str),
+    Array(&'a Array),
+    Object(&'a Object),
+}
+
+impl Value {
+    /// What the value is.
+    pub fn as_ref(&self) -> ValueRef<'_>
+        ensures { ref_tree result ≡ tree_of self.now }
+    {
+        match self {
+            Value::Null => ValueRef::Null,
+            Value::Bool(value) => ValueRef::Bool(*value),
+            Value::Number(number) => ValueRef::Number(*number),
+            Value::Raw(literal) => ValueRef::RawNumber(literal.as_str()),
+            Value::Text(text) => ValueRef::String(text.as_str()),
+            Value::Array(array) => ValueRef::Array(array),
+            Value::Object(object) => ValueRef::Object(object),
+        }
+    }
+
+    /// The array; none exactly for another kind.
+    pub fn into_array(self) -> Option<Array>
+        ensures { option_map list_in result ≡ list_of (tree_of self) }
+    {
+        match self {
+            Value::Array(array) => Some(array),
+            _ => None,
+        }
+    }
+
+    /// The object; none exactly for another kind.
+    pub fn into_object(self) -> Option<Object>
+        ensures { option_map pairs_in result ≡ pairs_of (tree_of self) }
+    {
+        match self {
+            Value::Object(object) => Some(object),
+            _ => None,
+        }
+    }
+}
