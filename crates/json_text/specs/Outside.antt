@@ -1,6 +1,7 @@
 -- What a source and a sink are, and what a call does to them.
 use Rattle.std.specs.Prelude.{◌≡◌, ℕ, ◌+◌, ◌-◌, ◌^◌, ◌<◌, ◌≤◌, min, max, Bool, false, List, [], length, take, OnOk, OnErr, IfOk, IsErrOf, Result}
 use Rattle.std.specs.declared.option.Option.{Option}
+use Rattle.std.specs.Borrow.{GName}
 use Rattle.json_text.specs.Known.{Keeps, Consumes, WriteAppends, told_as}
 use Rattle.json_text.specs.declared.source.Failed.{Failed}
 use Rattle.json_text.specs.declared.sink.SinkError.{SinkError}
@@ -43,6 +44,13 @@ pub record Reads (old new : SourceState) (buf : List ℕ) (result : Result ℕ F
 
 -- ---- a sink
 
+-- what is told of a borrowed sink
+pub record Loan : Type 0 where
+  -- of the borrow: it tells its lender from other sinks
+  pub name : GName
+  -- the bytes that the lender had taken when the loan began, where they are told
+  pub began : Option (List ℕ)
+
 pub record SinkState : Type 0 where
   -- the bytes taken, where they are told
   pub gained : Option (List ℕ)
@@ -52,8 +60,10 @@ pub record SinkState : Type 0 where
   pub lacks : ℕ
   -- whether bytes may wait for a flush
   pub unflushed : Bool
+  -- of a sink that sends to a borrowed one
+  pub loan : Option Loan
 
--- how a call left the counts
+-- how a call left the counts; the loan stays
 pub record Counts {T : Type 0} (old new : SinkState) (result : Result T SinkError) : Type 0 where
   pub faults_ok : OnOk result (new.faults ≡ old.faults)
   pub lacks_ok : OnOk result (new.lacks ≡ old.lacks)
@@ -63,6 +73,7 @@ pub record Counts {T : Type 0} (old new : SinkState) (result : Result T SinkErro
   pub lacking_faults : IsErrOf result sink_error.NoMemory → new.faults ≡ old.faults
   pub faults_later : old.faults ≤ new.faults
   pub lacks_later : old.lacks ≤ new.lacks
+  pub same_loan : new.loan ≡ old.loan
 
 -- a call of `write`
 pub record Writes (old new : SinkState) (piece : List ℕ) (result : Result ℕ SinkError) : Type 0 where

@@ -18,8 +18,8 @@ pub enum SinkError {
 
 /// Where bytes go.
 pub trait Sink {
-    /// The bytes gained, where they are told, how many calls failed and how many found no memory, and
-    /// whether bytes may wait for a flush.
+    /// The bytes gained, where they are told, how many calls failed and how many found no memory, whether
+    /// bytes may wait for a flush, and the loan of a borrowed sink. No call changes the loan.
     ghost state: { Self → SinkState };
 
     /// Takes the front of the piece, and answers how many bytes: at least one where there is one. A call
@@ -58,7 +58,7 @@ impl VecSink {
     /// A sink that has gained nothing.
     pub fn new(alloc: Global) -> VecSink
         ensures { ⟦<VecSink as Sink>⟧.state result
-            ≡ record { gained = Some []; faults = 0; lacks = 0; unflushed = false } }
+            ≡ record { gained = Some []; faults = 0; lacks = 0; unflushed = false; loan = None } }
     {
         VecSink {
             bytes: Vec::new(alloc),
@@ -127,7 +127,7 @@ impl<W: Write> StdSink<W> {
     /// A sink into the writer.
     pub fn new(writer: W) -> StdSink<W>
         ensures state { ⟦<StdSink<W> as Sink>⟧.state result
-            ≡ record { gained = None; faults = 0; lacks = 0; unflushed = false } }
+            ≡ record { gained = None; faults = 0; lacks = 0; unflushed = false; loan = None } }
         ensures holds { writer_of result ≡ writer }
     {
         StdSink {
