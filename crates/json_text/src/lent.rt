@@ -6,8 +6,8 @@ ghost use Rattle.json_text.specs.Lending.{lent_as, ComesBack};
 use crate::{Sink, SinkError};
 use std::snapshot::Snapshot;
 
-/// A borrowed sink. Its state tells the loan, so a caller who has it back from a writer that it was passed to knows
-/// that the lender gained what was written, and on a refusal no less than it had before.
+/// A borrowed sink that keeps in mind what the lender had gained. A caller who has it back from a writer that held bytes back
+/// knows that the lender gained what was sent, and has all that it had before.
 #[derive(Drop)]
 pub struct LentSink<'a, K: Sink> {
     sink: &'a mut K,

@@ -2,6 +2,7 @@
 ghost use Rattle.std.specs.Prelude.{◌≡◌, [], false, Some, None, IfOk, IsOk, length};
 ghost use Rattle.std.specs.Io.KnownBytes as known;
 ghost use Rattle.std.specs.Io.{WritesAtMost};
+ghost use Rattle.json_text.specs.Lending.{lent_as};
 ghost use Rattle.json_text.specs.Outside.{SinkState, Writes, Flushes};
 
 use std::alloc::Global;
@@ -34,7 +35,7 @@ pub trait Sink {
 }
 
 impl<K: Sink> Sink for &mut K {
-    ghost state = { λ k. K.state k.now };
+    ghost state = { λ k. lent_as (K.state k.now) k.ghost_name None };
 
     #[inline(always)]
     fn write(&mut self, piece: &[u8]) -> Result<usize, SinkError> {
