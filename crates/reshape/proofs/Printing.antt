@@ -1,5 +1,5 @@
 -- A text printed through a buffered writer over a borrowed sink.
-use Rattle.std.proofs.Common.{◌≡◌, ◌×◌, ℕ, ◌<◌, List, [], ◌∷◌, ◌++◌, length, take, drop, refl, sym, ap, subst, ◌∙◌, arith, append_assoc, append-nil, Bool, true, false, ◌||◌, Option, None, Some, Result, Ok, Err, inr}
+use Rattle.std.proofs.Common.{◌≡◌, ℕ, ◌<◌, List, [], ◌∷◌, ◌++◌, length, take, drop, refl, sym, ap, subst, ◌∙◌, arith, append_assoc, append-nil, Bool, true, false, ◌||◌, Option, None, Some, Result, Ok, Err, inr}
 use Rattle.std.specs.Borrow.{GName}
 use Rattle.std.proofs.lemmas.List.{take-append-drop, append_cancel_left}
 use Rattle.json_grammar.specs.Tree.{Tree, Token, tokens}
@@ -44,6 +44,10 @@ text_written {F = F} m f sorts w new first now failed t u i (Err x) laid s e h k
       told = λ l. ap Err (c.told l);
       same_loan = c.same_loan;
     }
+
+-- ... with the indent and the order that the style has
+pub in_style : (old new : SinkState) (r : Result (Unit {0}) Error) (i j : Option (List ℕ)) (s z : Bool) (t : Tree) → i ≡ j → s ≡ z → WritesText old new (shown_as i s t) r → WritesText old new (shown_as j z t) r
+in_style old new r i j s z t e f h = subst (λ x. WritesText old new (shown_as j x t) r) f (subst (λ x. WritesText old new (shown_as x s t) r) e h)
 
 -- ---- a flush behind it
 
@@ -105,9 +109,15 @@ lent_back old new name held text (Err e) g h =
 
 -- it is the loan that was begun
 pub same_loan : (old now sent lent began : SinkState) (name name' : GName) (held text : List ℕ) (r : Result (Unit {0}) Error) → began ≡ lent_as old name old.gained → SendsText began sent text r → sent ≡ held_behind lent held → (back : ComesBack lent now name')
-    → Some {A = Loan} (record { name = name'; began = back.began }) ≡ Some (record { name = name; began = old.gained })
+    → ◌≡◌ {A = Option Loan} (Some (record { name = name'; began = back.began })) (Some (record { name = name; began = old.gained }))
 same_loan old now sent lent began name name' held text r b h s back =
     ap (λ (x : SinkState). x.loan) (sym (s ∙ ap (λ x. held_behind x held) back.as_lent)) ∙ h.same_loan ∙ ap (λ (x : SinkState). x.loan) b
+
+loan_name : (x y : Loan) → ◌≡◌ {A = Option Loan} (Some x) (Some y) → x.name ≡ y.name
+loan_name x y e = ap (λ (l : Loan). l.name) (some_same e)
+
+pub same_name : (old now sent lent began : SinkState) (name name' : GName) (held text : List ℕ) (r : Result (Unit {0}) Error) → began ≡ lent_as old name old.gained → SendsText began sent text r → sent ≡ held_behind lent held → ComesBack lent now name' → name' ≡ name
+same_name old now sent lent began name name' held text r b h s back = loan_name _ _ (same_loan old now sent lent began name name' held text r b h s back)
 
 pub printed_through : (old now sent lent began : SinkState) (name name' : GName) (held text : List ℕ) (r : Result (Unit {0}) Error) → began ≡ lent_as old name old.gained → SendsText began sent text r → sent ≡ held_behind lent held → ComesBack lent now name' → Prints old now text r
 printed_through old now sent lent began name name' held text r b h s back =

@@ -1,5 +1,5 @@
 // The text of a value's tree, written to a sink.
-ghost use Rattle.std.specs.Prelude.{◌≡◌, ℕ, List, Option, None};
+ghost use Rattle.std.specs.Prelude.{◌≡◌, ℕ, List, Option, None, false};
 ghost use Rattle.json_grammar.specs.Proper.{IsProper};
 ghost use Rattle.json_print.specs.Layouts.{LaidOut};
 ghost use Rattle.json_print.specs.Printer.{start};
