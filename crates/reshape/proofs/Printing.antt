@@ -1,15 +1,14 @@
 -- A text printed through a buffered writer over a borrowed sink.
-use Rattle.std.proofs.Common.{◌≡◌, ℕ, ◌<◌, List, [], ◌∷◌, ◌++◌, length, take, drop, refl, sym, ap, subst, ◌∙◌, arith, append_assoc, append-nil, Bool, true, false, ◌||◌, Option, None, Some, Result, Ok, Err, inr}
+use Rattle.std.proofs.Common.{◌≡◌, ℕ, List, [], ◌∷◌, ◌++◌, length, drop, refl, sym, ap, subst, ◌∙◌, arith, append_assoc, Bool, false, ◌||◌, Option, None, Some, Result, Ok, Err, inr}
 use Rattle.std.specs.Borrow.{GName}
 use Rattle.std.proofs.lemmas.List.{take-append-drop, append_cancel_left}
-use Rattle.json_grammar.specs.Tree.{Tree, Token, tokens}
+use Rattle.json_grammar.specs.Tree.{Tree, tokens}
 use Rattle.json_text.specs.declared.error.Error.{Error}
 use Rattle.json_text.specs.declared.error.ErrorCode.{ErrorCode}
 use Rattle.json_text.specs.declared.error.ErrorCode.TheVariants.{NoMemory, Io}
 use Rattle.json_text.specs.declared.error.Place.{Place}
 use Rattle.json_text.specs.declared.error.Place.TheVariants.{None as nowhere, Writing}
-use Rattle.json_text.specs.Errors.{writing_failed}
-use Rattle.json_text.specs.Known.{Appends, Grows, append_known}
+use Rattle.json_text.specs.Known.{Grows, append_known}
 use Rattle.json_text.proofs.Known.{known-append, known-nil}
 use Rattle.json_text.specs.Lending.{lent_as, ComesBack}
 use Rattle.json_text.specs.Outside.{SinkState, Loan, Rose}
@@ -17,7 +16,7 @@ use Rattle.json_text.specs.Transfer.{AppendsFront, FlushesAll, WritingCause}
 use Rattle.json_print.specs.Buffered.{held_behind}
 use Rattle.json_print.specs.Calls.{holds_any}
 use Rattle.json_print.specs.Layouts.{Form, LaidOut}
-use Rattle.json_print.specs.Printer.{Out, Begins, StopCause, StopsAt, after, start}
+use Rattle.json_print.specs.Printer.{Out, StopCause, StopsAt, after, start}
 use Rattle.json_print.specs.Shown.{shown_as}
 use Rattle.json_print.specs.Taking.{after_all}
 use Rattle.json_print.specs.Written.{Written}
