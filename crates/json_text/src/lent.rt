@@ -48,3 +48,21 @@ impl<K: Sink> Sink for LentSink<'_, K> {
         self.sink.flush()
     }
 }
+
+#[cfg(test)]
+mod tests {
+    use super::*;
+    use crate::{VecSink, flush_all, put_all};
+    use std::test::Fail;
+
+    #[test]
+    fn gives_the_sink_back(rt: HostRuntime) -> std::result::Result<(), Fail> {
+        let mut sink = VecSink::new(rt.alloc());
+        let mut lent = LentSink::new(&mut sink);
+        put_all(&mut lent, b"te")?;
+        flush_all(&mut lent)?;
+        put_all(lent.into_inner(), b"xt")?;
+        assert_eq!(rt; sink.as_slice(), b"text".as_slice());
+        Ok(())
+    }
+}
