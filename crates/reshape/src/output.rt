@@ -8,7 +8,9 @@ ghost use Rattle.json_print.specs.Styles.{printed};
 ghost use Rattle.json_value.specs.Denotes.{tree_of};
 ghost use Rattle.reshape.specs.Printing.{Prints, SendsText, WritesText};
 
-use json_print::{Buffer, BufferedWriter, CompactFormatter, Events, Formatter, PrettyFormatter, Serializer, Style};
+use json_print::{
+    Buffer, BufferedWriter, CompactFormatter, Events, Formatter, PrettyFormatter, Serializer, Style,
+};
 use json_text::{LentSink, Result, Sink, flush_all};
 use json_value::Value;
 use std::alloc::Global;
@@ -47,12 +49,7 @@ fn formatted<W: Sink, F: Formatter + Drop>(
 }
 
 // The text in the style.
-fn styled<W: Sink>(
-    alloc: Global,
-    value: &Value,
-    style: Style<'_>,
-    writer: W,
-) -> (W, Result<()>)
+fn styled<W: Sink>(alloc: Global, value: &Value, style: Style<'_>, writer: W) -> (W, Result<()>)
     requires { IsProper (tree_of value.now) }
     ensures text { WritesText (W.state writer) (W.state result.0) (printed style.entry (tree_of value.now)) result.1 }
 {
