@@ -3,14 +3,14 @@
 #![tactic(auto)]
 
 mod applying;
-#[cfg(test)]
-mod applying_tests;
 mod array;
 mod array_view;
 mod container;
 mod copying;
+mod display;
 mod emit;
 mod emit_packed;
+pub mod laws;
 mod literal;
 mod making;
 mod object;

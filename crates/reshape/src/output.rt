@@ -1,6 +1,5 @@
 // The text of a value's tree, written to a sink.
 ghost use Rattle.std.specs.Prelude.{◌≡◌, ℕ, List, Option, None, false};
-ghost use Rattle.json_grammar.specs.Proper.{IsProper};
 ghost use Rattle.json_print.specs.Layouts.{LaidOut};
 ghost use Rattle.json_print.specs.Printer.{start};
 ghost use Rattle.json_print.specs.Shown.{shown_as};
@@ -39,7 +38,6 @@ fn formatted<W: Sink, F: Formatter + Drop>(
     writer: W,
 ) -> (W, Result<()>)
     requires fresh { F.fresh formatter }
-    requires proper { IsProper (tree_of value.now) }
     ensures text { (indent : Option (List ℕ)) → LaidOut (record { piece = F.piece; next = F.next }) formatter indent 0 false
         → WritesText (W.state writer) (W.state result.0) (shown_as indent sorted (tree_of value.now)) result.1 }
 {
@@ -50,7 +48,6 @@ fn formatted<W: Sink, F: Formatter + Drop>(
 
 // The text in the style.
 fn styled<W: Sink>(alloc: Global, value: &Value, style: Style<'_>, writer: W) -> (W, Result<()>)
-    requires { IsProper (tree_of value.now) }
     ensures text { WritesText (W.state writer) (W.state result.0) (printed style.entry (tree_of value.now)) result.1 }
 {
     match style.indent() {
@@ -64,7 +61,6 @@ fn styled<W: Sink>(alloc: Global, value: &Value, style: Style<'_>, writer: W) ->
 
 // The text in the style, flushed.
 fn sent<W: Sink>(alloc: Global, value: &Value, style: Style<'_>, writer: W) -> (W, Result<()>)
-    requires { IsProper (tree_of value.now) }
     ensures text { SendsText (W.state writer) (W.state result.0) (printed style.entry (tree_of value.now)) result.1 }
 {
     let (mut writer, written) = styled(alloc, value, style, writer);
@@ -78,7 +74,6 @@ fn sent<W: Sink>(alloc: Global, value: &Value, style: Style<'_>, writer: W) -> (
 /// Writes the text of the value's tree in the style by pieces of at most 8,192 bytes, and flushes the sink. Where the sink failed
 /// or memory ran out it may have gained a front of the text.
 pub fn print<K: Sink>(alloc: Global, value: &Value, style: Style<'_>, sink: &mut K) -> Result<()>
-    requires { IsProper (tree_of value.now) }
     ensures { Prints (K.state sink.old) (K.state sink.new) (printed style.entry (tree_of value.now)) result }
 {
     let buffer = Buffer::new(alloc)?;
