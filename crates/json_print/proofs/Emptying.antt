@@ -1,5 +1,5 @@
 -- The rows of a sorted object, written into its surroundings.
-use Rattle.std.proofs.Common.{◌≡◌, ℕ, List, [], ◌∷◌, ◌++◌, ◌∙◌, sym, ap, arith, Bool, true, false, Option, Some, append_assoc}
+use Rattle.std.proofs.Common.{◌≡◌, ℕ, List, [], ◌∷◌, ◌++◌, ◌∙◌, refl, sym, ap, arith, Bool, true, false, Option, Some, append_assoc}
 use Rattle.json_text.specs.declared.error.Error.{Error}
 use Rattle.json_text.specs.Errors.{no_memory}
 use Rattle.json_print.specs.Calls.{string_call, begin_key, end_key, begin_member, end_member}
@@ -47,5 +47,5 @@ stopped_before m rows s failed e k n =
     record {
       error = e;
       kept = k;
-      stops = rw n (record { had = Begins-refl s.gained; less = rows_begin m rows s true; cause = tt; told = λ l. absurd (omega (arith, l)); later = omega arith });
+      stops = rw n (record { had = Begins-refl s.gained; less = rows_begin m rows s true; cause = tt; told = λ l. absurd (omega (arith, l)); later = omega arith; same_loan = refl });
     }

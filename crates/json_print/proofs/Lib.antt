@@ -11,6 +11,7 @@ pub mod Ideals
 pub mod Likeness
 pub mod Texts
 pub mod Prefixes
+pub mod Calms
 pub mod Laws
 pub mod Orders
 pub mod Members

@@ -33,7 +33,7 @@ out_next m f i d b c h = λ cs. tail_same _ _ _ _ (h (c ∷ cs))
 -- the same with a formatter at this level
 abbrev pub like : {F : Type 0} → Out F → ℕ → Bool → Out Level
 like s d b =
-    record { formatter = record { level = d; flag = b }; turn = s.turn; opened = s.opened; sorts = s.sorts; layers = s.layers; gained = s.gained; faults = s.faults; lacks = s.lacks; deep = false }
+    record { formatter = record { level = d; flag = b }; turn = s.turn; opened = s.opened; sorts = s.sorts; layers = s.layers; gained = s.gained; faults = s.faults; lacks = s.lacks; loan = s.loan; deep = false }
 
 pub record Like {F : Type 0} (m : Form F) (i : Option (List ℕ)) (s : Out F) (x : Out Level) (d : ℕ) : Type 0 where
   pub flag : Bool

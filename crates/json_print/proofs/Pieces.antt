@@ -16,8 +16,8 @@ use Rattle.json_print.specs.Adding.{Adds, Sends}
 -- ---- counts
 
 -- the counts go on from those of a call that was answered Ok
-pub counts_from : {T : Type 0} {r : Result T SinkError} (a b c : SinkState) → b.faults ≡ a.faults → b.lacks ≡ a.lacks → Counts b c r → Counts a c r
-counts_from {r = Ok v} a b c f l h =
+pub counts_from : {T : Type 0} {r : Result T SinkError} (a b c : SinkState) → b.faults ≡ a.faults → b.lacks ≡ a.lacks → b.loan ≡ a.loan → Counts b c r → Counts a c r
+counts_from {r = Ok v} a b c f l o h =
     record {
       faults_ok = h.faults_ok ∙ f;
       lacks_ok = h.lacks_ok ∙ l;
@@ -27,8 +27,9 @@ counts_from {r = Ok v} a b c f l h =
       lacking_faults = λ s. absurd (cc);
       faults_later = omega (arith, f, h.faults_later);
       lacks_later = omega (arith, l, h.lacks_later);
+      same_loan = h.same_loan ∙ o;
     }
-counts_from {r = Err e} a b c f l h =
+counts_from {r = Err e} a b c f l o h =
     record {
       faults_ok = tt;
       lacks_ok = tt;
@@ -38,6 +39,7 @@ counts_from {r = Err e} a b c f l h =
       lacking_faults = λ s. h.lacking_faults s ∙ f;
       faults_later = omega (arith, f, h.faults_later);
       lacks_later = omega (arith, l, h.lacks_later);
+      same_loan = h.same_loan ∙ o;
     }
 
 -- the same answer at another type
@@ -53,10 +55,11 @@ counts_err {T} {U} {e} a b h =
       lacking_faults = λ s. h.lacking_faults (convert _ s);
       faults_later = h.faults_later;
       lacks_later = h.lacks_later;
+      same_loan = h.same_loan;
     }
 
-pub counts_ok : {T : Type 0} {v : T} (a b : SinkState) → b.faults ≡ a.faults → b.lacks ≡ a.lacks → Counts {T = T} a b (Ok v)
-counts_ok a b f l =
+pub counts_ok : {T : Type 0} {v : T} (a b : SinkState) → b.faults ≡ a.faults → b.lacks ≡ a.lacks → b.loan ≡ a.loan → Counts {T = T} a b (Ok v)
+counts_ok a b f l o =
     record {
       faults_ok = f;
       lacks_ok = l;
@@ -66,13 +69,14 @@ counts_ok a b f l =
       lacking_faults = λ s. absurd (cc);
       faults_later = omega (arith, f);
       lacks_later = omega (arith, l);
+      same_loan = o;
     }
 
 -- ---- pieces
 
 -- nothing was to be added
 pub Adds-nil : (s : SinkState) → Adds s s [] (Ok tt)
-Adds-nil s = record { ok = Appends-nil s.gained; err = tt; counts = counts_ok s s refl refl }
+Adds-nil s = record { ok = Appends-nil s.gained; err = tt; counts = counts_ok s s refl refl refl }
 
 -- the first of two failed
 pub Adds-first : (a b : SinkState) (p q : List ℕ) (e : SinkError) → Adds a b p (Err e) → Adds a b (p ++ q) (Err e)
@@ -81,9 +85,9 @@ Adds-first a b p q e h = record { ok = tt; err = AppendsFront-first a.gained b.g
 -- both were added, or the second failed
 pub Adds-then : (a b c : SinkState) (p q : List ℕ) (u : Unit {0}) (r : Result (Unit {0}) SinkError) → Adds a b p (Ok u) → Adds b c q r → Adds a c (p ++ q) r
 Adds-then a b c p q u (Ok v) g h =
-    record { ok = Appends-trans a.gained b.gained c.gained p q g.ok h.ok; err = tt; counts = counts_from a b c g.counts.faults_ok g.counts.lacks_ok h.counts }
+    record { ok = Appends-trans a.gained b.gained c.gained p q g.ok h.ok; err = tt; counts = counts_from a b c g.counts.faults_ok g.counts.lacks_ok g.counts.same_loan h.counts }
 Adds-then a b c p q u (Err e) g h =
-    record { ok = tt; err = AppendsFront-then a.gained b.gained c.gained p q g.ok h.err; counts = counts_from a b c g.counts.faults_ok g.counts.lacks_ok h.counts }
+    record { ok = tt; err = AppendsFront-then a.gained b.gained c.gained p q g.ok h.err; counts = counts_from a b c g.counts.faults_ok g.counts.lacks_ok g.counts.same_loan h.counts }
 
 -- ---- one write, and the rest
 
@@ -95,12 +99,12 @@ write_failed a b piece e h =
 -- a write that took all
 pub write_whole : (a b : SinkState) (piece : List ℕ) (n : ℕ) → n ≡ length piece → Writes a b piece (Ok n) → Adds a b piece (Ok tt)
 write_whole a b piece n e h =
-    record { ok = subst (Appends a.gained b.gained) (take_all n piece (omega (arith, e))) h.appends; err = tt; counts = counts_ok a b h.counts.faults_ok h.counts.lacks_ok }
+    record { ok = subst (Appends a.gained b.gained) (take_all n piece (omega (arith, e))) h.appends; err = tt; counts = counts_ok a b h.counts.faults_ok h.counts.lacks_ok h.counts.same_loan }
 
 -- a write that took some, and the rest behind it
 pub write_then : (a b c : SinkState) (piece : List ℕ) (n : ℕ) (r : Result (Unit {0}) SinkError) → Writes a b piece (Ok n) → Adds b c (drop n piece) r → Adds a c piece r
 write_then a b c piece n r h k =
-    subst (λ p. Adds a c p r) (take-append-drop n piece) (Adds-then a b c (take n piece) (drop n piece) tt r (record { ok = h.appends; err = tt; counts = counts_ok a b h.counts.faults_ok h.counts.lacks_ok }) k)
+    subst (λ p. Adds a c p r) (take-append-drop n piece) (Adds-then a b c (take n piece) (drop n piece) tt r (record { ok = h.appends; err = tt; counts = counts_ok a b h.counts.faults_ok h.counts.lacks_ok h.counts.same_loan }) k)
 
 -- what was sent from a place on
 pub sent_adds : (a b : SinkState) (piece : List ℕ) (from to : ℕ) (r : Result (Unit {0}) SinkError) → Sends a b piece from to r → Adds a b (drop from piece) r
@@ -124,7 +128,7 @@ told_ok a b piece h =
       lacks_ok = h.counts.lacks_ok;
       cause = tt;
       told = λ l. absurd (omega (arith, l, h.counts.faults_ok));
-      later = record { faults = h.counts.faults_later; lacks = h.counts.lacks_later };
+      later = record { faults = h.counts.faults_later; lacks = h.counts.lacks_later; same_loan = h.counts.same_loan };
     }
 
 pub told_err : (a b : SinkState) (piece : List ℕ) (failure : SinkError) (r : Result (Unit {0}) Error) → (failure ≡ sink_error.Failed → r ≡ Err writing_failed) → (failure ≡ sink_error.NoMemory → r ≡ Err no_memory)
@@ -137,7 +141,7 @@ told_err a b piece sink_error.Failed r f n h =
       lacks_ok = tt;
       cause = h.counts.failed refl;
       told = λ l. refl;
-      later = record { faults = h.counts.faults_later; lacks = h.counts.lacks_later };
+      later = record { faults = h.counts.faults_later; lacks = h.counts.lacks_later; same_loan = h.counts.same_loan };
     })
 told_err a b piece sink_error.NoMemory r f n h =
     rw (n refl) (record {
@@ -147,5 +151,5 @@ told_err a b piece sink_error.NoMemory r f n h =
       lacks_ok = tt;
       cause = h.counts.lacking refl;
       told = λ l. absurd (omega (arith, l, h.counts.lacking_faults refl));
-      later = record { faults = h.counts.faults_later; lacks = h.counts.lacks_later };
+      later = record { faults = h.counts.faults_later; lacks = h.counts.lacks_later; same_loan = h.counts.same_loan };
     })

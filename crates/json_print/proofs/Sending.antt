@@ -17,12 +17,13 @@ pub record HasSent (old new : SinkState) (buffer : List ℕ) (from to : ℕ) : T
   pub gains : Appends old.gained new.gained (take (to - from) (drop from buffer))
   pub no_fault : new.faults ≡ old.faults
   pub no_lack : new.lacks ≡ old.lacks
+  pub same_loan : new.loan ≡ old.loan
 
 pub HasSent-start : (s : SinkState) (buffer : List ℕ) (from : ℕ) → from ≤ length buffer → HasSent s s buffer from from
 HasSent-start s buffer from h =
     let z : from - from ≡ 0 = omega arith in
     let e : take (from - from) (drop from buffer) ≡ [] = ap (λ n. take n (drop from buffer)) z in
-    record { later = omega arith; within = h; gains = subst (Appends s.gained s.gained) (sym e) (Appends-nil s.gained); no_fault = refl; no_lack = refl }
+    record { later = omega arith; within = h; gains = subst (Appends s.gained s.gained) (sym e) (Appends-nil s.gained); no_fault = refl; no_lack = refl; same_loan = refl }
 
 drop_on : (buffer : List ℕ) (from to : ℕ) → from ≤ to → drop (to - from) (drop from buffer) ≡ drop to buffer
 drop_on buffer from to l = let e : from + (to - from) ≡ to = omega arith in drop-drop (to - from) from buffer ∙ ap (λ n. drop n buffer) e
@@ -36,14 +37,15 @@ cut buffer from to n l h k =
     ap (λ x. take (to - from) (drop from buffer) ++ take n x) (rest ∙ sym same) ∙ sym (take-add (to - from) n (drop from buffer)) ∙ ap (λ m. take m (drop from buffer)) e
 
 pub HasSent-more : (old mid new : SinkState) (buffer : List ℕ) (from to n : ℕ) → HasSent old mid buffer from to → n ≤ length buffer - to → Appends mid.gained new.gained (take n (take (length buffer - to) (drop to buffer)))
-    → new.faults ≡ mid.faults → new.lacks ≡ mid.lacks → HasSent old new buffer from (to + n)
-HasSent-more old mid new buffer from to n h k more f l =
+    → new.faults ≡ mid.faults → new.lacks ≡ mid.lacks → new.loan ≡ mid.loan → HasSent old new buffer from (to + n)
+HasSent-more old mid new buffer from to n h k more f l o =
     record {
       later = omega (arith, h.later);
       within = omega (arith, h.within);
       gains = subst (Appends old.gained new.gained) (cut buffer from to n h.later h.within k) (Appends-trans old.gained mid.gained new.gained _ _ h.gains more);
       no_fault = f ∙ h.no_fault;
       no_lack = l ∙ h.no_lack;
+      same_loan = o ∙ h.same_loan;
     }
 
 pub sent_failed : (old mid new : SinkState) (buffer rest : List ℕ) (from to : ℕ) (e : SinkError) → HasSent old mid buffer from to → Writes mid new rest (Err e) → Sends old new buffer from to (Err e)
@@ -53,12 +55,12 @@ sent_failed old mid new buffer rest from to e h w =
       within = h.within;
       gains = Appends-kept old.gained mid.gained new.gained _ h.gains w.appends;
       all = tt;
-      counts = counts_from old mid new h.no_fault h.no_lack (counts_err mid new w.counts);
+      counts = counts_from old mid new h.no_fault h.no_lack h.same_loan (counts_err mid new w.counts);
     }
 
 pub sent_all : (old new : SinkState) (buffer : List ℕ) (from to : ℕ) → HasSent old new buffer from to → length buffer ≤ to → Sends old new buffer from to (Ok tt)
 sent_all old new buffer from to h l =
-    record { later = h.later; within = h.within; gains = h.gains; all = omega (arith, h.within); counts = counts_ok old new h.no_fault h.no_lack }
+    record { later = h.later; within = h.within; gains = h.gains; all = omega (arith, h.within); counts = counts_ok old new h.no_fault h.no_lack h.same_loan }
 
 -- ---- a sink with bytes behind it
 
@@ -83,6 +85,7 @@ counts_held a b p q h =
       lacking_faults = h.lacking_faults;
       faults_later = h.faults_later;
       lacks_later = h.lacks_later;
+      same_loan = h.same_loan;
     }
 
 pub send_failed : (a b : SinkState) (buffer piece : List ℕ) (from to : ℕ) (e : SinkError) → Sends a b buffer from to (Err e) → Writes (held_behind a (drop from buffer)) (held_behind b (drop to buffer)) piece (Err e)

@@ -12,7 +12,7 @@ use Rattle.json_print.specs.declared.events.Turn.{Turn}
 use Rattle.json_print.specs.declared.events.Turn.TheVariants.{Value as at_value, Element as at_element, Key as at_key, Member as at_member, Done as at_done}
 use Rattle.json_print.specs.Calls.{Call, string_call, begin_element, end_element, begin_key, end_key, begin_member, end_member}
 use Rattle.json_print.specs.Layouts.{Form}
-use Rattle.json_print.specs.Printer.{Out, Layer, Row, Begins, Stops, StopCause, gained_put, call, put, lead_in, follow_on, value_begun, value_ended, took_scalar, row_put, rows_put, rows_sorted, top_rows, below, emptied, emptied_in}
+use Rattle.json_print.specs.Printer.{Out, Layer, Row, Begins, Stops, StopCause, gained_put, call, put, filed_in, lead_in, follow_on, value_begun, value_ended, took_scalar, row_put, rows_put, rows_sorted, top_rows, below, emptied, emptied_in}
 use Rattle.json_print.specs.declared.serializer.Halted.{Halted}
 use Rattle.json_print.specs.Steps.{Steps, Stopped}
 
@@ -51,19 +51,36 @@ ended_begins m s = follow_begins m s s.opened
 pub begun_begins : {F : Type 0} (m : Form F) (s : Out F) → Begins s.gained (value_begun m s).gained
 begun_begins m s = lead_begins m s s.turn
 
-pub begun_faults : {F : Type 0} (m : Form F) (s : Out F) → (value_begun m s).faults ≡ s.faults
-begun_faults m s = go s.turn
-  where
-    by : (b : Bool) → (cond b s (call m s begin_member)).faults ≡ s.faults
-    by true = refl
-    by false = refl
+-- ---- no call failed
 
-    go : (t : Turn) → (lead_in m s t).faults ≡ s.faults
-    go at_value = refl
-    go (at_element first) = refl
-    go (at_key first) = refl
-    go at_member = by s.sorts
-    go at_done = refl
+-- no call of the writer failed in between, and the loan stays
+abbrev pub Calm : {F : Type 0} → Out F → Out F → Type 0
+Calm old x = (x.faults ≡ old.faults) × (x.loan ≡ old.loan)
+
+pub Calm-trans : {F : Type 0} (a b c : Out F) → Calm a b → Calm b c → Calm a c
+Calm-trans a b c g h = (h.0 ∙ g.0, h.1 ∙ g.1)
+
+pub one_calm : {F : Type 0} (s : Out F) (b : Bool) (x y : Out F) → Calm s x → Calm s y → Calm s (cond b x y)
+one_calm s true x y p q = p
+one_calm s false x y p q = q
+
+lead_calm : {F : Type 0} (m : Form F) (s : Out F) (t : Turn) → Calm s (lead_in m s t)
+lead_calm m s at_value = (refl, refl)
+lead_calm m s (at_element first) = (refl, refl)
+lead_calm m s (at_key first) = (refl, refl)
+lead_calm m s at_member = one_calm s s.sorts s (call m s begin_member) (refl, refl) (refl, refl)
+lead_calm m s at_done = (refl, refl)
+
+pub begun_calm : {F : Type 0} (m : Form F) (s : Out F) → Calm s (value_begun m s)
+begun_calm m s = lead_calm m s s.turn
+
+follow_calm : {F : Type 0} (m : Form F) (s : Out F) (c : List Kind) → Calm s (follow_on m s c)
+follow_calm m s [] = (refl, refl)
+follow_calm m s (array ∷ c) = (refl, refl)
+follow_calm m s (object ∷ c) = one_calm s s.sorts (filed_in s) (call m s end_member) (refl, refl) (refl, refl)
+
+pub ended_calm : {F : Type 0} (m : Form F) (s : Out F) → Calm s (value_ended m s)
+ended_calm m s = follow_calm m s s.opened
 
 -- ---- the rows of a sorted object
 
@@ -85,44 +102,43 @@ pub emptied_begins : {F : Type 0} (m : Form F) (s : Out F) (k : Kind) → Begins
 emptied_begins m s array = Begins-refl s.gained
 emptied_begins m s object = one_begins s.gained s.sorts _ s (rows_begin m (rows_sorted (top_rows s.layers)) (record s { layers = below s.layers }) true) (Begins-refl s.gained)
 
-rows_faults : {F : Type 0} (m : Form F) (rows : List Row) (s : Out F) (first : Bool) → (rows_put m s first rows).faults ≡ s.faults
-rows_faults m [] s first = refl
-rows_faults m (r ∷ rows) s first = rows_faults m rows (row_put m s first r) false
+rows_calm : {F : Type 0} (m : Form F) (rows : List Row) (s : Out F) (first : Bool) → Calm s (rows_put m s first rows)
+rows_calm m [] s first = (refl, refl)
+rows_calm m (r ∷ rows) s first = let h = rows_calm m rows (row_put m s first r) false in (h.0, h.1)
 
-pub emptied_faults : {F : Type 0} (m : Form F) (s : Out F) (k : Kind) → (emptied m s k).faults ≡ s.faults
-emptied_faults m s array = refl
-emptied_faults m s object = go s.sorts
-  where
-    go : (b : Bool) → (cond b (emptied_in m s) s).faults ≡ s.faults
-    go true = rows_faults m (rows_sorted (top_rows s.layers)) _ true
-    go false = refl
+pub emptied_calm : {F : Type 0} (m : Form F) (s : Out F) (k : Kind) → Calm s (emptied m s k)
+emptied_calm m s array = (refl, refl)
+emptied_calm m s object =
+    let h = rows_calm m (rows_sorted (top_rows s.layers)) (record s { layers = below s.layers }) true in
+    one_calm s s.sorts (emptied_in m s) s (h.0, h.1) (refl, refl)
 
 -- ---- steps one after another
 
 pub Stops-on : {F : Type 0} (old new aim aim' : Out F) (e : Error) → Stops old new aim e → Begins aim.gained aim'.gained → Stops old new aim' e
-Stops-on old new aim aim' e h b = record { had = h.had; less = Begins-trans _ _ _ h.less b; cause = h.cause; told = h.told; later = h.later }
+Stops-on old new aim aim' e h b = record { had = h.had; less = Begins-trans _ _ _ h.less b; cause = h.cause; told = h.told; later = h.later; same_loan = h.same_loan }
 
-pub Stops-from : {F : Type 0} (old x new aim : Out F) (e : Error) → Begins old.gained x.gained → x.faults ≡ old.faults → Stops x new aim e → Stops old new aim e
+pub Stops-from : {F : Type 0} (old x new aim : Out F) (e : Error) → Begins old.gained x.gained → Calm old x → Stops x new aim e → Stops old new aim e
 Stops-from old x new aim e b f h =
     record {
       had = Begins-trans _ _ _ b h.had;
       less = h.less;
-      cause = subst (λ n. StopCause n new.faults e.code e.place) f h.cause;
-      told = λ l. h.told (omega (arith, f, l));
-      later = omega (arith, f, h.later);
+      cause = subst (λ n. StopCause n new.faults e.code e.place) f.0 h.cause;
+      told = λ l. h.told (omega (arith, f.0, l));
+      later = omega (arith, f.0, h.later);
+      same_loan = h.same_loan ∙ f.1;
     }
 
 pub Stopped-on : {F : Type 0} (old new aim aim' : Out F) (f : Option Error) → Stopped old new aim f → Begins aim.gained aim'.gained → Stopped old new aim' f
 Stopped-on old new aim aim' f h b = record { error = h.error; kept = h.kept; stops = Stops-on old new aim aim' h.error h.stops b }
 
 -- a step behind others that came to x
-pub Steps-from : {F : Type 0} (old x mid new : Out F) (step : Out F → Out F) (f : Option Error) (r : Result (Unit {0}) Halted) → Begins old.gained x.gained → x.faults ≡ old.faults → mid ≡ x → Steps mid new (step mid) f r → Steps old new (step x) f r
+pub Steps-from : {F : Type 0} (old x mid new : Out F) (step : Out F → Out F) (f : Option Error) (r : Result (Unit {0}) Halted) → Begins old.gained x.gained → Calm old x → mid ≡ x → Steps mid new (step mid) f r → Steps old new (step x) f r
 Steps-from old x mid new step f r b l e h =
     let g : Steps x new (step x) f r = subst (λ y. Steps y new (step y) f r) e h in
     record { ok = g.ok; goes = g.goes; stops = on_err_weaker r (λ (k : Stopped x new (step x) f). let s : Stopped old new (step x) f = record { error = k.error; kept = k.kept; stops = Stops-from old x new (step x) k.error b l k.stops } in s) g.stops }
 
 -- ... and then stops on the way to a further aim
-pub Stopped-step : {F : Type 0} (old x mid new aim : Out F) (step : Out F → Out F) (f : Option Error) (halted : Halted) → Begins old.gained x.gained → x.faults ≡ old.faults → mid ≡ x → Steps mid new (step mid) f (Err halted) → Begins (step x).gained aim.gained
+pub Stopped-step : {F : Type 0} (old x mid new aim : Out F) (step : Out F → Out F) (f : Option Error) (halted : Halted) → Begins old.gained x.gained → Calm old x → mid ≡ x → Steps mid new (step mid) f (Err halted) → Begins (step x).gained aim.gained
     → Stopped old new aim f
 Stopped-step old x mid new aim step f halted b l k h g = Stopped-on old new (step x) aim f (Steps-from old x mid new step f (Err halted) b l k h).stops g
 

@@ -6,4 +6,4 @@ use Rattle.json_print.specs.Calls.{holds_any}
 
 -- the inner sink's bytes and then those that are held
 abbrev pub held_behind : SinkState → List ℕ → SinkState
-held_behind inner held = record { gained = append_known inner.gained held; faults = inner.faults; lacks = inner.lacks; unflushed = holds_any held || inner.unflushed }
+held_behind inner held = record { gained = append_known inner.gained held; faults = inner.faults; lacks = inner.lacks; unflushed = holds_any held || inner.unflushed; loan = inner.loan }

@@ -11,7 +11,7 @@ use Rattle.json_text.specs.declared.error.Place.{Place}
 use Rattle.json_text.specs.declared.error.Place.TheVariants.{None as nowhere, Writing}
 use Rattle.json_text.specs.Errors.{writing_failed}
 use Rattle.json_text.specs.Known.{append_known}
-use Rattle.json_text.specs.Outside.{Rose, SinkState}
+use Rattle.json_text.specs.Outside.{Rose, Loan, SinkState}
 use Rattle.json_print.specs.declared.events.Turn.{Turn}
 use Rattle.json_print.specs.declared.events.Turn.TheVariants.{Value as at_value, Element as at_element, Key as at_key, Member as at_member, Done as at_done}
 use Rattle.json_print.specs.Calls.{Call, null_call, boolean_call, number_call, string_call, begin_call, end_call, begin_element, end_element, begin_key, end_key, begin_member, end_member}
@@ -41,13 +41,14 @@ pub record Out (F : Type 0) : Type 0 where
   pub gained : Option (List ℕ)
   pub faults : ℕ
   pub lacks : ℕ
+  pub loan : Option Loan
   -- more containers were open than a usize counts
   pub deep : Bool
 
 -- nothing was written yet
 abbrev pub start : {F : Type 0} → F → Bool → SinkState → Out F
 start f sorts w =
-    record { formatter = f; turn = at_value; opened = []; sorts = sorts; layers = []; gained = w.gained; faults = w.faults; lacks = w.lacks; deep = false }
+    record { formatter = f; turn = at_value; opened = []; sorts = sorts; layers = []; gained = w.gained; faults = w.faults; lacks = w.lacks; loan = w.loan; deep = false }
 
 -- no token was taken yet
 abbrev pub IsFresh : {F : Type 0} → Out F → Type 0
@@ -200,6 +201,7 @@ pub record Stops {F : Type 0} (old new aim : Out F) (e : Error) : Type 0 where
   pub cause : StopCause old.faults new.faults e.code e.place
   pub told : old.faults < new.faults → e ≡ writing_failed
   pub later : old.faults ≤ new.faults
+  pub same_loan : new.loan ≡ old.loan
 
 -- what a call that meets this error at a token may leave
 abbrev pub StopsAt : {F : Type 0} → Form F → Out F → Token → Out F → Error → Type 0

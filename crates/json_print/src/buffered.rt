@@ -1,6 +1,7 @@
 // A sink that holds bytes back and sends many at once.
-ghost use Rattle.std.specs.Prelude.{◌≡◌, ◌≤◌, ◌+◌, ◌++◌, length, IfOk, List, ℕ, drop, take};
+ghost use Rattle.std.specs.Prelude.{◌≡◌, ◌≤◌, ◌+◌, ◌++◌, length, IfErr, IfOk, List, ℕ, drop, take};
 ghost use Rattle.std.specs.Io.{WritesAtMost};
+ghost use Rattle.json_text.specs.Errors.{no_memory};
 ghost use Rattle.json_text.specs.Outside.{Writes};
 ghost use Rattle.json_print.specs.Buffered.{held_behind};
 
@@ -9,6 +10,23 @@ use json_text::{Result, Sink, SinkError};
 use std::alloc::Global;
 
 const CAPACITY: usize = 8192;
+
+/// The memory of a [`BufferedWriter`], 8,192 bytes.
+#[derive(Drop)]
+pub struct Buffer {
+    bytes: Vec<u8>,
+    ghost whole: { length bytes.items ≡ 8192 },
+}
+
+impl Buffer {
+    /// Takes its bytes at once: `NoMemory` comes where they are not there.
+    pub fn new(alloc: Global) -> Result<Buffer>
+        ensures only { IfErr result (λ e. e ≡ no_memory) }
+    {
+        let bytes = vec![in alloc; 0; CAPACITY]?;
+        Ok(Buffer { bytes })
+    }
+}
 
 /// A sink that holds up to 8,192 bytes back and sends them to the inner sink at once.
 ///
@@ -39,15 +57,23 @@ impl<W: Sink> BufferedWriter<W> {
     pub fn new(alloc: Global, inner: W) -> Result<BufferedWriter<W>>
     where
         W: Drop,
-        ensures { IfOk result (λ b. ⟦<BufferedWriter<W> as Sink>⟧.state b ≡ W.state inner) }
+        ensures starts { IfOk result (λ b. ⟦<BufferedWriter<W> as Sink>⟧.state b ≡ W.state inner) }
+        ensures only { IfErr result (λ e. e ≡ no_memory) }
     {
-        let buffer = vec![in alloc; 0; CAPACITY]?;
-        Ok(BufferedWriter {
+        let buffer = Buffer::new(alloc)?;
+        Ok(BufferedWriter::with_buffer(buffer, inner))
+    }
+
+    /// The same in memory that is there.
+    pub fn with_buffer(buffer: Buffer, inner: W) -> BufferedWriter<W>
+        ensures starts { ⟦<BufferedWriter<W> as Sink>⟧.state result ≡ W.state inner }
+    {
+        BufferedWriter {
             inner,
-            buffer,
+            buffer: buffer.bytes,
             sent: 0,
             end: 0,
-        })
+        }
     }
 
     /// The inner sink. Bytes that are held are dropped.

@@ -16,7 +16,7 @@ mod serializer;
 mod sorted;
 mod style;
 
-pub use buffered::BufferedWriter;
+pub use buffered::{Buffer, BufferedWriter};
 pub use compact::CompactFormatter;
 pub use events::{Events, Turn};
 pub use formatter::Formatter;

@@ -109,10 +109,11 @@ impl<W: Sink, F: Formatter> Serializer<W, F> {
 
     /// The writer. Where the calls were those of the tokens of a tree, it has gained the text of the tree in the layout of the formatter;
     /// where they were the first of them, a prefix of that text, and also where an error was answered behind them.
+    /// `Io` at `Writing` was answered exactly where a call of the writer failed.
     pub fn into_inner(self) -> W
     where
         F: Drop,
-        ensures { Written (record { piece = F.piece; next = F.next }) (⟦<Serializer<W, F> as Events>⟧.state self) (W.state result).gained }
+        ensures { Written (record { piece = F.piece; next = F.next }) (⟦<Serializer<W, F> as Events>⟧.state self) (W.state result) }
     {
         self.writer
     }

@@ -1,5 +1,5 @@
 // An open object whose members wait for its end, to be put in the order of their keys.
-ghost use Rattle.std.specs.Prelude.{◌≡◌, ◌<◌, [], ◌∷◌, ◌++◌, length, map, get_or, slice_get, Some, true, false, OnOk, IfOk, IfErr, ◌^◌, ◌-◌};
+ghost use Rattle.std.specs.Prelude.{◌≡◌, ◌<◌, [], ◌∷◌, ◌++◌, length, map, get_or, slice_get, None, Some, true, false, OnOk, IfOk, IfErr, ◌^◌, ◌-◌};
 ghost use Rattle.json_text.specs.Errors.{no_memory};
 ghost use Rattle.json_text.specs.Transfer.{Puts};
 ghost use Rattle.json_print.specs.Layouts.{Form};
@@ -23,7 +23,7 @@ struct Scratch {
 
 impl Sink for Scratch {
     // No call counts how often memory was not there: the count stands at its last value.
-    ghost state = { λ s. record { gained = Some s.bytes.items; faults = 0; lacks = 2 ^ 64 - 1; unflushed = false } };
+    ghost state = { λ s. record { gained = Some s.bytes.items; faults = 0; lacks = 2 ^ 64 - 1; unflushed = false; loan = None } };
 
     #[inline(always)]
     fn write(&mut self, piece: &[u8]) -> std::result::Result<usize, SinkError> {

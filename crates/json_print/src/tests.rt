@@ -4,9 +4,9 @@ ghost use Rattle.json_grammar.specs.declared.Kind.TheVariants.{Object as object}
 ghost use Rattle.json_print.specs.declared.events.Turn.TheVariants.{Value as at_value, Key as at_key, Done as at_done};
 
 use crate::{
-    BufferedWriter, CompactFormatter, Events, Formatter, PrettyFormatter, Serializer, Style,
+    Buffer, BufferedWriter, CompactFormatter, Events, Formatter, PrettyFormatter, Serializer, Style,
 };
-use json_text::{ErrorCode, FakeSink, Result, Sink, VecSink};
+use json_text::{ErrorCode, FakeSink, LentSink, Result, Sink, VecSink, flush_all, put_all};
 use std::test::Fail;
 
 // `"b": [-25, 340282366920938463463374607431768211455, true]`
@@ -71,6 +71,19 @@ fn compact_text_through_a_buffer(rt: HostRuntime) -> std::result::Result<(), Fai
         text.as_slice(),
         "{\"b\":[-25,340282366920938463463374607431768211455,true],\"a\":{\"d\":null,\"c\":\"\\\"\\\\\\n\\u001fé\"},\"a\":{},\"\":[]}".as_bytes()
     );
+    Ok(())
+}
+
+#[test]
+fn a_lent_sink_behind_a_buffer(rt: HostRuntime) -> std::result::Result<(), Fail> {
+    let alloc = rt.alloc();
+    let mut sink = VecSink::new(alloc);
+    let lent = LentSink::new(&mut sink);
+    let mut writer = BufferedWriter::with_buffer(Buffer::new(alloc)?, lent);
+    put_all(&mut writer, b"[]")?;
+    flush_all(&mut writer)?;
+    let _sink = writer.into_inner().into_inner();
+    assert_eq!(rt; sink.as_slice(), b"[]".as_slice());
     Ok(())
 }
 

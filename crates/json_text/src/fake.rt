@@ -1,5 +1,5 @@
 // Sources and sinks that fail when they are told to.
-ghost use Rattle.std.specs.Prelude.{◌≡◌, ◌↔◌, ◌≤◌, ◌+◌, ◌-◌, min, length, take, [], Some, false, IsErr, IfOk, IfErr, OnOk, OnErr, IsErrOf, IsTrue, Contains};
+ghost use Rattle.std.specs.Prelude.{◌≡◌, ◌↔◌, ◌≤◌, ◌+◌, ◌-◌, min, length, take, [], Some, None, false, IsErr, IfOk, IfErr, OnOk, OnErr, IsErrOf, IsTrue, Contains};
 ghost use Rattle.std.specs.Io.{ReadsAtMost, WritesAtMost};
 ghost use Rattle.json_text.specs.Fakes.{gave, gave_nothing, took, refused};
 ghost use Rattle.json_text.specs.Outside.{counted, Reads, Writes, Flushes};
@@ -132,7 +132,7 @@ impl<'a> FakeSink<'a> {
 }
 
 impl Sink for FakeSink<'_> {
-    ghost state = { λ s. record { gained = Some s.gained; faults = s.faults; lacks = s.lacks; unflushed = false } };
+    ghost state = { λ s. record { gained = Some s.gained; faults = s.faults; lacks = s.lacks; unflushed = false; loan = None } };
 
     fn write(&mut self, piece: &[u8]) -> Result<usize, SinkError>
         ensures bound { WritesAtMost result piece.now }

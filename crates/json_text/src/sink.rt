@@ -2,6 +2,7 @@
 ghost use Rattle.std.specs.Prelude.{◌≡◌, [], false, Some, None, IfOk, IsOk, length};
 ghost use Rattle.std.specs.Io.KnownBytes as known;
 ghost use Rattle.std.specs.Io.{WritesAtMost};
+ghost use Rattle.json_text.specs.Lending.{lent_as};
 ghost use Rattle.json_text.specs.Outside.{SinkState, Writes, Flushes};
 
 use std::alloc::Global;
@@ -18,8 +19,8 @@ pub enum SinkError {
 
 /// Where bytes go.
 pub trait Sink {
-    /// The bytes gained, where they are told, how many calls failed and how many found no memory, and
-    /// whether bytes may wait for a flush.
+    /// The bytes gained, where they are told, how many calls failed and how many found no memory, whether
+    /// bytes may wait for a flush, and the loan of a borrowed sink. No call changes the loan.
     ghost state: { Self → SinkState };
 
     /// Takes the front of the piece, and answers how many bytes: at least one where there is one. A call
@@ -34,7 +35,7 @@ pub trait Sink {
 }
 
 impl<K: Sink> Sink for &mut K {
-    ghost state = { λ k. K.state k.now };
+    ghost state = { λ k. lent_as (K.state k.now) k.ghost_name None };
 
     #[inline(always)]
     fn write(&mut self, piece: &[u8]) -> Result<usize, SinkError> {
@@ -58,7 +59,7 @@ impl VecSink {
     /// A sink that has gained nothing.
     pub fn new(alloc: Global) -> VecSink
         ensures { ⟦<VecSink as Sink>⟧.state result
-            ≡ record { gained = Some []; faults = 0; lacks = 0; unflushed = false } }
+            ≡ record { gained = Some []; faults = 0; lacks = 0; unflushed = false; loan = None } }
     {
         VecSink {
             bytes: Vec::new(alloc),
@@ -127,7 +128,7 @@ impl<W: Write> StdSink<W> {
     /// A sink into the writer.
     pub fn new(writer: W) -> StdSink<W>
         ensures state { ⟦<StdSink<W> as Sink>⟧.state result
-            ≡ record { gained = None; faults = 0; lacks = 0; unflushed = false } }
+            ≡ record { gained = None; faults = 0; lacks = 0; unflushed = false; loan = None } }
         ensures holds { writer_of result ≡ writer }
     {
         StdSink {

@@ -5,3 +5,4 @@ pub mod Wording
 pub mod Applying
 pub mod Documents
 pub mod Outcomes
+pub mod Printing

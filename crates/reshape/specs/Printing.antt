@@ -1,18 +1,33 @@
 -- What becomes of a sink to which a text is written and which is then flushed.
-use Rattle.std.specs.Prelude.{◌≡◌, ◌⊎◌, ℕ, ◌<◌, List, [], Some, false, Result, OnOk, IfErr, IsErrOf}
+use Rattle.std.specs.Prelude.{◌≡◌, ◌⊎◌, ℕ, ◌<◌, List, false, Result, OnOk, OnErr, IfErr, IsErrOf}
 use Rattle.json_text.specs.declared.error.Error.{Error}
 use Rattle.json_text.specs.declared.error.ErrorCode.{ErrorCode}
 use Rattle.json_text.specs.declared.error.ErrorCode.TheVariants.{NoMemory, Io}
 use Rattle.json_text.specs.declared.error.Place.{Place}
 use Rattle.json_text.specs.declared.error.Place.TheVariants.{None as nowhere, Writing}
 use Rattle.json_text.specs.Errors.{writing_failed}
-use Rattle.json_text.specs.Known.{Appends}
+use Rattle.json_text.specs.Known.{Appends, append_known}
 use Rattle.json_text.specs.Outside.{SinkState, Rose}
 use Rattle.json_text.specs.Transfer.{AppendsFront}
+use Rattle.json_print.specs.Printer.{Begins, StopCause}
 
--- a sink in memory that has gained nothing
-abbrev pub nothing_gained : SinkState
-nothing_gained = record { gained = Some []; faults = 0; lacks = 0; unflushed = false }
+-- the text was written and may wait for a flush, or what was gained is a prefix of the old bytes and the text
+pub record WritesText (old new : SinkState) (text : List ℕ) (result : Result (Unit {0}) Error) : Type 0 where
+  pub ok : OnOk result (Appends old.gained new.gained text)
+  pub calm : OnOk result (new.faults ≡ old.faults)
+  pub prefix : OnErr result (Begins new.gained (append_known old.gained text))
+  pub cause : IfErr result (λ e. StopCause old.faults new.faults e.code e.place)
+  pub told : old.faults < new.faults → IsErrOf result writing_failed
+  pub same_loan : new.loan ≡ old.loan
+
+-- the same with a flush behind it
+pub record SendsText (old new : SinkState) (text : List ℕ) (result : Result (Unit {0}) Error) : Type 0 where
+  pub ok : OnOk result (Appends old.gained new.gained text)
+  pub flushed : OnOk result (new.unflushed ≡ false)
+  pub prefix : OnErr result (Begins new.gained (append_known old.gained text))
+  pub cause : IfErr result (λ e. StopCause old.faults new.faults e.code e.place)
+  pub told : old.faults < new.faults → IsErrOf result writing_failed
+  pub same_loan : new.loan ≡ old.loan
 
 -- why the text was not written, and what that left in the sink
 abbrev pub PrintingFails : SinkState → SinkState → List ℕ → ErrorCode → Place → Type 0

@@ -279,11 +279,11 @@ fn a_failed_write_behind_edits(rt: HostRuntime) -> Result<(), Fail> {
     text.push(b'"')?;
     let mut words = Words::new(alloc);
     words.push("[]")?;
-    let mut sink = FakeSink::new(alloc, 4_096, &[1]);
+    let mut sink = FakeSink::new(alloc, 4_096, &[2]);
     let mut errs = VecSink::new(alloc);
     let mut source = SliceSource::new(&text);
     assert_eq!(rt; run(alloc, &words, &mut source, &mut sink, &mut errs), 5);
-    assert_eq!(rt; Some(sink.as_slice()), text.get(..4_096));
+    assert_eq!(rt; Some(sink.as_slice()), text.get(..4_097));
     assert_eq!(rt; errs.as_slice(), b"Io while writing\n".as_slice());
 
     let mut source = FakeSource::new(b"{\"a\": 1}", 1, &[0]);

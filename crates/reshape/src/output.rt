@@ -1,69 +1,84 @@
 // The text of a value's tree, written to a sink.
-ghost use Rattle.std.specs.Prelude.{◌≡◌, ℕ, List, Option, None, false, IfOk, IfErr};
-ghost use Rattle.json_text.specs.Errors.{no_memory};
+ghost use Rattle.std.specs.Prelude.{◌≡◌, ℕ, List, Option, None, false};
 ghost use Rattle.json_print.specs.Layouts.{LaidOut};
 ghost use Rattle.json_print.specs.Printer.{start};
 ghost use Rattle.json_print.specs.Shown.{shown_as};
 ghost use Rattle.json_print.specs.Styles.{printed};
 ghost use Rattle.json_value.specs.Denotes.{tree_of};
-ghost use Rattle.reshape.specs.Printing.{nothing_gained, Prints};
+ghost use Rattle.reshape.specs.Printing.{Prints, SendsText, WritesText};
 
-use json_print::{CompactFormatter, Events, Formatter, PrettyFormatter, Serializer, Style};
-use json_text::{Result, Sink, VecSink, flush_all, put_all};
+use json_print::{
+    Buffer, BufferedWriter, CompactFormatter, Events, Formatter, PrettyFormatter, Serializer, Style,
+};
+use json_text::{LentSink, Result, Sink, flush_all};
 use json_value::Value;
 use std::alloc::Global;
 
 // A serializer that has written nothing.
-fn printer<F: Formatter + Drop>(alloc: Global, sorted: bool, formatter: F) -> Serializer<VecSink, F>
+fn printer<W: Sink, F: Formatter>(
+    alloc: Global,
+    sorted: bool,
+    formatter: F,
+    writer: W,
+) -> Serializer<W, F>
     requires { F.fresh formatter }
-    ensures starts { ⟦<Serializer<VecSink, F> as Events>⟧.state result ≡ start formatter sorted nothing_gained }
-    ensures fresh { ⟦<Serializer<VecSink, F> as Events>⟧.failed result ≡ None }
+    ensures starts { ⟦<Serializer<W, F> as Events>⟧.state result ≡ start formatter sorted (W.state writer) }
+    ensures fresh { ⟦<Serializer<W, F> as Events>⟧.failed result ≡ None }
 {
-    let out = Serializer::with_formatter(alloc, VecSink::new(alloc), formatter);
+    let out = Serializer::with_formatter(alloc, writer, formatter);
     if sorted { out.sort_map_keys() } else { out }
 }
 
-// The text by the calls of a formatter that has written nothing.
-fn formatted<F: Formatter + Drop>(
+// The text by the calls of a formatter that has written nothing. Gives the writer back.
+fn formatted<W: Sink, F: Formatter + Drop>(
     alloc: Global,
     value: &Value,
     sorted: bool,
     formatter: F,
-) -> Result<Vec<u8>>
+    writer: W,
+) -> (W, Result<()>)
     requires fresh { F.fresh formatter }
     ensures text { (indent : Option (List ℕ)) → LaidOut (record { piece = F.piece; next = F.next }) formatter indent 0 false
-        → IfOk result (λ v. v.items ≡ shown_as indent sorted (tree_of value.now)) }
-    ensures only { IfErr result (λ e. e ≡ no_memory) }
+        → WritesText (W.state writer) (W.state result.0) (shown_as indent sorted (tree_of value.now)) result.1 }
 {
-    let mut out = printer(alloc, sorted, formatter);
-    value.view().emit(&mut out)?;
-    Ok(out.into_inner().into_vec())
+    let mut out = printer(alloc, sorted, formatter, writer);
+    let went = value.view().emit(&mut out);
+    (out.into_inner(), went)
 }
 
-fn text_of(alloc: Global, value: &Value, style: Style<'_>) -> Result<Vec<u8>>
-    ensures text { IfOk result (λ v. v.items ≡ printed style.entry (tree_of value.now)) }
-    ensures only { IfErr result (λ e. e ≡ no_memory) }
+// The text in the style.
+fn styled<W: Sink>(alloc: Global, value: &Value, style: Style<'_>, writer: W) -> (W, Result<()>)
+    ensures text { WritesText (W.state writer) (W.state result.0) (printed style.entry (tree_of value.now)) result.1 }
 {
     match style.indent() {
-        None => formatted(alloc, value, style.sorted(), CompactFormatter),
+        None => formatted(alloc, value, style.sorted(), CompactFormatter, writer),
         Some(indent) => {
             let formatter = PrettyFormatter::with_indent(indent.as_bytes());
-            formatted(alloc, value, style.sorted(), formatter)
+            formatted(alloc, value, style.sorted(), formatter, writer)
         }
     }
 }
 
-fn put_and_flush<K: Sink>(sink: &mut K, text: &[u8]) -> Result<()>
-    ensures { Prints (K.state sink.old) (K.state sink.new) text.now result }
+// The text in the style, flushed.
+fn sent<W: Sink>(alloc: Global, value: &Value, style: Style<'_>, writer: W) -> (W, Result<()>)
+    ensures text { SendsText (W.state writer) (W.state result.0) (printed style.entry (tree_of value.now)) result.1 }
 {
-    put_all(sink, text)?;
-    flush_all(sink)
+    let (mut writer, written) = styled(alloc, value, style, writer);
+    let flushed = match written {
+        Ok(()) => flush_all(&mut writer),
+        Err(error) => Err(error),
+    };
+    (writer, flushed)
 }
 
-/// Writes the text of the value's tree in the style, and flushes the sink. Nothing is written before the whole text is there.
+/// Writes the text of the value's tree in the style by pieces of at most 8,192 bytes, and flushes the sink. Where the sink failed
+/// or memory ran out it may have gained a front of the text.
 pub fn print<K: Sink>(alloc: Global, value: &Value, style: Style<'_>, sink: &mut K) -> Result<()>
     ensures { Prints (K.state sink.old) (K.state sink.new) (printed style.entry (tree_of value.now)) result }
 {
-    let text = text_of(alloc, value, style)?;
-    put_and_flush(sink, &text)
+    let buffer = Buffer::new(alloc)?;
+    let writer = BufferedWriter::with_buffer(buffer, LentSink::new(sink));
+    let (writer, outcome) = sent(alloc, value, style, writer);
+    let _sink = writer.into_inner().into_inner();
+    outcome
 }

@@ -195,7 +195,7 @@ fn failed_reads_and_writes_are_told(rt: HostRuntime) -> Result<(), Fail> {
     let words = Words::new(alloc);
     let mut text = repeated(alloc, b'"', 1, b'a', 19_998)?;
     text.push(b'"')?;
-    let mut sink = FakeSink::new(alloc, 4_096, &[1]);
+    let mut sink = FakeSink::new(alloc, 4_096, &[2]);
     let mut errs = VecSink::new(alloc);
     let answer = run(
         alloc,
@@ -205,7 +205,7 @@ fn failed_reads_and_writes_are_told(rt: HostRuntime) -> Result<(), Fail> {
         &mut errs,
     );
     assert_eq!(rt; answer, 5);
-    assert_eq!(rt; Some(sink.as_slice()), text.get(..4_096));
+    assert_eq!(rt; Some(sink.as_slice()), text.get(..4_097));
     assert_eq!(rt; errs.as_slice(), b"Io while writing\n".as_slice());
 
     let mut source = FakeSource::new(b"[1, 2]", 1, &[]);

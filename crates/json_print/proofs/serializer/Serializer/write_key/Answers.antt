@@ -21,7 +21,7 @@ returns-in_err-call-2 g c =
     let old : Out g.row.F.Denot = out_of g.W.Sink.state c.args.self.now in
     let a = call m old (begin_key c.first_key-first.result) in
     rw (← c.first_key-first.ensures) (exits old _ _ _ _ _ (err_from_is_err_and c.from_residual-in_err-call-2.result c.from_residual-in_err-call-2.ensures.1)
-    (Stopped-step old a _ _ _ (λ s. call m s (string_call true c.args.key.now)) _ _ (call_begins m old (begin_key c.first_key-first.result)) refl c.in_ok-call.ensures.ok c.in_err-call-2.ensures
+    (Stopped-step old a _ _ _ (λ s. call m s (string_call true c.args.key.now)) _ _ (call_begins m old (begin_key c.first_key-first.result)) (refl, refl) c.in_ok-call.ensures.ok c.in_err-call-2.ensures
     (call_begins m (call m a (string_call true c.args.key.now)) end_key)))
 
 pub returns : goal.returns
@@ -30,5 +30,5 @@ returns g c =
     let old : Out g.row.F.Denot = out_of g.W.Sink.state c.args.self.now in
     let a = call m old (begin_key c.first_key-first.result) in
     let b = call m a (string_call true c.args.key.now) in
-    rw (← c.first_key-first.ensures) (Steps-from old b _ _ (λ s. call m s end_key) _ _ (Begins-trans _ _ _ (call_begins m old (begin_key c.first_key-first.result)) (call_begins m a (string_call true c.args.key.now))) refl
+    rw (← c.first_key-first.ensures) (Steps-from old b _ _ (λ s. call m s end_key) _ _ (Begins-trans _ _ _ (call_begins m old (begin_key c.first_key-first.result)) (call_begins m a (string_call true c.args.key.now))) (refl, refl)
     (c.in_ok-call-2.ensures.ok ∙ ap (λ (s : Out g.row.F.Denot). call m s (string_call true c.args.key.now)) c.in_ok-call.ensures.ok) c.call-3.ensures)
