@@ -9,3 +9,4 @@ pub mod WholeTrees
 pub mod KeyLookups
 pub mod TreeEdits
 pub mod AppliedTrees
+pub mod Lent

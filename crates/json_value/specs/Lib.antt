@@ -7,3 +7,5 @@ pub mod Written
 pub mod Emitting
 pub mod Seen
 pub mod FirstMember
+pub mod Steps
+pub mod Lending

@@ -7,10 +7,13 @@ mod applying;
 mod applying_tests;
 mod array;
 mod array_view;
+mod child;
 mod container;
 mod copying;
 mod emit;
 mod emit_packed;
+mod index;
+
 mod literal;
 mod making;
 mod object;
@@ -19,6 +22,8 @@ mod owning;
 mod pair;
 mod path;
 mod place;
+
+mod slot;
 mod standing;
 #[cfg(test)]
 mod tests;
@@ -30,6 +35,7 @@ mod view_tests;
 
 pub use array_view::ArrayView;
 pub use container::Container;
+pub use index::Index;
 pub use literal::Literal;
 pub use object_view::ObjectView;
 pub use pair::Keyed;
