@@ -13,7 +13,6 @@ mod copying;
 mod emit;
 mod emit_packed;
 mod index;
-
 mod literal;
 mod making;
 mod object;
@@ -22,7 +21,6 @@ mod owning;
 mod pair;
 mod path;
 mod place;
-
 mod slot;
 mod standing;
 #[cfg(test)]
