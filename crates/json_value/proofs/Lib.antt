@@ -10,3 +10,12 @@ pub mod KeyLookups
 pub mod TreeEdits
 pub mod AppliedTrees
 pub mod Lent
+pub mod Walking
+pub mod Follows
+pub mod Results
+pub mod Named
+pub mod Gave
+pub mod Shapes
+pub mod LentPaths
+pub mod Settling
+pub mod Loneness

@@ -6,10 +6,14 @@ use Rattle.json_grammar.specs.Tree.{Tree, null, boolean, num, text, list, pairs,
 use Rattle.json_text.specs.declared.error.Error.{Error}
 use Rattle.json_text.specs.declared.error.ErrorCode.{ErrorCode}
 use Rattle.json_text.specs.declared.error.ErrorCode.TheVariants.{NoMemory}
-use Rattle.json_model.specs.Edit.{Step, key_step, index_step, Changed, at_path, at_index, on_list, on_pairs, inserted, has_key}
+use Rattle.json_model.specs.Edit.{Step, key_step, index_step, Changed, at_path, edited_once, set_at, at_index, on_list, on_pairs, inserted, has_key}
 use Rattle.json_value.specs.Denotes.{tree_of}
+use Rattle.json_value.specs.Edits.{RefusesChange}
 use Rattle.json_value.specs.Rows.{value_row}
+use Rattle.json_value.specs.Steps.{tree_at}
 use Rattle.json_value.specs.declared.value.Value.{Value}
+use Rattle.json_value.specs.declared.path.PointerNode.{PointerNode}
+use Rattle.json_value.specs.declared.path.PointerNode.TheVariants.{Index}
 
 -- null as an empty object, and any other tree as it is
 abbrev pub opened : Tree → Tree
@@ -76,3 +80,17 @@ LendsStep s step r = LendsSoOk value_row value_row s r (λ n w. at_path (step �
 -- the same along a path
 abbrev pub LendsAlong : {E : Type 0} → MutBor Value → List Step → Result (MutBor Value) E → Fml
 LendsAlong s path r = LendsOk s r (λ n w. at_path path (λ _. Ok (tree_of w)) (tree_of s.now) ≡ Ok (tree_of n))
+
+-- n is the tree t with w put where the steps lead
+abbrev pub PutAlong : List Step → Tree → Value → Value → Type 0
+PutAlong p t n w = edited_once (set_at p (tree_of w)) t ≡ Ok (tree_of n)
+
+-- the first node of a path
+abbrev pub first_node : List PointerNode → PointerNode
+first_node [] = Index 0
+first_node (s ∷ path) = s
+
+-- what a result tells of the place in t to which the steps lead: what stands there first, or why they lead nowhere
+abbrev pub Stands : List Step → Tree → Result (MutBor Value) Error → Type 0
+Stands p t (Ok x) = tree_at p t ≡ Some (tree_of x.now)
+Stands p t (Err e) = (f : Tree → Changed Tree) → RefusesChange (at_path p f t) e.code e.place

@@ -5,6 +5,7 @@ ghost use Rattle.json_grammar.specs.Tree.{Tree};
 ghost use Rattle.json_model.specs.Edit.{Changed, Step, key_step, index_step, at_path};
 ghost use Rattle.json_value.specs.Denotes.{tree_of};
 ghost use Rattle.json_value.specs.Edits.{RefusesChange};
+ghost use Rattle.json_value.specs.Lending.{Stands};
 ghost use Rattle.json_value.specs.Rows.{value_row};
 ghost use Rattle.json_value.specs.Steps.{child};
 
@@ -55,8 +56,7 @@ pub(crate) fn child_of<'s, S: Slot, I: Index>(
     index: &I,
 ) -> Result<&'s mut Value>
     ensures* writes_back { sem 𝓛 (LendsSoOk S.row value_row slot.entry result (λ n w. at_path (I.step index.now ∷ []) (λ _. Ok (tree_of w)) (S.seen slot.old) ≡ Ok (S.seen n)) (λ n. S.seen n ≡ S.seen slot.old)) }
-    ensures value { IfOk result (λ v. child (I.step index.now) (S.seen slot.old) ≡ Some (tree_of v.now)) }
-    ensures refused { IfErr result (λ e. (f : Tree → Changed Tree) → RefusesChange (at_path (I.step index.now ∷ []) f (S.seen slot.old)) e.code e.place) }
+    ensures stands { Stands (I.step index.now ∷ []) (S.seen slot.old) result }
 {
     if let Some(key) = index.as_key() {
         return member_of(slot, alloc, key);
@@ -74,8 +74,7 @@ pub(crate) fn step_of<S: Slot, I: Index>(
     index: I,
 ) -> Result<&mut Value>
     ensures* writes_back { sem 𝓛 (LendsSoOk S.row value_row slot.entry result (λ n w. at_path (I.step index ∷ []) (λ _. Ok (tree_of w)) (S.seen slot.old) ≡ Ok (S.seen n)) (λ n. S.seen n ≡ S.seen slot.old)) }
-    ensures value { IfOk result (λ v. child (I.step index) (S.seen slot.old) ≡ Some (tree_of v.now)) }
-    ensures refused { IfErr result (λ e. (f : Tree → Changed Tree) → RefusesChange (at_path (I.step index ∷ []) f (S.seen slot.old)) e.code e.place) }
+    ensures stands { Stands (I.step index ∷ []) (S.seen slot.old) result }
 {
     child_of(slot, alloc, &index)
 }

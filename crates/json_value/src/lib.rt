@@ -13,6 +13,7 @@ mod copying;
 mod emit;
 mod emit_packed;
 mod index;
+mod lending;
 mod literal;
 mod making;
 mod object;
@@ -21,6 +22,7 @@ mod owning;
 mod pair;
 mod path;
 mod place;
+mod placing;
 mod slot;
 mod standing;
 #[cfg(test)]
