@@ -14,6 +14,8 @@ mod emit;
 mod emit_packed;
 mod index;
 mod lending;
+#[cfg(test)]
+mod lending_tests;
 mod literal;
 mod making;
 mod object;

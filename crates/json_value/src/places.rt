@@ -39,12 +39,7 @@ impl Places for Value {
 
 /// Puts a value at the place to which the steps lead. `NotFound`, `TypeUnmatched` and `NoMemory` as of `place_mut`. A refusal
 /// keeps the tree.
-pub fn put<V: Places>(
-    target: &mut V,
-    alloc: Global,
-    path: &[PointerNode],
-    new: Value,
-) -> Result<()>
+pub fn put<V: Places>(target: &mut V, alloc: Global, path: &[PointerNode], new: Value) -> Result<()>
     ensures ok { OnOk result (edited_once (set_at (steps_of path.now) (tree_of new)) (V.seen target.old) ≡ Ok (V.seen target.new)) }
     ensures kept { OnErr result (V.seen target.new ≡ V.seen target.old) }
     ensures refused { IfErr result (λ e. RefusesChange (edited_once (set_at (steps_of path.now) (tree_of new)) (V.seen target.old)) e.code e.place) }

@@ -37,7 +37,10 @@ fn seat(pairs: &mut Vec<Pair>, alloc: Global, key: &str) -> Result<usize>
         None => {
             let i = pairs.len();
             let key = Text::copy(alloc, key)?;
-            pairs.push(Keyed { key, value: Value::Null })?;
+            pairs.push(Keyed {
+                key,
+                value: Value::Null,
+            })?;
             Ok(i)
         }
     }

@@ -51,8 +51,13 @@ impl Value {
         if let Value::Null = self {
             let key = Text::copy(alloc, key)?;
             let mut list = Vec::with_capacity(alloc, 1)?;
-            list.push(Keyed { key, value: Value::Null })?;
-            *self = Value::Object(Container { form: Form::Owned(list) });
+            list.push(Keyed {
+                key,
+                value: Value::Null,
+            })?;
+            *self = Value::Object(Container {
+                form: Form::Owned(list),
+            });
         }
         Ok(())
     }

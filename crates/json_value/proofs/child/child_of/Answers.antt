@@ -11,8 +11,7 @@ returns-in-Some g c =
     let t = g.S.Slot.seen c.args.slot.now in
     let k = c.in-Some.key.now in
     let r = c.member_of.result in
-    let step = is_key (g.I.Index.step c.args.index.now) k c.in-Some.ensures.key in
-    (
+    let step = is_key (g.I.Index.step c.args.index.now) k c.in-Some.ensures.key in (
       (refl, (λ w ok. subst (λ (s : Step). at_path (s ∷ []) (λ _. Ok (tree_of w)) t ≡ Ok (g.S.Slot.seen (c.member_of.follows.lender w))) step (c.member_of.follows.holds w ok)), c.member_of.follows.holds-at-none),
       record { writes_back = tt; stands = subst (λ (s : Step). Stands (s ∷ []) t r) step (stands_one (key_step k) t r c.member_of.ensures.value c.member_of.ensures.refused) },
     )
@@ -22,8 +21,7 @@ returns-in-Some-as_index g c =
     let t = g.S.Slot.seen c.args.slot.now in
     let i = c.in-Some-as_index.i in
     let r = c.element_of.result in
-    let step = is_index (g.I.Index.step c.args.index.now) i c.in-Some-as_index.ensures.index in
-    (
+    let step = is_index (g.I.Index.step c.args.index.now) i c.in-Some-as_index.ensures.index in (
       (refl, (λ w ok. subst (λ (s : Step). at_path (s ∷ []) (λ _. Ok (tree_of w)) t ≡ Ok (g.S.Slot.seen (c.element_of.follows.lender w))) step (c.element_of.follows.holds w ok)), c.element_of.follows.holds-at-none),
       record { writes_back = tt; stands = subst (λ (s : Step). Stands (s ∷ []) t r) step (stands_one (index_step i) t r c.element_of.ensures.value c.element_of.ensures.refused) },
     )

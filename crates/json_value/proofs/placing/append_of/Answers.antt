@@ -21,8 +21,7 @@ returns g c =
     let i = c.in_ok-last.last in
     let v = c.index_mut.result.now in
     let is = c.in_ok-list.ensures.value in
-    let after : (w : Vec Value Global) → g.S.Slot.seen (c.list.follows.lender w) ≡ list (list_trees (map tree_of w.items)) = λ w. (rw c.in_ok-list.was at (c.list.follows.holds w)) refl in
-    (
+    let after : (w : Vec Value Global) → g.S.Slot.seen (c.list.follows.lender w) ≡ list (list_trees (map tree_of w.items)) = λ w. (rw c.in_ok-list.was at (c.list.follows.holds w)) refl in (
       (refl, (λ w ok. pushed_put t lent.items new.items c.args.val i is c.in_ok-last.ensures.items c.in_ok-last.ensures.index w _ (after (with_item new i w))), tt),
       record { writes_back = tt; value = pushed_value t lent.items new.items c.args.val i is c.in_ok-last.ensures.items c.in_ok-last.ensures.index v c.index_mut.ensures.value; only = tt },
     )

@@ -25,8 +25,7 @@ returns g c =
     let made = c.in_ok-i.ensures.pairs in
     let read = c.index_mut-pair.ensures.value in
     let first = c.in_ok-i.ensures.first in
-    let after : (w : Vec (Keyed Value) Global) → g.S.Slot.seen (c.pairs_with.follows.lender w) ≡ pairs (list_pairs (map pair_of w.items)) = λ w. (rw c.in_ok-pairs.was at (c.pairs_with.follows.holds w)) refl in
-    (
+    let after : (w : Vec (Keyed Value) Global) → g.S.Slot.seen (c.pairs_with.follows.lender w) ≡ pairs (list_pairs (map pair_of w.items)) = λ w. (rw c.in_ok-pairs.was at (c.pairs_with.follows.holds w)) refl in (
       (refl, (λ w ok. sym (opened_put k (tree_of w) t) ∙ seated_put (opened_with k t) k lent.items new.items is made i p read first w _ (after (with_item new i (keyed_so p.key w)))), tt),
       (ap tree_of c.value_mut.ensures.value ∙ seated_value (opened_with k t) k lent.items new.items is made i p read first ∙ opened_found k t, tt),
     )

@@ -12,8 +12,7 @@ pub returns-in-Some : goal.returns-in-Some
 returns-in-Some g c =
     let t = g.S.Slot.seen c.args.slot.now in
     let r = c.member_or_null.result in
-    let step = is_key (g.I.Index.step c.args.index.now) c.in-Some.key.now c.in-Some.ensures.key in
-    (
+    let step = is_key (g.I.Index.step c.args.index.now) c.in-Some.key.now c.in-Some.ensures.key in (
       (refl, (λ w ok. subst (λ (s : Step). put_or_insert s (tree_of w) t ≡ Ok (g.S.Slot.seen (c.member_or_null.follows.lender w))) step (c.member_or_null.follows.holds w ok)), c.member_or_null.follows.holds-at-none),
       record {
         writes_back = tt;
@@ -27,8 +26,7 @@ returns-in-Some-as_index g c =
     let t = g.S.Slot.seen c.args.slot.now in
     let i = c.in-Some-as_index.i in
     let r = c.element_of.result in
-    let step = is_index (g.I.Index.step c.args.index.now) i c.in-Some-as_index.ensures.index in
-    (
+    let step = is_index (g.I.Index.step c.args.index.now) i c.in-Some-as_index.ensures.index in (
       (refl, (λ w ok. subst (λ (s : Step). put_or_insert s (tree_of w) t ≡ Ok (g.S.Slot.seen (c.element_of.follows.lender w))) step (c.element_of.follows.holds w ok)), c.element_of.follows.holds-at-none),
       record {
         writes_back = tt;
