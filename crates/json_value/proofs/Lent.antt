@@ -2,7 +2,6 @@
 use Rattle.std.proofs.Common.{◌≡◌, ℕ, zero, suc, cond, Bool, true, false, ◌<◌, ◌≤◌, List, [], ◌∷◌, ◌++◌, Vec, Global, length, get_or, set, take, map, Ok, Err, Some, None, refl, sym, ap, ◌∙◌, subst, arith, bytes_eq, Result, MutBor, IfOk, IfErr}
 use Rattle.std.specs.Prelude.{Option, IfSome, slice_get, option_map}
 use Rattle.std.proofs.lemmas.List.{length-map, length_push, map_push, set_at}
-use Rattle.std.proofs.lemmas.Slice.Eq.{bytes_eq-Decides}
 use Rattle.std.proofs.lemmas.Option.{none-some, same_Some}
 use Rattle.json_grammar.specs.Tree.{Tree, null, boolean, num, text, list, pairs, Trees, Pairs, no_pairs, pair_and, list_trees, list_pairs, pairs_list}
 use Rattle.json_text.specs.Errors.{no_memory}
@@ -27,7 +26,7 @@ use Rattle.json_value.specs.declared.value.Value.{Value, Null, Object}
 use Rattle.json_value.specs.declared.pair.Keyed.{Keyed}
 use Rattle.json_value.specs.declared.text.Text.{Text}
 use Rattle.json_value.proofs.Views.{null_tree, object_tree}
-use Rattle.json_value.proofs.Trees.{list_again, pairs_again, pairs_back}
+use Rattle.json_value.proofs.Trees.{list_again, pairs_again}
 use Rattle.json_value.proofs.TreeEdits.{split_front, same_key, inserted-beside}
 use Rattle.json_value.proofs.AppliedTrees.{element_got, element_changed, element_missed, element_pushed, pair_got, pair_changed, insert_over}
 

@@ -1,5 +1,5 @@
 -- Places along a path: what stands there, and what a write there makes of the whole, one step at a time.
-use Rattle.std.proofs.Common.{◌≡◌, ℕ, zero, suc, ◌<◌, List, [], ◌∷◌, Bool, true, false, cond, Some, None, Option, length, drop, map, refl, sym, ap, ◌∙◌, subst, arith, Result, Ok, Err, IfOk, IfErr, inl, inr, ◌⊎◌, bytes_eq}
+use Rattle.std.proofs.Common.{◌≡◌, ℕ, zero, suc, ◌<◌, List, [], ◌∷◌, Bool, true, false, cond, Some, None, Option, length, drop, refl, sym, ap, ◌∙◌, subst, arith, Result, Ok, Err, inl, inr, ◌⊎◌, bytes_eq}
 use Rattle.std.specs.Prelude.{slice_get, option_map}
 use Rattle.std.specs.Bool.{OnTrue, OnFalse}
 use lib.Dec.{T}
@@ -8,7 +8,7 @@ use Rattle.std.proofs.lemmas.Option.{none-some, same_Some}
 use Rattle.json_grammar.specs.Tree.{Tree, null, boolean, num, text, list, pairs, Trees, no_trees, tree_and, Pairs, no_pairs, pair_and, trees_list, pairs_list}
 use Rattle.json_text.specs.declared.error.ErrorCode.{ErrorCode}
 use Rattle.json_text.specs.declared.error.Place.{Place}
-use Rattle.json_model.specs.Edit.{Step, key_step, index_step, Changed, Refusal, within, at_path, at_key, at_index, on_list, on_pairs}
+use Rattle.json_model.specs.Edit.{Step, key_step, index_step, Changed, Refusal, within, at_path, at_key, at_index}
 use Rattle.json_value.specs.Edits.{steps_of, step_of, RefusesChange}
 use Rattle.json_value.specs.Lending.{first_node}
 use Rattle.json_value.specs.Seen.{first_of}

@@ -1,5 +1,5 @@
 -- What stands where steps lead, told by a result and by what is settled from it.
-use Rattle.std.proofs.Common.{◌≡◌, ◌<◌, length, drop, List, [], ◌∷◌, Some, None, Option, Result, Ok, Err, IfOk, IfErr, MutBor, refl, sym, ap, ◌∙◌, subst}
+use Rattle.std.proofs.Common.{◌≡◌, ◌<◌, length, drop, List, [], ◌∷◌, Some, None, Option, Result, Ok, Err, IfOk, IfErr, MutBor, refl, sym, ap, ◌∙◌}
 use Rattle.std.specs.Prelude.{option_map}
 use Rattle.std.proofs.lemmas.Option.{none-some, same_Some}
 use Rattle.json_grammar.specs.Tree.{Tree}
@@ -9,7 +9,7 @@ use Rattle.json_text.specs.declared.error.ErrorCode.{ErrorCode}
 use Rattle.json_text.specs.declared.error.ErrorCode.TheVariants.{NoMemory, NotFound, TypeUnmatched}
 use Rattle.json_text.specs.declared.error.Place.{Place}
 use Rattle.json_text.specs.declared.error.Place.TheVariants.{None as nowhere}
-use Rattle.json_model.specs.Edit.{Step, key_step, index_step, Changed, Refusal, not_found, type_unmatched, at_path}
+use Rattle.json_model.specs.Edit.{Step, Changed, Refusal, not_found, type_unmatched, at_path}
 use Rattle.json_value.specs.Denotes.{tree_of}
 use Rattle.json_value.specs.Edits.{RefusesChange, steps_of, step_of as node_step}
 use Rattle.json_value.specs.Lending.{first_node, none_or, settled, name_of, name_of_ok, Stands}

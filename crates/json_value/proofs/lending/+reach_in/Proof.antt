@@ -42,7 +42,6 @@ use Rattle.std.specs.contracts.result.Result as result
 use Rattle.std.proofs.alloc.Global.TheLaws.{the_row_laws as global_laws, the_told as global_told, the_copy as global_copy}
 use Rattle.std.proofs.result.Result.TheLaws.{the_row_laws as result_laws}
 use Rattle.json_value.specs.Denotes.{tree_of}
-use Rattle.json_model.specs.Edit.{Step, at_path}
 use Rattle.json_value.specs.Edits.{step_of, steps_of}
 use Rattle.json_value.specs.Steps.{child}
 use Rattle.json_value.specs.Lending.{LendsAlong, LendsStep, Stands, first_node, name_of_ok}

@@ -1,4 +1,4 @@
-use Rattle.std.proofs.Common.{refl, sym, ◌∙◌}
+use Rattle.std.proofs.Common.{refl, ◌∙◌}
 use Rattle.json_grammar.specs.Tree.{list_pairs}
 use Rattle.json_value.specs.Denotes.{pair_of}
 use Rattle.std.proofs.Common.{map}

@@ -7,7 +7,7 @@ use mir.Syntax.{Args, Fn, a_type, dcons, dnil}
 use mir.MapTy.{inst_fn}
 use denote.RattleType.{RattleType}
 use denote.Param.{param, bounded}
-use denote.Param.Laws.{param_laws, of_field, row_shared}
+use denote.Param.Laws.{of_field, row_shared}
 use denote.Param.Shared.{mut_ref_shared}
 use denote.Ref.{ShrRef, shr_vals, shr_Tells}
 use denote.Signature.{shr_ref_to}

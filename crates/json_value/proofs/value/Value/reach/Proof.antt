@@ -1,4 +1,4 @@
-use Rattle.json_value.proofs.Walking.{◌≡◌, [], ◌∷◌, refl, sym, ap, ◌∙◌, subst, proved, id⊢, emp, fact_i, use0, ftrue, named, fact, tables, ‵, raw, ◌⊛◌, some, later, ◌$◌, ◌∵◌, !, qed, done, drop, use1, use2, split, join, pick, await, suffices, group, frame, rewrite, enter, addr, stop, no_more, and_then, returns, alloc_all, pass_all, free_all, look_at, get, through, sets, lands_as, no, yes, move, keep, peeks, shows, flft, heard, mut_vals, mut_Tells, plain, nothing, calls_at, lasts, Lasts, triple_of, Stays, stay_dropped, Goes-spent_ref, Goes-dropped, ends_at, framed, Some}
+use Rattle.json_value.proofs.Walking.{◌≡◌, [], ◌∷◌, refl, sym, ap, ◌∙◌, subst, proved, id⊢, emp, fact_i, use0, ftrue, named, fact, tables, ‵, raw, ◌⊛◌, some, later, ◌$◌, ◌∵◌, !, qed, done, drop, use1, use2, split, join, pick, await, suffices, group, frame, rewrite, enter, addr, stop, no_more, and_then, returns, alloc_all, pass_all, free_all, look_at, get, through, sets, lands_as, no, yes, move, keep, peeks, shows, flft, heard, mut_vals, mut_Tells, plain, nothing, calls_at, lasts, Lasts, triple_of, Stays, stay_dropped, Goes-spent_ref, Goes-dropped, ends_at, framed}
 use mathlib.Core.Option as maybe
 use base.Fml.{GName}
 use denote.Slice.{shr_slice_vals, shr_slice_Tells, shr_slice_Lawful}
@@ -18,7 +18,7 @@ use Rattle.json_value.specs.Denotes.{tree_of}
 use Rattle.json_value.specs.Edits.{steps_of}
 use Rattle.json_value.specs.Steps.{tree_at}
 use Rattle.json_text.specs.Errors.{no_memory}
-use Rattle.json_value.specs.Lending.{LendsAlong, LendsNamed, PutAlong, Stands, settled, name_of, name_of_ok}
+use Rattle.json_value.specs.Lending.{LendsAlong, LendsNamed, PutAlong, Stands, settled, name_of}
 use Rattle.json_value.proofs.Settling.{settled_name, settled_stands, settled_only}
 use Rattle.json_value.specs.declared.value.Value.{Value}
 use Rattle.json_value.specs.contracts.value.Value.{the_row as value}

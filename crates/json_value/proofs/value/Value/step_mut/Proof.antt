@@ -21,7 +21,7 @@ use denote.Struct.Laws.{mut_ref_laws}
 use denote.Param.Laws.{of_field, row_shared}
 use denote.Param.Shared.{mut_ref_shared}
 use Rattle.json_value.specs.Lending.{LendsStep, LendsNamed, PutAlong, Stands, settled, name_of, name_of_ok}
-use Rattle.json_value.specs.Steps.{child, tree_at}
+use Rattle.json_value.specs.Steps.{child}
 use Rattle.json_value.proofs.Settling.{one_step, settled_name, settled_stands, settled_only}
 use Rattle.json_text.specs.Errors.{no_memory}
 use Rattle.json_value.specs.contracts.value.Value.{the_row as value}
