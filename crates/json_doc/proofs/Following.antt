@@ -1,19 +1,21 @@
 -- One event more.
-use Rattle.std.proofs.Common.{◌≡◌, Bool, true, false, ℕ, ◌+◌, ◌<◌, ◌≤◌, List, [], ◌∷◌, ◌++◌, refl, sym, ap, subst, ◌∙◌, arith}
+use Rattle.std.proofs.Common.{◌≡◌, Bool, true, false, ℕ, ◌+◌, ◌<◌, ◌≤◌, List, [], ◌∷◌, ◌++◌, length, refl, sym, ap, subst, ◌∙◌, arith}
 use Rattle.std.specs.Prelude.{◌↔◌, IsTrue}
 use Rattle.std.specs.Bool.{OnTrue}
 use Rattle.std.proofs.lemmas.Bool.{cases_lt}
 use Rattle.std.proofs.Math.Logic.{⊎_elim}
-use Rattle.json_grammar.specs.Tree.{Token}
+use Rattle.std.specs.Borrow.{Bor}
+use Rattle.json_grammar.specs.Tree.{Token, num_token}
 use Rattle.json_grammar.specs.Grammar.{chars}
 use Rattle.json_grammar.specs.Sizes.{token_nodes, nodes_of}
 use Rattle.json_grammar.proofs.Sizes.{nodes_append}
 use Rattle.json_doc.specs.Awaited.{Begins}
-use Rattle.json_doc.specs.State.{VisitorState, Fits, after_event, HoldsMore}
+use Rattle.json_doc.specs.State.{VisitorState, Fits, after_event, MayCome, HoldsMore}
 use Rattle.json_doc.specs.Recorded.{visitor_state, Holds}
 use Rattle.json_text.specs.declared.event.Event.{Event}
+use Rattle.json_text.specs.declared.event.Event.TheVariants as event
 use Rattle.json_text.specs.Events.{Means, raw_size}
-use Rattle.json_doc.specs.Reading.{Follows}
+use Rattle.json_doc.specs.Reading.{Follows, HasRoomFor}
 use Rattle.json_doc.specs.declared.document_visitor.DocumentVisitor.{DocumentVisitor}
 
 more_nodes : (ts : List Token) (x : Token) → nodes_of (ts ++ x ∷ []) ≡ nodes_of ts + token_nodes x
@@ -64,3 +66,22 @@ follows_event e e' old new y x k r ts is same answer after held f b h =
     subst (λ (z : Token). Follows new (ts ++ z ∷ [])) (sym same)
     (follows_on old new y k (raw_size e') r ts answer after held f (subst (λ (z : Token). Begins (ts ++ z ∷ [])) same b)
     (subst (λ (v : Event). old.full ≡ false → (visitor_state old).bytes + raw_size v ≤ (visitor_state old).text_room) is h))
+
+-- a number, whose literal has room behind what was recorded
+pub follows_number : (e : Event) (l : Bor (List ℕ)) (old new : DocumentVisitor) (x : Token) (ts : List Token) → e ≡ event.Number l → Means e x
+    → (Begins (ts ++ num_token l.now ∷ []) → HasRoomFor old (length l.now) → Follows new (ts ++ num_token l.now ∷ []))
+    → Begins (ts ++ x ∷ []) → HasRoomFor old (raw_size e) → Follows new (ts ++ x ∷ [])
+follows_number e l old new x ts is means f b h =
+    let same = means_at e (event.Number l) x is means in
+    subst (λ (z : Token). Follows new (ts ++ z ∷ [])) (sym same) (f (subst (λ (z : Token). Begins (ts ++ z ∷ [])) same b) (subst (λ (v : Event). HasRoomFor old (raw_size v)) is h))
+
+pub may_come_at : (old : DocumentVisitor) (k l : List ℕ) → k ≡ l → MayCome (Holds old) (num_token l) → MayCome (Holds old) (num_token k)
+may_come_at old k l is h = subst (λ (m : List ℕ). MayCome (Holds old) (num_token m)) (sym is) h
+
+-- a number by its literal l takes its bytes, or none
+pub follows_literal : (old new : DocumentVisitor) (l : List ℕ) (y : Token) (k m : ℕ) (r : Bool) (ts : List Token) → y ≡ num_token l → m ≤ length l
+    → IsTrue r ↔ Fits (visitor_state old) 1 m → visitor_state new ≡ after_event r 1 k (visitor_state old)
+    → OnTrue r (HoldsMore (Holds old) (Holds new) y)
+    → Follows old ts → Begins (ts ++ num_token l ∷ []) → HasRoomFor old (length l) → Follows new (ts ++ num_token l ∷ [])
+follows_literal old new l y k m r ts is short answer after held f b h =
+    follows_on old new (num_token l) k m r ts answer after (subst (λ (z : Token). OnTrue r (HoldsMore (Holds old) (Holds new) z)) is held) f b (λ full. omega (arith, h full))

@@ -1,14 +1,18 @@
 -- What a builder holds, event by event.
-use Rattle.std.proofs.Common.{◌≡◌, Bool, ℕ, ◌+◌, ◌-◌, ◌*◌, ◌/◌, ◌<◌, List, [], ◌∷◌, ◌++◌, length, take, drop, get_or, Some, refl, sym, ap, subst, ◌∙◌, append_assoc, append-nil, arith, length-append}
+use Rattle.std.proofs.Common.{◌≡◌, Bool, ℕ, ℤ, pos, SFits, w64, ◌^◌, ◌+◌, ◌-◌, ◌*◌, ◌/◌, ◌<◌, List, [], ◌∷◌, ◌++◌, length, take, drop, get_or, Some, None, refl, sym, ap, subst, ◌∙◌, append_assoc, append-nil, arith, length-append}
 use Rattle.std.proofs.lemmas.List.{take_at, drop_at, get_or_at, length_push, length-take-le, length-drop}
 use Rattle.std.specs.Str.{IsUtf8}
 use Rattle.std.proofs.lemmas.Str.{IsUtf8-nil, IsUtf8-append}
+use Rattle.std.specs.Prelude.{◌<ℤ◌}
+use Rattle.std.specs.Fmt.{signed_decimal}
 use Rattle.json_grammar.specs.declared.Kind.TheVariants.{Array as array, Object as object}
 use Rattle.json_grammar.specs.Grammar.{number}
 use Rattle.json_grammar.specs.Tree.{Tree, null, boolean, num, text, Token, null_token, boolean_token, num_token, text_token, begin, end, key_token, tokens}
 use Rattle.json_doc.specs.Awaited.{Slot, a_value, past_value, past_token, awaits, Begins}
 use Rattle.json_grammar.specs.Sizes.{token_nodes, nodes_of}
 use Rattle.json_grammar.proofs.Sizes.{nodes_append}
+use Rattle.json_number.specs.Integers.{integer_in}
+use Rattle.json_doc.specs.ByValue.{integer_cell}
 use Rattle.json_doc.specs.Texts.{pairs_count, token_text, tokens_text}
 use Rattle.json_doc.specs.Block.{TextStands, link_to, node}
 use Rattle.json_doc.specs.Building.{Building, nothing}
@@ -18,6 +22,8 @@ use Rattle.json_doc.specs.Shape.{link_of}
 use Rattle.json_doc.specs.declared.cell.Cell.{Cell}
 use Rattle.json_doc.specs.declared.cell.Cell.TheVariants as cell
 use Rattle.json_doc.proofs.Awaiting.{next_awaits, value_where}
+use Rattle.json_number.proofs.Integers.{decimal_number, decimal_reads}
+use Rattle.json_doc.proofs.Integers.{integer_text, raw_text, integer_stands, raw_stands, negative_text}
 use Rattle.json_doc.proofs.Rows.{pair_row_length}
 use Rattle.json_doc.proofs.Builds.{builds_more, builds_value, builds_key, builds_array, builds_object, within_array, within_object, ends_array, ends_object}
 
@@ -94,9 +100,27 @@ pub held_boolean : (front done : List Cell) (bytes : List ℕ) (p : ℕ) (ts : L
 held_boolean front done bytes p ts v h b =
     no_bytes _ done bytes p _ (held_leaf front done bytes [] p ts (cell.Bool v) (boolean v) (boolean_token v) IsUtf8-nil (λ w. refl) refl refl refl (λ n. (refl, refl)) h b)
 
-pub held_num : (front done : List Cell) (bytes : List ℕ) (p : ℕ) (ts : List Token) (l : List ℕ) → IsUtf8 l → number l → Held front done bytes p ts → Begins (ts ++ num_token l ∷ []) → Held (front ++ cell.Raw (length bytes) (length l) ∷ []) done (bytes ++ l) p (ts ++ num_token l ∷ [])
-held_num front done bytes p ts l u is h b =
-    held_leaf front done bytes l p ts (cell.Raw (length bytes) (length l)) (num l) (num_token l) u (λ w. refl) refl refl refl (λ n. (is, (length bytes, refl, stands_last bytes l u), refl)) h b
+held_integer : (front done : List Cell) (bytes : List ℕ) (p : ℕ) (ts : List Token) (z : ℤ) → number (signed_decimal z) → integer_in (signed_decimal z) ≡ Some z
+    → Held front done bytes p ts → Begins (ts ++ num_token (signed_decimal z) ∷ []) → Held (front ++ integer_cell z ∷ []) done bytes p (ts ++ num_token (signed_decimal z) ∷ [])
+held_integer front done bytes p ts z is e h b =
+    let l = signed_decimal z in
+    no_bytes _ done bytes p _ (held_leaf front done bytes [] p ts (integer_cell z) (num l) (num_token l) IsUtf8-nil (λ w. refl) refl refl (integer_text l z e) (λ n. (is, integer_stands (bytes ++ []) l z e refl, refl)) h b)
+
+pub held_unsigned : (front done : List Cell) (bytes : List ℕ) (p : ℕ) (ts : List Token) (n : ℕ) → n < 2 ^ 64 → Held front done bytes p ts → Begins (ts ++ num_token (signed_decimal (pos n)) ∷ [])
+    → Held (front ++ cell.Unsigned n ∷ []) done bytes p (ts ++ num_token (signed_decimal (pos n)) ∷ [])
+held_unsigned front done bytes p ts n k h b = held_integer front done bytes p ts (pos n) (decimal_number n k) (decimal_reads n k) h b
+
+pub held_negative : (front done : List Cell) (bytes : List ℕ) (p : ℕ) (ts : List Token) (z : ℤ) → z <ℤ pos 0 → SFits w64 z → Held front done bytes p ts → Begins (ts ++ num_token (signed_decimal z) ∷ [])
+    → Held (front ++ cell.Negative z ∷ []) done bytes p (ts ++ num_token (signed_decimal z) ∷ [])
+held_negative front done bytes p ts z k f h b =
+    let t = negative_text z k f in
+    subst (λ (c : Cell). Held (front ++ c ∷ []) done bytes p (ts ++ num_token (signed_decimal z) ∷ [])) t.2 (held_integer front done bytes p ts z t.0 t.1 h b)
+
+pub held_raw : (front done : List Cell) (bytes : List ℕ) (p : ℕ) (ts : List Token) (l : List ℕ) → IsUtf8 l → number l → integer_in l ≡ None
+    → Held front done bytes p ts → Begins (ts ++ num_token l ∷ []) → Held (front ++ cell.Raw (length bytes) (length l) ∷ []) done (bytes ++ l) p (ts ++ num_token l ∷ [])
+held_raw front done bytes p ts l u is e h b =
+    let c = cell.Raw (length bytes) (length l) in
+    held_leaf front done bytes l p ts c (num l) (num_token l) u (λ w. refl) refl refl (raw_text l e) (λ n. (is, raw_stands (bytes ++ l) l c e (length bytes, refl, stands_last bytes l u), refl)) h b
 
 pub held_text : (front done : List Cell) (bytes : List ℕ) (p : ℕ) (ts : List Token) (s : List ℕ) → IsUtf8 s → Held front done bytes p ts → Begins (ts ++ text_token s ∷ []) → Held (front ++ cell.Str (length bytes) (length s) ∷ []) done (bytes ++ s) p (ts ++ text_token s ∷ [])
 held_text front done bytes p ts s u h b =

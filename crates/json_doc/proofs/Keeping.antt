@@ -83,7 +83,7 @@ given_begins p ts h = reading_begins false (take h.base (input p)) p.open_kinds 
 -- what was recorded is no longer than what was taken
 recorded_within : (p : ParserState) (v : DocumentVisitor) (ts : List Token) → HasGiven p ts → Holds v ts → (visitor_state v).bytes ≤ p.index
 recorded_within p v ts h held =
-    let bytes : (visitor_state v).bytes ≡ bytes_of ts = recorded_bytes v ts held in
+    let bytes : (visitor_state v).bytes ≤ bytes_of ts = recorded_bytes v ts held in
     let fits = (read_fits false h.given.at).1 in
     let order = h.order in
     omega (arith, length-take h.base (input p))

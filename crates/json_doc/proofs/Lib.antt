@@ -1,4 +1,5 @@
 pub mod Awaiting
+pub mod Integers
 pub mod Rows
 pub mod Builds
 pub mod Holding

@@ -1,12 +1,15 @@
 -- What is spelled at a place is the tree there.
-use Rattle.std.proofs.Common.{◌≡◌, ℕ, zero, suc, ◌+◌, ◌-◌, ◌*◌, ◌<◌, ◌≤◌, List, [], ◌∷◌, ◌++◌, length, get_or, take, drop, Some, refl, sym, ap, ◌∙◌, arith, add-zero, add-one}
+use Rattle.std.proofs.Common.{◌≡◌, ℕ, ℤ, pos, negsuc, zero, suc, ◌+◌, ◌-◌, ◌*◌, ◌<◌, ◌≤◌, List, [], ◌∷◌, ◌++◌, length, get_or, take, drop, Option, Some, None, refl, sym, ap, ◌∙◌, arith, add-zero, add-one}
 use Rattle.std.specs.Prelude.{slice_get, slice_range}
 use Rattle.std.proofs.lemmas.List.{length_push, get_or_append_left, get_or_push, take_all, take-append-le, take-take, drop-take, drop_more}
 use Rattle.std.proofs.lemmas.Option.{get_or_from_slice_get, slice_get_within}
+use Rattle.std.specs.Fmt.{signed_decimal}
 use Rattle.json_grammar.specs.Tree.{Tree, null, boolean, num, text, list, pairs, Trees, no_trees, tree_and, Pairs, no_pairs, pair_and, trees_list, list_trees}
+use Rattle.json_number.specs.Integers.{integer_in}
+use Rattle.json_doc.specs.ByValue.{integer_cell}
 use Rattle.json_doc.specs.Texts.{trees_count, pairs_count}
 use Rattle.json_doc.specs.Block.{link_to}
-use Rattle.json_doc.specs.Spells.{spells, spells_trees, spells_pairs}
+use Rattle.json_doc.specs.Spells.{spells_number, spells, spells_trees, spells_pairs}
 use Rattle.json_doc.specs.Trees.{paired, tree_of_cell, grow, trees, tree_at}
 use Rattle.json_doc.specs.declared.cell.Cell.{Cell}
 use Rattle.json_doc.specs.declared.cell.Cell.TheVariants as cell
@@ -74,6 +77,10 @@ link_le : (link n : ℕ) → link_to link n ≤ link
 link_le link zero = omega arith
 link_le link (suc n) = omega arith
 
+integer_tree : (bytes : List ℕ) (below : List Tree) (n : ℤ) → tree_of_cell bytes below (integer_cell n) ≡ num (signed_decimal n)
+integer_tree bytes below (pos n) = refl
+integer_tree bytes below (negsuc n) = refl
+
 module _ (cells : List Cell) (bytes : List ℕ) where
   -- the tree where the cell is c
   pub tree_where : (at : ℕ) (c : Cell) → slice_get cells at ≡ Some c → tree_at cells bytes at ≡ tree_of_cell bytes (take at (trees bytes cells)) c
@@ -83,10 +90,18 @@ module _ (cells : List Cell) (bytes : List ℕ) where
       let same : 0 + at ≡ at = omega arith in
       rw same at here ∙ ap (tree_of_cell bytes (take at (trees bytes cells))) (get_or_from_slice_get cells at c cell.Null e)
 
+  number_within : (o : Option ℤ) (at : ℕ) (l : List ℕ) → spells_number o cells bytes at l → at < length (trees bytes cells)
+  number_within (Some n) at l (e, t) = rw length-trees (slice_get_within cells at _ e)
+  number_within None at l (start, e, h) = rw length-trees (slice_get_within cells at _ e)
+
+  number_spelled : (o : Option ℤ) (at : ℕ) (l : List ℕ) → spells_number o cells bytes at l → tree_at cells bytes at ≡ num l
+  number_spelled (Some n) at l (e, t) = tree_where at _ e ∙ integer_tree bytes _ n ∙ ap num (sym t)
+  number_spelled None at l (start, e, h) = tree_where at _ e ∙ ap num h
+
   within : (at : ℕ) (t : Tree) → spells cells bytes at t → at < length (trees bytes cells)
   within at null s = rw length-trees (slice_get_within cells at _ s)
   within at (boolean b) s = rw length-trees (slice_get_within cells at _ s)
-  within at (num l) (start, e, h) = rw length-trees (slice_get_within cells at _ e)
+  within at (num l) s = number_within (integer_in l) at l s
   within at (text w) (start, e, h) = rw length-trees (slice_get_within cells at _ e)
   within at (list ts) (link, e, h, k) = rw length-trees (slice_get_within cells at _ e)
   within at (pairs ps) (link, e, h, k) = rw length-trees (slice_get_within cells at _ e)
@@ -95,7 +110,7 @@ module _ (cells : List Cell) (bytes : List ℕ) where
     pub spelled : (at : ℕ) (t : Tree) → spells cells bytes at t → tree_at cells bytes at ≡ t
     spelled at null s = tree_where at _ s
     spelled at (boolean b) s = tree_where at _ s
-    spelled at (num l) (start, e, h) = tree_where at _ e ∙ ap num h
+    spelled at (num l) s = number_spelled (integer_in l) at l s
     spelled at (text w) (start, e, h) = tree_where at _ e ∙ ap text h
     spelled at (list ts) (link, e, h, k) =
         let n = trees_count ts in

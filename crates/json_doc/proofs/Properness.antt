@@ -1,9 +1,10 @@
 -- Each tree of a document is proper.
-use Rattle.std.proofs.Common.{ℕ, zero, suc, ◌+◌, ◌<◌, List, [], ◌∷◌, ◌++◌, length, get_or, take, drop, refl, arith}
+use Rattle.std.proofs.Common.{ℕ, pos, zero, suc, ◌+◌, ◌<◌, List, [], ◌∷◌, ◌++◌, length, get_or, take, drop, refl, arith}
 use Rattle.std.specs.Str.{IsUtf8}
 use Rattle.std.proofs.lemmas.Str.{IsUtf8-nil, IsUtf8-between, IsUtf8-string_bytes}
 use Rattle.json_grammar.specs.Tree.{Tree, null, boolean, num, text, list, pairs, list_trees}
 use Rattle.json_grammar.specs.Proper.{IsProper, AreProper, ArePairsProper}
+use Rattle.json_number.proofs.Integers.{integer_number}
 use Rattle.json_doc.specs.Docs.{doc_cells, doc_text, doc_tree}
 use Rattle.json_doc.specs.Shape.{CellInPlace}
 use Rattle.json_doc.specs.Trees.{text_of, paired, tree_of_cell, grow, trees}
@@ -65,6 +66,8 @@ module _ (cells : List Cell) (bytes : List ℕ) (whole : IsUtf8 bytes) where
   cell_proper : (at : ℕ) (below : List Tree) (c : Cell) → CellInPlace cells bytes at c → AllProper below → IsProper (tree_of_cell bytes below c)
   cell_proper at below cell.Null h p = tt
   cell_proper at below (cell.Bool b) h p = tt
+  cell_proper at below (cell.Unsigned n) h p = integer_number (pos n) (h.valued (pos n) refl)
+  cell_proper at below (cell.Negative n) h p = integer_number n (h.valued n refl)
   cell_proper at below (cell.Raw start len) h p = number_had _ (h.numeric refl)
   cell_proper at below (cell.Str start len) h p = IsUtf8-between bytes start (start + len) whole (omega arith) h.begins h.ends
   cell_proper at below (cell.Array link len) h p = listed_proper _ (proper_take _ _ (proper_drop link below p))

@@ -1,10 +1,11 @@
 -- Rows of cells: one more at the end, and more cells and bytes behind.
-use Rattle.std.proofs.Common.{◌≡◌, ℕ, ◌*◌, List, [], ◌∷◌, ◌++◌, length, refl, sym, ap, subst, ◌∙◌, append_assoc, append-nil, arith}
+use Rattle.std.proofs.Common.{◌≡◌, ℕ, ℤ, Option, Some, None, ◌*◌, List, [], ◌∷◌, ◌++◌, length, refl, sym, ap, subst, ◌∙◌, append_assoc, append-nil, arith}
 use Rattle.std.specs.Str.{IsUtf8}
 use Rattle.std.proofs.lemmas.Str.{IsUtf8-append}
 use Rattle.json_grammar.specs.Tree.{Tree, null, boolean, num, text, list, pairs, Trees, no_trees, tree_and, Pairs, no_pairs, pair_and, Token, key_token, tokens, trees_tokens, pairs_tokens}
+use Rattle.json_number.specs.Integers.{integer_in}
 use Rattle.json_doc.specs.Texts.{trees_count, pairs_count}
-use Rattle.json_doc.specs.Block.{Stands, TextStands, text_cell, node, row, pair_row}
+use Rattle.json_doc.specs.Block.{Stands, TextStands, text_cell, number_cell, node, row, pair_row}
 use Rattle.json_doc.specs.declared.cell.Cell.{Cell}
 
 pub trees_push : Trees → Tree → Trees
@@ -67,12 +68,16 @@ text_stands_more bytes at s more u (h, v, w) = (stands_more bytes at s more h, v
 pub text_more : (bytes : List ℕ) (c : Cell) (s more : List ℕ) → IsUtf8 more → text_cell bytes c s → text_cell (bytes ++ more) c s
 text_more bytes c s more u (start, e, h) = (start, e, text_stands_more bytes start s more u h)
 
+number_more : (o : Option ℤ) (bytes : List ℕ) (c : Cell) (l more : List ℕ) → IsUtf8 more → number_cell o bytes c l → number_cell o (bytes ++ more) c l
+number_more (Some z) bytes c l more u h = h
+number_more None bytes c l more u (start, e, h) = (start, e, text_stands_more bytes start l more u h)
+
 module _ (cells more : List Cell) (bytes extra : List ℕ) (u : IsUtf8 extra) where
   mutual
     pub node_more : (c : Cell) (lo hi : ℕ) (t : Tree) → node cells bytes c lo hi t → node (cells ++ more) (bytes ++ extra) c lo hi t
     node_more c lo hi null h = h
     node_more c lo hi (boolean b) h = h
-    node_more c lo hi (num l) (n, (start, e, h), f) = (n, (start, e, text_stands_more bytes start l extra u h), f)
+    node_more c lo hi (num l) (n, h, f) = (n, number_more (integer_in l) bytes c l extra u h, f)
     node_more c lo hi (text s) (h, f) = (text_more bytes c s extra u h, f)
     node_more c lo hi (list ts) (mid, cs, e, s, f, h) = (mid, cs, e, stands_more cells mid cs more s, f, row_more cs lo mid ts h)
     node_more c lo hi (pairs ps) (mid, cs, e, s, f, h) = (mid, cs, e, stands_more cells mid cs more s, f, pair_row_more cs lo mid ps h)

@@ -1,7 +1,8 @@
 -- Each cell of a finished tree is in its place.
-use Rattle.std.proofs.Common.{◌≡◌, true, false, ℕ, zero, suc, ◌+◌, ◌*◌, ◌<◌, ◌≤◌, List, ◌∷◌, ◌++◌, length, Some, refl, sym, ap, subst, ◌∙◌, arith, length-append, append_assoc}
+use Rattle.std.proofs.Common.{◌≡◌, true, false, ℕ, ℤ, pos, negsuc, zero, suc, ◌+◌, ◌*◌, ◌<◌, ◌≤◌, List, ◌∷◌, ◌++◌, length, Option, Some, None, refl, sym, ap, subst, ◌∙◌, arith, length-append, append_assoc}
 use Rattle.std.specs.Prelude.{slice_get, slice_range, slice_index_or}
 use Rattle.std.specs.Str.{IsUtf8, IsCharBoundary}
+use Rattle.std.specs.Fmt.{signed_decimal}
 use Rattle.std.proofs.lemmas.Str.{IsCharBoundary-start, IsCharBoundary-at_seam, IsUtf8-append}
 use Rattle.std.proofs.lemmas.Grind.{merely}
 use Rattle.std.proofs.lemmas.Option.{get_or_from_slice_get}
@@ -9,8 +10,10 @@ use Rattle.std.proofs.lemmas.Bool.{cases_lt}
 use Rattle.std.proofs.Math.Logic.{⊎_elim}
 use Rattle.json_grammar.specs.Grammar.{number}
 use Rattle.json_grammar.specs.Tree.{Tree, null, boolean, num, text, list, pairs, Trees, no_trees, tree_and, Pairs, no_pairs, pair_and}
+use Rattle.json_number.specs.Integers.{integer_in}
+use Rattle.json_doc.specs.ByValue.{value_of_cell}
 use Rattle.json_doc.specs.Texts.{trees_count, pairs_count}
-use Rattle.json_doc.specs.Block.{Stands, TextStands, link_to, text_cell, node, row, pair_row}
+use Rattle.json_doc.specs.Block.{Stands, TextStands, link_to, text_cell, number_cell, node, row, pair_row}
 use Rattle.json_doc.specs.Shape.{start_of, span_of, link_of, width_of, keys_of, is_str, is_raw, CellInPlace}
 use Rattle.json_doc.specs.declared.cell.Cell.{Cell}
 use Rattle.json_doc.specs.declared.cell.Cell.TheVariants as cell
@@ -32,9 +35,19 @@ linked : (mid n i : ℕ) → i < n → link_to mid n ≡ mid
 linked mid zero i h = absurd (omega arith)
 linked mid (suc n) i h = refl
 
+-- an integer by value is the one that its decimal text stands for
+abbrev pub Valued : Cell → Type 0
+Valued c = (n : ℤ) → value_of_cell c ≡ Some n → integer_in (signed_decimal n) ≡ Some n
+
+no_value : (c : Cell) → value_of_cell c ≡ None → Valued c
+no_value c e n h = absurd (cc)
+
+one_value : (c : Cell) (l : List ℕ) (n : ℤ) → integer_in l ≡ Some n → l ≡ signed_decimal n → value_of_cell c ≡ Some n → Valued c
+one_value c l n e t is m h = let same : n ≡ m = cc in subst (λ (z : ℤ). integer_in (signed_decimal z) ≡ Some z) same (ap integer_in (sym t) ∙ e)
+
 module _ (cells : List Cell) (bytes : List ℕ) (whole : IsUtf8 bytes) where
-  plain : (at : ℕ) (c d : Cell) → c ≡ d → start_of d ≡ 0 → span_of d ≡ 0 → link_of d ≡ 0 → width_of d ≡ 0 → keys_of d ≡ 0 → is_raw d ≡ false → CellInPlace cells bytes at c
-  plain at c d e p q r s n other =
+  plain : (at : ℕ) (c d : Cell) → c ≡ d → start_of d ≡ 0 → span_of d ≡ 0 → link_of d ≡ 0 → width_of d ≡ 0 → keys_of d ≡ 0 → is_raw d ≡ false → Valued d → CellInPlace cells bytes at c
+  plain at c d e p q r s n other valued =
       let start = IsCharBoundary-start bytes whole in
       let both : 0 ≡ start_of d + span_of d = omega arith in
       subst (λ (x : Cell). CellInPlace cells bytes at x) (sym e)
@@ -44,11 +57,14 @@ module _ (cells : List Cell) (bytes : List ℕ) (whole : IsUtf8 bytes) where
         below = omega arith;
         keyed = λ i h. absurd (omega arith);
         numeric = λ h. absurd (cc);
+        raw = λ h. absurd (cc);
+        valued = valued;
       })
 
   texted : (at start len : ℕ) (c d : Cell) → c ≡ d → start_of d ≡ start → span_of d ≡ len → IsCharBoundary bytes start → IsCharBoundary bytes (start + len) → link_of d ≡ 0 → width_of d ≡ 0 → keys_of d ≡ 0
-      → (is_raw d ≡ true → ∥ number (slice_range bytes (start_of d) (start_of d + span_of d)) ∥₁) → CellInPlace cells bytes at c
-  texted at start len c d e p q a b r s n numeric =
+      → (is_raw d ≡ true → ∥ number (slice_range bytes (start_of d) (start_of d + span_of d)) ∥₁) → (is_raw d ≡ true → integer_in (slice_range bytes (start_of d) (start_of d + span_of d)) ≡ None) → value_of_cell d ≡ None
+      → CellInPlace cells bytes at c
+  texted at start len c d e p q a b r s n numeric raw none =
       let both : start + len ≡ start_of d + span_of d = omega arith in
       subst (λ (x : Cell). CellInPlace cells bytes at x) (sym e)
       (record {
@@ -57,10 +73,12 @@ module _ (cells : List Cell) (bytes : List ℕ) (whole : IsUtf8 bytes) where
         below = omega arith;
         keyed = λ i h. absurd (omega arith);
         numeric = numeric;
+        raw = raw;
+        valued = no_value d none;
       })
 
   pub text_in_place : (at : ℕ) (c : Cell) (s : List ℕ) → text_cell bytes c s → CellInPlace cells bytes at c
-  text_in_place at c s (start, e, h) = texted at start (length s) c (cell.Str start (length s)) e refl refl (text_begins bytes start s h) (text_ends bytes start s h) refl refl refl (λ h. absurd (cc))
+  text_in_place at c s (start, e, h) = texted at start (length s) c (cell.Str start (length s)) e refl refl (text_begins bytes start s h) (text_ends bytes start s h) refl refl refl (λ h. absurd (cc)) (λ h. absurd (cc)) refl
 
   key_there : (cs : List Cell) (lo hi at : ℕ) (ps : Pairs) → pair_row cells bytes cs lo hi ps → Stands cells at cs → (i : ℕ) → i < pairs_count ps → is_str (slice_index_or cells (at + 2 * i) cell.Null) ≡ true
   key_there cs lo hi at no_pairs r s i h = absurd (omega arith)
@@ -75,12 +93,18 @@ module _ (cells : List Cell) (bytes : List ℕ) (whole : IsUtf8 bytes) where
       let next : at + 2 * suc i ≡ (at + 2) + 2 * i = omega arith in
       rw next (key_there rest mid hi (at + 2) ps r s2 i (omega arith))
 
-  pub node_in_place : (c : Cell) (lo hi at : ℕ) (t : Tree) → node cells bytes c lo hi t → hi ≤ at → CellInPlace cells bytes at c
-  node_in_place c lo hi at null (e, f) h = plain at c cell.Null e refl refl refl refl refl refl
-  node_in_place c lo hi at (boolean b) (e, f) h = plain at c (cell.Bool b) e refl refl refl refl refl refl
-  node_in_place c lo hi at (num l) (is, (start, e, s), f) h =
+  number_in_place : (at : ℕ) (c : Cell) (l : List ℕ) (o : Option ℤ) → integer_in l ≡ o → number l → number_cell o bytes c l → CellInPlace cells bytes at c
+  number_in_place at c l (Some (pos n)) i is (e, t) = plain at c (cell.Unsigned n) e refl refl refl refl refl refl (one_value (cell.Unsigned n) l (pos n) i t refl)
+  number_in_place at c l (Some (negsuc n)) i is (e, t) = plain at c (cell.Negative (negsuc n)) e refl refl refl refl refl refl (one_value (cell.Negative (negsuc n)) l (negsuc n) i t refl)
+  number_in_place at c l None i is (start, e, s) =
+      let there = stands_range bytes start (length l) l refl s.0 in
       texted at start (length l) c (cell.Raw start (length l)) e refl refl (text_begins bytes start l s) (text_ends bytes start l s) refl refl refl
-      (λ h. merely (subst number (sym (stands_range bytes start (length l) l refl s.0)) is))
+      (λ h. merely (subst number (sym there) is)) (λ h. ap integer_in there ∙ i) refl
+
+  pub node_in_place : (c : Cell) (lo hi at : ℕ) (t : Tree) → node cells bytes c lo hi t → hi ≤ at → CellInPlace cells bytes at c
+  node_in_place c lo hi at null (e, f) h = plain at c cell.Null e refl refl refl refl refl refl (no_value cell.Null refl)
+  node_in_place c lo hi at (boolean b) (e, f) h = plain at c (cell.Bool b) e refl refl refl refl refl refl (no_value (cell.Bool b) refl)
+  node_in_place c lo hi at (num l) (is, k, f) h = number_in_place at c l (integer_in l) refl is k
   node_in_place c lo hi at (text s) (k, f) h = text_in_place at c s k
   node_in_place c lo hi at (list ts) (mid, cs, e, s, f, r) h =
       let start = IsCharBoundary-start bytes whole in
@@ -91,6 +115,8 @@ module _ (cells : List Cell) (bytes : List ℕ) (whole : IsUtf8 bytes) where
         below = omega (arith, link_le mid (trees_count ts));
         keyed = λ i q. absurd (omega arith);
         numeric = λ q. absurd (cc);
+        raw = λ q. absurd (cc);
+        valued = no_value (cell.Array (link_to mid (trees_count ts)) (trees_count ts)) refl;
       })
   node_in_place c lo hi at (pairs ps) (mid, cs, e, s, f, r) h =
       let start = IsCharBoundary-start bytes whole in
@@ -101,6 +127,8 @@ module _ (cells : List Cell) (bytes : List ℕ) (whole : IsUtf8 bytes) where
         below = omega (arith, link_le mid (pairs_count ps));
         keyed = λ i q. rw (linked mid (pairs_count ps) i q) (key_there cs lo mid mid ps r s i q);
         numeric = λ q. absurd (cc);
+        raw = λ q. absurd (cc);
+        valued = no_value (cell.Object (link_to mid (pairs_count ps)) (pairs_count ps)) refl;
       })
 
   -- the cell at a place

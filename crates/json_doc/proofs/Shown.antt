@@ -1,20 +1,24 @@
 -- What is read of a cell is read of the tree there.
-use Rattle.std.proofs.Common.{◌≡◌, ◌≢◌, Bool, true, ℕ, zero, suc, ◌+◌, ◌-◌, ◌*◌, ◌<◌, ◌≤◌, List, [], ◌∷◌, length, map, get_or, take, Some, None, refl, sym, ap, subst, ◌∙◌, arith}
+use Rattle.std.proofs.Common.{◌≡◌, ◌≢◌, Bool, true, ℕ, ℤ, pos, zero, suc, ◌+◌, ◌-◌, ◌*◌, ◌<◌, ◌≤◌, List, [], ◌∷◌, length, map, get_or, take, Some, None, refl, sym, ap, subst, ◌∙◌, arith}
 use Rattle.std.specs.Prelude.{option_map, slice_get, slice_range}
+use Rattle.std.specs.Fmt.{signed_decimal}
 use Rattle.std.proofs.lemmas.Option.{slice_get-get_or}
 use Rattle.json_grammar.specs.Grammar.{number}
 use Rattle.json_grammar.specs.Tree.{Tree, null, boolean, num, text, list, pairs, Trees, Pairs, pairs_list, trees_list, list_trees}
+use Rattle.json_number.specs.Integers.{integer_in}
+use Rattle.json_doc.specs.ByValue.{value_of_cell}
 use Rattle.json_doc.specs.Shape.{is_str, AllKeys, CellInPlace}
 use Rattle.json_doc.specs.Trees.{text_of, paired, tree_of_cell, trees}
 use Rattle.json_doc.specs.Docs.{doc_cells, doc_text, doc_tree}
 use Rattle.json_doc.specs.Left.{doc_pair}
 use Rattle.json_doc.specs.Places.{child_of, places_from, AllBelow}
-use Rattle.json_doc.specs.Readings.{type_of, bool_of, literal_of, string_of, elements, keys, values, children}
+use Rattle.json_doc.specs.Readings.{type_of, bool_of, integer_of, literal_unless, literal_of, string_of, elements, keys, values, children}
 use Rattle.json_doc.specs.CellReadings.{cell_type, cell_bool, cell_len}
 use Rattle.json_doc.specs.declared.cell.Cell.{Cell}
 use Rattle.json_doc.specs.declared.cell.Cell.TheVariants as cell
 use Rattle.json_doc.specs.declared.doc.Doc.{Doc}
 use Rattle.json_doc.proofs.Numeric.{number_had}
+use Rattle.json_doc.proofs.Shaping.{Valued}
 use Rattle.json_doc.proofs.Pieces.{length-trees, tree_where, range_below, range_cons, range_none}
 
 -- ---- lists
@@ -90,6 +94,8 @@ values_row ts link (suc n) =
 type_in : (bytes : List ℕ) (ts : List Tree) (c : Cell) → type_of (tree_of_cell bytes ts c) ≡ cell_type c
 type_in bytes ts cell.Null = refl
 type_in bytes ts (cell.Bool b) = refl
+type_in bytes ts (cell.Unsigned n) = refl
+type_in bytes ts (cell.Negative n) = refl
 type_in bytes ts (cell.Raw start len) = refl
 type_in bytes ts (cell.Str start len) = refl
 type_in bytes ts (cell.Array link len) = refl
@@ -98,22 +104,43 @@ type_in bytes ts (cell.Object link len) = refl
 bool_in : (bytes : List ℕ) (ts : List Tree) (c : Cell) → bool_of (tree_of_cell bytes ts c) ≡ cell_bool c
 bool_in bytes ts cell.Null = refl
 bool_in bytes ts (cell.Bool b) = refl
+bool_in bytes ts (cell.Unsigned n) = refl
+bool_in bytes ts (cell.Negative n) = refl
 bool_in bytes ts (cell.Raw start len) = refl
 bool_in bytes ts (cell.Str start len) = refl
 bool_in bytes ts (cell.Array link len) = refl
 bool_in bytes ts (cell.Object link len) = refl
 
-no_literal_in : (bytes : List ℕ) (ts : List Tree) (c : Cell) → ((start len : ℕ) → c ≢ cell.Raw start len) → literal_of (tree_of_cell bytes ts c) ≡ None
-no_literal_in bytes ts cell.Null h = refl
-no_literal_in bytes ts (cell.Bool b) h = refl
-no_literal_in bytes ts (cell.Raw start len) h = absurd (h start len refl)
-no_literal_in bytes ts (cell.Str start len) h = refl
-no_literal_in bytes ts (cell.Array link len) h = refl
-no_literal_in bytes ts (cell.Object link len) h = refl
+no_literal_in : (bytes : List ℕ) (ts : List Tree) (c : Cell) → Valued c → ((start len : ℕ) → c ≢ cell.Raw start len) → literal_of (tree_of_cell bytes ts c) ≡ None
+no_literal_in bytes ts cell.Null v h = refl
+no_literal_in bytes ts (cell.Bool b) v h = refl
+no_literal_in bytes ts (cell.Unsigned n) v h = ap (λ o. literal_unless o (signed_decimal (pos n))) (v (pos n) refl)
+no_literal_in bytes ts (cell.Negative n) v h = ap (λ o. literal_unless o (signed_decimal n)) (v n refl)
+no_literal_in bytes ts (cell.Raw start len) v h = absurd (h start len refl)
+no_literal_in bytes ts (cell.Str start len) v h = refl
+no_literal_in bytes ts (cell.Array link len) v h = refl
+no_literal_in bytes ts (cell.Object link len) v h = refl
+
+no_integer_in : (bytes : List ℕ) (ts : List Tree) (at : ℕ) (cells : List Cell) (c : Cell) → CellInPlace cells bytes at c → ((n : ℕ) → c ≢ cell.Unsigned n) → ((n : ℤ) → c ≢ cell.Negative n) → integer_of (tree_of_cell bytes ts c) ≡ None
+no_integer_in bytes ts at cells cell.Null p h k = refl
+no_integer_in bytes ts at cells (cell.Bool b) p h k = refl
+no_integer_in bytes ts at cells (cell.Unsigned n) p h k = absurd (h n refl)
+no_integer_in bytes ts at cells (cell.Negative n) p h k = absurd (k n refl)
+no_integer_in bytes ts at cells (cell.Raw start len) p h k = p.raw refl
+no_integer_in bytes ts at cells (cell.Str start len) p h k = refl
+no_integer_in bytes ts at cells (cell.Array link len) p h k = refl
+no_integer_in bytes ts at cells (cell.Object link len) p h k = refl
+
+value_in : (bytes : List ℕ) (ts : List Tree) (c : Cell) (n : ℤ) → value_of_cell c ≡ Some n → tree_of_cell bytes ts c ≡ num (signed_decimal n)
+value_in bytes ts (cell.Unsigned m) n e = let same : pos m ≡ n = cc in ap (λ z. num (signed_decimal z)) same
+value_in bytes ts (cell.Negative m) n e = let same : m ≡ n = cc in ap (λ z. num (signed_decimal z)) same
+value_in bytes ts _ n e = absurd (cc)
 
 no_string_in : (bytes : List ℕ) (ts : List Tree) (c : Cell) → ((start len : ℕ) → c ≢ cell.Str start len) → string_of (tree_of_cell bytes ts c) ≡ None
 no_string_in bytes ts cell.Null h = refl
 no_string_in bytes ts (cell.Bool b) h = refl
+no_string_in bytes ts (cell.Unsigned n) h = refl
+no_string_in bytes ts (cell.Negative n) h = refl
 no_string_in bytes ts (cell.Raw start len) h = refl
 no_string_in bytes ts (cell.Str start len) h = absurd (h start len refl)
 no_string_in bytes ts (cell.Array link len) h = refl
@@ -122,6 +149,8 @@ no_string_in bytes ts (cell.Object link len) h = refl
 string_in : (bytes : List ℕ) (ts : List Tree) (c : Cell) → is_str c ≡ true → string_of (tree_of_cell bytes ts c) ≡ Some (text_of (tree_of_cell bytes ts c))
 string_in bytes ts cell.Null h = absurd (cc)
 string_in bytes ts (cell.Bool b) h = absurd (cc)
+string_in bytes ts (cell.Unsigned n) h = absurd (cc)
+string_in bytes ts (cell.Negative n) h = absurd (cc)
 string_in bytes ts (cell.Raw start len) h = absurd (cc)
 string_in bytes ts (cell.Str start len) h = refl
 string_in bytes ts (cell.Array link len) h = absurd (cc)
@@ -130,6 +159,8 @@ string_in bytes ts (cell.Object link len) h = absurd (cc)
 text_in : (bytes : List ℕ) (ts : List Tree) (c : Cell) → is_str c ≡ true → tree_of_cell bytes ts c ≡ text (text_of (tree_of_cell bytes ts c))
 text_in bytes ts cell.Null h = absurd (cc)
 text_in bytes ts (cell.Bool b) h = absurd (cc)
+text_in bytes ts (cell.Unsigned n) h = absurd (cc)
+text_in bytes ts (cell.Negative n) h = absurd (cc)
 text_in bytes ts (cell.Raw start len) h = absurd (cc)
 text_in bytes ts (cell.Str start len) h = refl
 text_in bytes ts (cell.Array link len) h = absurd (cc)
@@ -138,6 +169,8 @@ text_in bytes ts (cell.Object link len) h = absurd (cc)
 no_elements_in : (bytes : List ℕ) (ts : List Tree) (c : Cell) → ((link len : ℕ) → c ≢ cell.Array link len) → elements (tree_of_cell bytes ts c) ≡ []
 no_elements_in bytes ts cell.Null h = refl
 no_elements_in bytes ts (cell.Bool b) h = refl
+no_elements_in bytes ts (cell.Unsigned n) h = refl
+no_elements_in bytes ts (cell.Negative n) h = refl
 no_elements_in bytes ts (cell.Raw start len) h = refl
 no_elements_in bytes ts (cell.Str start len) h = refl
 no_elements_in bytes ts (cell.Array link len) h = absurd (h link len refl)
@@ -146,6 +179,8 @@ no_elements_in bytes ts (cell.Object link len) h = refl
 no_pairs_in : (bytes : List ℕ) (ts : List Tree) (c : Cell) → ((link len : ℕ) → c ≢ cell.Object link len) → (keys (tree_of_cell bytes ts c) ≡ []) × (values (tree_of_cell bytes ts c) ≡ [])
 no_pairs_in bytes ts cell.Null h = (refl, refl)
 no_pairs_in bytes ts (cell.Bool b) h = (refl, refl)
+no_pairs_in bytes ts (cell.Unsigned n) h = (refl, refl)
+no_pairs_in bytes ts (cell.Negative n) h = (refl, refl)
 no_pairs_in bytes ts (cell.Raw start len) h = (refl, refl)
 no_pairs_in bytes ts (cell.Str start len) h = (refl, refl)
 no_pairs_in bytes ts (cell.Array link len) h = (refl, refl)
@@ -154,6 +189,8 @@ no_pairs_in bytes ts (cell.Object link len) h = absurd (h link len refl)
 no_children_in : (bytes : List ℕ) (ts : List Tree) (c : Cell) → ((link len : ℕ) → c ≢ cell.Array link len) → ((link len : ℕ) → c ≢ cell.Object link len) → children (tree_of_cell bytes ts c) ≡ []
 no_children_in bytes ts cell.Null h k = refl
 no_children_in bytes ts (cell.Bool b) h k = refl
+no_children_in bytes ts (cell.Unsigned n) h k = refl
+no_children_in bytes ts (cell.Negative n) h k = refl
 no_children_in bytes ts (cell.Raw start len) h k = refl
 no_children_in bytes ts (cell.Str start len) h k = refl
 no_children_in bytes ts (cell.Array link len) h k = absurd (h link len refl)
@@ -178,8 +215,11 @@ module _ (d : Doc) (at : ℕ) (c : Cell) (inside : at < length (doc_cells d)) (i
   pub bool_at : bool_of (doc_tree d at) ≡ cell_bool c
   bool_at = ap bool_of here ∙ bool_in (doc_text d) below c
 
+  pub raw_at : (start len : ℕ) → c ≡ cell.Raw start len → integer_in (slice_range (doc_text d) start (start + len)) ≡ None
+  raw_at start len e = (subst (λ (x : Cell). CellInPlace (doc_cells d) (doc_text d) at x) e in_place_here).raw refl
+
   pub literal_at : (start len : ℕ) → c ≡ cell.Raw start len → literal_of (doc_tree d at) ≡ Some (slice_range (doc_text d) start (start + len))
-  literal_at start len e = ap literal_of (here ∙ ap (tree_of_cell (doc_text d) below) e)
+  literal_at start len e = ap literal_of (here ∙ ap (tree_of_cell (doc_text d) below) e) ∙ ap (λ o. literal_unless o (slice_range (doc_text d) start (start + len))) (raw_at start len e)
 
   pub number_at : (start len : ℕ) → c ≡ cell.Raw start len → number (slice_range (doc_text d) start (start + len))
   number_at start len e =
@@ -187,7 +227,17 @@ module _ (d : Doc) (at : ℕ) (c : Cell) (inside : at < length (doc_cells d)) (i
       number_had (slice_range (doc_text d) start (start + len)) (there.numeric refl)
 
   pub no_literal_at : ((start len : ℕ) → c ≢ cell.Raw start len) → literal_of (doc_tree d at) ≡ None
-  no_literal_at h = ap literal_of here ∙ no_literal_in (doc_text d) below c h
+  no_literal_at h = ap literal_of here ∙ no_literal_in (doc_text d) below c in_place_here.valued h
+
+  -- the tree of an integer by value
+  pub integer_tree_at : (n : ℤ) → value_of_cell c ≡ Some n → doc_tree d at ≡ num (signed_decimal n)
+  integer_tree_at n e = here ∙ value_in (doc_text d) below c n e
+
+  pub integer_at : (n : ℤ) → value_of_cell c ≡ Some n → integer_of (doc_tree d at) ≡ Some n
+  integer_at n e = ap integer_of (integer_tree_at n e) ∙ in_place_here.valued n e
+
+  pub no_integer_at : ((n : ℕ) → c ≢ cell.Unsigned n) → ((n : ℤ) → c ≢ cell.Negative n) → integer_of (doc_tree d at) ≡ None
+  no_integer_at h k = ap integer_of here ∙ no_integer_in (doc_text d) below at (doc_cells d) c in_place_here h k
 
   pub string_at : (start len : ℕ) → c ≡ cell.Str start len → string_of (doc_tree d at) ≡ Some (slice_range (doc_text d) start (start + len))
   string_at start len e = ap string_of (here ∙ ap (tree_of_cell (doc_text d) below) e)
@@ -324,6 +374,8 @@ count_at d at c inside is = by_case c refl
     by_case : (x : Cell) → c ≡ x → length (children (doc_tree d at)) ≡ cell_len x
     by_case cell.Null e = ap length (no_children_at d at c inside is (λ link len f. absurd (cc)) (λ link len f. absurd (cc)))
     by_case (cell.Bool b) e = ap length (no_children_at d at c inside is (λ link len f. absurd (cc)) (λ link len f. absurd (cc)))
+    by_case (cell.Unsigned m) e = ap length (no_children_at d at c inside is (λ link len f. absurd (cc)) (λ link len f. absurd (cc)))
+    by_case (cell.Negative m) e = ap length (no_children_at d at c inside is (λ link len f. absurd (cc)) (λ link len f. absurd (cc)))
     by_case (cell.Raw start n) e = ap length (no_children_at d at c inside is (λ link len f. absurd (cc)) (λ link len f. absurd (cc)))
     by_case (cell.Str start n) e = ap length (no_children_at d at c inside is (λ link len f. absurd (cc)) (λ link len f. absurd (cc)))
     by_case (cell.Array link n) e = ap length (array_children_at d at c inside is link n e) ∙ length-of_places (doc_tree d) link 1 n

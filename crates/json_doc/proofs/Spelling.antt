@@ -1,10 +1,11 @@
 -- A finished cell spells its tree, at each place behind all that stands below it.
-use Rattle.std.proofs.Common.{◌≡◌, ℕ, zero, suc, ◌+◌, ◌-◌, ◌≤◌, List, [], ◌∷◌, ◌++◌, length, drop, Some, refl, sym, ap, subst, ◌∙◌, arith, append_assoc}
+use Rattle.std.proofs.Common.{◌≡◌, ℕ, ℤ, zero, suc, ◌+◌, ◌-◌, ◌≤◌, List, [], ◌∷◌, ◌++◌, length, drop, Option, Some, None, refl, sym, ap, subst, ◌∙◌, arith, append_assoc}
 use Rattle.std.specs.Prelude.{slice_get, slice_range}
 use Rattle.std.proofs.lemmas.List.{drop_at, take_at, length_push}
 use Rattle.json_grammar.specs.Tree.{Tree, null, boolean, num, text, list, pairs, Trees, no_trees, tree_and, Pairs, no_pairs, pair_and}
-use Rattle.json_doc.specs.Block.{Stands, text_cell, node, row, pair_row}
-use Rattle.json_doc.specs.Spells.{spells_text, spells, spells_trees, spells_pairs}
+use Rattle.json_number.specs.Integers.{integer_in}
+use Rattle.json_doc.specs.Block.{Stands, text_cell, number_cell, node, row, pair_row}
+use Rattle.json_doc.specs.Spells.{spells_text, spells_number, spells, spells_trees, spells_pairs}
 use Rattle.json_doc.specs.declared.cell.Cell.{Cell}
 
 pub get_behind : {X : Type 0} (a : List X) (x : X) (b : List X) (n : ℕ) → length a ≡ n → slice_get (a ++ x ∷ b) n ≡ Some x
@@ -33,11 +34,15 @@ stands_range xs at n ys e s =
 pub text_spells : (cells : List Cell) (bytes : List ℕ) (c : Cell) (at : ℕ) (s : List ℕ) → text_cell bytes c s → slice_get cells at ≡ Some c → spells_text cells bytes at s
 text_spells cells bytes c at s (start, e, h) g = (start, g ∙ ap Some e, stands_range bytes start (length s) s refl h.0)
 
+number_spells : (o : Option ℤ) (cells : List Cell) (bytes : List ℕ) (c : Cell) (at : ℕ) (l : List ℕ) → number_cell o bytes c l → slice_get cells at ≡ Some c → spells_number o cells bytes at l
+number_spells (Some n) cells bytes c at l (e, t) g = (g ∙ ap Some e, t)
+number_spells None cells bytes c at l (start, e, s) g = (start, g ∙ ap Some e, stands_range bytes start (length l) l refl s.0)
+
 mutual
   pub node_spells : (cells : List Cell) (bytes : List ℕ) (c : Cell) (lo hi at : ℕ) (t : Tree) → node cells bytes c lo hi t → slice_get cells at ≡ Some c → hi ≤ at → spells cells bytes at t
   node_spells cells bytes c lo hi at null (e, f) g h = g ∙ ap Some e
   node_spells cells bytes c lo hi at (boolean b) (e, f) g h = g ∙ ap Some e
-  node_spells cells bytes c lo hi at (num l) (n, (start, e, s), f) g h = (start, g ∙ ap Some e, stands_range bytes start (length l) l refl s.0)
+  node_spells cells bytes c lo hi at (num l) (n, k, f) g h = number_spells (integer_in l) cells bytes c at l k g
   node_spells cells bytes c lo hi at (text s) (k, f) g h = text_spells cells bytes c at s k g
   node_spells cells bytes c lo hi at (list ts) (mid, cs, e, s, f, r) g h = (mid, g ∙ ap Some e, omega arith, row_spells cells bytes cs lo mid mid ts r s (omega arith))
   node_spells cells bytes c lo hi at (pairs ps) (mid, cs, e, s, f, r) g h = (mid, g ∙ ap Some e, omega arith, pair_row_spells cells bytes cs lo mid mid ps r s (omega arith))

@@ -9,6 +9,8 @@ use Rattle.json_doc.specs.declared.json_type.JsonType.TheVariants as kind
 abbrev pub cell_type : Cell → JsonType
 cell_type cell.Null = kind.Null
 cell_type (cell.Bool b) = kind.Boolean
+cell_type (cell.Unsigned n) = kind.Number
+cell_type (cell.Negative n) = kind.Number
 cell_type (cell.Raw start len) = kind.Number
 cell_type (cell.Str start len) = kind.String
 cell_type (cell.Array link len) = kind.Array

@@ -1,4 +1,5 @@
 pub mod Awaited
+pub mod ByValue
 pub mod Texts
 pub mod Block
 pub mod Building

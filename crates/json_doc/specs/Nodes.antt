@@ -1,7 +1,9 @@
 -- What a node says of the place where it stands.
-use Rattle.std.specs.Prelude.{◌≡◌, ℕ, ◌<◌, length, slice_get, Some, ⊤}
+use Rattle.std.specs.Prelude.{◌≡◌, ℕ, ◌<◌, length, slice_get, Some, None, ⊤}
 use Rattle.json_grammar.specs.Tree.{Tree, null, boolean, num, text, list, pairs, Trees, Pairs, trees_list, pairs_list}
 use Rattle.json_grammar.specs.Grammar.{number}
+use Rattle.json_number.specs.Integers.{integer_in}
+use Rattle.json_number.specs.Numbers.{text_of_number}
 use Rattle.json_doc.specs.declared.doc.Doc.{Doc}
 use Rattle.json_doc.specs.Seen.{child_place}
 use Rattle.json_doc.specs.Left.{children_doc, children_places, children_left, pairs_doc, pairs_places, pairs_left}
@@ -12,14 +14,15 @@ use Rattle.json_doc.specs.declared.node.DocNode.TheVariants as node
 abbrev pub NodeOf : DocNode → Tree → Type 0
 NodeOf node.Null t = t ≡ null
 NodeOf (node.Boolean b) t = t ≡ boolean b
-NodeOf (node.Number l) t = t ≡ num l.now
+NodeOf (node.Number n) t = t ≡ num (text_of_number n)
+NodeOf (node.Raw l) t = t ≡ num l.now
 NodeOf (node.String s) t = t ≡ text s.now
 NodeOf (node.Array c) t = (ts : Trees) × (t ≡ list ts) × (children_left c ≡ trees_list ts)
 NodeOf (node.Object p) t = (ps : Pairs) × (t ≡ pairs ps) × (pairs_left p ≡ pairs_list ps)
 
--- where it is of a number, its literal is a number (RFC 8259, section 6)
+-- where it has a literal, that is a number (RFC 8259, section 6) and no integer by value
 abbrev pub NodeIsNumber : DocNode → Type 0
-NodeIsNumber (node.Number l) = number l.now
+NodeIsNumber (node.Raw l) = number l.now × (integer_in l.now ≡ None)
 NodeIsNumber _ = ⊤
 
 -- what it goes over is of a document

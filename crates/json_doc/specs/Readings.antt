@@ -1,6 +1,7 @@
 -- What can be read of a tree at once.
-use Rattle.std.specs.Prelude.{ℕ, List, [], map, Bool, Option, Some, None}
+use Rattle.std.specs.Prelude.{ℕ, ℤ, List, [], map, Bool, Option, Some, None}
 use Rattle.json_grammar.specs.Tree.{Tree, null, boolean, num, text, list, pairs, trees_list, pairs_list}
+use Rattle.json_number.specs.Integers.{integer_in}
 use Rattle.json_doc.specs.declared.json_type.JsonType.{JsonType}
 use Rattle.json_doc.specs.declared.json_type.JsonType.TheVariants as kind
 
@@ -18,9 +19,19 @@ abbrev pub bool_of : Tree → Option Bool
 bool_of (boolean b) = Some b
 bool_of _ = None
 
--- the literal of the number
+-- the integer by value of the number
+abbrev pub integer_of : Tree → Option ℤ
+integer_of (num l) = integer_in l
+integer_of _ = None
+
+-- the literal, where there is no integer by value
+abbrev pub literal_unless : Option ℤ → List ℕ → Option (List ℕ)
+literal_unless (Some n) l = None
+literal_unless None l = Some l
+
+-- the literal of the number that is no integer by value
 abbrev pub literal_of : Tree → Option (List ℕ)
-literal_of (num l) = Some l
+literal_of (num l) = literal_unless (integer_in l) l
 literal_of _ = None
 
 -- the text of the string

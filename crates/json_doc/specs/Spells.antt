@@ -1,7 +1,10 @@
 -- When a packed document stands for a tree.
-use Rattle.std.specs.Prelude.{◌≡◌, ◌≢◌, ℕ, ◌+◌, ◌*◌, ◌≤◌, List, [], ◌∷◌, ◌++◌, length, Some, slice_get, slice_range, slice_index_or}
+use Rattle.std.specs.Prelude.{◌≡◌, ◌≢◌, ℕ, ℤ, Option, None, ◌+◌, ◌*◌, ◌≤◌, List, [], ◌∷◌, ◌++◌, length, Some, slice_get, slice_range, slice_index_or}
+use Rattle.std.specs.Fmt.{signed_decimal}
 use Rattle.json_grammar.specs.Tree.{Tree, null, boolean, num, text, list, pairs, Trees, no_trees, tree_and, Pairs, no_pairs, pair_and, tokens}
 use Rattle.json_grammar.specs.Sizes.{nodes}
+use Rattle.json_number.specs.Integers.{integer_in}
+use Rattle.json_doc.specs.ByValue.{integer_cell}
 use Rattle.json_doc.specs.Texts.{trees_count, pairs_count, tokens_text}
 use Rattle.json_doc.specs.Block.{link_to}
 use Rattle.json_doc.specs.Shape.{link_of}
@@ -16,12 +19,17 @@ spells_text cells bytes at s = (start : ℕ) × (slice_get cells at ≡ Some (ce
 abbrev pub spells_literal : List Cell → List ℕ → ℕ → List ℕ → Type 0
 spells_literal cells bytes at l = (start : ℕ) × (slice_get cells at ≡ Some (cell.Raw start (length l))) × (slice_range bytes start (start + length l) ≡ l)
 
+-- the cell at a place is the integer, whose decimal text the literal is, or where there is none it names the bytes of the literal
+abbrev pub spells_number : Option ℤ → List Cell → List ℕ → ℕ → List ℕ → Type 0
+spells_number (Some n) cells bytes at l = (slice_get cells at ≡ Some (integer_cell n)) × (l ≡ signed_decimal n)
+spells_number None cells bytes at l = spells_literal cells bytes at l
+
 -- the cell at a place stands for a tree; the children of a container stand in a row, at places below its own
 abbrev mutual
   pub spells : List Cell → List ℕ → ℕ → Tree → Type 0
   spells cells bytes at null = slice_get cells at ≡ Some cell.Null
   spells cells bytes at (boolean b) = slice_get cells at ≡ Some (cell.Bool b)
-  spells cells bytes at (num l) = spells_literal cells bytes at l
+  spells cells bytes at (num l) = spells_number (integer_in l) cells bytes at l
   spells cells bytes at (text s) = spells_text cells bytes at s
   spells cells bytes at (list ts) = (link : ℕ) × (slice_get cells at ≡ Some (cell.Array (link_to link (trees_count ts)) (trees_count ts))) × (link + trees_count ts ≤ at) × spells_trees cells bytes link ts
   spells cells bytes at (pairs ps) = (link : ℕ) × (slice_get cells at ≡ Some (cell.Object (link_to link (pairs_count ps)) (pairs_count ps))) × (link + 2 * pairs_count ps ≤ at) × spells_pairs cells bytes link ps

@@ -1,5 +1,6 @@
 -- The tree at each place of a document in blocks, from the first cell to the last.
-use Rattle.std.specs.Prelude.{ℕ, ◌+◌, ◌*◌, List, [], ◌∷◌, ◌++◌, slice_range, slice_index_or}
+use Rattle.std.specs.Prelude.{ℕ, pos, ◌+◌, ◌*◌, List, [], ◌∷◌, ◌++◌, slice_range, slice_index_or}
+use Rattle.std.specs.Fmt.{signed_decimal}
 use Rattle.json_grammar.specs.Tree.{Tree, null, boolean, num, text, list, pairs, Pairs, no_pairs, pair_and, list_trees}
 use Rattle.json_doc.specs.declared.cell.Cell.{Cell}
 use Rattle.json_doc.specs.declared.cell.Cell.TheVariants as cell
@@ -19,6 +20,8 @@ paired (k ∷ t ∷ ts) = pair_and (text_of k) t (paired ts)
 abbrev pub tree_of_cell : List ℕ → List Tree → Cell → Tree
 tree_of_cell bytes below cell.Null = null
 tree_of_cell bytes below (cell.Bool b) = boolean b
+tree_of_cell bytes below (cell.Unsigned n) = num (signed_decimal (pos n))
+tree_of_cell bytes below (cell.Negative n) = num (signed_decimal n)
 tree_of_cell bytes below (cell.Raw start len) = num (slice_range bytes start (start + len))
 tree_of_cell bytes below (cell.Str start len) = text (slice_range bytes start (start + len))
 tree_of_cell bytes below (cell.Array link len) = list (list_trees (slice_range below link (link + len)))

@@ -4,6 +4,7 @@ use crate::json_type::JsonType;
 
 /// One node of a document, or a key of an object.
 ///
+/// An integer of `u64` or `i64` stands by value (RFC 8259, section 6), every other number as its literal.
 /// A literal and a text name bytes of the document's text, by their start and their length. The length of
 /// a container counts its elements or pairs, and its link is the place of the first, or 0 where there is
 /// none. The children of a container stand in a row, those of an object a key and its value in turn; how
@@ -12,7 +13,11 @@ use crate::json_type::JsonType;
 pub enum Cell {
     Null,
     Bool(bool),
-    /// The literal of a number.
+    /// An integer from 0 on.
+    Unsigned(u64),
+    /// An integer below 0.
+    Negative(i64),
+    /// The literal of a number that is no such integer.
     Raw { start: u32, len: u32 },
     /// A string, or a key.
     Str { start: u32, len: u32 },
@@ -31,7 +36,7 @@ impl Cell {
         match self {
             Cell::Null => JsonType::Null,
             Cell::Bool(_) => JsonType::Boolean,
-            Cell::Raw { .. } => JsonType::Number,
+            Cell::Unsigned(_) | Cell::Negative(_) | Cell::Raw { .. } => JsonType::Number,
             Cell::Str { .. } => JsonType::String,
             Cell::Array { .. } => JsonType::Array,
             Cell::Object { .. } => JsonType::Object,

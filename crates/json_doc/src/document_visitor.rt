@@ -291,6 +291,24 @@ impl JsonVisitor for DocumentVisitor {
     }
 
     #[inline(always)]
+    fn visit_u64(&mut self, n: u64) -> bool {
+        if !self.admit(1, 0) {
+            return false;
+        }
+        self.push(Cell::Unsigned(n));
+        true
+    }
+
+    #[inline(always)]
+    fn visit_i64(&mut self, n: i64) -> bool {
+        if !self.admit(1, 0) {
+            return false;
+        }
+        self.push(Cell::Negative(n));
+        true
+    }
+
+    #[inline(always)]
     fn visit_raw_number(&mut self, literal: &str) -> bool {
         if !self.admit(1, literal.len()) {
             return false;

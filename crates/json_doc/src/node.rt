@@ -2,14 +2,17 @@
 
 use crate::children::DocChildren;
 use crate::pairs::DocPairs;
+use json_number::Number;
 
 /// A value of a document, by its kind (RFC 8259, section 3). Nothing of it takes memory.
 #[derive(Drop)]
 pub enum DocNode<'a> {
     Null,
     Boolean(bool),
-    /// The literal of a number.
-    Number(&'a str),
+    /// An integer of `u64` or `i64`.
+    Number(Number),
+    /// The literal of a number that is no such integer.
+    Raw(&'a str),
     /// The text of a string.
     String(&'a str),
     /// The elements of an array.

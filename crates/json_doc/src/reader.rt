@@ -1,7 +1,7 @@
 // Reads a text into a document.
 ghost use Rattle.std.specs.Prelude.{◌≡◌, ◌+◌, ◌≤◌, ◌<◌, ◌^◌, List, ℕ, [], ◌∷◌, ◌++◌, length, false, IfOk, IfErr};
-ghost use Rattle.json_grammar.specs.Tree.{Tree, Token, depth};
-ghost use Rattle.json_grammar.specs.Grammar.{is_text};
+ghost use Rattle.json_grammar.specs.Tree.{Tree, Token, num_token, depth};
+ghost use Rattle.json_grammar.specs.Grammar.{is_text, number};
 ghost use Rattle.json_text.specs.Events.{Means, raw_size};
 ghost use Rattle.json_doc.specs.Awaited.{Begins};
 ghost use Rattle.json_doc.specs.State.{MayCome};
@@ -12,9 +12,32 @@ ghost use Rattle.json_doc.specs.Docs.{IsDocOf};
 use crate::doc::Doc;
 use crate::document_visitor::DocumentVisitor;
 use crate::visitor::JsonVisitor;
+use json_number::{JsonNumberTrait, integer_of};
 use json_text::{Event, Parser, Result};
 use std::alloc::Global;
 use std::rc::Rc;
+
+// Whether the number was recorded: an integer by value, every other by its literal.
+#[inline(always)]
+fn record_number(visitor: &mut DocumentVisitor, literal: &str) -> bool
+    requires number { number literal.now }
+    requires come { (visitor_state visitor.old).full ≡ false
+        → MayCome (Holds visitor.old) (num_token literal.now) }
+    ensures follows { (ts : List Token) → Follows visitor.old ts → Begins (ts ++ num_token literal.now ∷ [])
+        → HasRoomFor visitor.old (length literal.now) → Follows visitor.new (ts ++ num_token literal.now ∷ []) }
+    ensures room { SameRoom visitor.old visitor.new }
+{
+    match integer_of(literal) {
+        Some(number) => match number.as_u64() {
+            Some(n) => visitor.visit_u64(n),
+            None => match number.as_i64() {
+                Some(n) => visitor.visit_i64(n),
+                None => unreachable!(),
+            },
+        },
+        None => visitor.visit_raw_number(literal),
+    }
+}
 
 // Whether the event was recorded. There is nothing to record of the end.
 #[inline(always)]
@@ -30,7 +53,7 @@ fn record_event(visitor: &mut DocumentVisitor, event: Event<'_>) -> bool
     match event {
         Event::Null => visitor.visit_null(),
         Event::Bool(b) => visitor.visit_bool(b),
-        Event::Number(literal) => visitor.visit_raw_number(literal),
+        Event::Number(literal) => record_number(visitor, literal),
         Event::Str(s) => visitor.visit_str(s),
         Event::Key(s) => visitor.visit_key(s),
         Event::BeginArray => visitor.visit_array_start(),

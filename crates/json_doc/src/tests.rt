@@ -1,5 +1,6 @@
 // What documents hold, and what views show of them.
 use crate::{Cell, Doc, DocNode, DocumentVisitor, JsonType, JsonVisitor, read_document};
+use json_number::Number;
 use json_text::{Error, ErrorCode, Place};
 use std::alloc::Global;
 use std::process::Abort;
@@ -23,32 +24,32 @@ fn cells_and_text(rt: HostRuntime) -> Result<(), Fail> {
         (
             "[[1],[\"x\"],2]",
             [
-                Cell::Raw { start: 0, len: 1 },
-                Cell::Str { start: 1, len: 1 },
+                Cell::Unsigned(1),
+                Cell::Str { start: 0, len: 1 },
                 Cell::Array { link: 0, len: 1 },
                 Cell::Array { link: 1, len: 1 },
-                Cell::Raw { start: 2, len: 1 },
+                Cell::Unsigned(2),
                 Cell::Array { link: 2, len: 3 },
             ]
             .as_slice(),
-            "1x2",
+            "x",
         ),
         (
             "{\"a\":[12,[null]],\"b\":{},\"a\":true}",
             [
                 Cell::Null,
-                Cell::Raw { start: 1, len: 2 },
+                Cell::Unsigned(12),
                 Cell::Array { link: 0, len: 1 },
                 Cell::Str { start: 0, len: 1 },
                 Cell::Array { link: 1, len: 2 },
-                Cell::Str { start: 3, len: 1 },
+                Cell::Str { start: 1, len: 1 },
                 Cell::Object { link: 0, len: 0 },
-                Cell::Str { start: 4, len: 1 },
+                Cell::Str { start: 2, len: 1 },
                 Cell::Bool(true),
                 Cell::Object { link: 3, len: 3 },
             ]
             .as_slice(),
-            "a12ba",
+            "aba",
         ),
     ];
     for (json, cells, text) in cases {
@@ -57,6 +58,28 @@ fn cells_and_text(rt: HostRuntime) -> Result<(), Fail> {
         assert!(rt; doc.text() == text, "{json}");
         assert!(rt; doc.root() as usize + 1 == cells.len(), "{json}");
     }
+    Ok(())
+}
+
+#[test]
+fn integers_by_value(rt: HostRuntime) -> Result<(), Fail> {
+    let json =
+        "[-0,1.0,18446744073709551615,-9223372036854775808,-9223372036854775809,18446744073709551616]";
+    let doc = read(&rt, rt.alloc(), json)?;
+    assert!(rt;
+        doc.cells()
+            == [
+                Cell::Raw { start: 0, len: 2 },
+                Cell::Raw { start: 2, len: 3 },
+                Cell::Unsigned(u64::MAX),
+                Cell::Negative(i64::MIN),
+                Cell::Raw { start: 5, len: 20 },
+                Cell::Raw { start: 25, len: 20 },
+                Cell::Array { link: 0, len: 6 },
+            ]
+            .as_slice()
+    );
+    assert!(rt; doc.text() == "-01.0-922337203685477580918446744073709551616");
     Ok(())
 }
 
@@ -104,8 +127,8 @@ fn views(rt: HostRuntime) -> Result<(), Fail> {
     assert!(rt; list.get_type() == JsonType::Array && list.len() == 2 && list.key(0).is_none());
     let number = list.element(0).ok_or("no element")?;
     assert_eq!(rt;
-        (number.literal(), number.text(), number.len()),
-        (Some("12"), None, 0)
+        (number.as_number(), number.literal(), number.text()),
+        (Some(Number::from(12_u64)), None, None)
     );
     let last = root.pair_value(2).ok_or("no value")?;
     assert_eq!(rt;
@@ -142,14 +165,15 @@ fn key_views(rt: HostRuntime) -> Result<(), Fail> {
 }
 
 // The kind of a node, and what it holds where it is a scalar.
-fn scalar<'a>(node: DocNode<'a>) -> (JsonType, Option<bool>, Option<&'a str>) {
+fn scalar<'a>(node: DocNode<'a>) -> (JsonType, Option<bool>, Option<Number>, Option<&'a str>) {
     match node {
-        DocNode::Null => (JsonType::Null, None, None),
-        DocNode::Boolean(b) => (JsonType::Boolean, Some(b), None),
-        DocNode::Number(literal) => (JsonType::Number, None, Some(literal)),
-        DocNode::String(text) => (JsonType::String, None, Some(text)),
-        DocNode::Array(_) => (JsonType::Array, None, None),
-        DocNode::Object(_) => (JsonType::Object, None, None),
+        DocNode::Null => (JsonType::Null, None, None, None),
+        DocNode::Boolean(b) => (JsonType::Boolean, Some(b), None, None),
+        DocNode::Number(number) => (JsonType::Number, None, Some(number), None),
+        DocNode::Raw(literal) => (JsonType::Number, None, None, Some(literal)),
+        DocNode::String(text) => (JsonType::String, None, None, Some(text)),
+        DocNode::Array(_) => (JsonType::Array, None, None, None),
+        DocNode::Object(_) => (JsonType::Object, None, None, None),
     }
 }
 
@@ -158,7 +182,7 @@ fn nodes(rt: HostRuntime) -> Result<(), Fail> {
     let doc = read(
         &rt,
         rt.alloc(),
-        "{\"n\":null,\"b\":true,\"1\":12,\"s\":\"x\",\"l\":[7,[]],\"o\":{}}",
+        "{\"n\":null,\"b\":true,\"1\":12,\"e\":1e2,\"s\":\"x\",\"l\":[7,[]],\"o\":{}}",
     )?;
     let DocNode::Object(pairs) = doc.view().node() else {
         return Err("no object".into());
@@ -169,16 +193,20 @@ fn nodes(rt: HostRuntime) -> Result<(), Fail> {
         keys.push(key)?;
         scalars.push(scalar(value.node()))?;
     }
-    assert_eq!(rt; keys.as_slice(), ["n", "b", "1", "s", "l", "o"].as_slice());
+    assert_eq!(rt;
+        keys.as_slice(),
+        ["n", "b", "1", "e", "s", "l", "o"].as_slice()
+    );
     assert_eq!(rt;
         scalars.as_slice(),
         [
-            (JsonType::Null, None, None),
-            (JsonType::Boolean, Some(true), None),
-            (JsonType::Number, None, Some("12")),
-            (JsonType::String, None, Some("x")),
-            (JsonType::Array, None, None),
-            (JsonType::Object, None, None),
+            (JsonType::Null, None, None, None),
+            (JsonType::Boolean, Some(true), None, None),
+            (JsonType::Number, None, Some(Number::from(12_u64)), None),
+            (JsonType::Number, None, None, Some("1e2")),
+            (JsonType::String, None, None, Some("x")),
+            (JsonType::Array, None, None, None),
+            (JsonType::Object, None, None, None),
         ]
         .as_slice()
     );

@@ -4,7 +4,7 @@ ghost use Rattle.std.specs.Str.{IsCharBoundary};
 ghost use Rattle.json_doc.specs.Docs.{doc_cells, doc_text, doc_tree};
 ghost use Rattle.json_doc.specs.Shape.{is_str};
 ghost use Rattle.json_doc.specs.Trees.{text_of};
-ghost use Rattle.json_doc.specs.Readings.{type_of, bool_of, literal_of, string_of, elements, keys, values, children};
+ghost use Rattle.json_doc.specs.Readings.{type_of, bool_of, integer_of, literal_of, string_of, elements, keys, values, children};
 ghost use Rattle.json_doc.specs.declared.cell.Cell.TheVariants.{Null as null_cell};
 
 use crate::cell::Cell;
@@ -13,6 +13,7 @@ use crate::doc::Doc;
 use crate::json_type::JsonType;
 use crate::node::DocNode;
 use crate::pairs::DocPairs;
+use json_number::Number;
 
 /// A place of a document, which stands for the tree there. Nothing of a view takes memory.
 #[derive(Clone, Copy)]
@@ -25,8 +26,10 @@ pub struct DocView<'a> {
 impl<'a> DocView<'a> {
     ghost use Rattle.json_grammar.specs.Tree.{text};
     ghost use Rattle.json_grammar.specs.Grammar.{number};
+    ghost use Rattle.json_number.specs.Integers.{integer_in};
+    ghost use Rattle.json_number.specs.Numbers.{value_of};
     ghost use Rattle.json_doc.specs.Seen.{view_doc, view_place, view_tree, child_place, key_place};
-    ghost use Rattle.std.specs.Prelude.{ℕ, Some};
+    ghost use Rattle.std.specs.Prelude.{ℕ, Some, None};
     ghost use Rattle.json_doc.specs.Left.{children_doc, children_places, children_left};
     ghost use Rattle.json_doc.specs.Nodes.{NodeOf, NodeIsNumber, NodeIn, NodeAt};
 
@@ -71,11 +74,25 @@ impl<'a> DocView<'a> {
         self.cell().as_bool()
     }
 
-    /// The literal of the number, itself a number (RFC 8259, section 6); none of another kind.
+    /// The number, where it is an integer of `u64` or `i64` (RFC 8259, section 6); none of another, nor of another kind.
+    #[inline]
+    pub fn as_number(self) -> Option<Number>
+        ensures { option_map value_of result ≡ integer_of (view_tree self.entry) }
+    {
+        match self.cell() {
+            Cell::Unsigned(n) => Some(Number::from(n)),
+            Cell::Negative(n) => Some(Number::from(n)),
+            _ => None,
+        }
+    }
+
+    /// The literal of the number that is no integer of `u64` or `i64`, itself a number (RFC 8259, section 6); none of an
+    /// integer by value, nor of another kind.
     #[inline]
     pub fn literal(self) -> Option<&'a str>
         ensures literal { option_map (λ s. s.now) result ≡ literal_of (view_tree self.entry) }
         ensures number { IfSome result (λ s. number s.now) }
+        ensures raw { IfSome result (λ s. integer_in s.now ≡ None) }
     {
         match self.cell() {
             Cell::Raw { start, len } => Some(text_range(self.doc, start, len)),
@@ -208,7 +225,9 @@ impl<'a> DocView<'a> {
         match self.cell() {
             Cell::Null => DocNode::Null,
             Cell::Bool(b) => DocNode::Boolean(b),
-            Cell::Raw { start, len } => DocNode::Number(text_range(self.doc, start, len)),
+            Cell::Unsigned(n) => DocNode::Number(Number::from(n)),
+            Cell::Negative(n) => DocNode::Number(Number::from(n)),
+            Cell::Raw { start, len } => DocNode::Raw(text_range(self.doc, start, len)),
             Cell::Str { start, len } => DocNode::String(text_range(self.doc, start, len)),
             Cell::Array { link, len } => {
                 DocNode::Array(DocChildren::new(self.doc, link as usize, len as usize, 1))

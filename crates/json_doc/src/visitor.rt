@@ -1,9 +1,11 @@
 // What takes the events of a tree.
-ghost use Rattle.std.specs.Prelude.{◌≡◌, ℕ, List, [], length, false, IsTrue, ◌↔◌};
+ghost use Rattle.std.specs.Prelude.{◌≡◌, ◌<ℤ◌, ℕ, pos, None, List, [], length, false, IsTrue, ◌↔◌};
 ghost use Rattle.std.specs.Bool.{OnTrue};
+ghost use Rattle.std.specs.Fmt.{signed_decimal};
 ghost use Rattle.json_grammar.specs.Tree.{Token, null_token, boolean_token, num_token, text_token, key_token, begin, end};
 ghost use Rattle.json_grammar.specs.Grammar.{chars, number};
 ghost use Rattle.json_grammar.specs.declared.Kind.TheVariants.{Array as array, Object as object};
+ghost use Rattle.json_number.specs.Integers.{integer_in};
 ghost use Rattle.json_doc.specs.State.{VisitorState, Fits, after_event, MayCome, HoldsMore};
 
 use json_text::Span;
@@ -34,9 +36,29 @@ pub trait JsonVisitor {
         ensures held { OnTrue result
             (HoldsMore (holds self.old) (holds self.new) (boolean_token b)) };
 
-    /// A number by its literal, which has to be a number (RFC 8259, section 6).
+    /// A number by its integer from 0 on. It adds no text.
+    fn visit_u64(&mut self, n: u64) -> bool
+        requires { (state self.old).full ≡ false
+            → MayCome (holds self.old) (num_token (signed_decimal (pos n))) }
+        ensures answer { IsTrue result ↔ Fits (state self.old) 1 0 }
+        ensures state { state self.new ≡ after_event result 1 0 (state self.old) }
+        ensures held { OnTrue result
+            (HoldsMore (holds self.old) (holds self.new) (num_token (signed_decimal (pos n)))) };
+
+    /// A number by its integer below 0. It adds no text.
+    fn visit_i64(&mut self, n: i64) -> bool
+        requires negative { n <ℤ pos 0 }
+        requires come { (state self.old).full ≡ false
+            → MayCome (holds self.old) (num_token (signed_decimal n)) }
+        ensures answer { IsTrue result ↔ Fits (state self.old) 1 0 }
+        ensures state { state self.new ≡ after_event result 1 0 (state self.old) }
+        ensures held { OnTrue result
+            (HoldsMore (holds self.old) (holds self.new) (num_token (signed_decimal n))) };
+
+    /// A number by its literal, which has to be a number (RFC 8259, section 6) that is no integer of `u64` or `i64`.
     fn visit_raw_number(&mut self, literal: &str) -> bool
         requires number { number literal.now }
+        requires raw { integer_in literal.now ≡ None }
         requires come { (state self.old).full ≡ false
             → MayCome (holds self.old) (num_token literal.now) }
         ensures answer { IsTrue result ↔ Fits (state self.old) 1 (length literal.now) }

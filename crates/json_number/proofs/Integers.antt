@@ -1,5 +1,5 @@
 -- The integer of a literal: what `parse` answers for it, and that its decimal text is the literal.
-use Rattle.std.proofs.Common.{◌≡◌, ◌≢◌, ◌⊎◌, inl, inr, ℕ, zero, suc, ◌<◌, ◌≤◌, ◌^◌, ℤ, pos, negsuc, neg_ℤ, List, [], ◌∷◌, length, get_or, true, false, if◌then◌else◌, Option, Some, None, Result, Ok, Err, int_lt, w64, refl, sym, ap, ◌∙◌, subst, arith, append-nil}
+use Rattle.std.proofs.Common.{◌≡◌, ◌≢◌, ◌⊎◌, inl, inr, Bool, ℕ, zero, suc, ◌<◌, ◌≤◌, ◌^◌, ℤ, pos, negsuc, neg_ℤ, List, [], ◌∷◌, length, get_or, true, false, if◌then◌else◌, Option, Some, None, Result, Ok, Err, int_lt, w64, refl, sym, ap, ◌∙◌, subst, arith, append-nil}
 use Rattle.std.proofs.lemmas.Bool.{cases_Bool, cases_lt, cases_eq, lt-ltb, le-ltb, le-leb, lt-leb, and_parts, ne_eqb}
 use Rattle.std.proofs.lemmas.Fmt.{decimal-digits_value, length-decimal-le, decimal_digit, first_decimal, digits_decimal, digits_value-decimal, decimal_nonempty}
 use Rattle.std.proofs.lemmas.Str.Parse.{IsNumeralModel, numerals_by_value, tells_all_ascii_digits, parse_plain, parse_signed_minus}
@@ -191,3 +191,45 @@ pub negative_reads : (n : ℕ) → n < 2 ^ 63 → integer_in (45 ∷ decimal (su
 negative_reads n h =
     let w : suc n < 2 ^ 64 = omega arith in
     minus_is (decimal (suc n)) ∙ rw (digits_decimal own (suc n) w, digits_value-decimal own (suc n) w, lt-ltb 0 (suc n) (omega arith), le-leb (suc n) (2 ^ 63) (omega arith)) refl
+
+-- ---- the integers that literals stand for
+
+-- it lies in `u64`, or below 0 in `i64`
+abbrev Bounded : ℤ → Type 0
+Bounded (pos n) = n < 2 ^ 64
+Bounded (negsuc n) = suc n ≤ 2 ^ 63
+
+below_bounded : (v : ℕ) (n : ℤ) → below_zero v ≡ Some n → Bounded n
+below_bounded v n e = let p = below_zero_some v n e in by v n p.0 p.1 p.2
+  where
+    by : (v : ℕ) (n : ℤ) → 0 < v → v ≤ 2 ^ 63 → neg_ℤ (pos v) ≡ n → Bounded n
+    by zero n p k e = absurd (omega arith)
+    by (suc v) n p k e = subst Bounded e k
+
+from_bounded : (v : ℕ) (n : ℤ) → from_zero v ≡ Some n → Bounded n
+from_bounded v n e = by (cases_lt v (2 ^ 64))
+  where
+    by : (v < 2 ^ 64) ⊎ (2 ^ 64 ≤ v) → Bounded n
+    by (inl k) = let f : Some (pos v) ≡ Some n = sym (rw (lt-ltb v (2 ^ 64) k) refl) ∙ e in let g : pos v ≡ n = cc in subst Bounded g k
+    by (inr k) = let f : None ≡ Some n = sym (rw (le-ltb v (2 ^ 64) k) refl) ∙ e in absurd (cc)
+
+bounded : (l : List ℕ) (n : ℤ) → integer_in l ≡ Some n → Bounded n
+bounded [] n e = let f : None ≡ Some n = sym empty_is ∙ e in absurd (cc)
+bounded (x ∷ b) n e = by (cases_eq x 45)
+  where
+    if_below : (d : Bool) → (if d then below_zero (digits_value 10 b) else None) ≡ Some n → Bounded n
+    if_below true f = below_bounded (digits_value 10 b) n f
+    if_below false f = absurd (cc)
+
+    if_from : (d : Bool) → (if d then from_zero (digits_value 10 (x ∷ b)) else None) ≡ Some n → Bounded n
+    if_from true f = from_bounded (digits_value 10 (x ∷ b)) n f
+    if_from false f = absurd (cc)
+
+    by : (x ≡ 45) ⊎ (x ≡ 45 → ⊥) → Bounded n
+    by (inl i) = if_below (all_ascii_digits b) (sym (ap (λ y. integer_in (y ∷ b)) i ∙ minus_is b) ∙ e)
+    by (inr i) = if_from (all_ascii_digits (x ∷ b)) (sym (plain_is x b i) ∙ e)
+
+-- the decimal text of an integer that it stands for is a number
+pub integer_number : (n : ℤ) → integer_in (signed_decimal n) ≡ Some n → number (signed_decimal n)
+integer_number (pos n) e = decimal_number n (bounded _ _ e)
+integer_number (negsuc n) e = let k : suc n ≤ 2 ^ 63 = bounded _ _ e in negative_number n (omega arith)

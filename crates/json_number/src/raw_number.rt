@@ -50,6 +50,14 @@ impl RawNumber {
         self.literal.as_str()
     }
 
+    /// The literal, as a string of its own. Takes no memory.
+    pub fn into_string(self) -> String
+        ensures text { string_bytes result ≡ raw_literal self }
+        ensures number { number (string_bytes result) }
+    {
+        self.literal
+    }
+
     /// The integer that the literal stands for by value, if any.
     pub fn to_number(&self) -> Option<Number>
         ensures { option_map value_of result ≡ integer_in (raw_literal self.now) }

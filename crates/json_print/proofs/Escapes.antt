@@ -1,8 +1,10 @@
 -- Strings by their plain runs, and indents.
-use Rattle.std.proofs.Common.{◌≡◌, ℕ, zero, suc, ◌+◌, ◌-◌, ◌<◌, ◌≤◌, List, [], ◌∷◌, ◌++◌, length, take, drop, get_or, inl, inr, refl, sym, ap, ap₂, ◌∙◌, subst, arith, append_assoc, append-nil, Ok, Err, Result}
+use Rattle.std.proofs.Common.{◌≡◌, ℕ, zero, suc, ◌+◌, ◌-◌, ◌^◌, ◌<◌, ◌≤◌, false, List, [], ◌∷◌, ◌++◌, length, take, drop, get_or, inl, inr, refl, sym, ap, ap₂, ◌∙◌, subst, arith, append_assoc, append-nil, Ok, Err, Result}
 use Rattle.std.proofs.Math.Seq.{take-add}
 use Rattle.std.proofs.lemmas.Bool.{ne_eqb, lt-ltb, cases_lt}
+use Rattle.std.proofs.lemmas.Fmt.{hex_byte}
 use Rattle.std.proofs.lemmas.List.{take_all, take_more, take-append-drop}
+use Rattle.std.specs.Fmt.{digits, format_spec, padded_integral}
 use Rattle.json_model.specs.Print.{shown_byte, shown_bytes, unit_escape, indents}
 use Rattle.json_model.proofs.Printing.{plain_shown, shown_append}
 use Rattle.json_text.specs.declared.sink.SinkError.{SinkError}
@@ -21,6 +23,14 @@ pub control_shown : (x : ℕ) → ¬ (IsPlain x) → (x ≡ 34 → ⊥) → (x �
 unfolding shown_byte
 control_shown x p q s b t n f r = rw (ne_eqb x 34 q, ne_eqb x 92 s, lt-ltb x 32 (control x p q s), ne_eqb x 8 b, ne_eqb x 9 t, ne_eqb x 10 n, ne_eqb x 12 f, ne_eqb x 13 r) refl
 
+-- such a byte is ASCII
+pub special_ascii : (x : ℕ) → ¬ (IsPlain x) → x < 128
+special_ascii x n = elim (cases_lt x 128) [ inl m ↦ m | inr m ↦ absurd (n (omega arith, (λ e. absurd (omega arith)), (λ e. absurd (omega arith)))) ]
+
+-- the four digits that a formatter writes of it, behind a backslash and a `u`
+pub unit_text : (x : ℕ) → x < 256 → 92 ∷ 117 ∷ 48 ∷ 48 ∷ padded_integral (format_spec 32 0 4 2 (2 ^ 64 - 1)) false [] (digits 16 false x) ≡ unit_escape x
+unit_text x l = ap (λ d. 92 ∷ 117 ∷ 48 ∷ 48 ∷ d) (hex_byte false x l)
+
 plain_all : (l : List ℕ) → plain l → shown_bytes l ≡ l
 plain_all [] h = refl
 plain_all (x ∷ l) h = ap₂ (λ a b. a ++ b) (plain_shown x h.0.1 h.0.2 h.0.0) (plain_all l h.1)
@@ -34,6 +44,14 @@ run_shown b i j l h =
 -- a special byte behind it
 pub byte_shown : (b : List ℕ) (i : ℕ) → i < length b → shown_bytes (take i b) ++ shown_byte (get_or b i 0) ≡ shown_bytes (take (i + 1) b)
 byte_shown b i l = rw (take_more b i 0 l, shown_append (take i b) (get_or b i 0 ∷ []), append-nil (shown_byte (get_or b i 0))) refl
+
+-- a run to the end, and a run with a special byte behind it
+pub all_shown : (b : List ℕ) (i j : ℕ) (r : List ℕ) → i ≤ j → j ≡ length b → plain (piece b i j) → r ≡ piece b i j → shown_bytes (take i b) ++ r ≡ shown_bytes b
+all_shown b i j r l e h p = ap (λ x. shown_bytes (take i b) ++ x) p ∙ run_shown b i j l h ∙ ap shown_bytes (take_all j b (omega arith))
+
+pub more_shown : (b c : List ℕ) (i j : ℕ) (r : List ℕ) → c ≡ b → i ≤ j → j < length b → plain (piece b i j) → r ≡ piece b i j
+    → (shown_bytes (take i b) ++ r) ++ shown_byte (get_or c j 0) ≡ shown_bytes (take (j + 1) b)
+more_shown b c i j r e l m h p = rw (e, p) (ap (λ o. o ++ shown_byte (get_or b j 0)) (run_shown b i j l h) ∙ byte_shown b j m)
 
 pub indents_more : (n : ℕ) (s : List ℕ) → indents n s ++ s ≡ indents (suc n) s
 indents_more zero s = sym (append-nil s)

@@ -1,5 +1,5 @@
 // Strings and numbers.
-ghost use Rattle.std.specs.Prelude.{◌≡◌, ◌<◌, [], ◌∷◌, MatchOption};
+ghost use Rattle.std.specs.Prelude.{◌≡◌, ◌<◌, MatchOption};
 ghost use Rattle.std.specs.Char.{digit_char};
 ghost use Rattle.json_model.specs.Print.{quoted, shown_byte, shown_bytes, unit_escape};
 ghost use Rattle.json_print.specs.Adding.{Adds};
@@ -35,21 +35,21 @@ fn unit_escape_of(byte: u8) -> [u8; 6]
     ]
 }
 
-// The letter behind the backslash, where two characters stand for the byte.
+// The backslash and the letter that stand for the byte, where two characters do.
 #[tactic(auto, using(crate::proofs::Escapes::control_shown), unfolding(json_model::specs::Print::shown_byte))]
 #[inline(always)]
-fn short_escape(byte: u8) -> Option<u8>
+pub(crate) fn short_escape(byte: u8) -> Option<&'static str>
     requires { ¬ (IsPlain byte) }
-    ensures { MatchOption result (shown_byte byte ≡ unit_escape byte) (λ letter. shown_byte byte ≡ 92 ∷ letter ∷ []) }
+    ensures { MatchOption result (shown_byte byte ≡ unit_escape byte) (λ escape. escape.now ≡ shown_byte byte) }
 {
     match byte {
-        b'"' => Some(b'"'),
-        b'\\' => Some(b'\\'),
-        0x08 => Some(b'b'),
-        b'\t' => Some(b't'),
-        b'\n' => Some(b'n'),
-        0x0c => Some(b'f'),
-        b'\r' => Some(b'r'),
+        b'"' => Some("\\\""),
+        b'\\' => Some("\\\\"),
+        0x08 => Some("\\b"),
+        b'\t' => Some("\\t"),
+        b'\n' => Some("\\n"),
+        0x0c => Some("\\f"),
+        b'\r' => Some("\\r"),
         _ => None,
     }
 }
@@ -60,7 +60,7 @@ fn add_escape<W: Sink>(writer: &mut W, byte: u8) -> Added
     ensures { Adds (W.state writer.old) (W.state writer.new) (shown_byte byte) result }
 {
     match short_escape(byte) {
-        Some(letter) => add(writer, &[b'\\', letter]),
+        Some(escape) => add(writer, escape.as_bytes()),
         None => add(writer, &unit_escape_of(byte)),
     }
 }

@@ -11,6 +11,7 @@ mod layout;
 mod order;
 mod part;
 mod pretty;
+mod quoted;
 mod serializer;
 mod sorted;
 mod style;
@@ -20,6 +21,7 @@ pub use compact::CompactFormatter;
 pub use events::{Events, Turn};
 pub use formatter::Formatter;
 pub use pretty::PrettyFormatter;
+pub use quoted::Quoted;
 pub use serializer::Serializer;
 pub use style::Style;
 

@@ -1,19 +1,17 @@
 -- The tokens of a tree, given in turn.
-use Rattle.std.proofs.Common.{Bool, ◌≡◌, ◌≢◌, ◌⊎◌, inl, inr, ℕ, zero, suc, ◌+◌, ◌*◌, ◌<◌, ◌≤◌, List, [], ◌∷◌, ◌++◌, length, take, map, Option, Some, None, Ok, Err, Result, refl, sym, ap, ap₂, subst, ◌∙◌, arith, append_assoc, append-nil, slice_get, true, false}
-use Rattle.std.specs.Option.{option_map}
+use Rattle.std.proofs.Common.{◌≡◌, ℕ, zero, suc, ◌+◌, ◌≤◌, List, [], ◌∷◌, ◌++◌, length, take, drop, map, Option, Some, None, Ok, Err, Result, refl, sym, ap, ap₂, subst, ◌∙◌, arith, append_assoc, append-nil, slice_get, true}
 use Rattle.json_grammar.specs.declared.Kind.TheVariants.{Array as array, Object as object}
-use Rattle.json_grammar.specs.Tree.{Tree, null, boolean, num, text, list, pairs, Trees, no_trees, tree_and, Pairs, no_pairs, pair_and, trees_list, pairs_list, list_trees, list_pairs, Token, null_token, boolean_token, num_token, text_token, begin, end, key_token, tokens, trees_tokens, pairs_tokens}
+use Rattle.json_grammar.specs.Tree.{Tree, null, boolean, num, text, list, pairs, Trees, Pairs, trees_list, pairs_list, list_trees, list_pairs, Token, begin, end, key_token, tokens, trees_tokens, pairs_tokens}
 use Rattle.json_grammar.specs.Sizes.{nodes, trees_nodes, pairs_nodes}
-use Rattle.json_grammar.specs.Proper.{IsProper, AreProper, ArePairsProper}
 use Rattle.json_text.specs.declared.error.Error.{Error}
-use Rattle.json_doc.specs.declared.json_type.JsonType.TheVariants as kind
-use Rattle.json_doc.specs.Readings.{type_of, bool_of, literal_of, string_of, elements, keys, values, children}
+use Rattle.json_doc.specs.Readings.{keys, values, children}
 use Rattle.std.proofs.lemmas.List.{take_all, length-map}
 use Rattle.json_print.specs.Standing.{Stand, stand_after, TakesValue, TakesKey, TakesEnd}
 use Rattle.json_print.specs.Taking.{after_all, Takes}
 use Rattle.json_value.specs.Readings.{members}
 use Rattle.json_value.specs.Emitting.{StopsAmong, Emits}
-use Rattle.json_value.proofs.Turns.{stand_all, after_append, stand_moves, all_tokens, all_pairs, elements_stand, members_stand}
+use Rattle.json_value.proofs.Trees.{list_back, pairs_back}
+use Rattle.json_value.proofs.Turns.{after_append, stand_moves, all_tokens, all_pairs, elements_stand, members_stand}
 
 -- ---- one token
 
@@ -22,102 +20,14 @@ pub emits_one : {S : Type 0} (after : S → Token → S) (stopped : S → Token 
 emits_one after stopped old new err err' x ts (Ok u) fresh e h = record { all = rw e h.ok; fresh = h.fresh; stops = tt }
 emits_one after stopped old new err err' x ts (Err f) fresh e h = record { all = tt; fresh = tt; stops = record { front = []; at = x; back = []; whole = e; left = h.stopped fresh } }
 
-pub text_tokens : (t : Tree) (s : List ℕ) → string_of t ≡ Some s → tokens t ≡ text_token s ∷ []
-text_tokens (text c) s e = ap (λ o. text_token o ∷ []) (some_same e)
-  where
-    some_same : {A : Type 0} {x y : A} → Some x ≡ Some y → x ≡ y
-    some_same e = cc
-text_tokens null s e = absurd (cc)
-text_tokens (boolean b) s e = absurd (cc)
-text_tokens (num l) s e = absurd (cc)
-text_tokens (list ts) s e = absurd (cc)
-text_tokens (pairs ps) s e = absurd (cc)
-
-pub literal_tokens : (t : Tree) (s : List ℕ) → literal_of t ≡ Some s → tokens t ≡ num_token s ∷ []
-literal_tokens (num l) s e = ap (λ o. num_token o ∷ []) (some_same e)
-  where
-    some_same : {A : Type 0} {x y : A} → Some x ≡ Some y → x ≡ y
-    some_same e = cc
-literal_tokens null s e = absurd (cc)
-literal_tokens (boolean b) s e = absurd (cc)
-literal_tokens (text c) s e = absurd (cc)
-literal_tokens (list ts) s e = absurd (cc)
-literal_tokens (pairs ps) s e = absurd (cc)
-
-pub bool_tokens : (t : Tree) (b : Bool) → bool_of t ≡ Some b → tokens t ≡ boolean_token b ∷ []
-bool_tokens (boolean c) b e = ap (λ o. boolean_token o ∷ []) (some_same e)
-  where
-    some_same : {A : Type 0} {x y : A} → Some x ≡ Some y → x ≡ y
-    some_same e = cc
-bool_tokens null b e = absurd (cc)
-bool_tokens (num l) b e = absurd (cc)
-bool_tokens (text c) b e = absurd (cc)
-bool_tokens (list ts) b e = absurd (cc)
-bool_tokens (pairs ps) b e = absurd (cc)
-
-pub null_tokens : (t : Tree) → string_of t ≡ None → literal_of t ≡ None → bool_of t ≡ None → type_of t ≢ kind.Array → type_of t ≢ kind.Object → tokens t ≡ null_token ∷ []
-null_tokens null s l b a o = refl
-null_tokens (boolean c) s l b a o = absurd (cc)
-null_tokens (num c) s l b a o = absurd (cc)
-null_tokens (text c) s l b a o = absurd (cc)
-null_tokens (list ts) s l b a o = absurd (a refl)
-null_tokens (pairs ps) s l b a o = absurd (o refl)
-
 -- ---- what stands in a container
 
-whole_list : (ts : Trees) → list_trees (trees_list ts) ≡ ts
-whole_list no_trees = refl
-whole_list (tree_and t ts) = ap (tree_and t) (whole_list ts)
-
 -- an array is the list of its elements
-pub array_itself : (t : Tree) → type_of t ≡ kind.Array → list (list_trees (elements t)) ≡ t
-array_itself (list ts) h = ap list (whole_list ts)
-array_itself null h = absurd (cc)
-array_itself (boolean b) h = absurd (cc)
-array_itself (num l) h = absurd (cc)
-array_itself (text c) h = absurd (cc)
-array_itself (pairs ps) h = absurd (cc)
+pub array_seen : (t : Tree) (ts : Trees) (xs : List Tree) → t ≡ list ts → xs ≡ trees_list ts → list (list_trees xs) ≡ t
+array_seen t ts xs e h = ap (λ ys. list (list_trees ys)) h ∙ ap list (list_back ts) ∙ sym e
 
-whole_pairs : (ps : Pairs) → list_pairs (pairs_list ps) ≡ ps
-whole_pairs no_pairs = refl
-whole_pairs (pair_and k t ps) = ap (pair_and k t) (whole_pairs ps)
-
--- an object is the list of its members
-pub object_itself : (t : Tree) → type_of t ≡ kind.Object → pairs (list_pairs (members t)) ≡ t
-object_itself (pairs ps) h = ap pairs (whole_pairs ps)
-object_itself null h = absurd (cc)
-object_itself (boolean b) h = absurd (cc)
-object_itself (num l) h = absurd (cc)
-object_itself (text c) h = absurd (cc)
-object_itself (list ts) h = absurd (cc)
-
--- each element has fewer nodes
-trees_less : (ts : Trees) (i : ℕ) (t : Tree) → slice_get (trees_list ts) i ≡ Some t → nodes t ≤ trees_nodes ts
-trees_less no_trees i t e = absurd (cc)
-trees_less (tree_and u ts) zero t e = let s : u ≡ t = cc in omega (arith, ap nodes s)
-trees_less (tree_and u ts) (suc i) t e = omega (arith, trees_less ts i t e)
-
-pub element_less : (t : Tree) (i : ℕ) (u : Tree) → slice_get (elements t) i ≡ Some u → nodes u < nodes t
-element_less (list ts) i u e = omega (arith, trees_less ts i u e)
-element_less null i u e = absurd (cc)
-element_less (boolean b) i u e = absurd (cc)
-element_less (num l) i u e = absurd (cc)
-element_less (text c) i u e = absurd (cc)
-element_less (pairs ps) i u e = absurd (cc)
-
-pairs_less : (ps : Pairs) (i : ℕ) (t : Tree) → slice_get (map (λ p. p.1) (pairs_list ps)) i ≡ Some t → nodes t ≤ pairs_nodes ps
-pairs_less no_pairs i t e = absurd (cc)
-pairs_less (pair_and k u ps) zero t e = let s : u ≡ t = cc in omega (arith, ap nodes s)
-pairs_less (pair_and k u ps) (suc i) t e = omega (arith, pairs_less ps i t e)
-
--- each value has fewer nodes
-pub value_less : (t : Tree) (i : ℕ) (u : Tree) → slice_get (values t) i ≡ Some u → nodes u < nodes t
-value_less (pairs ps) i u e = omega (arith, pairs_less ps i u e)
-value_less null i u e = absurd (cc)
-value_less (boolean b) i u e = absurd (cc)
-value_less (num l) i u e = absurd (cc)
-value_less (text c) i u e = absurd (cc)
-value_less (list ts) i u e = absurd (cc)
+pub object_seen : (t : Tree) (ps : Pairs) (xs : List (List ℕ × Tree)) → t ≡ pairs ps → xs ≡ pairs_list ps → pairs (list_pairs xs) ≡ t
+object_seen t ps xs e h = ap (λ ys. pairs (list_pairs ys)) h ∙ ap pairs (pairs_back ps) ∙ sym e
 
 -- no element has more nodes than all
 pub element_within : (ts : List Tree) (i : ℕ) (u : Tree) → slice_get ts i ≡ Some u → nodes u ≤ trees_nodes (list_trees ts)
@@ -129,18 +39,6 @@ pub value_within : (ps : List (List ℕ × Tree)) (i : ℕ) (u : Tree) → slice
 value_within [] i u e = absurd (cc)
 value_within (p ∷ ps) zero u e = let s : p.1 ≡ u = cc in omega (arith, ap nodes s)
 value_within (p ∷ ps) (suc i) u e = omega (arith, value_within ps i u e)
-
--- each element is proper
-pub element_proper : (ts : List Tree) (i : ℕ) (u : Tree) → AreProper (list_trees ts) → slice_get ts i ≡ Some u → IsProper u
-element_proper [] i u h e = absurd (cc)
-element_proper (t ∷ ts) zero u h e = let s : t ≡ u = cc in subst IsProper s h.0
-element_proper (t ∷ ts) (suc i) u h e = element_proper ts i u h.1 e
-
--- each value is proper
-pub value_proper : (ps : List (List ℕ × Tree)) (i : ℕ) (u : Tree) → ArePairsProper (list_pairs ps) → slice_get (map (λ p. p.1) ps) i ≡ Some u → IsProper u
-value_proper [] i u h e = absurd (cc)
-value_proper (p ∷ ps) zero u h e = let s : p.1 ≡ u = cc in subst IsProper s h.1
-value_proper (p ∷ ps) (suc i) u h e = value_proper ps i u h.2 e
 
 keys_of : (t : Tree) → keys t ≡ map (λ p. p.0) (members t)
 keys_of (pairs ps) = refl
@@ -165,15 +63,6 @@ key_there t i k e = sym (e ∙ ap (λ o. slice_get o i) (keys_of t))
 pub value_there : (t : Tree) (i : ℕ) (u : Option Tree) → u ≡ slice_get (values t) i → slice_get (map (λ p. p.1) (members t)) i ≡ u
 value_there t i u e = sym (e ∙ ap (λ o. slice_get o i) (values_of t))
 
--- there are no more elements than children
-pub elements_within : (t : Tree) (n : ℕ) → n ≡ length (children t) → length (elements t) ≤ n
-elements_within (list ts) n h = omega (arith, h)
-elements_within null n h = omega arith
-elements_within (boolean b) n h = omega arith
-elements_within (num l) n h = omega arith
-elements_within (text c) n h = omega arith
-elements_within (pairs ps) n h = omega arith
-
 pub members_within : (t : Tree) (n : ℕ) → n ≡ length (children t) → length (members t) ≤ n
 members_within (pairs ps) n h = omega (arith, h, length-map (pairs_list ps) (λ p. p.1))
 members_within null n h = omega arith
@@ -182,21 +71,52 @@ members_within (num l) n h = omega arith
 members_within (text c) n h = omega arith
 members_within (list ts) n h = omega arith
 
--- ---- one more
+-- so has none of a list that is taken apart
+pub tree_among : (front rest ts : List Tree) (u : Tree) → front ++ u ∷ rest ≡ ts → nodes u ≤ trees_nodes (list_trees ts)
+tree_among front rest ts u e = subst (λ xs. nodes u ≤ trees_nodes (list_trees xs)) e (among front)
+  where
+    among : (xs : List Tree) → nodes u ≤ trees_nodes (list_trees (xs ++ u ∷ rest))
+    among [] = omega arith
+    among (x ∷ xs) = omega (arith, among xs)
+
+pub value_among : (front rest ps : List (List ℕ × Tree)) (k : List ℕ) (u : Tree) → front ++ (k, u) ∷ rest ≡ ps → nodes u ≤ pairs_nodes (list_pairs ps)
+value_among front rest ps k u e = subst (λ xs. nodes u ≤ pairs_nodes (list_pairs xs)) e (among front)
+  where
+    among : (xs : List (List ℕ × Tree)) → nodes u ≤ pairs_nodes (list_pairs (xs ++ (k, u) ∷ rest))
+    among [] = omega arith
+    among (x ∷ xs) = omega (arith, among xs)
+
+-- ---- what is left of a list
 
 next : (i : ℕ) → i + 1 ≡ suc i
 next i = omega arith
+
+pub item_left : {A : Type 0} (xs rest : List A) (i : ℕ) (x : A) → drop i xs ≡ x ∷ rest → slice_get xs i ≡ Some x
+item_left [] rest zero x e = absurd (cc)
+item_left [] rest (suc i) x e = absurd (cc)
+item_left (y ∷ ys) rest zero x e = let s : y ≡ x = cc in ap Some s
+item_left (y ∷ ys) rest (suc i) x e = item_left ys rest i x e
+
+rest_from : {A : Type 0} (xs rest : List A) (i : ℕ) (x : A) → drop i xs ≡ x ∷ rest → drop (suc i) xs ≡ rest
+rest_from [] rest zero x e = absurd (cc)
+rest_from [] rest (suc i) x e = absurd (cc)
+rest_from (y ∷ ys) rest zero x e = cc
+rest_from (y ∷ ys) rest (suc i) x e = rest_from ys rest i x e
+
+pub rest_left : {A : Type 0} (xs rest : List A) (i : ℕ) (x : A) → drop i xs ≡ x ∷ rest → drop (i + 1) xs ≡ rest
+rest_left xs rest i x e = ap (λ n. drop n xs) (next i) ∙ rest_from xs rest i x e
+
+pub none_left : {A : Type 0} (xs : List A) (i : ℕ) → drop i xs ≡ [] → length xs ≤ i
+none_left [] i e = omega arith
+none_left (y ∷ ys) zero e = absurd (cc)
+none_left (y ∷ ys) (suc i) e = omega (arith, none_left ys i e)
+
+-- ---- one more
 
 more_tokens : (xs : List Tree) (i : ℕ) (u : Tree) → slice_get xs i ≡ Some u → all_tokens (take (suc i) xs) ≡ all_tokens (take i xs) ++ tokens u
 more_tokens [] i u e = absurd (cc)
 more_tokens (x ∷ xs) zero u e = let s : x ≡ u = cc in append-nil (tokens x) ∙ ap tokens s
 more_tokens (x ∷ xs) (suc i) u e = ap (λ o. tokens x ++ o) (more_tokens xs i u e) ∙ sym (append_assoc (tokens x) (all_tokens (take i xs)) (tokens u))
-
-no_more : {A : Type 0} (xs : List A) (i : ℕ) → slice_get xs i ≡ None → take (suc i) xs ≡ take i xs
-no_more [] zero e = refl
-no_more [] (suc i) e = refl
-no_more (x ∷ xs) zero e = absurd (cc)
-no_more (x ∷ xs) (suc i) e = ap (λ o. x ∷ o) (no_more xs i e)
 
 -- what stands behind an element
 rest_tokens : (xs : List Tree) (i : ℕ) (u : Tree) → slice_get xs i ≡ Some u → (m : List Token) × (all_tokens xs ≡ all_tokens (take i xs) ++ (tokens u ++ m))
@@ -251,9 +171,6 @@ array_around ts i u e =
 array_more : (ts : List Tree) (i : ℕ) (u : Tree) → slice_get ts i ≡ Some u → array_front ts (i + 1) ≡ array_front ts i ++ tokens u
 array_more ts i u e = ap (array_front ts) (next i) ∙ ap (λ o. begin array ∷ o) (more_tokens ts i u e)
 
-pub array_no_more : (ts : List Tree) (i : ℕ) → slice_get ts i ≡ None → array_front ts (i + 1) ≡ array_front ts i
-array_no_more ts i e = ap (array_front ts) (next i) ∙ ap (λ o. begin array ∷ all_tokens o) (no_more ts i e)
-
 pub array_whole : (ts : List Tree) (n : ℕ) → length ts ≤ n → tokens (list (list_trees ts)) ≡ array_front ts n ++ (end array ∷ [] ++ [])
 array_whole ts n l = array_tokens ts ∙ ap (λ o. begin array ∷ (all_tokens o ++ end array ∷ [])) (sym (take_all n ts l))
 
@@ -286,12 +203,6 @@ rest_pairs (x ∷ xs) (suc i) k u d e =
     let r = rest_pairs xs i k u d e in
     (r.0, ap (λ o. key_token x.0 ∷ (tokens x.1 ++ o)) r.1 ∙ ap (λ o. key_token x.0 ∷ o) (sym (append_assoc (tokens x.1) (all_pairs (take i xs)) (key_token k ∷ (tokens u ++ r.0)))))
 
-no_pair : {A : Type 0} (f : List ℕ × Tree → A) (xs : List (List ℕ × Tree)) (i : ℕ) → slice_get (map f xs) i ≡ None → take (suc i) xs ≡ take i xs
-no_pair f [] zero e = refl
-no_pair f [] (suc i) e = refl
-no_pair f (x ∷ xs) zero e = absurd (cc)
-no_pair f (x ∷ xs) (suc i) e = ap (λ o. x ∷ o) (no_pair f xs i e)
-
 pairs_all : (ps : List (List ℕ × Tree)) → pairs_tokens (list_pairs ps) ≡ all_pairs ps
 pairs_all [] = refl
 pairs_all (p ∷ ps) = ap (λ o. key_token p.0 ∷ (tokens p.1 ++ o)) (pairs_all ps)
@@ -315,12 +226,6 @@ object_around ps i k u d e =
 
 object_more : (ps : List (List ℕ × Tree)) (i : ℕ) (k : List ℕ) (u : Tree) → slice_get (map (λ p. p.0) ps) i ≡ Some k → slice_get (map (λ p. p.1) ps) i ≡ Some u → object_front ps (i + 1) ≡ object_front ps i ++ key_token k ∷ tokens u
 object_more ps i k u d e = ap (object_front ps) (next i) ∙ ap (λ o. begin object ∷ o) (more_pairs ps i k u d e)
-
-pub object_no_key : (ps : List (List ℕ × Tree)) (i : ℕ) → slice_get (map (λ p. p.0) ps) i ≡ None → object_front ps (i + 1) ≡ object_front ps i
-object_no_key ps i e = ap (object_front ps) (next i) ∙ ap (λ o. begin object ∷ all_pairs o) (no_pair (λ p. p.0) ps i e)
-
-pub object_no_value : (ps : List (List ℕ × Tree)) (i : ℕ) → slice_get (map (λ p. p.1) ps) i ≡ None → object_front ps (i + 1) ≡ object_front ps i
-object_no_value ps i e = ap (object_front ps) (next i) ∙ ap (λ o. begin object ∷ all_pairs o) (no_pair (λ p. p.1) ps i e)
 
 pub object_whole : (ps : List (List ℕ × Tree)) (n : ℕ) → length ps ≤ n → tokens (pairs (list_pairs ps)) ≡ object_front ps n ++ (end object ∷ [] ++ [])
 object_whole ps n l = object_tokens ps ∙ ap (λ o. begin object ∷ (all_pairs o ++ end object ∷ [])) (sym (take_all n ps l))

@@ -2,10 +2,14 @@ pub mod Fronts
 pub mod Trees
 pub mod Views
 pub mod Placed
+pub mod Held
+pub mod Integers
 pub mod Copies
+pub mod Showing
 pub mod Turns
 pub mod Emitting
 pub mod WholeTrees
+pub mod ProperValues
 pub mod KeyLookups
 pub mod TreeEdits
 pub mod AppliedTrees

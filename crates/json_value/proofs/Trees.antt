@@ -1,12 +1,13 @@
 -- Trees, by what is read of them.
-use Rattle.std.proofs.Common.{◌≡◌, ◌≢◌, false, ℕ, zero, suc, ◌≤◌, List, [], ◌∷◌, Some, None, length, map, refl, ap, ◌∙◌, arith}
+use Rattle.std.proofs.Common.{◌≡◌, ◌≢◌, false, ℕ, ℤ, zero, suc, ◌≤◌, List, [], ◌∷◌, Option, Some, None, length, map, refl, ap, ◌∙◌, arith}
 use Rattle.std.specs.Prelude.{option_map, slice_get, unwrap_or}
 use Rattle.std.proofs.lemmas.List.{length-map}
 use Rattle.json_grammar.specs.Tree.{Tree, null, boolean, num, text, list, pairs, Trees, no_trees, tree_and, Pairs, no_pairs, pair_and, trees_list, list_trees, pairs_list, list_pairs}
+use Rattle.json_number.specs.Integers.{integer_in}
 use Rattle.json_doc.specs.Readings.{type_of, elements, keys, values, children, bool_of}
 use Rattle.json_doc.specs.declared.json_type.JsonType.TheVariants as kind
 use Rattle.json_value.specs.Readings.{members, text_said, literal_said}
-use Rattle.json_value.specs.Spots.{Spot, kept_spot}
+use Rattle.json_value.specs.Spots.{Spot, kept_spot, kept_number}
 
 pub list_back : (ts : Trees) → list_trees (trees_list ts) ≡ ts
 list_back no_trees = refl
@@ -77,9 +78,11 @@ no_object (pairs (pair_and k t ps)) h e = absurd (omega arith)
 no_object _ h e = absurd (cc)
 
 -- which of them are kept as places
-pub number_kept : (t : Tree) (s : Spot) → type_of t ≡ kind.Number → kept_spot t s ≡ Some s
-number_kept (num l) s h = refl
-number_kept _ s h = absurd (cc)
+pub integer_kept : (l : List ℕ) (n : ℤ) (s : Spot) → integer_in l ≡ Some n → kept_spot (num l) s ≡ None
+integer_kept l n s e = ap (λ (o : Option ℤ). kept_number o s) e
+
+pub literal_kept : (l : List ℕ) (s : Spot) → integer_in l ≡ None → kept_spot (num l) s ≡ Some s
+literal_kept l s e = ap (λ (o : Option ℤ). kept_number o s) e
 
 pub string_kept : (t : Tree) (s : Spot) → type_of t ≡ kind.String → kept_spot t s ≡ Some s
 string_kept (text c) s h = refl

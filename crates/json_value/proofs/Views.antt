@@ -1,9 +1,11 @@
 -- The tree and the spot of a value, level by level.
 use Rattle.std.proofs.Common.{◌≡◌, Bool as TestBool, List, [], ◌∷◌, map, None, refl, sym, ap, ◌∙◌, rules}
 use Rattle.json_grammar.specs.Tree.{Tree, null, boolean, num, text, list, pairs, list_trees, list_pairs}
+use Rattle.json_number.specs.Numbers.{text_of_number}
+use Rattle.json_number.specs.declared.number.Number.{Number as NumberType}
 use Rattle.json_value.specs.Denotes.{tree_of, list_in, pairs_in, pair_of, seen_pair, level, text_bytes, literal_bytes}
 use Rattle.json_value.specs.Spots.{spot_of, literal_spot, text_spot, form_spot}
-use Rattle.json_value.specs.declared.value.Value.{Value, Null, Bool, Raw, Text, Array, Object, fold-roll-Value, the_lemmas}
+use Rattle.json_value.specs.declared.value.Value.{Value, Null, Bool, Number, Raw, Text, Array, Object, fold-roll-Value, the_lemmas}
 use Rattle.json_value.specs.declared.value.Value.TheVariants.{rolls-Object}
 use Rattle.json_value.specs.declared.value.Value.TheOpen.{Value-F}
 use Rattle.json_value.specs.declared.container.Container.{Container}
@@ -18,6 +20,9 @@ null_tree = search (rules, the_lemmas)
 
 pub bool_tree : (b : TestBool) → tree_of (Bool b) ≡ boolean b
 bool_tree b = search (rules, the_lemmas)
+
+pub number_tree : (n : NumberType) → tree_of (Number n) ≡ num (text_of_number n)
+number_tree n = search (rules, the_lemmas)
 
 pub literal_tree : (l : Literal) → tree_of (Raw l) ≡ num (literal_bytes l)
 literal_tree l = search (rules, the_lemmas)
@@ -51,6 +56,9 @@ null_spot = search (rules, the_lemmas)
 
 pub bool_spot : (b : TestBool) → spot_of (Bool b) ≡ None
 bool_spot b = search (rules, the_lemmas)
+
+pub number_spot : (n : NumberType) → spot_of (Number n) ≡ None
+number_spot n = search (rules, the_lemmas)
 
 pub literal_spot_of : (l : Literal) → spot_of (Raw l) ≡ literal_spot l.form
 literal_spot_of l = search (rules, the_lemmas)

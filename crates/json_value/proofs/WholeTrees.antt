@@ -2,23 +2,26 @@
 use Rattle.std.proofs.Common.{◌≡◌, ◌<◌, ◌≤◌, Bool as TestBool, ℕ, zero, suc, List, [], ◌∷◌, Some, None, length, map, get_or, refl, sym, ap, ap₂, subst, ◌∙◌, arith}
 use Rattle.std.specs.Prelude.{slice_get}
 use Rattle.std.proofs.lemmas.List.{length-map}
-use Rattle.json_grammar.specs.Tree.{Tree, null, boolean, num, text, list, no_trees, list_trees, pairs, no_pairs, list_pairs, Token, tokens, null_token, boolean_token, num_token, text_token}
-use Rattle.json_doc.specs.Readings.{elements}
-use Rattle.json_value.specs.Readings.{members}
-use Rattle.json_value.specs.Denotes.{tree_of, pair_of, form_list, form_pairs, place_tree, text_bytes, literal_bytes}
-use Rattle.json_value.specs.declared.value.Value.{Value, Null, Bool, Raw, Text, Array, Object}
+use Rattle.json_grammar.specs.Tree.{Tree, null, boolean, num, text, list, list_trees, pairs, list_pairs}
+use Rattle.json_number.specs.Numbers.{text_of_number}
+use Rattle.json_number.specs.declared.number.Number.{Number as NumberType}
+use Rattle.json_value.specs.Denotes.{tree_of, pair_of, form_list, form_pairs, text_bytes, literal_bytes}
+use Rattle.json_value.specs.declared.value.Value.{Value, Null, Bool, Number, Raw, Text, Array, Object}
 use Rattle.json_value.specs.declared.container.Container.{Container}
 use Rattle.json_value.specs.declared.container.Form.{Form}
 use Rattle.json_value.specs.declared.literal.Literal.{Literal}
 use Rattle.json_value.specs.declared.pair.Keyed.{Keyed}
 use Rattle.json_value.specs.declared.text.Text.{Text as TextType}
-use Rattle.json_value.proofs.Views.{null_tree, bool_tree, literal_tree, text_tree, array_tree, object_tree}
+use Rattle.json_value.proofs.Views.{null_tree, bool_tree, number_tree, literal_tree, text_tree, array_tree, object_tree}
 
 pub null_in : (v : Value) → v ≡ Null → tree_of v ≡ null
 null_in v e = ap tree_of e ∙ null_tree
 
 pub bool_in : (v : Value) (b : TestBool) → v ≡ Bool b → tree_of v ≡ boolean b
 bool_in v b e = ap tree_of e ∙ bool_tree b
+
+pub number_in : (v : Value) (n : NumberType) → v ≡ Number n → tree_of v ≡ num (text_of_number n)
+number_in v n e = ap tree_of e ∙ number_tree n
 
 pub literal_in : (v : Value) (l : Literal) → v ≡ Raw l → tree_of v ≡ num (literal_bytes l)
 literal_in v l e = ap tree_of e ∙ literal_tree l

@@ -1,4 +1,5 @@
 pub mod Readings
+pub mod Said
 pub mod Denotes
 pub mod Edits
 pub mod Spots

@@ -1,6 +1,7 @@
 -- Where a value stands in a document, if it is a place of one.
-use Rattle.std.specs.Prelude.{◌≡◌, ℕ, List, [], Option, Some, None, IfSome, slice_get}
+use Rattle.std.specs.Prelude.{◌≡◌, ℕ, ℤ, List, [], Option, Some, None, IfSome, slice_get}
 use Rattle.json_grammar.specs.Tree.{Tree, null, boolean, num, text, list, pairs, no_trees, tree_and, no_pairs, pair_and}
+use Rattle.json_number.specs.Integers.{integer_in}
 use Rattle.json_doc.specs.Docs.{doc_cells, doc_text, doc_tree}
 use Rattle.json_doc.specs.Seen.{child_place, key_place}
 use Rattle.json_doc.specs.declared.cell.Cell.{Cell}
@@ -53,6 +54,7 @@ form_spot (Packed p) = Some (spot_in p.doc.value p.at)
 abbrev pub level_spot : Value-F Value → Option Spot
 level_spot Value-F.Null = None
 level_spot (Value-F.Bool b) = None
+level_spot (Value-F.Number n) = None
 level_spot (Value-F.Raw l) = literal_spot l.form
 level_spot (Value-F.Text t) = text_spot t.form
 level_spot (Value-F.Array a) = form_spot a.form
@@ -62,11 +64,16 @@ level_spot (Value-F.Object o) = form_spot o.form
 abbrev pub spot_of : Value → Option Spot
 spot_of v = level_spot (out-Value v)
 
--- whether a value with this tree is a place, if it is read from there: null, the booleans and empty containers are values of their own
+-- so a number: an integer by value is a value of its own
+abbrev pub kept_number : Option ℤ → Spot → Option Spot
+kept_number (Some n) s = None
+kept_number None s = Some s
+
+-- whether a value with this tree is a place, if it is read from there: null, the booleans, integers by value and empty containers are values of their own
 abbrev pub kept_spot : Tree → Spot → Option Spot
 kept_spot null s = None
 kept_spot (boolean b) s = None
-kept_spot (num l) s = Some s
+kept_spot (num l) s = kept_number (integer_in l) s
 kept_spot (text c) s = Some s
 kept_spot (list no_trees) s = None
 kept_spot (list (tree_and t ts)) s = Some s

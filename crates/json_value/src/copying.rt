@@ -21,6 +21,7 @@ impl Value {
         match self {
             Value::Null => Ok(Value::Null),
             Value::Bool(value) => Ok(Value::Bool(*value)),
+            Value::Number(number) => Ok(Value::Number(*number)),
             Value::Raw(literal) => {
                 let literal = literal.clone(alloc)?;
                 Ok(Value::Raw(literal))

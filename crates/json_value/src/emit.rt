@@ -1,14 +1,15 @@
 // The tokens of what a view shows, from left to right.
-ghost use Rattle.std.specs.Prelude.{◌≡◌, [], map, None};
-ghost use Rattle.json_grammar.specs.Tree.{list, no_trees, list_trees, pairs, no_pairs, list_pairs, tokens};
-ghost use Rattle.json_grammar.specs.Proper.{IsProper, AreProper, ArePairsProper};
+ghost use Rattle.std.specs.Prelude.{◌≡◌, map, None};
+ghost use Rattle.json_grammar.specs.Tree.{list, list_trees, pairs, list_pairs, tokens};
 ghost use Rattle.json_print.specs.Standing.{TakesValue};
 ghost use Rattle.json_value.specs.Denotes.{tree_of, pair_of};
 ghost use Rattle.json_value.specs.Emitting.{Emits};
 ghost use Rattle.json_value.specs.Seen.{seen};
 
 use crate::container::Form;
-use crate::emit_packed::{emit_document, emit_elements, emit_members};
+use crate::emit_packed::{
+    emit_document, emit_elements, emit_members, emit_no_pairs, emit_no_values, emit_number,
+};
 use crate::value::{Pair, Value};
 use crate::view::{View, ViewForm};
 use json_print::Events;
@@ -16,11 +17,10 @@ use json_text::Result;
 
 impl<'a> View<'a> {
     /// Gives the tokens of the tree that is seen to `out`, up to the first that meets an error, which is answered. The events
-    /// have met none before, and a value may come there; the numbers of the tree are numbers, and its texts UTF-8.
+    /// have met none before, and a value may come there.
     pub fn emit<E: Events>(self, out: &mut E) -> Result<()>
         requires fresh { E.failed out.old ≡ None }
-        requires value { TakesValue (E.stand (E.state out.old)).turn }
-        requires proper { IsProper (seen self) }
+        requires turn { TakesValue (E.stand (E.state out.old)).turn }
         ensures { Emits E.after E.stopped (E.state out.old) (E.state out.new) (E.failed out.new) (tokens (seen self.entry)) result }
     {
         match self.form {
@@ -34,12 +34,12 @@ impl<'a> View<'a> {
 fn emit_value<E: Events>(value: &Value, out: &mut E) -> Result<()>
     requires fresh { E.failed out.old ≡ None }
     requires turn { TakesValue (E.stand (E.state out.old)).turn }
-    requires proper { IsProper (tree_of value.now) }
     ensures { Emits E.after E.stopped (E.state out.old) (E.state out.new) (E.failed out.new) (tokens (tree_of value.now)) result }
 {
     match value {
         Value::Null => out.null(),
         Value::Bool(boolean) => out.boolean(*boolean),
+        Value::Number(number) => emit_number(*number, out),
         Value::Raw(literal) => out.raw_number(literal.as_str()),
         Value::Text(text) => out.text(text.as_str()),
         Value::Array(array) => match &array.form {
@@ -55,29 +55,10 @@ fn emit_value<E: Events>(value: &Value, out: &mut E) -> Result<()>
     }
 }
 
-fn emit_no_values<E: Events>(out: &mut E) -> Result<()>
-    requires fresh { E.failed out.old ≡ None }
-    requires turn { TakesValue (E.stand (E.state out.old)).turn }
-    ensures { Emits E.after E.stopped (E.state out.old) (E.state out.new) (E.failed out.new) (tokens (list no_trees)) result }
-{
-    out.begin_array(Some(0))?;
-    out.end_array()
-}
-
-fn emit_no_pairs<E: Events>(out: &mut E) -> Result<()>
-    requires fresh { E.failed out.old ≡ None }
-    requires turn { TakesValue (E.stand (E.state out.old)).turn }
-    ensures { Emits E.after E.stopped (E.state out.old) (E.state out.new) (E.failed out.new) (tokens (pairs no_pairs)) result }
-{
-    out.begin_object(Some(0))?;
-    out.end_object()
-}
-
 #[cycle(value)]
 fn emit_values<E: Events>(values: &Vec<Value>, out: &mut E) -> Result<()>
     requires fresh { E.failed out.old ≡ None }
     requires turn { TakesValue (E.stand (E.state out.old)).turn }
-    requires proper { AreProper (list_trees (map tree_of values.now.items)) }
     ensures { Emits E.after E.stopped (E.state out.old) (E.state out.new) (E.failed out.new) (tokens (list (list_trees (map tree_of values.now.items)))) result }
 {
     out.begin_array(Some(values.len()))?;
@@ -91,7 +72,6 @@ fn emit_values<E: Events>(values: &Vec<Value>, out: &mut E) -> Result<()>
 fn emit_pairs<E: Events>(values: &Vec<Pair>, out: &mut E) -> Result<()>
     requires fresh { E.failed out.old ≡ None }
     requires turn { TakesValue (E.stand (E.state out.old)).turn }
-    requires proper { ArePairsProper (list_pairs (map pair_of values.now.items)) }
     ensures { Emits E.after E.stopped (E.state out.old) (E.state out.new) (E.failed out.new) (tokens (pairs (list_pairs (map pair_of values.now.items)))) result }
 {
     out.begin_object(Some(values.len()))?;

@@ -1,15 +1,16 @@
 // The tokens of a document's tree, from left to right.
-ghost use Rattle.std.specs.Prelude.{◌≡◌, ◌≢◌, None};
-ghost use Rattle.json_grammar.specs.Tree.{list, list_trees, pairs, list_pairs, tokens};
-ghost use Rattle.json_grammar.specs.Proper.{IsProper, AreProper, ArePairsProper};
+ghost use Rattle.std.specs.Prelude.{◌≡◌, [], None};
+ghost use Rattle.json_grammar.specs.Tree.{num, list, no_trees, list_trees, pairs, no_pairs, list_pairs, tokens};
+ghost use Rattle.json_number.specs.Numbers.{text_of_number};
+ghost use Rattle.json_doc.specs.Left.{children_left, pairs_left};
+ghost use Rattle.json_doc.specs.Readings.{elements};
 ghost use Rattle.json_doc.specs.Seen.{view_tree};
-ghost use Rattle.json_doc.specs.declared.json_type.JsonType.TheVariants as JsonType;
-ghost use Rattle.json_doc.specs.Readings.{type_of, elements};
 ghost use Rattle.json_print.specs.Standing.{TakesValue};
 ghost use Rattle.json_value.specs.Emitting.{Emits};
 ghost use Rattle.json_value.specs.Readings.{members};
 
-use json_doc::{DocView, JsonType};
+use json_doc::{DocChildren, DocNode, DocPairs, DocView};
+use json_number::{JsonNumberTrait, Number};
 use json_print::Events;
 use json_text::Result;
 
@@ -17,72 +18,102 @@ use json_text::Result;
 #[cycle(document)]
 pub(crate) fn emit_document<E: Events>(view: DocView<'_>, out: &mut E) -> Result<()>
     requires fresh { E.failed out.old ≡ None }
-    requires value { TakesValue (E.stand (E.state out.old)).turn }
-    requires proper { IsProper (view_tree view) }
+    requires turn { TakesValue (E.stand (E.state out.old)).turn }
     ensures { Emits E.after E.stopped (E.state out.old) (E.state out.new) (E.failed out.new) (tokens (view_tree view.entry)) result }
 {
-    match view.get_type() {
-        JsonType::Array => emit_elements(view, out),
-        JsonType::Object => emit_members(view, out),
-        _ => emit_scalar(view, out),
+    match view.node() {
+        DocNode::Null => out.null(),
+        DocNode::Boolean(boolean) => out.boolean(boolean),
+        DocNode::Number(number) => emit_number(number, out),
+        DocNode::Raw(literal) => out.raw_number(literal),
+        DocNode::String(text) => out.text(text),
+        DocNode::Array(children) => emit_children(children, view.len(), out),
+        DocNode::Object(members) => emit_pairs(members, view.len(), out),
     }
 }
 
-fn emit_scalar<E: Events>(view: DocView<'_>, out: &mut E) -> Result<()>
+// Gives the token of an integer by value.
+pub(crate) fn emit_number<E: Events>(number: Number, out: &mut E) -> Result<()>
     requires fresh { E.failed out.old ≡ None }
-    requires value { TakesValue (E.stand (E.state out.old)).turn }
-    requires proper { IsProper (view_tree view) }
-    requires array { type_of (view_tree view) ≢ JsonType.Array }
-    requires object { type_of (view_tree view) ≢ JsonType.Object }
-    ensures { Emits E.after E.stopped (E.state out.old) (E.state out.new) (E.failed out.new) (tokens (view_tree view.entry)) result }
+    requires turn { TakesValue (E.stand (E.state out.old)).turn }
+    ensures { Emits E.after E.stopped (E.state out.old) (E.state out.new) (E.failed out.new) (tokens (num (text_of_number number))) result }
 {
-    if let Some(text) = view.text() {
-        return out.text(text);
-    }
-    if let Some(literal) = view.literal() {
-        return out.raw_number(literal);
-    }
-    match view.as_bool() {
-        Some(value) => out.boolean(value),
-        None => out.null(),
+    match number.as_u64() {
+        Some(n) => out.uint(n as u128),
+        None => match number.as_i64() {
+            Some(n) => out.int(n as i128),
+            None => unreachable!(),
+        },
     }
 }
 
-// Gives the tokens of the array of the elements that are seen.
+// Gives the tokens of an array; `count` tells how many elements there are.
 #[cycle(document)]
-pub(crate) fn emit_elements<E: Events>(view: DocView<'_>, out: &mut E) -> Result<()>
+fn emit_children<E: Events>(children: DocChildren<'_>, count: usize, out: &mut E) -> Result<()>
     requires fresh { E.failed out.old ≡ None }
-    requires value { TakesValue (E.stand (E.state out.old)).turn }
-    requires proper { AreProper (list_trees (elements (view_tree view))) }
-    ensures { Emits E.after E.stopped (E.state out.old) (E.state out.new) (E.failed out.new) (tokens (list (list_trees (elements (view_tree view.entry))))) result }
+    requires turn { TakesValue (E.stand (E.state out.old)).turn }
+    ensures { Emits E.after E.stopped (E.state out.old) (E.state out.new) (E.failed out.new) (tokens (list (list_trees (children_left children.entry)))) result }
 {
-    let len = view.len();
-    out.begin_array(Some(len))?;
-    'elements: for i in 0..len {
-        if let Some(element) = view.element(i) {
-            emit_document(element, out)?;
-        }
+    out.begin_array(Some(count))?;
+    for child in children {
+        emit_document(child, out)?;
     }
     out.end_array()
 }
 
-// Gives the tokens of the object of the members that are seen.
+// Gives the tokens of an object; `count` tells how many members there are.
 #[cycle(document)]
-pub(crate) fn emit_members<E: Events>(view: DocView<'_>, out: &mut E) -> Result<()>
+fn emit_pairs<E: Events>(members: DocPairs<'_>, count: usize, out: &mut E) -> Result<()>
     requires fresh { E.failed out.old ≡ None }
-    requires value { TakesValue (E.stand (E.state out.old)).turn }
-    requires proper { ArePairsProper (list_pairs (members (view_tree view))) }
-    ensures { Emits E.after E.stopped (E.state out.old) (E.state out.new) (E.failed out.new) (tokens (pairs (list_pairs (members (view_tree view.entry))))) result }
+    requires turn { TakesValue (E.stand (E.state out.old)).turn }
+    ensures { Emits E.after E.stopped (E.state out.old) (E.state out.new) (E.failed out.new) (tokens (pairs (list_pairs (pairs_left members.entry)))) result }
 {
-    let len = view.len();
-    out.begin_object(Some(len))?;
-    'members: for i in 0..len {
-        if let Some(key) = view.key(i) {
-            if let Some(value) = view.pair_value(i) {
-                out.key(key)?;
-                emit_document(value, out)?;
-            }
-        }
+    out.begin_object(Some(count))?;
+    for (key, value) in members {
+        out.key(key)?;
+        emit_document(value, out)?;
     }
     out.end_object()
+}
+
+pub(crate) fn emit_no_values<E: Events>(out: &mut E) -> Result<()>
+    requires fresh { E.failed out.old ≡ None }
+    requires turn { TakesValue (E.stand (E.state out.old)).turn }
+    ensures { Emits E.after E.stopped (E.state out.old) (E.state out.new) (E.failed out.new) (tokens (list no_trees)) result }
+{
+    out.begin_array(Some(0))?;
+    out.end_array()
+}
+
+pub(crate) fn emit_no_pairs<E: Events>(out: &mut E) -> Result<()>
+    requires fresh { E.failed out.old ≡ None }
+    requires turn { TakesValue (E.stand (E.state out.old)).turn }
+    ensures { Emits E.after E.stopped (E.state out.old) (E.state out.new) (E.failed out.new) (tokens (pairs no_pairs)) result }
+{
+    out.begin_object(Some(0))?;
+    out.end_object()
+}
+
+// Gives the tokens of the array of the elements that are seen.
+pub(crate) fn emit_elements<E: Events>(view: DocView<'_>, out: &mut E) -> Result<()>
+    requires fresh { E.failed out.old ≡ None }
+    requires turn { TakesValue (E.stand (E.state out.old)).turn }
+    ensures { Emits E.after E.stopped (E.state out.old) (E.state out.new) (E.failed out.new) (tokens (list (list_trees (elements (view_tree view.entry))))) result }
+{
+    match view.node() {
+        DocNode::Array(children) => emit_children(children, view.len(), out),
+        _ => emit_no_values(out),
+    }
+}
+
+// Gives the tokens of the object of the members that are seen.
+pub(crate) fn emit_members<E: Events>(view: DocView<'_>, out: &mut E) -> Result<()>
+    requires fresh { E.failed out.old ≡ None }
+    requires turn { TakesValue (E.stand (E.state out.old)).turn }
+    ensures { Emits E.after E.stopped (E.state out.old) (E.state out.new) (E.failed out.new) (tokens (pairs (list_pairs (members (view_tree view.entry))))) result }
+{
+    match view.node() {
+        DocNode::Object(members) => emit_pairs(members, view.len(), out),
+        _ => emit_no_pairs(out),
+    }
 }

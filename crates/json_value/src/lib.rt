@@ -3,16 +3,16 @@
 #![tactic(auto)]
 
 mod applying;
-#[cfg(test)]
-mod applying_tests;
 mod array;
 mod array_view;
 mod child;
 mod container;
 mod copying;
+mod display;
 mod emit;
 mod emit_packed;
 mod index;
+pub mod laws;
 mod lending;
 #[cfg(test)]
 mod lending_tests;

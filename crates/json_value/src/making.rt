@@ -1,12 +1,17 @@
 // Values of their own.
 ghost use Rattle.std.specs.Prelude.{◌≡◌, map, IfOk, IfErr};
-ghost use Rattle.json_grammar.specs.Tree.{null, boolean, text, list, pairs, no_trees, no_pairs, list_trees};
+ghost use Rattle.std.specs.Fmt.{decimal, signed_decimal};
+ghost use Rattle.json_grammar.specs.Tree.{null, boolean, num, text, list, pairs, no_trees, no_pairs, list_trees};
 ghost use Rattle.json_text.specs.Errors.{no_memory};
+ghost use Rattle.json_number.specs.Literals.{raw_literal};
+ghost use Rattle.json_number.specs.Numbers.{text_of_number};
 ghost use Rattle.json_value.specs.Denotes.{tree_of};
 
 use crate::container::{Container, Form};
+use crate::literal::Literal;
 use crate::text::Text;
 use crate::value::Value;
+use json_number::{Number, RawNumber};
 use json_text::Result;
 use std::alloc::Global;
 
@@ -30,6 +35,37 @@ impl Value {
         ensures { tree_of result ≡ boolean value }
     {
         Value::Bool(value)
+    }
+
+    /// The integer. Takes no memory.
+    pub fn new_u64(value: u64) -> Value
+        ensures { tree_of result ≡ num (decimal value) }
+    {
+        Value::Number(Number::from(value))
+    }
+
+    /// The integer. Takes no memory.
+    pub fn new_i64(value: i64) -> Value
+        ensures { tree_of result ≡ num (signed_decimal value) }
+    {
+        Value::Number(Number::from(value))
+    }
+
+    /// The number. Takes no memory.
+    pub fn from_number(number: Number) -> Value
+        ensures { tree_of result ≡ num (text_of_number number) }
+    {
+        Value::Number(number)
+    }
+
+    /// The number: by value where it is an integer of `u64` or `i64`, else as its literal. Takes no memory.
+    pub fn from_raw_number(number: RawNumber) -> Value
+        ensures { tree_of result ≡ num (raw_literal number) }
+    {
+        match number.to_number() {
+            Some(integer) => Value::Number(integer),
+            None => Value::Raw(Literal::new(number.into_string())),
+        }
     }
 
     /// The array without elements. Takes no memory.

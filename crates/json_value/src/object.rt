@@ -3,7 +3,8 @@ ghost use Rattle.std.specs.Prelude.{◌≡◌, ◌↔◌, [], map, IfOk, IfErr, 
 ghost use Rattle.std.specs.Borrow.{LendsIfOk, sem};
 ghost use Rattle.json_grammar.specs.Tree.{pairs, list_pairs};
 ghost use Rattle.json_text.specs.Errors.{no_memory};
-ghost use Rattle.json_value.specs.Denotes.{tree_of, pair_of, pairs_in, place_tree};
+ghost use Rattle.json_value.specs.Denotes.{tree_of, pair_of, pairs_in};
+ghost use Rattle.json_value.specs.Said.{place_tree};
 ghost use Rattle.json_value.specs.Readings.{members};
 ghost use Rattle.json_value.specs.Rows.{object_row, pair_row, vec_row, owned, owned_items, IsOwned};
 ghost use Rattle.json_value.specs.Spots.{IsPlace, FirstPairs, PlaceMembers};

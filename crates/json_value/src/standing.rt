@@ -14,7 +14,7 @@ impl Value {
         ensures { option_map (λ p. spot_in p.0.now p.1) result ≡ spot_of self.now }
     {
         match self {
-            Value::Null | Value::Bool(_) => None,
+            Value::Null | Value::Bool(_) | Value::Number(_) => None,
             Value::Raw(literal) => literal.form.place(),
             Value::Text(text) => text.form.place(),
             Value::Array(array) => array.form.place(),

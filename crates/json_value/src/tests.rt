@@ -1,5 +1,5 @@
-// Values of small documents: what they hold, first writes, and copies.
-use crate::{Array, Edit, Object, Pair, Path, PointerNode, Text, Value};
+// Values of small documents: what they hold, first writes, copies and edits.
+use crate::{Array, Edit, Object, Path, PointerNode, Text, Value};
 use json_doc::{Doc, read_document};
 use std::alloc::Global;
 use std::process::Abort;
@@ -11,8 +11,9 @@ fn read(rt: &impl Abort, alloc: Global, text: &str) -> json_text::Result<Rc<Doc>
     read_document(alloc, text)
 }
 
-fn root(alloc: Global, doc: &Rc<Doc>) -> json_text::Result<Value> {
-    Value::from_place(alloc, doc, doc.root())
+fn value_of(rt: &impl Abort, alloc: Global, text: &str) -> json_text::Result<Value> {
+    let doc = read(rt, alloc, text)?;
+    Value::from_place(alloc, &doc, doc.root())
 }
 
 // The characters of a string or of a literal.
@@ -45,10 +46,6 @@ fn object_in(value: &mut Value) -> Option<&mut Object> {
     }
 }
 
-fn is_member(member: &Pair, key: &str, at: Option<u32>) -> bool {
-    member.key() == key && place_of(member.value()) == at
-}
-
 fn are_elements(list: &[Value], places: &[Option<u32>]) -> bool {
     list.len() == places.len() && list.iter().zip(places).all(|(v, at)| place_of(v) == *at)
 }
@@ -56,106 +53,81 @@ fn are_elements(list: &[Value], places: &[Option<u32>]) -> bool {
 #[test]
 fn first_write_of_an_array(rt: HostRuntime) -> Result<(), Fail> {
     let alloc = rt.alloc();
-    let doc = read(&rt, alloc, "[[1],[\"x\"],2]")?;
-    let mut value = root(alloc, &doc)?;
-    let mut copy = value.clone(alloc)?;
-    assert_eq!(rt; (place_of(&value), place_of(&copy)), (Some(5), Some(5)));
-
+    let mut value = value_of(&rt, alloc, "[[1],[\"x\"],1.5]")?;
+    let copy = value.clone(alloc)?;
     let array = array_in(&mut value).ok_or("no array")?;
-    assert!(rt; array.list().is_none());
     let list = array.list_mut(alloc)?;
     assert!(rt; are_elements(list.as_slice(), &[Some(2), Some(3), Some(4)]));
     let last = list.pop().ok_or("no element")?;
-    assert_eq!(rt; said(&last), Some("2"));
-    list.push(Value::new_bool(true))?;
-    let array = array.clone(alloc)?;
-    assert!(rt;
-        array
-            .list()
-            .is_some_and(|list| are_elements(list, &[Some(2), Some(3), None]))
-    );
-    assert!(rt; place_of(&array.into_value()).is_none() && place_of(&copy) == Some(5));
-
-    let kept = array_in(&mut copy).ok_or("no array")?;
-    let list = kept.list_mut(alloc)?;
-    assert!(rt; are_elements(list.as_slice(), &[Some(2), Some(3), Some(4)]));
+    assert_eq!(rt; (said(&last), place_of(&copy)), (Some("1.5"), Some(5)));
     Ok(())
 }
 
 #[test]
 fn first_write_of_an_object(rt: HostRuntime) -> Result<(), Fail> {
     let alloc = rt.alloc();
-    let doc = read(&rt, alloc, "{\"a\":[1],\"b\":null,\"a\":\"x\"}")?;
-    let mut value = root(alloc, &doc)?;
+    let mut value = value_of(&rt, alloc, "{\"a\":[true],\"b\":null}")?;
     let object = object_in(&mut value).ok_or("no object")?;
-    assert!(rt; object.pairs().is_none());
-    let copy = object.clone(alloc)?;
-
     let members = object.pairs_mut(alloc)?;
-    assert!(rt;
-        matches!(members.as_slice(), [a, b, c] if is_member(a, "a", Some(2))
-        && is_member(b, "b", None) && is_member(c, "a", Some(6)) && said(c.value()) == Some("x"))
-    );
+    assert_eq!(rt; members.len(), 2);
     let first = members.first_mut().ok_or("no member")?;
+    assert!(rt; first.key() == "a" && place_of(first.value()) == Some(2));
     *first.value_mut() = Value::new_null();
-    members.push(Pair::new(Text::copy(alloc, "c")?, Value::new_array()))?;
-    let changed = object.clone(alloc)?;
-    assert!(rt; changed.pairs().is_some_and(|list| list.len() == 4));
-    assert!(rt; place_of(&changed.into_value()).is_none());
-    assert_eq!(rt; place_of(&copy.into_value()), Some(7));
     Ok(())
 }
 
 #[test]
-fn values_of_their_own(rt: HostRuntime) -> Result<(), Fail> {
+fn a_list_is_taken_and_copied(rt: HostRuntime) -> Result<(), Fail> {
     let alloc = rt.alloc();
     let mut items = Vec::new(alloc);
-    items.push(Value::new())?;
     items.push(Value::from_static_str("x"))?;
     items.push(Value::copy_str(alloc, "y")?)?;
-    items.push(Array::new().into_value())?;
-    items.push(Object::new().into_value())?;
-    items.push(Value::new_object())?;
     let mut value = Value::from_vec(items);
-    let taken = value.take();
+    let mut copy = value.take().clone(alloc)?;
     assert!(rt; matches!(value, Value::Null));
-    let mut copy = taken.clone(alloc)?;
     let list = array_in(&mut copy).ok_or("no array")?.list_mut(alloc)?;
-    assert!(rt;
-        matches!(list.as_slice(), [_, x, y, _, _, _] if said(x) == Some("x") && said(y) == Some("y"))
-    );
+    assert!(rt; matches!(list.as_slice(), [x, y] if said(x) == Some("x") && said(y) == Some("y")));
     Ok(())
 }
 
 #[test]
-fn texts_and_literals(rt: HostRuntime) -> Result<(), Fail> {
+fn a_literal_is_copied(rt: HostRuntime) -> Result<(), Fail> {
     let alloc = rt.alloc();
-    let doc = read(&rt, alloc, "-1.50e3")?;
-    let value = root(alloc, &doc)?;
+    let value = value_of(&rt, alloc, "-1.50e3")?;
     let copy = value.clone(alloc)?;
-    assert_eq!(rt;
-        (said(&value), said(&copy)),
-        (Some("-1.50e3"), Some("-1.50e3"))
-    );
-    let text = Text::from_static("é");
-    let copy = text.clone(alloc)?;
-    assert_eq!(rt; copy.as_str(), "é");
+    assert_eq!(rt; said(&copy), Some("-1.50e3"));
     Ok(())
 }
 
 #[test]
-fn paths(rt: HostRuntime) -> Result<(), Fail> {
+fn an_edit_is_applied(rt: HostRuntime) -> Result<(), Fail> {
     let alloc = rt.alloc();
     let mut path = Path::new(alloc);
     path.push(PointerNode::Key(Text::from_static("a")))?;
-    path.push(PointerNode::Index(1))?;
-    assert!(rt;
-        matches!(path.steps(), [PointerNode::Key(a), PointerNode::Index(1)] if a.as_str() == "a")
-    );
     let edit = Edit::Remove {
         path,
         step: PointerNode::Index(0),
     };
-    assert_eq!(rt; edit.path().steps().len(), 2);
+    assert_eq!(rt; edit.path().steps().len(), 1);
+    let mut value = value_of(&rt, alloc, "{\"a\":[1,2.5]}")?;
+    value.apply(alloc, &edit)?;
+    assert!(rt; value.apply(alloc, &edit).is_ok() && value.apply(alloc, &edit).is_err());
+    Ok(())
+}
+
+#[test]
+fn values_are_displayed(rt: HostRuntime) -> Result<(), Fail> {
+    let alloc = rt.alloc();
+    let text = "{\"a\":[\"\\u001f\\\"é\",-2.50e3],\"b\":{}}";
+    let mut value = value_of(&rt, alloc, text)?;
+    assert_eq!(rt; value.to_string(alloc)?.as_str(), text);
+    let object = object_in(&mut value).ok_or("no object")?;
+    let first = object.pairs_mut(alloc)?.first_mut().ok_or("no member")?;
+    let array = array_in(first.value_mut()).ok_or("no array")?;
+    assert_eq!(rt;
+        array.to_string(alloc)?.as_str(),
+        "[\"\\u001f\\\"é\",-2.50e3]"
+    );
+    assert_eq!(rt; object.to_string(alloc)?.as_str(), text);
     Ok(())
 }

@@ -1,10 +1,10 @@
 // A text.
 ghost use Rattle.std.specs.Prelude.{◌≡◌, ◌<◌, Some, IfOk, IfErr, length};
 ghost use Rattle.json_text.specs.Errors.{no_memory};
+ghost use Rattle.std.specs.Str.{IsUtf8};
 ghost use Rattle.json_doc.specs.Docs.{doc_cells, doc_tree};
-ghost use Rattle.json_value.specs.Denotes.{text_bytes};
 ghost use Rattle.json_value.specs.Readings.{text_said};
-ghost use Rattle.json_value.specs.Spots.{spot_of_text, spot_in};
+ghost use Rattle.json_value.specs.Said.{text_form_bytes};
 
 use crate::place::Place;
 use bytes::ByteStr;
@@ -24,9 +24,13 @@ pub(crate) enum TextForm {
 #[derive(Drop)]
 pub struct Text {
     pub(crate) form: TextForm,
+    ghost utf8: { ∥ IsUtf8 (text_form_bytes form) ∥₁ },
 }
 
 impl Text {
+    ghost use Rattle.json_value.specs.Denotes.{text_bytes};
+    ghost use Rattle.json_value.specs.Spots.{spot_of_text, spot_in};
+
     /// A static text. Takes no memory.
     pub fn from_static(s: &'static str) -> Text
         ensures { text_bytes result ≡ s.now }

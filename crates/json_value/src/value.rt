@@ -7,11 +7,12 @@ ghost use Rattle.json_value.specs.Denotes.{tree_of};
 ghost use Rattle.json_value.specs.Spots.{spot_of, read_spot};
 
 use crate::container::{Container, Form};
-use crate::literal::{Literal, LiteralForm};
+use crate::literal::Literal;
 use crate::pair::Keyed;
 use crate::place::Place;
 use crate::text::Text;
-use json_doc::{Doc, JsonType};
+use json_doc::{Doc, DocNode};
+use json_number::Number;
 use json_text::Result;
 use std::alloc::Global;
 use std::mem;
@@ -22,7 +23,9 @@ use std::rc::Rc;
 pub enum Value {
     Null,
     Bool(bool),
-    /// A number, as its literal.
+    /// An integer of `u64` or `i64`.
+    Number(Number),
+    /// A number that is no such integer, as its literal.
     Raw(Literal),
     Text(Text),
     Array(Array),
@@ -39,8 +42,8 @@ pub type Pair = Keyed<Value>;
 pub type Object = Container<Pair>;
 
 impl Value {
-    /// The value at a place of a document: null and the booleans by value, an empty container for one without members, else
-    /// the place. The place has to be below the number of cells. `NoMemory`.
+    /// The value at a place of a document: null, the booleans and integers by value, an empty container for one without
+    /// members, else the place. The place has to be below the number of cells. `NoMemory`.
     pub fn from_place(alloc: Global, doc: &Rc<Doc>, at: u32) -> Result<Value>
         requires { at < length (doc_cells doc.now.value) }
         ensures tree { IfOk result (λ v. tree_of v ≡ doc_tree doc.now.value at) }
@@ -49,17 +52,13 @@ impl Value {
     {
         let _ = alloc;
         let view = doc.view_at(at);
-        match view.get_type() {
-            JsonType::Null => Ok(Value::Null),
-            JsonType::Boolean => Ok(Value::Bool(view.as_bool().unwrap_or(false))),
-            JsonType::Number => {
-                let doc = doc.clone()?;
-                Ok(Value::Raw(Literal {
-                    form: LiteralForm::Packed(Place { doc, at }),
-                }))
-            }
-            JsonType::String => Ok(Value::Text(Text::at(doc, at)?)),
-            JsonType::Array => {
+        match view.node() {
+            DocNode::Null => Ok(Value::Null),
+            DocNode::Boolean(boolean) => Ok(Value::Bool(boolean)),
+            DocNode::Number(number) => Ok(Value::Number(number)),
+            DocNode::Raw(_) => Ok(Value::Raw(Literal::at(doc, at)?)),
+            DocNode::String(_) => Ok(Value::Text(Text::at(doc, at)?)),
+            DocNode::Array(_) => {
                 if view.len() == 0 {
                     return Ok(Value::Array(Container { form: Form::Empty }));
                 }
@@ -68,7 +67,7 @@ impl Value {
                     form: Form::Packed(Place { doc, at }),
                 }))
             }
-            JsonType::Object => {
+            DocNode::Object(_) => {
                 if view.len() == 0 {
                     return Ok(Value::Object(Container { form: Form::Empty }));
                 }

@@ -1,6 +1,7 @@
 // Views of values.
 ghost use Rattle.std.specs.Prelude.{◌≡◌, option_map};
-ghost use Rattle.json_doc.specs.Readings.{type_of, bool_of, literal_of, string_of};
+ghost use Rattle.json_number.specs.Numbers.{value_of};
+ghost use Rattle.json_doc.specs.Readings.{type_of, bool_of, integer_of, literal_of, string_of};
 ghost use Rattle.json_doc.specs.Seen.{view_tree};
 ghost use Rattle.json_value.specs.Denotes.{tree_of};
 ghost use Rattle.json_value.specs.Seen.{seen, elements_seen, members_seen, list_of, pairs_of};
@@ -9,6 +10,7 @@ use crate::array_view::ArrayView;
 use crate::object_view::ObjectView;
 use crate::value::Value;
 use json_doc::{DocView, JsonType};
+use json_number::Number;
 
 #[derive(Clone, Copy)]
 pub(crate) enum ViewForm<'a> {
@@ -67,7 +69,18 @@ impl<'a> View<'a> {
         }
     }
 
-    /// The literal of the number; none of another kind.
+    /// The number, where it is an integer of `u64` or `i64`; none of another, nor of another kind.
+    #[inline]
+    pub fn as_number(self) -> Option<Number>
+        ensures { option_map value_of result ≡ integer_of (seen self.entry) }
+    {
+        match self.form {
+            ViewForm::Packed(view) => view.as_number(),
+            ViewForm::Whole(value) => value_number(value),
+        }
+    }
+
+    /// The literal of the number that is no integer of `u64` or `i64`; none of such an integer, nor of another kind.
     #[inline]
     pub fn literal(self) -> Option<&'a str>
         ensures { option_map (λ s. s.now) result ≡ literal_of (seen self.entry) }
@@ -118,7 +131,7 @@ fn value_type(value: &Value) -> JsonType
     match value {
         Value::Null => JsonType::Null,
         Value::Bool(_) => JsonType::Boolean,
-        Value::Raw(_) => JsonType::Number,
+        Value::Number(_) | Value::Raw(_) => JsonType::Number,
         Value::Text(_) => JsonType::String,
         Value::Array(_) => JsonType::Array,
         Value::Object(_) => JsonType::Object,
@@ -130,6 +143,15 @@ fn value_bool(value: &Value) -> Option<bool>
 {
     match value {
         Value::Bool(boolean) => Some(*boolean),
+        _ => None,
+    }
+}
+
+fn value_number(value: &Value) -> Option<Number>
+    ensures { option_map value_of result ≡ integer_of (tree_of value.now) }
+{
+    match value {
+        Value::Number(number) => Some(*number),
         _ => None,
     }
 }

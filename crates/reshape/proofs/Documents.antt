@@ -1,14 +1,13 @@
 -- From the bytes of a source to a document.
-use Rattle.std.proofs.Common.{Bool, true, cond, ◌≡◌, inl, inr, ℕ, ◌≤◌, List, length, false, Ok, Err, Result, OnOk, IfOk, refl, sym, subst, ◌∙◌, ap, IsUtf8}
+use Rattle.std.proofs.Common.{Bool, true, cond, ◌≡◌, inl, inr, ℕ, ◌≤◌, List, length, false, Ok, Err, Result, OnOk, refl, sym, subst, ◌∙◌, ap, IsUtf8}
 use Rattle.json_grammar.specs.Tree.{Tree, depth}
 use Rattle.json_grammar.specs.Grammar.{is_text}
 use Rattle.json_grammar.specs.Proper.{IsProper}
-use Rattle.json_grammar.proofs.Texts.{text_proper}
 use Rattle.json_grammar.proofs.Values.{one_tree}
-use Rattle.json_model.specs.Edit.{Edit, edited, AreProperEdits}
+use Rattle.json_model.specs.Edit.{Edit, edited}
 use Rattle.json_model.specs.Sort.{sorted}
 use Rattle.json_model.specs.Print.{IsIndent}
-use Rattle.json_model.proofs.Proper.{edited_proper, sorted_proper}
+use Rattle.json_model.proofs.Proper.{sorted_proper}
 use Rattle.json_model.proofs.Printing.{shown_text}
 use Rattle.json_text.specs.declared.error.Error.{Error}
 use Rattle.json_text.specs.Known.{Appends}
@@ -54,13 +53,6 @@ Documents seen d = (t : Tree) × is_text false t seen × (depth t ≤ levels) ×
 pub doc_reads : (source source' : SourceState) (bytes seen : List ℕ) (d : Doc) → ReadsWithin most source source' bytes → seen ≡ bytes → Documents seen d → Reads source source' (doc_tree d (doc_root d))
 doc_reads source source' bytes seen d read same (t, text, shallow, doc) =
     subst (λ u. Reads source source' u) (sym (root_is d t doc)) (record { bytes = bytes; all = read; input = record { short = read.within; text = subst (λ b. is_text false t b) same text; shallow = shallow } })
-
-pub doc_proper : (seen : List ℕ) (d : Doc) → Documents seen d → IsProper (doc_tree d (doc_root d))
-doc_proper seen d (t, text, shallow, doc) = subst IsProper (sym (root_is d t doc)) (text_proper false t seen text)
-
--- the edited tree of a proper one is proper
-pub changed_proper : (es : List Edit) (tree changed : Tree) → AreProperEdits es → IsProper tree → edited es tree ≡ Ok changed → IsProper changed
-changed_proper es tree changed edits proper applied = subst (λ r. IfOk r IsProper) applied (edited_proper es tree edits proper)
 
 -- the edits of the value at the root are those of the document's tree
 pub applied_to : (es : List Edit) (d d' : Doc) (v w : Value) (at : ℕ) → tree_of v ≡ doc_tree d at → at ≡ doc_root d' → d' ≡ d → edited es (tree_of v) ≡ Ok (tree_of w) → edited es (doc_tree d (doc_root d)) ≡ Ok (tree_of w)

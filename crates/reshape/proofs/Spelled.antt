@@ -1,14 +1,9 @@
 -- What is read of a word, element by element.
-use Rattle.std.proofs.Common.{◌≡◌, ◌≢◌, inl, inr, ℕ, ◌+◌, ◌<◌, ◌≤◌, ◌^◌, List, [], ◌∷◌, ◌++◌, length, drop, get_or, Bool, true, false, cond, ◌&&◌, ltb, eqb, Option, Some, None, option_map, option_and_then, Result, Ok, Err, slice_get, bytes_eq, codes, refl, sym, subst, ap, ◌∙◌, arith, append_assoc}
+use Rattle.std.proofs.Common.{◌≡◌, ◌≢◌, inl, inr, ℕ, ◌+◌, ◌<◌, ◌≤◌, List, [], ◌∷◌, ◌++◌, length, drop, Bool, true, false, cond, Option, Some, None, option_map, option_and_then, slice_get, bytes_eq, codes, refl, sym, subst, ap, ◌∙◌, arith, append_assoc}
 use Rattle.std.proofs.lemmas.List.{drop_more}
 use Rattle.std.proofs.lemmas.Option.{slice_get_within, get_or_from_slice_get, slice_get-get_or}
 use Rattle.std.proofs.lemmas.Bool.{false_from_ne_true}
 use Rattle.std.proofs.lemmas.Slice.Eq.{bytes_eq-Decides}
-use Rattle.std.proofs.lemmas.Bool.Decides.{Decides-ltb, nat_tests}
-use Rattle.std.proofs.lemmas.Str.Parse.{IsNumeralModel, numerals_by_value, tells_all_ascii_digits, parse_plain}
-use Rattle.std.specs.Result.{OkIff, result_ok}
-use Rattle.std.specs.Str.{all_ascii_digits}
-use Rattle.std.specs.Str.Parse.{digits_value, ParsesUnsigned}
 use Rattle.json_grammar.specs.Tree.{Tree, null, boolean, num, text, list, pairs, no_trees, tree_and, trees_list, depth}
 use Rattle.json_grammar.specs.Grammar.{is_text}
 use Rattle.json_grammar.proofs.Values.{one_tree}
@@ -24,7 +19,7 @@ use Rattle.json_doc.proofs.Pieces.{spelled}
 use Rattle.json_doc.specs.declared.json_type.JsonType.TheVariants.{Array}
 use Rattle.json_doc.specs.Readings.{type_of, string_of, elements, children}
 use Rattle.json_model.specs.Edit.{Edit}
-use Rattle.reshape.specs.Words.{both, each_in, index_in, step_in, path_in, edit_named, edit_in, edits_in, Unread, Spells}
+use Rattle.reshape.specs.Words.{both, each_in, step_in, path_in, edit_named, edit_in, edits_in, Unread, Spells}
 use Rattle.reshape.specs.Input.{most}
 
 none_some : {A : Type 0} {x : A} → None ≡ Some x → ⊥
@@ -34,49 +29,6 @@ none_some e = cc
 pub unread : {A B : Type 0} (o : Option A) (p : Option B) (e : Error) → (o ≡ None → p ≡ None) → Unread o e → Unread p e
 unread o p e h (inl m) = inl m
 unread o p e h (inr (b, n)) = inr (b, h n)
-
--- ---- indices
-
-abbrev own : IsNumeralModel (λ ds. all_ascii_digits ds ≡ true) (digits_value 10)
-own = numerals_by_value _ tells_all_ascii_digits
-
-picked : (a b : Bool) (v : ℕ) → a ≡ true → b ≡ true → Some v ≡ cond (a && b) (Some v) None
-picked true true v d e = refl
-picked true false v d e = absurd (differ e)
-  where
-    differ : false ≡ true → ⊥
-    differ e = cc
-picked false b v d e = absurd (differ d)
-  where
-    differ : false ≡ true → ⊥
-    differ e = cc
-
-left_out : (a b : Bool) (v : ℕ) → (a ≡ true → b ≡ true → ⊥) → None ≡ cond (a && b) (Some v) None
-left_out true true v h = absurd (h refl refl)
-left_out true false v h = refl
-left_out false b v h = refl
-
-index_by : {E : Type 0} (bs : List ℕ) (r : Result ℕ E) → OkIff r ((all_ascii_digits bs ≡ true) × (0 < length bs) × (digits_value 10 bs < 2 ^ 32)) (digits_value 10 bs) → result_ok r ≡ index_in bs
-index_by [] (Ok x) h = absurd (omega (arith, h.0.1))
-index_by [] (Err e) h = refl
-index_by (x ∷ l) (Ok y) h = ap Some h.1 ∙ picked (all_ascii_digits (x ∷ l)) (ltb (digits_value 10 (x ∷ l)) (2 ^ 32)) (digits_value 10 (x ∷ l)) h.0.0 ((Decides-ltb (digits_value 10 (x ∷ l)) (2 ^ 32)).1 h.0.2)
-index_by (x ∷ l) (Err e) h =
-    left_out (all_ascii_digits (x ∷ l)) (ltb (digits_value 10 (x ∷ l)) (2 ^ 32)) (digits_value 10 (x ∷ l)) (λ d s. h (d, omega arith, (Decides-ltb (digits_value 10 (x ∷ l)) (2 ^ 32)).0 s))
-
--- what `parse` answers of a literal without a plus sign in front is its index
-pub index_parsed : {E : Type 0} (bs : List ℕ) (r : Result ℕ E) → ParsesUnsigned 32 10 bs r → get_or bs 0 0 ≢ 43 → result_ok r ≡ index_in bs
-index_parsed bs r h n = index_by bs r (parse_plain own 32 bs r h n)
-
-pub first_is : (bs : List ℕ) (r : Bool) → r ≡ eqb (get_or bs 0 0) 43 → r ≡ true → get_or bs 0 0 ≡ 43
-first_is bs r e f = grind (arith, nat_tests)
-
-pub first_is_not : (bs : List ℕ) (r : Bool) → r ≡ eqb (get_or bs 0 0) 43 → r ≡ false → get_or bs 0 0 ≢ 43
-first_is_not bs r e f = grind (arith, nat_tests)
-
--- no index begins with a plus sign
-pub no_index : (bs : List ℕ) → get_or bs 0 0 ≡ 43 → None ≡ index_in bs
-no_index [] e = refl
-no_index (x ∷ l) e = rw e refl
 
 -- ---- one element after another
 

@@ -1,14 +1,11 @@
--- Laws of the words: they ask for one command alone, whose edits are proper, and fewer than a word has bytes.
-use Rattle.std.proofs.Common.{◌≡◌, ℕ, suc, ◌^◌, ◌<◌, ◌≤◌, List, [], ◌∷◌, length, Bool, true, false, cond, Option, Some, None, option_map, option_to_list, filter, refl, sym, subst, ap, ◌∙◌, arith, IsUtf8}
+-- Laws of the words: they ask for one command alone, and for fewer edits than a word has bytes.
+use Rattle.std.proofs.Common.{◌≡◌, ℕ, suc, ◌^◌, ◌<◌, ◌≤◌, List, [], ◌∷◌, length, Bool, true, false, cond, Option, Some, None, option_to_list, filter, refl, sym, subst, ap, ◌∙◌, arith}
 use Rattle.json_grammar.specs.Tree.{Tree, null, boolean, num, text, list, pairs, Trees, no_trees, tree_and, trees_list}
-use Rattle.json_grammar.specs.Proper.{IsProper, AreProper}
 use Rattle.json_grammar.specs.Sizes.{nodes, trees_nodes}
-use Rattle.json_grammar.proofs.Texts.{text_proper}
 use Rattle.json_grammar.proofs.Values.{one_tree}
 use Rattle.json_grammar.proofs.Sizes.{text_fits, nodes_some}
-use Rattle.json_doc.specs.Readings.{string_of}
-use Rattle.json_model.specs.Edit.{Step, Edit, set_at, insert_at, push_at, remove_at, IsProperEdit, AreProperEdits}
-use Rattle.reshape.specs.Words.{both, each_in, step_in, path_in, edit_named, edit_in, edits_in, Spells, AsksEdits}
+use Rattle.json_model.specs.Edit.{Edit}
+use Rattle.reshape.specs.Words.{both, each_in, edit_in, edits_in, Spells, AsksEdits}
 use Rattle.reshape.specs.Options.{is_edits_word, Command, Asks}
 
 same_some : {A : Type 0} {x y : A} → Some x ≡ Some y → x ≡ y
@@ -65,85 +62,6 @@ both_are : {A B C : Type 0} (f : A → B → C) (a : Option A) (b : Option B) (c
 both_are f (Some x) (Some y) c e = record { left = x; right = y; left_is = refl; right_is = refl; made = sym (same_some e) }
 both_are f (Some x) None c e = absurd (none_some e)
 both_are f None b c e = absurd (none_some e)
-
-mapped : {A B : Type 0} (f : A → B) (a : Option A) (b : B) → option_map f a ≡ Some b → (x : A) × (b ≡ f x)
-mapped f (Some x) b e = (x, sym (same_some e))
-mapped f None b e = absurd (none_some e)
-
--- ---- proper edits
-
--- what is known of each edit that stands in proper trees
-abbrev Proper : Edit → Option Edit → Type 0
-Proper e o = o ≡ Some e → IsProperEdit e
-
-from_path : (f : List Step → Edit) (o : Option (List Step)) (e : Edit) → ((s : List Step) → IsProperEdit (f s)) → Proper e (option_map f o)
-from_path f o e h i = let m = mapped f o e i in subst IsProperEdit (sym m.1) (h m.0)
-
-removal_proper : (p : Option (List Step)) (s : Option Step) (e : Edit) → Proper e (both remove_at p s)
-removal_proper p s e i = let b = both_are remove_at p s e i in subst IsProperEdit (sym b.made) tt
-
-if_proper : (b : Bool) (x y : Option Edit) (e : Edit) → Proper e x → Proper e y → Proper e (cond b x y)
-if_proper true x y e h k = h
-if_proper false x y e h k = k
-
--- trees in a row are proper
-abbrev AllProper : List Tree → Type 0
-AllProper [] = Unit {0}
-AllProper (t ∷ ts) = IsProper t × AllProper ts
-
-all_proper : (ts : Trees) → AreProper ts → AllProper (trees_list ts)
-all_proper no_trees h = tt
-all_proper (tree_and t ts) h = (h.0, all_proper ts h.1)
-
-none_proper : (e : Edit) → Proper e None
-none_proper e i = absurd (none_some i)
-
-text_utf8 : (t : Tree) (k : List ℕ) → IsProper t → string_of t ≡ Some k → IsUtf8 k
-text_utf8 (text s) k h e = subst IsUtf8 (same_some e) h
-text_utf8 null k h e = absurd (none_some e)
-text_utf8 (boolean b) k h e = absurd (none_some e)
-text_utf8 (num l) k h e = absurd (none_some e)
-text_utf8 (list ts) k h e = absurd (none_some e)
-text_utf8 (pairs ps) k h e = absurd (none_some e)
-
-insertion_proper : (p : Option (List Step)) (t u : Tree) (e : Edit) → IsProper t → IsProper u → Proper e (both (λ s k. insert_at s k u) p (string_of t))
-insertion_proper p t u e h k i =
-    let b = both_are (λ s k. insert_at s k u) p (string_of t) e i in subst IsProperEdit (sym b.made) (text_utf8 t b.right h b.right_is, k)
-
-named_proper : (name : List ℕ) (ts : List Tree) (e : Edit) → AllProper ts → Proper e (edit_named name ts)
-named_proper name [] e h = none_proper e
-named_proper name (p ∷ []) e h = none_proper e
-named_proper name (p ∷ u ∷ []) e h =
-    if_proper _ _ _ e (from_path (λ s. set_at s u) (path_in p) e (λ s. h.1.0))
-    (if_proper _ _ _ e (from_path (λ s. push_at s u) (path_in p) e (λ s. h.1.0)) (if_proper _ _ _ e (removal_proper (path_in p) (step_in u) e) (none_proper e)))
-named_proper name (p ∷ k ∷ u ∷ []) e h = if_proper _ _ _ e (insertion_proper (path_in p) k u e h.1.0 h.1.1.0) (none_proper e)
-named_proper name (p ∷ k ∷ u ∷ t ∷ ts) e h = none_proper e
-
-edit_proper : (t : Tree) (e : Edit) → IsProper t → Proper e (edit_in t)
-edit_proper (list (tree_and (text name) ts)) e h = named_proper name (trees_list ts) e (all_proper ts h.1)
-edit_proper t e h = none_proper e
-
-each_proper : (ts : List Tree) (es : List Edit) → AllProper ts → each_in edit_in ts ≡ Some es → AreProperEdits es
-each_proper [] es h e = subst AreProperEdits (same_some e) tt
-each_proper (t ∷ ts) es h e =
-    let b = both_are (λ x xs. x ∷ xs) (edit_in t) (each_in edit_in ts) es e in
-    subst AreProperEdits (sym b.made) (edit_proper t b.left h.0 b.left_is, each_proper ts b.right h.1 b.right_is)
-
-edits_proper : (t : Tree) (es : List Edit) → IsProper t → edits_in t ≡ Some es → AreProperEdits es
-edits_proper (list ts) es h e = each_proper (trees_list ts) es (all_proper ts h) e
-edits_proper null es h e = absurd (none_some e)
-edits_proper (boolean b) es h e = absurd (none_some e)
-edits_proper (num l) es h e = absurd (none_some e)
-edits_proper (text s) es h e = absurd (none_some e)
-edits_proper (pairs ps) es h e = absurd (none_some e)
-
-list_proper : (words : List (List ℕ)) (es : List Edit) → AsksEdits words es → AreProperEdits es
-list_proper [] es h = subst AreProperEdits (sym h) tt
-list_proper (w ∷ []) es h = edits_proper h.tree es (text_proper false h.tree w h.input.text) h.edits
-list_proper (w ∷ v ∷ ws) es h = absurd h
-
-pub asked_proper : (words : List (List ℕ)) (c : Command) → Asks words c → AreProperEdits c.es
-asked_proper words c h = list_proper (filter is_edits_word words) c.es h.edits
 
 -- ---- few edits
 

@@ -1,5 +1,5 @@
 -- What becomes of a source and a sink: a text comes in, and the text of the edited tree goes out.
-use Rattle.std.specs.Prelude.{Bool, Option, cond, ◌≡◌, ◌⊎◌, ℕ, ◌+◌, ◌<◌, List, length, ⊤, None, IfSome, false, Ok, Err}
+use Rattle.std.specs.Prelude.{Bool, Option, cond, ◌≡◌, ◌⊎◌, ℕ, ◌+◌, ◌<◌, List, length, ⊤, IfSome, false, Ok, Err}
 use Rattle.json_grammar.specs.Tree.{Tree}
 use Rattle.json_grammar.specs.Grammar.{is_text}
 use Rattle.json_model.specs.Sort.{sorted}

@@ -1,8 +1,7 @@
 -- The edits that an edits word spells.
-use Rattle.std.specs.Prelude.{◌≡◌, ◌⊎◌, ℕ, ◌^◌, nat_lt, ◌&&◌, List, [], ◌∷◌, Option, Some, None, cond, bytes_eq, codes, option_map}
-use Rattle.std.specs.Str.{all_ascii_digits}
-use Rattle.std.specs.Str.Parse.{digits_value}
+use Rattle.std.specs.Prelude.{◌≡◌, ◌⊎◌, ℕ, ◌^◌, ℤ, pos, negsuc, nat_lt, List, [], ◌∷◌, Option, Some, None, cond, bytes_eq, codes, option_map, option_and_then}
 use Rattle.json_grammar.specs.Tree.{Tree, num, text, list, tree_and, trees_list}
+use Rattle.json_number.specs.Integers.{integer_in}
 use Rattle.json_doc.specs.Readings.{string_of}
 use Rattle.json_text.specs.declared.error.Error.{Error}
 use Rattle.json_text.specs.Errors.{no_memory, bad_words}
@@ -19,15 +18,15 @@ abbrev pub each_in : {A : Type 0} → (Tree → Option A) → List Tree → Opti
 each_in f [] = Some []
 each_in f (t ∷ ts) = both (λ x xs. x ∷ xs) (f t) (each_in f ts)
 
--- the index that a literal spells: digits alone, and below 2^32
-abbrev pub index_in : List ℕ → Option ℕ
-index_in [] = None
-index_in (x ∷ l) = cond (all_ascii_digits (x ∷ l) && nat_lt (digits_value 10 (x ∷ l)) (2 ^ 32)) (Some (digits_value 10 (x ∷ l))) None
+-- the index that an integer is: from 0 on, and below 2^32
+abbrev pub index_of : ℤ → Option ℕ
+index_of (pos n) = cond (nat_lt n (2 ^ 32)) (Some n) None
+index_of (negsuc n) = None
 
--- a step: a text is a key, and a number an index
+-- a step: a text is a key, and an integer by value an index
 abbrev pub step_in : Tree → Option Step
 step_in (text s) = Some (key_step s)
-step_in (num l) = option_map index_step (index_in l)
+step_in (num l) = option_map index_step (option_and_then index_of (integer_in l))
 step_in _ = None
 
 -- a path: a list of steps

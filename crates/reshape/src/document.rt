@@ -1,6 +1,5 @@
 // The document of a source's text.
 ghost use Rattle.std.specs.Prelude.{◌+◌, ◌<◌, IfOk, IfErr, IsErrOf};
-ghost use Rattle.json_grammar.specs.Proper.{IsProper};
 ghost use Rattle.json_text.specs.Errors.{reading_failed};
 ghost use Rattle.json_text.specs.Transfer.{TakesAtMost};
 ghost use Rattle.json_doc.specs.Docs.{doc_root, doc_tree};
@@ -19,7 +18,6 @@ const MOST: usize = 4_294_967_295;
 /// `InvalidUTF8` and each fault of the grammar at its place, and `NoMemory`.
 pub fn read<S: Source>(alloc: Global, source: &mut S) -> Result<Rc<Doc>>
     ensures read { IfOk result (λ d. Reads (S.state source.old) (S.state source.new) (doc_tree d.value (doc_root d.value))) }
-    ensures proper { IfOk result (λ d. IsProper (doc_tree d.value (doc_root d.value))) }
     ensures refused { IfErr result (λ e. ReadingRefuses (S.state source.old) (S.state source.new) e.code e.place) }
     ensures taken { TakesAtMost (most + 1) (S.state source.old) (S.state source.new) }
     ensures told { (S.state source.old).faults < (S.state source.new).faults → IsErrOf result reading_failed }

@@ -1,6 +1,5 @@
 // From the bytes of a source to the bytes of a sink.
 ghost use Rattle.std.specs.Prelude.{◌+◌, ◌<◌, ◌^◌, length, map, OnOk, IfErr, IsErrOf};
-ghost use Rattle.json_model.specs.Edit.{AreProperEdits};
 ghost use Rattle.json_value.specs.Edits.{edit_of};
 ghost use Rattle.json_text.specs.Errors.{reading_failed, writing_failed};
 ghost use Rattle.json_text.specs.Transfer.{TakesAtMost};
@@ -18,8 +17,7 @@ use std::alloc::Global;
 /// Reads all of the source, applies the edits in turn, and writes its text in the style, flushed. Answers each
 /// refusal of the reader at its place in the input, `TooLarge` past 4,294,967,295 bytes, `NotFound` and `TypeUnmatched` with the
 /// number of the first edit that does not apply, `Io` where the source or the sink failed, and `NoMemory`. Before the whole
-/// input was found to be a text and every edit was applied nothing is written. There are fewer than 2^32 edits, and the texts
-/// and literals that they put in are UTF-8 and numbers.
+/// input was found to be a text and every edit was applied nothing is written. There are fewer than 2^32 edits.
 pub fn reshape<S: Source, K: Sink>(
     alloc: Global,
     source: &mut S,
@@ -28,7 +26,6 @@ pub fn reshape<S: Source, K: Sink>(
     style: Style<'_>,
 ) -> Result<()>
     requires few { length edits.now < 2 ^ 32 }
-    requires proper { AreProperEdits (map edit_of edits.now) }
     ensures done { OnOk result (Reshapes (map edit_of edits.now) (layout_of style.entry) (S.state source.old) (S.state source.new) (K.state sink.old) (K.state sink.new)) }
     ensures refused { IfErr result (λ e. Refuses (map edit_of edits.now) (layout_of style.entry) (S.state source.old) (S.state source.new) (K.state sink.old) (K.state sink.new) e.code e.place) }
     ensures taken { TakesAtMost (most + 1) (S.state source.old) (S.state source.new) }

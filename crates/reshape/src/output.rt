@@ -1,6 +1,5 @@
 // The text of a value's tree, written to a sink.
 ghost use Rattle.std.specs.Prelude.{◌≡◌, ℕ, List, Option, None, false, IfOk, IfErr};
-ghost use Rattle.json_grammar.specs.Proper.{IsProper};
 ghost use Rattle.json_text.specs.Errors.{no_memory};
 ghost use Rattle.json_print.specs.Layouts.{LaidOut};
 ghost use Rattle.json_print.specs.Printer.{start};
@@ -32,7 +31,6 @@ fn formatted<F: Formatter + Drop>(
     formatter: F,
 ) -> Result<Vec<u8>>
     requires fresh { F.fresh formatter }
-    requires proper { IsProper (tree_of value.now) }
     ensures text { (indent : Option (List ℕ)) → LaidOut (record { piece = F.piece; next = F.next }) formatter indent 0 false
         → IfOk result (λ v. v.items ≡ shown_as indent sorted (tree_of value.now)) }
     ensures only { IfErr result (λ e. e ≡ no_memory) }
@@ -43,7 +41,6 @@ fn formatted<F: Formatter + Drop>(
 }
 
 fn text_of(alloc: Global, value: &Value, style: Style<'_>) -> Result<Vec<u8>>
-    requires { IsProper (tree_of value.now) }
     ensures text { IfOk result (λ v. v.items ≡ printed style.entry (tree_of value.now)) }
     ensures only { IfErr result (λ e. e ≡ no_memory) }
 {
@@ -65,7 +62,6 @@ fn put_and_flush<K: Sink>(sink: &mut K, text: &[u8]) -> Result<()>
 
 /// Writes the text of the value's tree in the style, and flushes the sink. Nothing is written before the whole text is there.
 pub fn print<K: Sink>(alloc: Global, value: &Value, style: Style<'_>, sink: &mut K) -> Result<()>
-    requires { IsProper (tree_of value.now) }
     ensures { Prints (K.state sink.old) (K.state sink.new) (printed style.entry (tree_of value.now)) result }
 {
     let text = text_of(alloc, value, style)?;

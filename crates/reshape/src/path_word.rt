@@ -1,10 +1,12 @@
 // Steps and paths, as a tree spells them.
 ghost use Rattle.std.specs.Prelude.{◌≡◌, IfOk, IfErr, Some};
+ghost use Rattle.json_number.specs.Numbers.{value_of};
 ghost use Rattle.json_doc.specs.Seen.{view_tree};
 ghost use Rattle.json_value.specs.Edits.{step_of, path_steps};
-ghost use Rattle.reshape.specs.Words.{index_in, step_in, path_in, Unread};
+ghost use Rattle.reshape.specs.Words.{index_of, step_in, path_in, Unread};
 
 use json_doc::{DocView, JsonType};
+use json_number::{JsonNumberTrait, Number};
 use json_text::{Error, ErrorCode, Place, Result};
 use json_value::{Path, PointerNode, Text};
 use std::alloc::Global;
@@ -15,18 +17,11 @@ pub const BAD_WORDS: Error = Error {
     place: Place::None,
 };
 
-// The index that a literal spells; none where it has other bytes than digits, or is 2^32 or more.
-fn read_index(literal: &str) -> Option<u32>
-    ensures { result ≡ index_in literal.now }
+// The index that an integer is; none below 0, and from 2^32 on.
+fn read_index(number: Number) -> Option<u32>
+    ensures { result ≡ index_of (value_of number) }
 {
-    // `parse` would take a plus sign.
-    if literal.starts_with('+') {
-        return None;
-    }
-    match literal.parse::<u32>() {
-        Ok(index) => Some(index),
-        Err(_) => None,
-    }
+    u32::try_from(number.as_u64()?).ok()
 }
 
 /// The step that is seen: a key or an index. `BadWords` where it is neither, and `NoMemory`.
@@ -38,8 +33,8 @@ pub fn read_step(alloc: Global, view: DocView<'_>) -> Result<PointerNode>
         let key = Text::copy(alloc, key)?;
         return Ok(PointerNode::Key(key));
     }
-    if let Some(literal) = view.literal() {
-        if let Some(index) = read_index(literal) {
+    if let Some(number) = view.as_number() {
+        if let Some(index) = read_index(number) {
             return Ok(PointerNode::Index(index as usize));
         }
     }

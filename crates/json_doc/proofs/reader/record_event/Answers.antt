@@ -1,13 +1,13 @@
 use Rattle.std.proofs.Common.{length}
 use Rattle.json_grammar.specs.declared.Kind.TheVariants.{Array as array, Object as object}
-use Rattle.json_grammar.specs.Tree.{null_token, boolean_token, num_token, text_token, key_token, begin, end}
+use Rattle.json_grammar.specs.Tree.{null_token, boolean_token, text_token, key_token, begin, end}
 use Rattle.json_text.specs.declared.event.Event.TheVariants as event
-use Rattle.json_doc.proofs.Following.{means_at, held_of, follows_event}
+use Rattle.json_doc.proofs.Following.{means_at, held_of, follows_event, follows_number}
 use Rattle.json_doc.proofs.Numeric.{same_event_number}
 use Rattle.json_doc.proofs.reader.record_event.Goals as goal
 
-pub visit_raw_number-requires-clause-number : goal.visit_raw_number-requires-clause-number
-visit_raw_number-requires-clause-number c = same_event_number c.args.event (event.Number c.in-Number.literal) c.in-Number.is c.requires.number
+pub record_number-requires-clause-number : goal.record_number-requires-clause-number
+record_number-requires-clause-number c = same_event_number c.args.event (event.Number c.in-Number.literal) c.in-Number.is c.requires.number
 
 pub returns-in-Null-clause-follows : goal.returns-in-Null-clause-follows
 returns-in-Null-clause-follows c x ts means f b h =
@@ -20,9 +20,7 @@ returns-in-Bool-clause-follows c x ts means f b h =
     follows_event c.args.event (event.Bool c.in-Bool.b) c.args.visitor.now c.visit_bool.new.self (boolean_token c.in-Bool.b) x 0 c.visit_bool.result ts c.in-Bool.is (means_at c.args.event (event.Bool c.in-Bool.b) x c.in-Bool.is means) q.answer q.state q.held f b h
 
 pub returns-in-Number-clause-follows : goal.returns-in-Number-clause-follows
-returns-in-Number-clause-follows c x ts means f b h =
-    let q = c.visit_raw_number.ensures in
-    follows_event c.args.event (event.Number c.in-Number.literal) c.args.visitor.now c.visit_raw_number.new.self (num_token c.in-Number.literal.now) x (length c.in-Number.literal.now) c.visit_raw_number.result ts c.in-Number.is (means_at c.args.event (event.Number c.in-Number.literal) x c.in-Number.is means) q.answer q.state q.held f b h
+returns-in-Number-clause-follows c x ts means f b h = follows_number c.args.event c.in-Number.literal c.args.visitor.now c.record_number.new.visitor x ts c.in-Number.is means (c.record_number.ensures.follows ts f) b h
 
 pub returns-in-BeginArray-clause-follows : goal.returns-in-BeginArray-clause-follows
 returns-in-BeginArray-clause-follows c x ts means f b h =

@@ -1,15 +1,12 @@
-use Rattle.std.proofs.Common.{◌≡◌, ◌+◌, List, [], ◌∷◌, ◌++◌, length, map, sym, ap, subst, ◌∙◌, arith, rules, refl, append_assoc}
+use Rattle.std.proofs.Common.{[], ◌∷◌, ◌++◌, map, sym, ap, ◌∙◌, arith, refl, append_assoc}
 use Rattle.std.proofs.lemmas.Result.{err_from_is_err_and}
 use Rattle.json_grammar.specs.declared.Kind.TheVariants.{Array as array, Object as object}
 use Rattle.json_grammar.specs.Tree.{begin, end, key_token, num_token, text_token, tokens}
-use Rattle.json_grammar.specs.Proper.{IsProper}
 use Rattle.json_grammar.specs.Sizes.{nodes}
-use Rattle.json_print.specs.Taking.{after_all}
 use Rattle.json_value.specs.Denotes.{tree_of, pair_of}
-use Rattle.json_value.specs.declared.container.Form.TheVariants.{Empty, Owned, Packed}
 use Rattle.json_value.proofs.Turns.{after_append}
-use Rattle.json_value.proofs.Emitting.{emits_one, emits_refused, emits_last, emits_same, stops_one, stops_within, array_tokens, array_around, array_whole, array_front, array_stand, array_step, object_tokens, object_around, object_whole, object_front, object_stand, object_step, member_stand, value_proper, element_proper, value_within, element_within}
-use Rattle.json_value.proofs.WholeTrees.{null_in, bool_in, literal_in, text_in, array_there, object_there, item_there, items_end, key_of_item, tree_of_item}
+use Rattle.json_value.proofs.Emitting.{emits_one, emits_refused, emits_last, emits_same, stops_one, stops_within, array_tokens, array_around, array_whole, array_front, array_stand, array_step, object_tokens, object_around, object_whole, object_front, object_stand, object_step, member_stand, value_within, element_within}
+use Rattle.json_value.proofs.WholeTrees.{null_in, bool_in, number_in, literal_in, text_in, array_there, object_there, item_there, items_end, key_of_item, tree_of_item}
 use Rattle.json_value.proofs.emit.+value.Goals as goal
 
 pub emit_value-returns-in-Null : goal.emit_value-returns-in-Null
@@ -18,8 +15,11 @@ emit_value-returns-in-Null g t c = emits_one _ _ _ _ _ _ _ _ _ c.requires.fresh 
 pub emit_value-returns-in-Bool : goal.emit_value-returns-in-Bool
 emit_value-returns-in-Bool g t c = emits_one _ _ _ _ _ _ _ _ _ c.requires.fresh (ap tokens (bool_in _ _ c.in-Bool.is)) c.boolean.ensures
 
+pub emit_value-returns-in-Number : goal.emit_value-returns-in-Number
+emit_value-returns-in-Number g t c = emits_same _ _ _ _ _ _ _ _ (sym (number_in _ c.in-Number.number c.in-Number.is)) c.emit_number.ensures
+
 pub emit_value-returns-in-Raw : goal.emit_value-returns-in-Raw
-emit_value-returns-in-Raw g t c = emits_one _ _ _ _ _ _ _ _ _ c.requires.fresh (ap tokens (literal_in _ c.in-Raw.literal c.in-Raw.is) ∙ ap (λ s. num_token s ∷ []) (sym c.as_str.ensures)) c.raw_number.ensures
+emit_value-returns-in-Raw g t c = emits_one _ _ _ _ _ _ _ _ _ c.requires.fresh (ap tokens (literal_in _ c.in-Raw.literal c.in-Raw.is) ∙ ap (λ s. num_token s ∷ []) (sym c.as_str.ensures.literal)) c.raw_number.ensures
 
 pub emit_value-returns-in-Text : goal.emit_value-returns-in-Text
 emit_value-returns-in-Text g t c = emits_one _ _ _ _ _ _ _ _ _ c.requires.fresh (ap tokens (text_in _ c.in-Text.text c.in-Text.is) ∙ ap (λ s. text_token s ∷ []) (sym c.as_str-in-Text.ensures)) c.text.ensures
@@ -33,12 +33,12 @@ emit_value-returns-in-Owned-form g t c = emits_same _ _ _ _ _ _ _ _ (sym (object
 pub emit_value-emit_values-requires : goal.emit_value-emit_values-requires
 emit_value-emit_values-requires g t c κs within =
     let e = array_there _ c.in-Array.array _ c.in-Array.is c.in-Owned.is in
-    (omega (arith, ap nodes e), (within, (c.requires.fresh, (c.requires.turn, subst IsProper e c.requires.proper))))
+    (omega (arith, ap nodes e), (within, (c.requires.fresh, c.requires.turn)))
 
 pub emit_value-emit_pairs-requires : goal.emit_value-emit_pairs-requires
 emit_value-emit_pairs-requires g t c κs within =
     let e = object_there _ c.in-Object.object _ c.in-Object.is c.in-Owned-form.is in
-    (omega (arith, ap nodes e), (within, (c.requires.fresh, (c.requires.turn, subst IsProper e c.requires.proper))))
+    (omega (arith, ap nodes e), (within, (c.requires.fresh, c.requires.turn)))
 
 pub emit_values-returns-in_err-begin_array : goal.emit_values-returns-in_err-begin_array
 emit_values-returns-in_err-begin_array g t c =
@@ -50,7 +50,7 @@ emit_values-emit_value-requires g t c κs within =
     let xs = c.args.values.now.items in let i = c.loop-value.value-index in let u = tree_of c.value-item.result in
     let e = item_there tree_of _ xs i c.value-item.result c.deref-value-items.ensures.value c.loop-value-test.true c.value-item.is in (
       omega (arith, element_within (map tree_of xs) i u e),
-      (within, (c.loop-value.invariant.1, ((array_stand g.E.Events.after g.E.Events.stand g.met.E.Events.moves _ _ (map tree_of xs) i c.loop-value.invariant.0).0, element_proper (map tree_of xs) i u c.requires.proper e))),
+      (within, (c.loop-value.invariant.1, (array_stand g.E.Events.after g.E.Events.stand g.met.E.Events.moves _ _ (map tree_of xs) i c.loop-value.invariant.0).0)),
     )
 
 pub emit_values-returns-in_err-emit_value : goal.emit_values-returns-in_err-emit_value
@@ -95,7 +95,7 @@ pub emit_pairs-emit_value-requires : goal.emit_pairs-emit_value-requires
 emit_pairs-emit_value-requires g t c κs within =
     let xs = c.args.values.now.items in let ps = map pair_of xs in let i = c.loop-pair.pair-index in let u = tree_of c.pair-item.result.value in
     let e = tree_of_item ps i c.pair-item.result (item_there pair_of _ xs i c.pair-item.result c.deref-pair-items.ensures.value c.loop-pair-test.true c.pair-item.is) in
-    (omega (arith, value_within ps i u e), (within, (c.in_ok-key.ensures.fresh, (member_stand g.E.Events.after g.E.Events.stand g.met.E.Events.moves _ _ c.as_str.result.now c.in_ok-key.ensures.ok, value_proper ps i u c.requires.proper e))))
+    (omega (arith, value_within ps i u e), (within, (c.in_ok-key.ensures.fresh, member_stand g.E.Events.after g.E.Events.stand g.met.E.Events.moves _ _ c.as_str.result.now c.in_ok-key.ensures.ok)))
 
 pub emit_pairs-returns-in_err-emit_value : goal.emit_pairs-returns-in_err-emit_value
 emit_pairs-returns-in_err-emit_value g t c =

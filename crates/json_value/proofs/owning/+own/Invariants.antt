@@ -1,22 +1,26 @@
-use Rattle.std.proofs.Common.{◌≡◌, ◌+◌, ◌*◌, map, take}
-use Rattle.json_grammar.specs.Sizes.{nodes}
-use Rattle.json_doc.specs.Readings.{elements}
+use Rattle.std.proofs.Common.{◌≡◌, ◌+◌, ◌*◌, ◌++◌, map}
+use Rattle.json_grammar.specs.Sizes.{nodes, trees_nodes, pairs_nodes}
+use Rattle.json_grammar.specs.Tree.{list_trees, list_pairs}
+use Rattle.json_doc.specs.Left.{children_left, pairs_left}
 use Rattle.json_doc.specs.Seen.{view_tree}
 use Rattle.json_value.specs.Denotes.{tree_of, pair_of}
-use Rattle.json_value.specs.Readings.{members}
 use Rattle.json_value.proofs.owning.+own.Given as goal
 
 abbrev pub decreases-own_document : goal.decreases-own_document
 decreases-own_document l = 2 * nodes (view_tree l.view) + 1
 
-abbrev pub decreases-own_elements : goal.decreases-own_elements
-decreases-own_elements l = 2 * nodes (view_tree l.view)
+abbrev pub decreases-own_children : goal.decreases-own_children
+decreases-own_children l = 2 * trees_nodes (list_trees (children_left l.children)) + 2
 
 abbrev pub decreases-own_members : goal.decreases-own_members
-decreases-own_members l = 2 * nodes (view_tree l.view)
+decreases-own_members l = 2 * pairs_nodes (list_pairs (pairs_left l.members)) + 2
 
-abbrev pub invariant-own_elements-loop-i : goal.invariant-own_elements-loop-i
-invariant-own_elements-loop-i l = map tree_of l.list.items ≡ take l.i (elements (view_tree l.fn.view))
+abbrev pub invariant-own_children-loop-child : goal.invariant-own_children-loop-child
+invariant-own_children-loop-child l =
+    (goal.iterator-own_children-loop-child).can_next l.child-iterator × (goal.iterator-own_children-loop-child).is_finite l.child-iterator
+    × (map tree_of l.list.items ++ children_left l.child-iterator ≡ children_left l.fn.children)
 
-abbrev pub invariant-own_members-loop-i : goal.invariant-own_members-loop-i
-invariant-own_members-loop-i l = map pair_of l.list.items ≡ take l.i (members (view_tree l.fn.view))
+abbrev pub invariant-own_members-loop-key : goal.invariant-own_members-loop-key
+invariant-own_members-loop-key l =
+    (goal.iterator-own_members-loop-key).can_next l.key-iterator × (goal.iterator-own_members-loop-key).is_finite l.key-iterator
+    × (map pair_of l.list.items ++ pairs_left l.key-iterator ≡ pairs_left l.fn.members)

@@ -1,6 +1,6 @@
 use Rattle.std.proofs.Common.{◌∙◌, sym, subst, IsUtf8}
 use Rattle.std.proofs.lemmas.Result.{err_from_is_err_and, IfOk-weaker, IfErr-weaker}
-use Rattle.reshape.proofs.Documents.{utf8_refused, text_refused, doc_reads, doc_proper}
+use Rattle.reshape.proofs.Documents.{utf8_refused, text_refused, doc_reads}
 use Rattle.reshape.proofs.document.read.Goals as goal
 
 pub returns-in_err-text-clause-refused : goal.returns-in_err-text-clause-refused
@@ -10,9 +10,6 @@ returns-in_err-text-clause-refused g c =
 
 pub returns-clause-read : goal.returns-clause-read
 returns-clause-read g c = IfOk-weaker c.read_document.result _ _ (λ d. doc_reads _ _ _ _ d.value c.in_ok-bytes.ensures.bytes (c.in_ok-text.ensures.same ∙ c.deref.ensures.value)) c.read_document.ensures.ok
-
-pub returns-clause-proper : goal.returns-clause-proper
-returns-clause-proper g c = IfOk-weaker c.read_document.result _ _ (λ d. doc_proper _ d.value) c.read_document.ensures.ok
 
 pub returns-clause-refused : goal.returns-clause-refused
 returns-clause-refused g c =

@@ -1,18 +1,15 @@
 use Rattle.std.proofs.Common.{map}
 use Rattle.std.proofs.lemmas.Result.{IfErr-weaker}
 use Rattle.json_value.specs.Edits.{edit_of}
+use Rattle.json_value.proofs.ProperValues.{value_proper}
 use Rattle.reshape.specs.Reshape.{layout_of}
-use Rattle.reshape.proofs.Documents.{applied_to, changed_proper, reshaped, printing_refused}
+use Rattle.reshape.proofs.Documents.{applied_to, reshaped, printing_refused}
 use Rattle.reshape.proofs.engine.reshape.Goals as goal
-
-pub print-requires : goal.print-requires
-print-requires g c =
-    changed_proper (map edit_of c.args.edits.now) _ _ c.requires.proper c.in_ok-doc.ensures.proper (applied_to (map edit_of c.args.edits.now) c.in_ok-doc.doc.value _ _ _ _ c.in_ok-value.ensures.tree c.root.ensures.place c.deref.ensures c.in_ok-apply_all.ensures.ok)
 
 pub returns-clause-done : goal.returns-clause-done
 returns-clause-done g c =
     let applied = applied_to (map edit_of c.args.edits.now) c.in_ok-doc.doc.value _ _ _ _ c.in_ok-value.ensures.tree c.root.ensures.place c.deref.ensures c.in_ok-apply_all.ensures.ok in
-    reshaped (map edit_of c.args.edits.now) (layout_of c.args.style) _ _ _ _ _ _ c.print.result c.in_ok-doc.ensures.read c.args.style.whitespace (changed_proper (map edit_of c.args.edits.now) _ _ c.requires.proper c.in_ok-doc.ensures.proper applied) applied c.print.ensures.ok c.print.ensures.flushed
+    reshaped (map edit_of c.args.edits.now) (layout_of c.args.style) _ _ _ _ _ _ c.print.result c.in_ok-doc.ensures.read c.args.style.whitespace (value_proper c.apply_all.new.value) applied c.print.ensures.ok c.print.ensures.flushed
 
 pub returns-clause-refused : goal.returns-clause-refused
 returns-clause-refused g c =

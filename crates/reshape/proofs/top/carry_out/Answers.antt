@@ -1,12 +1,8 @@
 use Rattle.std.proofs.Common.{sym, ap, subst, length, ◌<◌, ◌^◌, ◌∙◌}
 use Rattle.std.proofs.lemmas.List.{length-map}
-use Rattle.json_model.specs.Edit.{AreProperEdits}
 use Rattle.json_value.specs.Edits.{edit_of}
-use Rattle.reshape.proofs.Wording.{asked_few, asked_proper}
+use Rattle.reshape.proofs.Wording.{asked_few}
 use Rattle.reshape.proofs.top.carry_out.Goals as goal
 
-pub reshape-requires-clause-few : goal.reshape-requires-clause-few
-reshape-requires-clause-few g c = subst (λ n. n < 2 ^ 32) (ap length (sym c.edits.ensures) ∙ length-map c.edits.result.now edit_of) (asked_few _ _ c.in_ok-asked.ensures.ok)
-
-pub reshape-requires-clause-proper : goal.reshape-requires-clause-proper
-reshape-requires-clause-proper g c = subst AreProperEdits (sym c.edits.ensures) (asked_proper _ _ c.in_ok-asked.ensures.ok)
+pub reshape-requires : goal.reshape-requires
+reshape-requires g c = record { few = subst (λ n. n < 2 ^ 32) (ap length (sym c.edits.ensures) ∙ length-map c.edits.result.now edit_of) (asked_few _ _ c.in_ok-asked.ensures.ok) }

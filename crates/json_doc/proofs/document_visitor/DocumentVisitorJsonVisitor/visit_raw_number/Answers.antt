@@ -1,7 +1,7 @@
-use Rattle.json_doc.proofs.Holding.{held_same, held_num}
+use Rattle.json_doc.proofs.Holding.{held_same, held_raw}
 use Rattle.json_doc.proofs.document_visitor.DocumentVisitorJsonVisitor.visit_raw_number.Goals as goal
 
 pub returns-clause-held : goal.returns-clause-held
 returns-clause-held c ts h b =
     let s = c.args.self.now in
-    held_same _ _ _ _ _ _ _ _ _ (cc) (cc) (cc) (cc) (held_num s.front.items s.done.items s.text.items s.parent ts c.args.literal.now c.utf8.literal c.requires.number h b)
+    held_same _ _ _ _ _ _ _ _ _ (cc) (cc) (cc) (cc) (held_raw s.front.items s.done.items s.text.items s.parent ts c.args.literal.now c.utf8.literal c.requires.number c.requires.raw h b)

@@ -1,0 +1,49 @@
+// Strings by std's formatting.
+ghost use Rattle.std.specs.Prelude.{◌≡◌, Some};
+ghost use Rattle.std.specs.Fmt.{WritesOnOk};
+ghost use Rattle.json_model.specs.Print.{quoted, shown_byte, shown_bytes};
+ghost use Rattle.json_text.specs.Runs.{IsPlain};
+
+use crate::escape::short_escape;
+use json_text::plain_run;
+use std::fmt;
+
+/// Writes the characters as a JSON string, between quotes and escaped as the formatters do (RFC 8259, section 7).
+#[derive(Clone, Copy)]
+pub struct Quoted<'a>(pub &'a str);
+
+impl fmt::Display for Quoted<'_> {
+    ghost output = { λ q. Some (quoted q.0.now) };
+
+    fn fmt<W: fmt::Write>(&self, f: &mut fmt::Formatter<W>) -> fmt::Result {
+        f.write_str("\"")?;
+        write_escaped(self.0, f)?;
+        f.write_str("\"")
+    }
+}
+
+fn write_escaped<W: fmt::Write>(text: &str, f: &mut fmt::Formatter<W>) -> fmt::Result
+    ensures { WritesOnOk W.write_str_gives f.old result (shown_bytes text.now) f.new }
+{
+    let bytes = text.as_bytes();
+    let mut at = 0;
+    'runs: loop {
+        let end = plain_run(bytes, at);
+        f.write_str(&text[at..end])?;
+        if end == bytes.len() {
+            return Ok(());
+        }
+        write_escape(bytes[end], f)?;
+        at = end + 1;
+    }
+}
+
+fn write_escape<W: fmt::Write>(byte: u8, f: &mut fmt::Formatter<W>) -> fmt::Result
+    requires { ¬ (IsPlain byte) }
+    ensures { WritesOnOk W.write_str_gives f.old result (shown_byte byte) f.new }
+{
+    match short_escape(byte) {
+        Some(escape) => f.write_str(escape),
+        None => write!(f, "\\u00{byte:02x}"),
+    }
+}
