@@ -43,7 +43,10 @@ fn editing(rt: HostRuntime) -> Result<(), Fail> {
         value: Value::new_bool(true),
     };
     value.apply(alloc, &edit)?;
-    assert_eq!(rt; value.to_string(alloc)?.as_str(), "{\"a\":[1,true],\"b\":[2]}");
+    assert_eq!(rt;
+        value.to_string(alloc)?.as_str(),
+        "{\"a\":[1,true],\"b\":[2]}"
+    );
     Ok(())
 }
 
@@ -54,6 +57,9 @@ fn printing(rt: HostRuntime) -> Result<(), Fail> {
     let mut out = Serializer::pretty(alloc, VecSink::new(alloc)).sort_map_keys();
     View::packed(doc.view()).emit(&mut out)?;
     let sink = out.into_inner();
-    assert_eq!(rt; sink.as_slice(), b"{\n  \"a\": 1,\n  \"b\": []\n}".as_slice());
+    assert_eq!(rt;
+        sink.as_slice(),
+        b"{\n  \"a\": 1,\n  \"b\": []\n}".as_slice()
+    );
     Ok(())
 }
