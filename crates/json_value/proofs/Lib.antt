@@ -18,3 +18,4 @@ pub mod TreeEdits
 pub mod AppliedTrees
 pub mod Agreeing
 pub mod Numbering
+pub mod Touching
