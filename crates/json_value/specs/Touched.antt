@@ -7,7 +7,7 @@ use Rattle.json_value.specs.Denotes.{tree_of, pair_of, text_bytes, list_in, pair
 use Rattle.json_value.specs.FirstMember.{IsFirstOf}
 use Rattle.json_value.specs.Rows.{owned}
 use Rattle.json_value.specs.Spots.{Spot, spot_of, spot_of_text}
-use Rattle.json_value.specs.Written.{FirstElements, FirstMembers, with_value}
+use Rattle.json_value.specs.Written.{FirstElements, FirstMembers, value_in, with_value}
 use Rattle.json_value.specs.declared.container.Container.{Container}
 use Rattle.json_value.specs.declared.pair.Keyed.{Keyed}
 use Rattle.json_value.specs.declared.path.PointerNode.{PointerNode}
@@ -55,7 +55,7 @@ pub record AtMember (k : List ℕ) (Changes : Value → Value → Type 0) (items
   pub is_first : IsFirstOf k (map pair_of items) at
   pub there : slice_get items at ≡ Some before
   pub exchanged : now ≡ set items at (with_value before after)
-  pub changed : Changes before.value after
+  pub changed : Changes (value_in before) after
 
 -- a member came behind the others, none of which has the key; it stands where the key and the value stand
 pub record Appended (k : Text) (s : Option Spot) (items now : List (Keyed Value)) : Type 0 where
