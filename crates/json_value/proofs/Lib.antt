@@ -19,3 +19,13 @@ pub mod AppliedTrees
 pub mod Agreeing
 pub mod Numbering
 pub mod Touching
+pub mod Lent
+pub mod Walking
+pub mod Follows
+pub mod Results
+pub mod Named
+pub mod Gave
+pub mod Shapes
+pub mod LentPaths
+pub mod Settling
+pub mod Loneness

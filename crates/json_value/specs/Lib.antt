@@ -15,3 +15,4 @@ pub mod Left
 pub mod Merged
 pub mod Standing
 pub mod Touched
+pub mod Lending

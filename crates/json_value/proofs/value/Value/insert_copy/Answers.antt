@@ -7,7 +7,7 @@ use Rattle.json_value.proofs.AppliedTrees.{object_changed, object_kept}
 use Rattle.json_value.specs.Spots.{spot_of}
 use Rattle.json_value.specs.Touched.{Inserts}
 use Rattle.json_value.proofs.Touching.{object_touched}
-use Rattle.json_value.proofs.value.Value.insert.Goals as goal
+use Rattle.json_value.proofs.value.Value.insert_copy.Goals as goal
 
 pub returns-in_ok-pairs-in-Some-clause-ok : goal.returns-in_ok-pairs-in-Some-clause-ok
 returns-in_ok-pairs-in-Some-clause-ok c =
