@@ -18,6 +18,7 @@ pub mod TreeEdits
 pub mod AppliedTrees
 pub mod Agreeing
 pub mod Numbering
+pub mod Touching
 pub mod Lent
 pub mod Walking
 pub mod Follows

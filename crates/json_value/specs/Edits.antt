@@ -26,6 +26,13 @@ steps_of = map step_of
 abbrev pub path_steps : Path → List Step
 path_steps p = steps_of p.steps.items
 
+-- the steps to the place of an edit
+abbrev pub path_of : Edit → List Step
+path_of (Set p v) = path_steps p
+path_of (Insert p k v) = path_steps p
+path_of (Push p v) = path_steps p
+path_of (Remove p s) = path_steps p
+
 -- the edit of trees that an edit is
 abbrev pub edit_of : Edit → model.Edit
 edit_of (Set p v) = set_at (path_steps p) (tree_of v)

@@ -14,4 +14,5 @@ pub mod Parts
 pub mod Left
 pub mod Merged
 pub mod Standing
+pub mod Touched
 pub mod Lending

@@ -5,9 +5,11 @@ ghost use Rattle.json_grammar.specs.Tree.{Trees, Pairs, list_trees, list_pairs};
 ghost use Rattle.json_text.specs.Errors.{no_memory, not_found, type_unmatched};
 ghost use Rattle.json_model.specs.Edit.{Changed, type_unmatched as unmatched, at_path, at_key, at_index, on_list, on_pairs, inserted, pushed, removed, without_key, has_key, edited_once};
 ghost use Rattle.json_value.specs.Denotes.{tree_of, text_bytes, pair_of};
-ghost use Rattle.json_value.specs.Edits.{step_of, steps_of, edit_of, change_of, RefusesChange};
+ghost use Rattle.json_value.specs.Edits.{step_of, steps_of, path_of, edit_of, change_of, RefusesChange};
 ghost use Rattle.json_value.specs.FirstMember.{IsFirstOf};
 ghost use Rattle.json_value.specs.Rows.{value_row, array_row, object_row};
+ghost use Rattle.json_value.specs.Spots.{spot_of};
+ghost use Rattle.json_value.specs.Touched.{ArrayTouched, ObjectTouched, AtElement, AtMember, Inserts, Pushes, RemovalTouches, ChangeTouches, Touches, unkeyed};
 ghost use Rattle.json_value.specs.declared.value.Value.{Array as ArrayValue, Object as ObjectValue};
 
 use crate::pair::Keyed;
@@ -53,6 +55,7 @@ fn insert_pair(pairs: &mut Vec<Pair>, alloc: Global, key: &Text, value: Value) -
     ensures ok { OnOk result (inserted (text_bytes key.now) (tree_of value) (list_pairs (map pair_of pairs.old.items)) ≡ list_pairs (map pair_of pairs.new.items)) }
     ensures kept { OnErr result (map pair_of pairs.new.items ≡ map pair_of pairs.old.items) }
     ensures only { IfErr result (λ e. e ≡ no_memory) }
+    ensures children { OnOk result (Inserts key.now (spot_of value) pairs.old.items pairs.new.items) }
 {
     match find_key(pairs.as_slice(), key.as_str()) {
         Some(i) => {
@@ -71,6 +74,7 @@ fn insert_pair(pairs: &mut Vec<Pair>, alloc: Global, key: &Text, value: Value) -
 fn remove_pairs(pairs: &mut Vec<Pair>, key: &str) -> bool
     ensures removed { IsTrue result → (has_key key.now (list_pairs (map pair_of pairs.old.items)) ≡ true) × (without_key key.now (list_pairs (map pair_of pairs.old.items)) ≡ list_pairs (map pair_of pairs.new.items)) }
     ensures kept { IsFalse result → (has_key key.now (list_pairs (map pair_of pairs.old.items)) ≡ false) × (pairs.new.items ≡ pairs.old.items) }
+    ensures children { IsTrue result → pairs.new.items ≡ unkeyed key.now pairs.old.items }
 {
     match find_key(pairs.as_slice(), key) {
         Some(_) => {
@@ -110,6 +114,7 @@ impl Value {
         ensures ok { OnOk result (on_pairs (λ ps. Ok (inserted (text_bytes key.now) (tree_of value.now) ps)) (tree_of self.old) ≡ Ok (tree_of self.new)) }
         ensures kept { OnErr result (tree_of self.new ≡ tree_of self.old) }
         ensures refused { IfErr result (λ e. RefusesChange (on_pairs (λ ps. Ok (inserted (text_bytes key.now) (tree_of value.now) ps)) (tree_of self.old)) e.code e.place) }
+        ensures children { OnOk result (ObjectTouched (Inserts key.now (spot_of value.now)) self.old self.new) }
     {
         match self.object_mut() {
             Some(object) => {
@@ -125,6 +130,7 @@ impl Value {
         ensures ok { OnOk result (on_list (λ ts. Ok (pushed (tree_of value.now) ts)) (tree_of self.old) ≡ Ok (tree_of self.new)) }
         ensures kept { OnErr result (tree_of self.new ≡ tree_of self.old) }
         ensures refused { IfErr result (λ e. RefusesChange (on_list (λ ts. Ok (pushed (tree_of value.now) ts)) (tree_of self.old)) e.code e.place) }
+        ensures children { OnOk result (ArrayTouched (Pushes (spot_of value.now)) self.old self.new) }
     {
         match self.array_mut() {
             Some(array) => {
@@ -141,6 +147,7 @@ impl Value {
         ensures ok { OnOk result (removed (step_of step.now) (tree_of self.old) ≡ Ok (tree_of self.new)) }
         ensures kept { OnErr result (tree_of self.new ≡ tree_of self.old) }
         ensures refused { IfErr result (λ e. RefusesChange (removed (step_of step.now) (tree_of self.old)) e.code e.place) }
+        ensures children { OnOk result (RemovalTouches step.now self.old self.new) }
     {
         match step {
             PointerNode::Key(key) => match self.object_mut() {
@@ -174,6 +181,7 @@ impl Value {
         ensures ok { OnOk result (change_of edit.now (tree_of self.old) ≡ Ok (tree_of self.new)) }
         ensures kept { OnErr result (tree_of self.new ≡ tree_of self.old) }
         ensures refused { IfErr result (λ e. RefusesChange (change_of edit.now (tree_of self.old)) e.code e.place) }
+        ensures children { OnOk result (ChangeTouches edit.now self.old self.new) }
     {
         match edit {
             Edit::Set { value, .. } => {
@@ -193,6 +201,7 @@ impl Value {
         ensures ok { OnOk result (edited_once (edit_of edit.now) (tree_of self.old) ≡ Ok (tree_of self.new)) }
         ensures kept { OnErr result (tree_of self.new ≡ tree_of self.old) }
         ensures refused { IfErr result (λ e. RefusesChange (edited_once (edit_of edit.now) (tree_of self.old)) e.code e.place) }
+        ensures children { OnOk result (Touches (path_of edit.now) edit.now self.old self.new) }
     {
         self.apply_at(alloc, edit.path().steps(), edit)
     }
@@ -203,6 +212,7 @@ impl Value {
         ensures ok { OnOk result (at_path (steps_of steps.now) (change_of edit.now) (tree_of self.old) ≡ Ok (tree_of self.new)) }
         ensures kept { OnErr result (tree_of self.new ≡ tree_of self.old) }
         ensures refused { IfErr result (λ e. RefusesChange (at_path (steps_of steps.now) (change_of edit.now) (tree_of self.old)) e.code e.place) }
+        ensures children { OnOk result (Touches (steps_of steps.now) edit.now self.old self.new) }
     {
         match steps.split_first() {
             None => self.change(alloc, edit),
@@ -238,6 +248,7 @@ fn apply_to_pair(
     ensures ok { OnOk result (at_key key.now (at_path (steps_of steps.now) (change_of edit.now)) (list_pairs (map pair_of pairs.old.items)) ≡ Ok (list_pairs (map pair_of pairs.new.items))) }
     ensures kept { OnErr result (map pair_of pairs.new.items ≡ map pair_of pairs.old.items) }
     ensures refused { IfErr result (λ e. RefusesChange (at_key key.now (at_path (steps_of steps.now) (change_of edit.now)) (list_pairs (map pair_of pairs.old.items))) e.code e.place) }
+    ensures children { OnOk result (AtMember key.now (Touches (steps_of steps.now) edit.now) pairs.old.items pairs.new.items) }
 {
     match find_key(pairs.as_slice(), key) {
         Some(i) => pairs[i].value.apply_at(alloc, steps, edit),
@@ -257,6 +268,7 @@ fn apply_to_element(
     ensures ok { OnOk result (at_index index (at_path (steps_of steps.now) (change_of edit.now)) (list_trees (map tree_of list.old.items)) ≡ Ok (list_trees (map tree_of list.new.items))) }
     ensures kept { OnErr result (map tree_of list.new.items ≡ map tree_of list.old.items) }
     ensures refused { IfErr result (λ e. RefusesChange (at_index index (at_path (steps_of steps.now) (change_of edit.now)) (list_trees (map tree_of list.old.items))) e.code e.place) }
+    ensures children { OnOk result (AtElement index (Touches (steps_of steps.now) edit.now) list.old.items list.new.items) }
 {
     match list.get_mut(index) {
         Some(element) => element.apply_at(alloc, steps, edit),

@@ -1,7 +1,7 @@
 // Paths and edits.
 ghost use Rattle.std.specs.Prelude.{◌≡◌, [], ◌∷◌, ◌++◌, OnOk, OnErr, IfErr};
 ghost use Rattle.json_text.specs.Errors.{no_memory};
-ghost use Rattle.json_value.specs.Edits.{step_of, steps_of, path_steps, edit_of, edit_at};
+ghost use Rattle.json_value.specs.Edits.{step_of, steps_of, path_steps, path_of, edit_of, edit_at};
 
 use crate::text::Text;
 use crate::value::Value;
@@ -67,7 +67,8 @@ impl Path {
 impl Edit {
     /// The path to the place of the change.
     pub fn path(&self) -> &Path
-        ensures { edit_of self.now ≡ edit_at (path_steps result.now) self.now }
+        ensures edit { edit_of self.now ≡ edit_at (path_steps result.now) self.now }
+        ensures steps { path_steps result.now ≡ path_of self.now }
     {
         match self {
             Edit::Set { path, .. }

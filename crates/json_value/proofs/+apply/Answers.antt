@@ -6,7 +6,9 @@ use Rattle.json_model.specs.Edit.{at_path, at_key, at_index, on_list, on_pairs}
 use Rattle.json_model.proofs.Members.{at_key-absent}
 use Rattle.json_value.specs.Denotes.{tree_of, pair_of}
 use Rattle.json_value.specs.Edits.{steps_of, change_of, RefusesChange}
+use Rattle.json_value.specs.Touched.{Touches, AtElement, AtMember}
 use Rattle.json_value.proofs.AppliedTrees.{first_moved, none_moved, pair_changed, pair_kept, pair_refuses, element_changed, element_kept, element_refuses, element_missed, object_changed, object_kept, object_refuses, array_changed, array_kept, array_refuses, path_key, path_index, refused_as, refuses_so}
+use Rattle.json_value.proofs.Touching.{at_element, at_member, array_touched, object_touched, touches_key, touches_index}
 use Rattle.json_value.proofs.+apply.Goals as goal
 
 -- ---- an element
@@ -32,6 +34,12 @@ applying::apply_to_element-returns-in-Some-clause-refused t c =
     IfErr-weaker c.apply_at.result (λ e. RefusesChange (f (tree_of c.in-Some.element.now)) e.code e.place) (λ e. RefusesChange (at_index c.args.index f (list_trees (map tree_of items))) e.code e.place)
     (λ e. element_refuses items c.args.index c.in-Some.element.now c.in-Some.ensures.item.3.0 c.in-Some.ensures.value f e.code e.place)
     c.apply_at.ensures.refused
+
+pub applying::apply_to_element-returns-in-Some-clause-children : goal.applying::apply_to_element-returns-in-Some-clause-children
+applying::apply_to_element-returns-in-Some-clause-children t c =
+    on_ok_weaker c.apply_at.result
+    (at_element (Touches (steps_of c.args.steps.now) c.args.edit.now) c.args.list.now.items c.args.index c.in-Some.element.now c.apply_at.new.self c.in-Some.ensures.item.3.0 c.in-Some.ensures.value)
+    c.apply_at.ensures.children
 
 pub applying::apply_to_element-returns-in-None-clause-refused : goal.applying::apply_to_element-returns-in-None-clause-refused
 applying::apply_to_element-returns-in-None-clause-refused t c =
@@ -70,6 +78,15 @@ applying::apply_to_pair-returns-in-Some-clause-refused t c =
     IfErr-weaker c.apply_at.result (λ e. RefusesChange (f (tree_of c.index_mut.result.now.value)) e.code e.place) (λ e. RefusesChange (at_key k f (list_pairs (map pair_of items))) e.code e.place)
     (λ e. pair_refuses k items c.in-Some.i c.index_mut.result.now c.index_mut.ensures.value first f e.code e.place)
     c.apply_at.ensures.refused
+
+pub applying::apply_to_pair-returns-in-Some-clause-children : goal.applying::apply_to_pair-returns-in-Some-clause-children
+applying::apply_to_pair-returns-in-Some-clause-children t c =
+    let k = c.args.key.now in
+    let items = c.args.pairs.now.items in
+    let first = first_moved k k c.as_slice.result.now items c.in-Some.i refl c.as_slice.ensures.value c.in-Some.ensures.first in
+    on_ok_weaker c.apply_at.result
+    (at_member (Touches (steps_of c.args.steps.now) c.args.edit.now) k items c.in-Some.i c.index_mut.result.now c.apply_at.new.self c.index_mut.ensures.value first)
+    c.apply_at.ensures.children
 
 pub applying::apply_to_pair-returns-in-None-clause-refused : goal.applying::apply_to_pair-returns-in-None-clause-refused
 applying::apply_to_pair-returns-in-None-clause-refused t c =
@@ -152,3 +169,25 @@ value::Value::apply_at-returns-in_ok-list-in-Some-array_mut-clause-refused t c =
     IfErr-weaker c.apply_to_element.result (λ e. RefusesChange (at_index i f (list_trees (map tree_of list.items))) e.code e.place) (λ e. RefusesChange whole e.code e.place)
     (λ e h. refuses_so there whole (λ r g. way ∙ g) e.code e.place (array_refuses self c.in-Some-array_mut.array.now list c.in-Some-array_mut.ensures.value c.in_ok-list-in-Some-array_mut.ensures.list (at_index i f) e.code e.place h))
     c.apply_to_element.ensures.refused
+
+pub value::Value::apply_at-returns-in_ok-pairs-in-Some-object_mut-clause-children : goal.value::Value::apply_at-returns-in_ok-pairs-in-Some-object_mut-clause-children
+value::Value::apply_at-returns-in_ok-pairs-in-Some-object_mut-clause-children t c =
+    let self = c.args.self.now in
+    let lent = c.in_ok-pairs-in-Some-object_mut in
+    let k = c.as_str.result.now in
+    let edit = c.args.edit.now in
+    on_ok_weaker c.apply_to_pair.result
+    (λ h. touches_key c.args.steps.now c.in-Some.rest.now c.in-Some.step.now c.in-Key.key k edit self _ c.in-Some.ensures.cases.0 c.in-Key.is c.as_str.ensures
+    (object_touched (AtMember k (Touches (steps_of c.in-Some.rest.now) edit)) self c.in-Some-object_mut.object.now lent.pairs.now c.apply_to_pair.new.pairs c.in-Some-object_mut.ensures.value lent.ensures.pairs lent.ensures.children h))
+    c.apply_to_pair.ensures.children
+
+pub value::Value::apply_at-returns-in_ok-list-in-Some-array_mut-clause-children : goal.value::Value::apply_at-returns-in_ok-list-in-Some-array_mut-clause-children
+value::Value::apply_at-returns-in_ok-list-in-Some-array_mut-clause-children t c =
+    let self = c.args.self.now in
+    let lent = c.in_ok-list-in-Some-array_mut in
+    let i = c.in-Index.i in
+    let edit = c.args.edit.now in
+    on_ok_weaker c.apply_to_element.result
+    (λ h. touches_index c.args.steps.now c.in-Some.rest.now c.in-Some.step.now i edit self _ c.in-Some.ensures.cases.0 c.in-Index.is
+    (array_touched (AtElement i (Touches (steps_of c.in-Some.rest.now) edit)) self c.in-Some-array_mut.array.now lent.list.now c.apply_to_element.new.list c.in-Some-array_mut.ensures.value lent.ensures.list lent.ensures.children h))
+    c.apply_to_element.ensures.children

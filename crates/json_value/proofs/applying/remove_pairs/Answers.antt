@@ -16,3 +16,8 @@ pub returns-in-None-clause-kept : goal.returns-in-None-clause-kept
 returns-in-None-clause-kept c =
     let k = c.args.key.now in
     λ _. (none_moved k k c.as_slice.result.now c.args.pairs.now.items refl c.as_slice.ensures.value c.in-None.ensures.none, refl)
+
+pub returns-in-Some-clause-children : goal.returns-in-Some-clause-children
+returns-in-Some-clause-children c =
+    let k = c.args.key.now in
+    λ _. filter_same _ (λ p. not (bytes_eq (text_bytes p.key) k)) _ (λ p b f' r. search rules) _ _ c.retain.ensures.filtered

@@ -1,10 +1,13 @@
-use Rattle.std.proofs.Common.{◌<◌, ◌≤◌, map, length, cond, Ok, Err, refl, sym, ap, ◌∙◌, arith}
+use Rattle.std.proofs.Common.{◌≡◌, ◌<◌, ◌≤◌, map, length, cond, Ok, Err, refl, sym, ap, ◌∙◌, arith}
+use Rattle.std.specs.Prelude.{remove}
 use Rattle.json_grammar.specs.Tree.{list_trees, list_pairs}
 use Rattle.json_text.specs.Errors.{not_found}
 use Rattle.json_model.specs.Edit.{removed, without_index, without_key, not_found as missing}
 use Rattle.json_value.specs.Denotes.{tree_of, pair_of}
 use Rattle.json_value.specs.Edits.{step_of}
 use Rattle.json_value.proofs.AppliedTrees.{removal, remove_key, remove_index, object_changed, object_kept, object_missed, array_changed, array_kept, array_missed, element_removed, removal_missed, refused_as}
+use Rattle.json_value.specs.Touched.{unkeyed}
+use Rattle.json_value.proofs.Touching.{array_touched, object_touched, removal_touches_key, removal_touches_index}
 use Rattle.json_value.proofs.value.Value.remove.Goals as goal
 
 pub returns-then-remove_pairs-clause-ok : goal.returns-then-remove_pairs-clause-ok
@@ -56,3 +59,20 @@ returns-else-i-len-clause-refused c =
     refused_as (removed (step_of c.args.step.now) (tree_of self)) c.not_found-else-i-len.result not_found c.not_found-else-i-len.ensures
     (remove_index c.args.step.now c.in-Index.i (tree_of self) c.in-Index.is
     ∙ array_missed self c.in-Some-array_mut.array.now list c.in-Some-array_mut.ensures.value c.in_ok-list-in-Some-array_mut.ensures.list (without_index c.in-Index.i) missing (removal_missed list.items c.in-Index.i past))
+
+pub returns-then-remove_pairs-clause-children : goal.returns-then-remove_pairs-clause-children
+returns-then-remove_pairs-clause-children c =
+    let self = c.args.self.now in
+    let lent = c.in_ok-pairs-in-Some in
+    let k = c.as_str.result.now in
+    removal_touches_key c.args.step.now c.in-Key.key k self _ c.in-Key.is c.as_str.ensures
+    (object_touched (λ items now. now ≡ unkeyed k items) self c.in-Some.object.now lent.pairs.now c.remove_pairs.new.pairs c.in-Some.ensures.value lent.ensures.pairs lent.ensures.children
+    (c.remove_pairs.ensures.children c.if-remove_pairs.true))
+
+pub returns-then-i-len-clause-children : goal.returns-then-i-len-clause-children
+returns-then-i-len-clause-children c =
+    let self = c.args.self.now in
+    let lent = c.in_ok-list-in-Some-array_mut in
+    let i = c.in-Index.i in
+    removal_touches_index c.args.step.now i self _ c.in-Index.is
+    (array_touched (λ items now. now ≡ remove items i) self c.in-Some-array_mut.array.now lent.list.now c.remove.new.self c.in-Some-array_mut.ensures.value lent.ensures.list lent.ensures.children c.remove.ensures.items)
