@@ -107,7 +107,7 @@ module _ (self : Value) (o : Container (Keyed Value)) (v : Vec (Keyed Value) Glo
 -- ---- members
 
 -- the member at i, seen as its key and its tree
-pair_got : (ps : List (Keyed Value)) (i : ℕ) (p : Keyed Value) → i < length ps → p ≡ get_or ps i p → slice_get (map pair_of ps) i ≡ Some (pair_of p)
+pub pair_got : (ps : List (Keyed Value)) (i : ℕ) (p : Keyed Value) → i < length ps → p ≡ get_or ps i p → slice_get (map pair_of ps) i ≡ Some (pair_of p)
 pair_got ps i p h is = slice_get-map pair_of ps i ∙ ap (option_map pair_of) (slice_get_read ps (length ps) i p refl h is)
 
 -- the first member of a key stands here
@@ -189,7 +189,7 @@ all_taken_out k ps qs e = without_key-list k (map pair_of ps) ∙ ap list_pairs 
 -- ---- elements
 
 module _ (vs : List Value) (i : ℕ) (v : Value) (low : i < length vs) (is : v ≡ get_or vs i v) where
-  element_got : slice_get (map tree_of vs) i ≡ Some (tree_of v)
+  pub element_got : slice_get (map tree_of vs) i ≡ Some (tree_of v)
   element_got = slice_get-map tree_of vs i ∙ ap (option_map tree_of) (slice_get_read vs (length vs) i v refl low is)
 
   pub element_changed : (f : Tree → Changed Tree) (u : Value) → f (tree_of v) ≡ Ok (tree_of u) → at_index i f (list_trees (map tree_of vs)) ≡ Ok (list_trees (map tree_of (set vs i u)))

@@ -18,3 +18,13 @@ pub mod TreeEdits
 pub mod AppliedTrees
 pub mod Agreeing
 pub mod Numbering
+pub mod Lent
+pub mod Walking
+pub mod Follows
+pub mod Results
+pub mod Named
+pub mod Gave
+pub mod Shapes
+pub mod LentPaths
+pub mod Settling
+pub mod Loneness

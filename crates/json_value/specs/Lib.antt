@@ -14,3 +14,4 @@ pub mod Parts
 pub mod Left
 pub mod Merged
 pub mod Standing
+pub mod Lending

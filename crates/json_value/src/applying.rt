@@ -17,7 +17,7 @@ use crate::value::{Array, Object, Pair, Value};
 use json_text::{Error, ErrorCode, Place, Result};
 use std::alloc::Global;
 
-fn not_found() -> Error
+pub(crate) fn not_found() -> Error
     ensures { result ≡ not_found }
 {
     Error {
@@ -26,7 +26,7 @@ fn not_found() -> Error
     }
 }
 
-fn type_unmatched() -> Error
+pub(crate) fn type_unmatched() -> Error
     ensures { result ≡ type_unmatched }
 {
     Error {
@@ -82,7 +82,7 @@ fn remove_pairs(pairs: &mut Vec<Pair>, key: &str) -> bool
 }
 
 impl Value {
-    fn array_mut(&mut self) -> Option<&mut Array>
+    pub(crate) fn array_mut(&mut self) -> Option<&mut Array>
         ensures* writes_back { sem 𝓛 (LendsIf value_row array_row self.entry result ArrayValue self.old) }
         ensures value { IfSome result (λ a. self.old ≡ ArrayValue a.now) }
         ensures none { IfNone result ((f : Trees → Changed Trees) → on_list f (tree_of self.old) ≡ Err unmatched) }
@@ -94,7 +94,7 @@ impl Value {
         }
     }
 
-    fn object_mut(&mut self) -> Option<&mut Object>
+    pub(crate) fn object_mut(&mut self) -> Option<&mut Object>
         ensures* writes_back { sem 𝓛 (LendsIf value_row object_row self.entry result ObjectValue self.old) }
         ensures value { IfSome result (λ o. self.old ≡ ObjectValue o.now) }
         ensures none { IfNone result ((f : Pairs → Changed Pairs) → on_pairs f (tree_of self.old) ≡ Err unmatched) }
@@ -106,7 +106,7 @@ impl Value {
         }
     }
 
-    fn insert(&mut self, alloc: Global, key: &Text, value: &Value) -> Result<()>
+    fn insert_copy(&mut self, alloc: Global, key: &Text, value: &Value) -> Result<()>
         ensures ok { OnOk result (on_pairs (λ ps. Ok (inserted (text_bytes key.now) (tree_of value.now) ps)) (tree_of self.old) ≡ Ok (tree_of self.new)) }
         ensures kept { OnErr result (tree_of self.new ≡ tree_of self.old) }
         ensures refused { IfErr result (λ e. RefusesChange (on_pairs (λ ps. Ok (inserted (text_bytes key.now) (tree_of value.now) ps)) (tree_of self.old)) e.code e.place) }
@@ -180,7 +180,7 @@ impl Value {
                 *self = value.clone(alloc)?;
                 Ok(())
             }
-            Edit::Insert { key, value, .. } => self.insert(alloc, key, value),
+            Edit::Insert { key, value, .. } => self.insert_copy(alloc, key, value),
             Edit::Push { value, .. } => self.push(alloc, value),
             Edit::Remove { step, .. } => self.remove(alloc, step),
         }

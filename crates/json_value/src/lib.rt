@@ -6,6 +6,7 @@ mod applying;
 mod array;
 mod array_iter;
 mod array_view;
+mod child;
 mod comparing;
 mod container;
 mod conversion;
@@ -20,6 +21,9 @@ mod equality_tests;
 mod index;
 mod iter;
 pub mod laws;
+mod lending;
+#[cfg(test)]
+mod lending_tests;
 mod literal;
 mod lookup;
 #[cfg(test)]
@@ -31,6 +35,9 @@ mod owning;
 mod pair;
 mod path;
 mod place;
+mod places;
+mod placing;
+mod slot;
 mod standing;
 #[cfg(test)]
 mod tests;
@@ -51,6 +58,7 @@ pub use literal::Literal;
 pub use object_view::ObjectView;
 pub use pair::Keyed;
 pub use path::{Edit, Path, PointerNode};
+pub use places::{Places, put, update};
 pub use text::Text;
 pub use value::{Array, Object, Pair, Value};
 pub use value_ref::ValueRef;

@@ -4,7 +4,7 @@ use Rattle.json_grammar.specs.Tree.{list_pairs}
 use Rattle.json_model.specs.Edit.{inserted}
 use Rattle.json_value.specs.Denotes.{tree_of, text_bytes, pair_of}
 use Rattle.json_value.proofs.AppliedTrees.{object_changed, object_kept}
-use Rattle.json_value.proofs.value.Value.insert.Goals as goal
+use Rattle.json_value.proofs.value.Value.insert_copy.Goals as goal
 
 pub returns-in_ok-pairs-in-Some-clause-ok : goal.returns-in_ok-pairs-in-Some-clause-ok
 returns-in_ok-pairs-in-Some-clause-ok c =

@@ -1,0 +1,92 @@
+-- What stands where steps lead, told by a result and by what is settled from it.
+use Rattle.std.proofs.Common.{◌≡◌, ◌<◌, length, drop, List, [], ◌∷◌, Some, None, Option, Result, Ok, Err, IfOk, IfErr, MutBor, refl, sym, ap, ◌∙◌}
+use Rattle.std.specs.Prelude.{option_map}
+use Rattle.std.proofs.lemmas.Option.{none-some, same_Some}
+use Rattle.json_grammar.specs.Tree.{Tree}
+use Rattle.json_text.specs.Errors.{no_memory}
+use Rattle.json_text.specs.declared.error.Error.{Error}
+use Rattle.json_text.specs.declared.error.ErrorCode.{ErrorCode}
+use Rattle.json_text.specs.declared.error.ErrorCode.TheVariants.{NoMemory, NotFound, TypeUnmatched}
+use Rattle.json_text.specs.declared.error.Place.{Place}
+use Rattle.json_text.specs.declared.error.Place.TheVariants.{None as nowhere}
+use Rattle.json_model.specs.Edit.{Step, Changed, Refusal, not_found, type_unmatched, at_path}
+use Rattle.json_value.specs.Denotes.{tree_of}
+use Rattle.json_value.specs.Edits.{RefusesChange, steps_of, step_of as node_step}
+use Rattle.json_value.specs.Lending.{first_node, none_or, settled, name_of, name_of_ok, Stands}
+use Rattle.json_value.specs.Steps.{child, tree_at}
+use Rattle.json_value.specs.declared.value.Value.{Value}
+use Rattle.json_value.specs.declared.path.PointerNode.{PointerNode}
+use Rattle.json_value.proofs.LentPaths.{there, back, split, seen_along, refused_along, refused_first}
+
+none_name : (c : ErrorCode) (e : Error) → name_of (none_or c e) ≡ name_of_ok {X = Value} {E = Error} (Err e)
+none_name NoMemory e = refl
+none_name _ e = refl
+
+pub settled_name : (r : Result (MutBor Value) Error) → name_of (settled r) ≡ name_of_ok r
+settled_name (Ok x) = refl
+settled_name (Err e) = none_name e.code e
+
+-- ---- one step
+
+one_of : (o : Option Tree) → elim o [ None ↦ None | Some u ↦ Some u ] ≡ o
+one_of None = refl
+one_of (Some u) = refl
+
+pub one_step : (s : Step) (t : Tree) → tree_at (s ∷ []) t ≡ child s t
+one_step s t = one_of (child s t)
+
+pub stands_one : (s : Step) (t : Tree) (r : Result (MutBor Value) Error) → IfOk r (λ v. child s t ≡ Some (tree_of v.now)) → IfErr r (λ e. (f : Tree → Changed Tree) → RefusesChange (at_path (s ∷ []) f t) e.code e.place) → Stands (s ∷ []) t r
+stands_one s t (Ok x) value refused = one_step s t ∙ value
+stands_one s t (Err e) value refused = refused
+
+-- ---- what is there, put back
+
+back_step : (s : Step) (p : List Step) (t u : Tree) (o : Option Tree) → child s t ≡ o → ((c : Tree) → tree_at p c ≡ Some u → at_path p (λ _. Ok u) c ≡ Ok c)
+    → elim o [ None ↦ None | Some v ↦ tree_at p v ] ≡ Some u → at_path (s ∷ p) (λ _. Ok u) t ≡ Ok t
+back_step s p t u None here more e = absurd (none-some u e)
+back_step s p t u (Some c) here more e = split s p (λ _. Ok u) t ∙ there s t c (at_path p (λ _. Ok u)) (Ok c) here (more c e) ∙ back s t c here
+
+pub put_back : (p : List Step) (t u : Tree) → tree_at p t ≡ Some u → at_path p (λ _. Ok u) t ≡ Ok t
+put_back [] t u e = ap (λ (v : Tree). Ok v) (sym (same_Some t u e))
+put_back (s ∷ p) t u e = back_step s p t u (child s t) refl (λ c. put_back p c u) e
+
+no_ok : (t : Tree) (r : Refusal) → ◌≡◌ {A = Changed Tree} (Ok t) (Err r) → ⊥
+no_ok t r e = cc
+
+-- where each change is refused there is nothing
+missing : (p : List Step) (t : Tree) (r : Refusal) → ((f : Tree → Changed Tree) → at_path p f t ≡ Err r) → tree_at p t ≡ None
+missing p t r h = by (tree_at p t) refl
+  where
+    by : (o : Option Tree) → tree_at p t ≡ o → o ≡ None
+    by None is = refl
+    by (Some u) is = absurd (no_ok t r (sym (put_back p t u is) ∙ h (λ _. Ok u)))
+
+nothing_at : (p : List Step) (t : Tree) (code : ErrorCode) (place : Place) (e : Error) → ((f : Tree → Changed Tree) → RefusesChange (at_path p f t) code place)
+    → IfOk (none_or code e) (λ o. option_map (λ (x : MutBor Value). tree_of x.now) o ≡ tree_at p t)
+nothing_at p t NoMemory place e h = tt
+nothing_at p t NotFound nowhere e h = sym (missing p t not_found h)
+nothing_at p t TypeUnmatched nowhere e h = sym (missing p t type_unmatched h)
+nothing_at p t code place e h = absurd (h (λ u. Ok u))
+
+pub settled_stands : (p : List Step) (t : Tree) (r : Result (MutBor Value) Error) → Stands p t r → IfOk (settled r) (λ o. option_map (λ (x : MutBor Value). tree_of x.now) o ≡ tree_at p t)
+settled_stands p t (Ok x) h = sym h
+settled_stands p t (Err e) h = nothing_at p t e.code e.place e h
+
+memory_left : (p : List Step) (t : Tree) (code : ErrorCode) (place : Place) → ((f : Tree → Changed Tree) → RefusesChange (at_path p f t) code place)
+    → IfErr (none_or code (record { code = code; place = place })) (λ e. e ≡ no_memory)
+memory_left p t NoMemory nowhere h = refl
+memory_left p t NoMemory place h = absurd (h (λ u. Ok u))
+memory_left p t code place h = tt
+
+pub settled_only : (p : List Step) (t : Tree) (r : Result (MutBor Value) Error) → Stands p t r → IfErr (settled r) (λ e. e ≡ no_memory)
+settled_only p t (Ok x) h = tt
+settled_only p t (Err e) h = memory_left p t e.code e.place h
+
+-- ---- along a path
+
+pub stands_along : (path rest : List PointerNode) (t c : Tree) → 0 < length path → rest ≡ drop 1 path → child (node_step (first_node path)) t ≡ Some c → (r : Result (MutBor Value) Error) → Stands (steps_of rest) c r → Stands (steps_of path) t r
+stands_along path rest t c more shorter here (Ok x) h = seen_along path rest t c (tree_of x.now) more shorter here h
+stands_along path rest t c more shorter here (Err e) h = refused_along path rest t c more shorter here e.code e.place h
+
+pub stands_first : (path : List PointerNode) (t : Tree) (e : Error) → 0 < length path → Stands (node_step (first_node path) ∷ []) t (Err e) → Stands (steps_of path) t (Err e)
+stands_first path t e more h = refused_first path t more e.code e.place h

@@ -1,0 +1,96 @@
+-- What calls lend inside a value, and what a write there changes.
+use Rattle.std.specs.Prelude.{◌≡◌, List, [], ◌∷◌, ℕ, Option, Some, None, Result, Ok, Err, cond}
+use Rattle.std.specs.Borrow.{follows_so, name_if_ok, LendsSoOk, MutBor, Fml, GName}
+use mathlib.Core.Option as maybe
+use Rattle.json_grammar.specs.Tree.{Tree, null, pairs, Pairs, no_pairs, pair_and}
+use Rattle.json_text.specs.declared.error.Error.{Error}
+use Rattle.json_text.specs.declared.error.ErrorCode.{ErrorCode}
+use Rattle.json_text.specs.declared.error.ErrorCode.TheVariants.{NoMemory}
+use Rattle.json_model.specs.Edit.{Step, key_step, index_step, Changed, at_path, edited_once, set_at, at_index, on_list, on_pairs, inserted, has_key}
+use Rattle.json_value.specs.Denotes.{tree_of}
+use Rattle.json_value.specs.Edits.{RefusesChange}
+use Rattle.json_value.specs.Rows.{value_row}
+use Rattle.json_value.specs.Steps.{tree_at}
+use Rattle.json_value.specs.declared.value.Value.{Value}
+use Rattle.json_value.specs.declared.path.PointerNode.{PointerNode}
+use Rattle.json_value.specs.declared.path.PointerNode.TheVariants.{Index}
+
+-- null as an empty object, and any other tree as it is
+abbrev pub opened : Tree → Tree
+opened null = pairs no_pairs
+opened t = t
+
+-- null as an object of this key with null, and any other tree as it is
+abbrev pub opened_with : List ℕ → Tree → Tree
+opened_with k null = pairs (pair_and k null no_pairs)
+opened_with k t = t
+
+-- the members, and behind them one of the key with null where none has the key
+abbrev pub with_key : List ℕ → Pairs → Pairs
+with_key k ps = cond (has_key k ps) ps (inserted k null ps)
+
+-- the tree with u where the step leads; a key that is lacking is appended, and null counts as an empty object
+abbrev pub put_or_insert : Step → Tree → Tree → Changed Tree
+put_or_insert (key_step k) u t = on_pairs (λ ps. Ok (inserted k u ps)) (opened t)
+put_or_insert (index_step i) u t = on_list (at_index i (λ _. Ok u)) t
+
+-- a place; none for a refusal but of want of memory
+abbrev pub none_or : ErrorCode → Error → Result (Option (MutBor Value)) Error
+none_or NoMemory e = Err e
+none_or _ e = Ok None
+
+abbrev pub settled : Result (MutBor Value) Error → Result (Option (MutBor Value)) Error
+settled (Ok x) = Ok (Some x)
+settled (Err e) = none_or e.code e
+
+-- the name of the reference that is lent, if one is
+abbrev pub name_of : {X E : Type 0} → Result (Option (MutBor X)) E → maybe.Option GName
+name_of (Ok (Some r)) = maybe.some r.ghost_name
+name_of (Ok None) = maybe.none
+name_of (Err _) = maybe.none
+
+abbrev pub name_of_ok : {X E : Type 0} → Result (MutBor X) E → maybe.Option GName
+name_of_ok = name_if_ok (λ x. x.ghost_name)
+
+-- a reference is lent, and none is
+abbrev pub IsLent : maybe.Option GName → Type 0
+IsLent maybe.none = ⊥
+IsLent (maybe.some g) = Unit {0}
+
+abbrev pub UnlessLent : maybe.Option GName → Type 0 → Type 0
+UnlessLent maybe.none P = P
+UnlessLent (maybe.some g) P = Unit {0}
+
+-- a place in s is lent under the name m. With any w written there s ends as a value n with P n w, and its tree stays where nothing is lent
+abbrev pub LendsNamed : MutBor Value → maybe.Option GName → (Value → Value → Type 0) → Fml
+LendsNamed s m P = follows_so value_row value_row s.ghost_name m (λ w n. IsLent m → P n w) (λ n. UnlessLent m (tree_of n ≡ tree_of s.now))
+
+-- the same of a result that may be none
+abbrev pub LendsPlace : {E : Type 0} → MutBor Value → Result (Option (MutBor Value)) E → (Value → Value → Type 0) → Fml
+LendsPlace s r = LendsNamed s (name_of r)
+
+-- the same of a result that is no option
+abbrev pub LendsOk : {E : Type 0} → MutBor Value → Result (MutBor Value) E → (Value → Value → Type 0) → Fml
+LendsOk s r = LendsNamed s (name_of_ok r)
+
+-- where a step leads: what is written there is put there, and nothing else changes
+abbrev pub LendsStep : {E : Type 0} → MutBor Value → Step → Result (MutBor Value) E → Fml
+LendsStep s step r = LendsSoOk value_row value_row s r (λ n w. at_path (step ∷ []) (λ _. Ok (tree_of w)) (tree_of s.now) ≡ Ok (tree_of n)) (λ n. tree_of n ≡ tree_of s.now)
+
+-- the same along a path
+abbrev pub LendsAlong : {E : Type 0} → MutBor Value → List Step → Result (MutBor Value) E → Fml
+LendsAlong s path r = LendsOk s r (λ n w. at_path path (λ _. Ok (tree_of w)) (tree_of s.now) ≡ Ok (tree_of n))
+
+-- n is the tree t with w put where the steps lead
+abbrev pub PutAlong : List Step → Tree → Value → Value → Type 0
+PutAlong p t n w = edited_once (set_at p (tree_of w)) t ≡ Ok (tree_of n)
+
+-- the first node of a path
+abbrev pub first_node : List PointerNode → PointerNode
+first_node [] = Index 0
+first_node (s ∷ path) = s
+
+-- what a result tells of the place in t to which the steps lead: what stands there first, or why they lead nowhere
+abbrev pub Stands : List Step → Tree → Result (MutBor Value) Error → Type 0
+Stands p t (Ok x) = tree_at p t ≡ Some (tree_of x.now)
+Stands p t (Err e) = (f : Tree → Changed Tree) → RefusesChange (at_path p f t) e.code e.place
