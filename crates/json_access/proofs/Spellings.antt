@@ -6,12 +6,9 @@ use Rattle.json_grammar.specs.Grammar.{number}
 use Rattle.json_grammar.specs.Proper.{IsProper}
 use Rattle.json_number.specs.Integers.{integer_in}
 use Rattle.json_doc.specs.Readings.{integer_of, literal_of, literal_unless}
-use Rattle.json_doc.proofs.Properness.{view_proper}
-use Rattle.json_value.specs.Seen.{seen, form_seen}
+use Rattle.json_value.specs.Seen.{seen}
 use Rattle.json_value.specs.declared.view.View.{View}
-use Rattle.json_value.specs.declared.view.ViewForm.{ViewForm}
-use Rattle.json_value.specs.declared.view.ViewForm.TheVariants as form
-use Rattle.json_value.proofs.ProperValues.{value_proper}
+use Rattle.json_value.proofs.Numbering.{seen_proper}
 use Rattle.json_access.specs.Trees.{spelling}
 
 pub integer_spelled : (t : Tree) (l : List ℕ) → t ≡ num l → Some l ≡ spelling t
@@ -42,11 +39,6 @@ nothing_spelled (text s) e f = refl
 nothing_spelled (list ts) e f = refl
 nothing_spelled (pairs ps) e f = refl
 
-form_proper : (f : ViewForm) → IsProper (form_seen f)
-form_proper (form.Packed v) = view_proper v
-form_proper (form.Whole v) = value_proper v.now
-form_proper form.Absent = tt
-
 literal_proper : (t : Tree) (l : List ℕ) → IsProper t → Some l ≡ literal_of t → number l
 literal_proper (num k) l proper e = subst number (sym (whole_literal (integer_in k) k l e)) proper
 literal_proper null l proper e = absurd (none-some l (sym e))
@@ -57,4 +49,4 @@ literal_proper (pairs ps) l proper e = absurd (none-some l (sym e))
 
 -- the literal that a view reads is a number
 pub literal_seen : (v : View) (l : List ℕ) → Some l ≡ literal_of (seen v) → number l
-literal_seen v l e = literal_proper (seen v) l (form_proper v.form) e
+literal_seen v l e = literal_proper (seen v) l (seen_proper v) e

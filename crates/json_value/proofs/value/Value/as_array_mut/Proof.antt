@@ -80,4 +80,4 @@ as_array_mut_spec 𝓤 𝓛 𝓜 𝓡 wired =
     suffices ! _ (ends_at 𝓛 f.ended stayed c z o s (tt, (tt, tt)) (tt, (tt, tt))) $
     nothing ! $ nothing ! $ join ! $ nothing ! $ join ! $ move ! (3 ∷ 0 ∷ 2 ∷ 1 ∷ []) $ group ! 3 $ frame ! $ frame ! $
     use0 𝓛 (raw (fact 𝓤 (IfErr s (λ e. e ≡ no_memory)))) (fact_i 𝓤 _ (emp 𝓤) (subst (λ (s : O.Denot). IfErr s (λ e. e ≡ no_memory)) (sym same) (settled_opens_only list_in (list_of (tree_of v.now)) r seen))) $
-    use0 𝓛 (raw (fact 𝓤 (IfOk s (λ o. option_map (λ (x : MutBor (Container Value)). list_in x.now) o ≡ list_of (tree_of v.now))))) (fact_i 𝓤 _ (emp 𝓤) (subst (λ (s : O.Denot). IfOk s (λ o. option_map (λ (x : MutBor (Container Value)). list_in x.now) o ≡ list_of (tree_of v.now))) (sym same) (settled_opens list_in (list_of (tree_of v.now)) r seen))) $ done !)))))))))))
+    use0 𝓛 (raw (fact 𝓤 (IfOk s (λ o. option_map (λ (x : MutBor (Container Value)). list_in x.now) o ≡ list_of (tree_of v.now))))) (fact_i 𝓤 _ (emp 𝓤) (subst (λ (s : O.Denot). IfOk s (λ o. option_map (λ (x : MutBor (Container Value)). list_in x.now) o ≡ list_of (tree_of v.now))) (sym same) (settled_opens list_in (list_of (tree_of v.now)) r seen))) $ done !))))))))))))

@@ -82,4 +82,4 @@ as_object_mut_spec 𝓤 𝓛 𝓜 𝓡 wired =
     suffices ! _ (ends_at 𝓛 f.ended stayed c z o s (tt, (tt, tt)) (tt, (tt, tt))) $
     nothing ! $ nothing ! $ join ! $ nothing ! $ join ! $ move ! (3 ∷ 0 ∷ 2 ∷ 1 ∷ []) $ group ! 3 $ frame ! $ frame ! $
     use0 𝓛 (raw (fact 𝓤 (IfErr s (λ e. e ≡ no_memory)))) (fact_i 𝓤 _ (emp 𝓤) (subst (λ (s : O.Denot). IfErr s (λ e. e ≡ no_memory)) (sym same) (settled_opens_only pairs_in (pairs_of (tree_of v.now)) r seen))) $
-    use0 𝓛 (raw (fact 𝓤 (IfOk s (λ o. option_map (λ (x : MutBor (Container (Keyed Value))). pairs_in x.now) o ≡ pairs_of (tree_of v.now))))) (fact_i 𝓤 _ (emp 𝓤) (subst (λ (s : O.Denot). IfOk s (λ o. option_map (λ (x : MutBor (Container (Keyed Value))). pairs_in x.now) o ≡ pairs_of (tree_of v.now))) (sym same) (settled_opens pairs_in (pairs_of (tree_of v.now)) r seen))) $ done !)))))))))))
+    use0 𝓛 (raw (fact 𝓤 (IfOk s (λ o. option_map (λ (x : MutBor (Container (Keyed Value))). pairs_in x.now) o ≡ pairs_of (tree_of v.now))))) (fact_i 𝓤 _ (emp 𝓤) (subst (λ (s : O.Denot). IfOk s (λ o. option_map (λ (x : MutBor (Container (Keyed Value))). pairs_in x.now) o ≡ pairs_of (tree_of v.now))) (sym same) (settled_opens pairs_in (pairs_of (tree_of v.now)) r seen))) $ done !))))))))))))
