@@ -27,6 +27,7 @@ use Rattle.json_value.proofs.ProperValues.{value_proper}
 form_proper : (f : ViewForm) → IsProper (form_seen f)
 form_proper (whole.Packed v) = doc_proper v.doc.now v.at v.inside
 form_proper (whole.Whole v) = value_proper v.now
+form_proper whole.Absent = tt
 
 -- what is seen is proper
 pub seen_proper : (v : View) → IsProper (seen v)

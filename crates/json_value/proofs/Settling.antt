@@ -18,13 +18,13 @@ use Rattle.json_value.specs.declared.value.Value.{Value}
 use Rattle.json_value.specs.declared.path.PointerNode.{PointerNode}
 use Rattle.json_value.proofs.LentPaths.{there, back, split, seen_along, refused_along, refused_first}
 
-none_name : {X : Type 0} (c : ErrorCode) (e : Error) → name_of (none_or {X = X} c e) ≡ name_of_ok {X = X} {E = Error} (Err e)
-none_name NoMemory e = refl
-none_name _ e = refl
+none_name : (X : Type 0) (c : ErrorCode) (e : Error) → name_of (none_or {X = X} c e) ≡ name_of_ok {X = X} {E = Error} (Err e)
+none_name X NoMemory e = refl
+none_name X _ e = refl
 
 pub settled_name : {X : Type 0} (r : Result (MutBor X) Error) → name_of (settled r) ≡ name_of_ok r
 settled_name (Ok x) = refl
-settled_name {X} (Err e) = none_name {X = X} e.code e
+settled_name {X} (Err e) = none_name X e.code e
 
 -- ---- one step
 

@@ -6,7 +6,7 @@ use Rattle.json_grammar.specs.Tree.{Tree, null, boolean, num, text, list, pairs,
 use Rattle.json_model.specs.Print.{shown, trees_shown, more_trees_shown, pairs_shown, more_pairs_shown, quoted}
 use Rattle.json_print.specs.Calls.{comma}
 use Rattle.json_value.specs.Seen.{list_of, pairs_of}
-use Rattle.json_value.proofs.Emitting.{array_itself, object_itself}
+use Rattle.json_value.proofs.Trees.{array_back, object_back}
 
 -- ---- with no indent a level is like the other
 
@@ -68,7 +68,7 @@ element_shown ts i c u s e = ap (λ x. (array_text ts i ++ x) ++ shown None 0 u)
 
 -- an array is the list of its elements
 pub list_itself : (t : Tree) (ts : List Tree) → Some ts ≡ list_of t → list (list_trees ts) ≡ t
-list_itself (list us) ts e = let s : ts ≡ trees_list us = cc in ap (λ l. list (list_trees l)) s ∙ array_itself (list us) refl
+list_itself (list us) ts e = let s : ts ≡ trees_list us = cc in ap (λ l. list (list_trees l)) s ∙ array_back (list us) refl
 list_itself null ts e = absurd (cc)
 list_itself (boolean b) ts e = absurd (cc)
 list_itself (num l) ts e = absurd (cc)
@@ -111,7 +111,7 @@ member_shown ps i c k u s e = ap (λ x. (object_text ps i ++ (x ++ (quoted k ++ 
 
 -- an object is the list of its members
 pub pairs_itself : (t : Tree) (ps : List (List ℕ × Tree)) → Some ps ≡ pairs_of t → pairs (list_pairs ps) ≡ t
-pairs_itself (pairs us) ps e = let s : ps ≡ pairs_list us = cc in ap (λ l. pairs (list_pairs l)) s ∙ object_itself (pairs us) refl
+pairs_itself (pairs us) ps e = let s : ps ≡ pairs_list us = cc in ap (λ l. pairs (list_pairs l)) s ∙ object_back (pairs us) refl
 pairs_itself null ps e = absurd (cc)
 pairs_itself (boolean b) ps e = absurd (cc)
 pairs_itself (num l) ps e = absurd (cc)

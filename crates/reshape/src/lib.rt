@@ -28,6 +28,8 @@ mod edit_tests;
 #[cfg(test)]
 mod option_tests;
 #[cfg(test)]
+mod readme_tests;
+#[cfg(test)]
 mod tests;
 #[cfg(test)]
 mod words_tests;
