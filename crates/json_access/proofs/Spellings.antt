@@ -1,43 +1,19 @@
--- The literal of the number that a tree is.
-use Rattle.std.proofs.Common.{◌≡◌, ℕ, ℤ, List, Option, Some, None, refl, sym, ap, subst}
+-- The literal that a view reads is a number.
+use Rattle.std.proofs.Common.{◌≡◌, ℕ, ℤ, List, Option, Some, None, sym, subst}
 use Rattle.std.proofs.lemmas.Option.{none-some, same_Some}
 use Rattle.json_grammar.specs.Tree.{Tree, null, boolean, num, text, list, pairs}
 use Rattle.json_grammar.specs.Grammar.{number}
 use Rattle.json_grammar.specs.Proper.{IsProper}
 use Rattle.json_number.specs.Integers.{integer_in}
-use Rattle.json_doc.specs.Readings.{integer_of, literal_of, literal_unless}
+use Rattle.json_doc.specs.Readings.{literal_of, literal_unless}
 use Rattle.json_value.specs.Seen.{seen}
 use Rattle.json_value.specs.declared.view.View.{View}
 use Rattle.json_value.proofs.Numbering.{seen_proper}
-use Rattle.json_access.specs.Trees.{spelling}
-
-pub integer_spelled : (t : Tree) (l : List ℕ) → t ≡ num l → Some l ≡ spelling t
-integer_spelled t l is = sym (ap spelling is)
 
 -- the literal of a number that is no integer by value is all of it
 whole_literal : (o : Option ℤ) (k l : List ℕ) → Some l ≡ literal_unless o k → l ≡ k
 whole_literal None k l e = same_Some l k e
 whole_literal (Some n) k l e = absurd (none-some l (sym e))
-
-pub literal_spelled : (t : Tree) (l : List ℕ) → Some l ≡ literal_of t → Some l ≡ spelling t
-literal_spelled (num k) l e = ap Some (whole_literal (integer_in k) k l e)
-literal_spelled null l e = absurd (none-some l (sym e))
-literal_spelled (boolean b) l e = absurd (none-some l (sym e))
-literal_spelled (text s) l e = absurd (none-some l (sym e))
-literal_spelled (list ts) l e = absurd (none-some l (sym e))
-literal_spelled (pairs ps) l e = absurd (none-some l (sym e))
-
-no_number : (o : Option ℤ) (k : List ℕ) → None ≡ o → None ≡ literal_unless o k → None ≡ Some k
-no_number None k e f = f
-no_number (Some n) k e f = absurd (none-some n e)
-
-pub nothing_spelled : (t : Tree) → None ≡ integer_of t → None ≡ literal_of t → None ≡ spelling t
-nothing_spelled (num k) e f = no_number (integer_in k) k e f
-nothing_spelled null e f = refl
-nothing_spelled (boolean b) e f = refl
-nothing_spelled (text s) e f = refl
-nothing_spelled (list ts) e f = refl
-nothing_spelled (pairs ps) e f = refl
 
 literal_proper : (t : Tree) (l : List ℕ) → IsProper t → Some l ≡ literal_of t → number l
 literal_proper (num k) l proper e = subst number (sym (whole_literal (integer_in k) k l e)) proper

@@ -1,18 +1,8 @@
 use Rattle.json_value.proofs.Walking.{MutBor, ◌≡◌, [], ◌∷◌, refl, proved, id⊢, ftrue, named, fact, tables, ‵, raw, ◌⊛◌, some, later, ◌$◌, ◌∵◌, !, qed, done, drop, use1, split, join, pick, await, suffices, group, enter, addr, stop, no_more, and_then, returns, alloc_all, pass_all, free_all, look_at, get, through, sets, lands_as, no, yes, move, peeks, shows, flft, mut_vals, mut_Tells, plain, nothing, calls_at, lasts, Lasts, triple_of, Stays, stay_dropped, Goes-spent_ref, Goes-dropped, ends_at, framed}
-use denote.Struct.Field.{mut_ref_field}
-use denote.Struct.Laws.{mut_ref_laws}
-use denote.Param.Laws.{of_field, row_shared}
-use denote.Param.Shared.{mut_ref_shared}
 use Rattle.std.specs.Prelude.{IfOk, IfErr, option_map, Ok}
 use Rattle.std.specs.contracts.alloc.Global.{the_row as global}
-use Rattle.std.specs.contracts.option.Option as option
-use Rattle.std.specs.contracts.result.Result as result
 use Rattle.std.proofs.alloc.Global.TheLaws.{the_row_laws as global_laws, the_told as global_told}
-use Rattle.std.proofs.result.Result.TheLaws.{the_row_laws as result_laws}
-use Rattle.std.proofs.option.Option.TheLaws.{the_row_laws as option_laws}
 use Rattle.json_text.specs.Errors.{no_memory}
-use Rattle.json_text.specs.contracts.error.Error.{the_row as refusal}
-use Rattle.json_text.proofs.error.Error.TheLaws.{the_row_laws as refusal_laws}
 use Rattle.json_value.specs.Lending.{LendsPart}
 use Rattle.json_value.specs.contracts.value.Value.{the_row as value}
 use Rattle.json_value.specs.declared.value.Value.{Value}
@@ -25,6 +15,7 @@ use Rattle.json_value.specs.declared.container.Container.{Container}
 use Rattle.json_value.proofs.container.Container.TheLaws.{the_row_laws as container_laws}
 use Rattle.json_value.specs.declared.pair.Keyed.{Keyed}
 use Rattle.json_value.proofs.pair.Keyed.TheLaws.{the_row_laws as keyed_laws}
+use Rattle.json_access.proofs.MaybeLent.{maybe_lent, maybe_lent_laws}
 use Rattle.json_access.specs.contracts.value_mut_trait.ValueJsonValueMutTrait.as_object_mut as f
 use Rattle.json_access.proofs.value_mut_trait.ValueJsonValueMutTrait.as_object_mut.Statement.{statement}
 use Rattle.json_access.proofs.value_mut_trait.ValueJsonValueMutTrait.as_object_mut.Code as code
@@ -43,9 +34,7 @@ as_object_mut_spec 𝓤 𝓛 𝓜 𝓡 wired =
     let v = a.0 in let alloc = a.1.0 in
     let G = triple_of 𝓛 g.signature (g.spec 𝓛 𝓜.mem 𝓡.returns) in
     let z : G.Ghost = ((κs, qs, bounds, a, (mut_vals v, ((global_told.val alloc ∷ []), tt))), tt) in
-    let F = mut_ref_field (record { mir = named 0; lft = κs.0 }) object_row tt in
-    let ref-laws = of_field F (mut_ref_laws (record { mir = named 0; lft = κs.0 }) object_row tt) refl (mut_ref_shared (record { mir = named 0; lft = κs.0 }) object_row tt (row_shared object_row (container_laws pair_row (keyed_laws value value_laws)))) in
-    let O = result.the_row (option.the_row F.row) refusal in
+    let O = maybe_lent object_row κs.0 in
     qed 𝓛 (raw (G.pre z) ∷ []) ∵
     enter ! _ _ _ _ _ $ alloc_all ! (λ l. pass_all ! refl ((tt, tt), (((global_laws.lawful 𝓛).typed alloc _ are.1.0).0, tt)) $
     sets ! (addr ! (through ! refl (stop !))) refl (tt, tt) $
@@ -53,7 +42,7 @@ as_object_mut_spec 𝓤 𝓛 𝓜 𝓡 wired =
     (and_then ! (get ! refl) (and_then ! (get ! refl) (no_more !))) (λ u.
     use1 𝓛 (later (some (λ (r : O.Denot). ((‵ (flft κs.0 qs.0) ⊛ ‵ ftrue) ⊛ ‵ (O.own_val r (u ∷ []))) ⊛ some (λ (ws : Lasts g.ended κs a). ‵ (lasts g.ended κs a ws) ⊛ (‵ (LendsPart value object_row v r (λ n w. tree_of n ≡ pairs (list_pairs (pairs_in w))) (λ n. tree_of n ≡ tree_of v.now)) ⊛ raw (fact 𝓤 (IfOk r (λ o. option_map (λ (x : MutBor (Container (Keyed Value))). pairs_in x.now) o ≡ pairs_of (tree_of v.now)))) ⊛ raw (fact 𝓤 (IfErr r (λ e. e ≡ no_memory)))))))) (id⊢ 𝓤 _) $
     await ! tt $ pick ! (λ r. split ! $ split ! $ move ! (1 ∷ []) $ peeks ! O _ (shows 𝓛 O) r (u ∷ []) (λ is.
-    lands_as ! refl refl ((((result_laws (option.the_row F.row) refusal (option_laws F.row ref-laws) refusal_laws).lawful 𝓛).typed r (u ∷ []) is).0) $
+    lands_as ! refl refl ((((maybe_lent_laws object_row κs.0 tt (container_laws pair_row (keyed_laws value value_laws))).lawful 𝓛).typed r (u ∷ []) is).0) $
     returns ! (look_at ! 0 refl) $ free_all ! refl $
     -- [the result; the tokens; what is lent and said]
     move ! (2 ∷ []) $ pick ! (λ ws. split ! $ drop ! $

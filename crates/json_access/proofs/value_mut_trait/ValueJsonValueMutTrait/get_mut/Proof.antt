@@ -12,20 +12,10 @@ use prog.Wp.{WpFn}
 use types.Kit.{regoal, prop}
 use Rattle.std.proofs.raw_atomic.Walks.{proved_at}
 use Rattle.json_value.proofs.Loneness.{one_of}
-use denote.Struct.Field.{mut_ref_field}
-use denote.Struct.Laws.{mut_ref_laws}
-use denote.Param.Laws.{of_field, row_shared}
-use denote.Param.Shared.{mut_ref_shared}
 use Rattle.std.specs.Prelude.{IfOk, IfErr, option_map, Ok}
 use Rattle.std.specs.contracts.alloc.Global.{the_row as global}
-use Rattle.std.specs.contracts.option.Option as option
-use Rattle.std.specs.contracts.result.Result as result
 use Rattle.std.proofs.alloc.Global.TheLaws.{the_row_laws as global_laws, the_told as global_told}
-use Rattle.std.proofs.result.Result.TheLaws.{the_row_laws as result_laws}
-use Rattle.std.proofs.option.Option.TheLaws.{the_row_laws as option_laws}
 use Rattle.json_text.specs.Errors.{no_memory}
-use Rattle.json_text.specs.contracts.error.Error.{the_row as refusal}
-use Rattle.json_text.proofs.error.Error.TheLaws.{the_row_laws as refusal_laws}
 use Rattle.json_value.specs.Lending.{LendsPart}
 use Rattle.json_value.specs.contracts.value.Value.{the_row as value}
 use Rattle.json_value.specs.declared.value.Value.{Value}
@@ -33,6 +23,7 @@ use Rattle.json_value.proofs.value.Value.TheLaws.{the_row_laws as value_laws}
 use Rattle.json_model.specs.Edit.{edited_once, set_at}
 use Rattle.json_value.specs.Denotes.{tree_of}
 use Rattle.json_value.specs.Steps.{child}
+use Rattle.json_access.proofs.MaybeLent.{maybe_lent, maybe_lent_laws}
 use Rattle.json_access.specs.contracts.value_mut_trait.ValueJsonValueMutTrait.get_mut as f
 use Rattle.json_access.proofs.value_mut_trait.ValueJsonValueMutTrait.get_mut.Statement.{statement}
 use Rattle.json_access.proofs.value_mut_trait.ValueJsonValueMutTrait.get_mut.Code as code
@@ -79,12 +70,10 @@ get_mut_spec {M} 𝓤 𝓛 𝓜 𝓡 wired I L x d dd met glue =
     use2 𝓛 (raw (G.pre z1)) (id⊢ 𝓤 _) $
     calls_at ! (framed 𝓤 H 𝓜 𝓣) G (first-met.met 𝓤 𝓛 𝓜 𝓡 (code.calls-json_value::value::Value::step_mut 𝓡.env wired) J' (laws-0-0 I L d dd κs) x d dd (record { as_key = met.as_key; as_index = met.as_index }) glue) z1
     (and_then ! (get ! refl) (and_then ! (get ! refl) (and_then ! (get ! refl) (no_more !)))) (λ u.
-    let F = mut_ref_field (record { mir = named 0; lft = κs.0 }) value tt in
-    let ref-laws = of_field F (mut_ref_laws (record { mir = named 0; lft = κs.0 }) value tt) refl (mut_ref_shared (record { mir = named 0; lft = κs.0 }) value tt (row_shared value value_laws)) in
-    let O = result.the_row (option.the_row F.row) refusal in
+    let O = maybe_lent value κs.0 in
     use1 𝓛 (later (some (λ (r : O.Denot). ((‵ (flft κs.0 qs.0) ⊛ ‵ (flft κs.1.0 qs.1.0) ⊛ ‵ ftrue) ⊛ ‵ (O.own_val r (u ∷ []))) ⊛ some (λ (ws : Lasts (g.ended J' x d dd) κs a). ‵ (lasts (g.ended J' x d dd) κs a ws) ⊛ (‵ (LendsPart value value v r (λ n w. edited_once (set_at (x.step i ∷ []) (tree_of w)) (tree_of v.now) ≡ Ok (tree_of n)) (λ n. tree_of n ≡ tree_of v.now)) ⊛ raw (fact 𝓤 (IfOk r (λ o. option_map (λ (y : MutBor Value). tree_of y.now) o ≡ child (x.step i) (tree_of v.now)))) ⊛ raw (fact 𝓤 (IfErr r (λ e. e ≡ no_memory)))))))) (id⊢ 𝓤 _) $
     await ! tt $ pick ! (λ r. split ! $ split ! $ move ! (1 ∷ []) $ peeks ! O _ (shows 𝓛 O) r (u ∷ []) (λ is.
-    lands_as ! refl refl ((((result_laws (option.the_row F.row) refusal (option_laws F.row ref-laws) refusal_laws).lawful 𝓛).typed r (u ∷ []) is).0) $
+    lands_as ! refl refl ((((maybe_lent_laws value κs.0 tt value_laws).lawful 𝓛).typed r (u ∷ []) is).0) $
     returns ! (look_at ! 0 refl) $ free_all ! refl $
     -- [the result; the tokens; what is lent and said]
     move ! (2 ∷ []) $ pick ! (λ ws. split ! $ drop ! $
