@@ -2,6 +2,7 @@
 use Rattle.json_value.proofs.Walking.{refl, named, Laws, MutRef}
 use base.Fml.{Lft}
 use denote.Builtin.{One}
+use denote.Ref.{NamedLft}
 use denote.RattleType.{RattleType}
 use denote.Struct.Field.{mut_ref_field}
 use denote.Struct.Laws.{mut_ref_laws}
@@ -19,7 +20,7 @@ maybe_lent T κ = result.the_row (option.the_row (MutRef (named 0) κ T)) refusa
 
 pub maybe_lent_laws : (T : RattleType) (κ : Lft) → One T.mir → Laws T → Laws (maybe_lent T κ)
 maybe_lent_laws T κ one L =
-    let b = record { mir = named 0; lft = κ } in
+    let b : NamedLft = record { mir = named 0; lft = κ } in
     let F = mut_ref_field b T one in
     let ref-laws = of_field F (mut_ref_laws b T one) refl (mut_ref_shared b T one (row_shared T L)) in
     result_laws (option.the_row F.row) refusal (option_laws F.row ref-laws) refusal_laws

@@ -1,4 +1,4 @@
-use Rattle.json_value.proofs.Walking.{MutBor, subst, Val, full_share, fact_i, emp, use0, use2, rewrite, of_opd, keep, heard, MutRef, only, ◌≡◌, [], ◌∷◌, refl, id⊢, ftrue, named, fact, tables, ‵, raw, ◌⊛◌, some, later, ◌$◌, ◌∵◌, !, qed, done, drop, use1, split, join, pick, await, suffices, group, enter, addr, stop, no_more, and_then, returns, alloc_all, pass_all, free_all, look_at, get, through, sets, lands_as, no, yes, move, peeks, shows, flft, mut_vals, mut_Tells, plain, nothing, calls_at, lasts, Lasts, triple_of, Stays, stay_dropped, Goes-spent_ref, Goes-dropped, ends_at, framed}
+use Rattle.json_value.proofs.Walking.{subst, Val, fact_i, emp, use0, use2, rewrite, of_opd, keep, heard, MutRef, only, ◌≡◌, [], ◌∷◌, refl, id⊢, ftrue, named, fact, tables, ‵, raw, ◌⊛◌, some, later, ◌$◌, ◌∵◌, !, qed, done, drop, use1, split, join, pick, await, suffices, group, enter, addr, stop, no_more, and_then, returns, alloc_all, pass_all, free_all, look_at, get, through, sets, lands_as, no, yes, move, peeks, shows, flft, mut_vals, mut_Tells, plain, nothing, calls_at, lasts, Lasts, triple_of, Stays, stay_dropped, Goes-spent_ref, Goes-dropped, ends_at, framed}
 use mathlib.Core.List.{List, ◌++◌}
 use denote.RattleType.{RattleType}
 use denote.Param.{param, bounded}
@@ -12,21 +12,15 @@ use prog.Wp.{WpFn}
 use types.Kit.{regoal, prop}
 use Rattle.std.proofs.raw_atomic.Walks.{proved_at}
 use Rattle.json_value.proofs.Loneness.{one_of}
-use Rattle.std.specs.Prelude.{IfOk, IfErr, option_map, Ok}
 use Rattle.std.specs.contracts.alloc.Global.{the_row as global}
 use Rattle.std.proofs.alloc.Global.TheLaws.{the_row_laws as global_laws, the_told as global_told}
-use Rattle.json_text.specs.Errors.{no_memory}
-use Rattle.json_value.specs.Lending.{LendsPart}
 use Rattle.json_value.specs.contracts.value.Value.{the_row as value}
-use Rattle.json_value.specs.declared.value.Value.{Value}
 use Rattle.json_value.proofs.value.Value.TheLaws.{the_row_laws as value_laws}
-use Rattle.json_model.specs.Edit.{edited_once, set_at}
-use Rattle.json_value.specs.Denotes.{tree_of}
-use Rattle.json_value.specs.Steps.{child}
 use Rattle.json_access.proofs.MaybeLent.{maybe_lent, maybe_lent_laws}
 use Rattle.json_access.specs.contracts.value_mut_trait.ValueJsonValueMutTrait.get_mut as f
 use Rattle.json_access.proofs.value_mut_trait.ValueJsonValueMutTrait.get_mut.Statement.{statement}
 use Rattle.json_access.proofs.value_mut_trait.ValueJsonValueMutTrait.get_mut.Code as code
+use denote.Triple.Clauses.{at_exit}
 use Rattle.json_value.specs.contracts.value.Value.step_mut as g
 use Rattle.json_value.proofs.value.Value.step_mut.Met as first-met
 use Rattle.json_access.proofs.value_mut_trait.ValueJsonValueMutTrait.get_mut.Lts.{arg-0-0, laws-0-0}
@@ -71,7 +65,7 @@ get_mut_spec {M} 𝓤 𝓛 𝓜 𝓡 wired I L x d dd met glue =
     calls_at ! (framed 𝓤 H 𝓜 𝓣) G (first-met.met 𝓤 𝓛 𝓜 𝓡 (code.calls-json_value::value::Value::step_mut 𝓡.env wired) J' (laws-0-0 I L d dd κs) x d dd (record { as_key = met.as_key; as_index = met.as_index }) glue) z1
     (and_then ! (get ! refl) (and_then ! (get ! refl) (and_then ! (get ! refl) (no_more !)))) (λ u.
     let O = maybe_lent value κs.0 in
-    use1 𝓛 (later (some (λ (r : O.Denot). ((‵ (flft κs.0 qs.0) ⊛ ‵ (flft κs.1.0 qs.1.0) ⊛ ‵ ftrue) ⊛ ‵ (O.own_val r (u ∷ []))) ⊛ some (λ (ws : Lasts (g.ended J' x d dd) κs a). ‵ (lasts (g.ended J' x d dd) κs a ws) ⊛ (‵ (LendsPart value value v r (λ n w. edited_once (set_at (x.step i ∷ []) (tree_of w)) (tree_of v.now) ≡ Ok (tree_of n)) (λ n. tree_of n ≡ tree_of v.now)) ⊛ raw (fact 𝓤 (IfOk r (λ o. option_map (λ (y : MutBor Value). tree_of y.now) o ≡ child (x.step i) (tree_of v.now)))) ⊛ raw (fact 𝓤 (IfErr r (λ e. e ≡ no_memory)))))))) (id⊢ 𝓤 _) $
+    use1 𝓛 (later (some (λ (r : O.Denot). ((‵ (flft κs.0 qs.0) ⊛ ‵ (flft κs.1.0 qs.1.0) ⊛ ‵ ftrue) ⊛ ‵ (O.own_val r (u ∷ []))) ⊛ some (λ (ws : Lasts (g.ended J' x d dd) κs a). ‵ (lasts (g.ended J' x d dd) κs a ws) ⊛ raw ((g.clauses J' x d dd 𝓛 𝓜.mem 𝓡.returns κs a).ensures tt r (at_exit (g.ended J' x d dd) κs a ws)))))) (id⊢ 𝓤 _) $
     await ! tt $ pick ! (λ r. split ! $ split ! $ move ! (1 ∷ []) $ peeks ! O _ (shows 𝓛 O) r (u ∷ []) (λ is.
     lands_as ! refl refl ((((maybe_lent_laws value κs.0 tt value_laws).lawful 𝓛).typed r (u ∷ []) is).0) $
     returns ! (look_at ! 0 refl) $ free_all ! refl $

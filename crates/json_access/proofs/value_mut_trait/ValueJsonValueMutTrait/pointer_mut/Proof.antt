@@ -1,23 +1,16 @@
-use Rattle.json_value.proofs.Walking.{MutBor, ◌≡◌, [], ◌∷◌, refl, proved, id⊢, ftrue, named, fact, tables, ‵, raw, ◌⊛◌, some, later, ◌$◌, ◌∵◌, !, qed, done, drop, use1, split, join, pick, await, suffices, group, enter, addr, stop, no_more, and_then, returns, alloc_all, pass_all, free_all, look_at, get, through, sets, lands_as, no, yes, move, peeks, shows, flft, mut_vals, mut_Tells, plain, nothing, calls_at, lasts, Lasts, triple_of, Stays, stay_dropped, Goes-spent_ref, Goes-dropped, ends_at, framed}
+use Rattle.json_value.proofs.Walking.{[], ◌∷◌, refl, proved, id⊢, ftrue, named, tables, ‵, raw, ◌⊛◌, some, later, ◌$◌, ◌∵◌, !, qed, done, drop, use1, split, join, pick, await, suffices, group, enter, addr, stop, no_more, and_then, returns, alloc_all, pass_all, free_all, look_at, get, through, sets, lands_as, no, yes, move, peeks, shows, flft, mut_vals, mut_Tells, plain, nothing, calls_at, lasts, Lasts, triple_of, Stays, stay_dropped, Goes-spent_ref, Goes-dropped, ends_at, framed}
 use denote.Slice.{shr_slice_vals, shr_slice_Tells, shr_slice_Lawful}
 use denote.Signature.{shr_slice_of}
-use Rattle.std.specs.Prelude.{IfOk, IfErr, option_map, Ok}
 use Rattle.std.specs.contracts.alloc.Global.{the_row as global}
 use Rattle.std.proofs.alloc.Global.TheLaws.{the_row_laws as global_laws, the_told as global_told}
-use Rattle.json_text.specs.Errors.{no_memory}
-use Rattle.json_value.specs.Lending.{LendsPart}
 use Rattle.json_value.specs.contracts.value.Value.{the_row as value}
-use Rattle.json_value.specs.declared.value.Value.{Value}
 use Rattle.json_value.proofs.value.Value.TheLaws.{the_row_laws as value_laws}
-use Rattle.json_model.specs.Edit.{edited_once, set_at}
-use Rattle.json_value.specs.Denotes.{tree_of}
-use Rattle.json_value.specs.Edits.{steps_of}
-use Rattle.json_value.specs.Steps.{tree_at}
 use Rattle.json_value.specs.contracts.path.PointerNode.{the_row as node}
 use Rattle.json_access.proofs.MaybeLent.{maybe_lent, maybe_lent_laws}
 use Rattle.json_access.specs.contracts.value_mut_trait.ValueJsonValueMutTrait.pointer_mut as f
 use Rattle.json_access.proofs.value_mut_trait.ValueJsonValueMutTrait.pointer_mut.Statement.{statement}
 use Rattle.json_access.proofs.value_mut_trait.ValueJsonValueMutTrait.pointer_mut.Code as code
+use denote.Triple.Clauses.{at_exit}
 use Rattle.json_value.specs.contracts.value.Value.reach as g
 use Rattle.json_value.proofs.value.Value.reach.Met as first-met
 
@@ -39,7 +32,7 @@ pointer_mut_spec 𝓤 𝓛 𝓜 𝓡 wired =
     sets ! (addr ! (through ! refl (stop !))) refl (tt, tt) $
     calls_at ! (framed 𝓤 𝓛.H 𝓜 (tables 𝓤 𝓛.H 𝓜 𝓡 𝓡.env)) G (first-met.met 𝓤 𝓛 𝓜 𝓡 (code.calls-json_value::value::Value::reach 𝓡.env wired)) z
     (and_then ! (get ! refl) (and_then ! (get ! refl) (and_then ! (get ! refl) (no_more !)))) (λ u.
-    use1 𝓛 (later (some (λ (r : O.Denot). ((‵ (flft κs.0 qs.0) ⊛ ‵ (flft κs.1.0 qs.1.0) ⊛ ‵ ftrue) ⊛ ‵ (O.own_val r (u ∷ []))) ⊛ some (λ (ws : Lasts g.ended κs a). ‵ (lasts g.ended κs a ws) ⊛ (‵ (LendsPart value value v r (λ n w. edited_once (set_at (steps_of path.now) (tree_of w)) (tree_of v.now) ≡ Ok (tree_of n)) (λ n. tree_of n ≡ tree_of v.now)) ⊛ raw (fact 𝓤 (IfOk r (λ o. option_map (λ (x : MutBor Value). tree_of x.now) o ≡ tree_at (steps_of path.now) (tree_of v.now)))) ⊛ raw (fact 𝓤 (IfErr r (λ e. e ≡ no_memory)))))))) (id⊢ 𝓤 _) $
+    use1 𝓛 (later (some (λ (r : O.Denot). ((‵ (flft κs.0 qs.0) ⊛ ‵ (flft κs.1.0 qs.1.0) ⊛ ‵ ftrue) ⊛ ‵ (O.own_val r (u ∷ []))) ⊛ some (λ (ws : Lasts g.ended κs a). ‵ (lasts g.ended κs a ws) ⊛ raw ((g.clauses 𝓛 𝓜.mem 𝓡.returns κs a).ensures tt r (at_exit g.ended κs a ws)))))) (id⊢ 𝓤 _) $
     await ! tt $ pick ! (λ r. split ! $ split ! $ move ! (1 ∷ []) $ peeks ! O _ (shows 𝓛 O) r (u ∷ []) (λ is.
     lands_as ! refl refl ((((maybe_lent_laws value κs.0 tt value_laws).lawful 𝓛).typed r (u ∷ []) is).0) $
     returns ! (look_at ! 0 refl) $ free_all ! refl $
