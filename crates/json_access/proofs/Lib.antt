@@ -1,1 +1,3 @@
 pub mod Members
+pub mod Spellings
+pub mod MaybeLent

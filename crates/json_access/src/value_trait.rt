@@ -1,14 +1,20 @@
 // What can be read of a value at once.
-ghost use Rattle.std.specs.Prelude.{◌≡◌, ◌↔◌, true, false, option_map, IsTrue};
+ghost use Rattle.std.specs.Prelude.{◌≡◌, ◌↔◌, true, false, option_map, is_some, IsTrue, IfOk, IfErr};
 ghost use Rattle.json_grammar.specs.Tree.{Tree, null, boolean};
-ghost use Rattle.json_doc.specs.Readings.{type_of, bool_of, string_of};
+ghost use Rattle.json_text.specs.Errors.{no_memory};
+ghost use Rattle.json_number.specs.Literals.{raw_literal};
+ghost use Rattle.json_number.specs.Numbers.{value_of};
+ghost use Rattle.json_doc.specs.Readings.{type_of, bool_of, integer_of, string_of};
 ghost use Rattle.json_doc.specs.declared.json_type.JsonType.TheVariants as kind;
 ghost use Rattle.json_value.specs.Denotes.{tree_of};
 ghost use Rattle.json_value.specs.Seen.{seen};
-ghost use Rattle.json_access.specs.Trees.{option_tree, result_tree};
+ghost use Rattle.json_access.specs.Trees.{option_tree, result_tree, spelling, i64_of, u64_of};
 
+use crate::raw::raw_number;
 use json_doc::JsonType;
+use json_number::{JsonNumberTrait, Number, RawNumber};
 use json_value::{Value, View};
+use std::alloc::Global;
 
 /// What stands for a JSON value. What is missing and what was refused count as null.
 pub trait JsonValueTrait {
@@ -26,6 +32,50 @@ pub trait JsonValueTrait {
     /// The text of the string; none of another kind.
     fn as_str(&self) -> Option<&str>
         ensures { option_map (λ s. s.now) result ≡ string_of (tree self.now) };
+
+    /// The number, where it is an integer of `u64` or `i64`; none of another, nor of another kind.
+    fn as_number(&self) -> Option<Number>
+        ensures { option_map value_of result ≡ integer_of (tree self.now) };
+
+    /// The literal of the number: as it was written, or the decimal text of an integer of `u64` or `i64`; none of another kind.
+    /// `NoMemory`.
+    fn as_raw_number(&self, alloc: Global) -> json_text::Result<Option<RawNumber>>
+        ensures literal { IfOk result (λ o. option_map raw_literal o ≡ spelling (tree self.now)) }
+        ensures only { IfErr result (λ e. e ≡ no_memory) };
+
+    /// The integer, where it is one of `i64`; none of another number, nor of another kind.
+    fn as_i64(&self) -> Option<i64>
+        ensures { result ≡ i64_of (tree self.now) }
+    {
+        match self.as_number() {
+            Some(number) => number.as_i64(),
+            None => None,
+        }
+    }
+
+    /// The integer, where it is one of `u64`; none of another number, nor of another kind.
+    fn as_u64(&self) -> Option<u64>
+        ensures { result ≡ u64_of (tree self.now) }
+    {
+        match self.as_number() {
+            Some(number) => number.as_u64(),
+            None => None,
+        }
+    }
+
+    /// Whether it is an integer of `i64`.
+    fn is_i64(&self) -> bool
+        ensures { result ≡ is_some (i64_of (tree self.now)) }
+    {
+        self.as_i64().is_some()
+    }
+
+    /// Whether it is an integer of `u64`.
+    fn is_u64(&self) -> bool
+        ensures { result ≡ is_some (u64_of (tree self.now)) }
+    {
+        self.as_u64().is_some()
+    }
 
     /// Whether it is null.
     fn is_null(&self) -> bool
@@ -101,6 +151,15 @@ impl<'a> JsonValueTrait for View<'a> {
         let view = *self;
         view.text()
     }
+
+    fn as_number(&self) -> Option<Number> {
+        let view = *self;
+        view.as_number()
+    }
+
+    fn as_raw_number(&self, alloc: Global) -> json_text::Result<Option<RawNumber>> {
+        raw_number(*self, alloc)
+    }
 }
 
 impl JsonValueTrait for Value {
@@ -120,6 +179,15 @@ impl JsonValueTrait for Value {
         let view = self.view();
         view.text()
     }
+
+    fn as_number(&self) -> Option<Number> {
+        let view = self.view();
+        view.as_number()
+    }
+
+    fn as_raw_number(&self, alloc: Global) -> json_text::Result<Option<RawNumber>> {
+        raw_number(self.view(), alloc)
+    }
 }
 
 impl<V: JsonValueTrait> JsonValueTrait for &V {
@@ -135,6 +203,14 @@ impl<V: JsonValueTrait> JsonValueTrait for &V {
 
     fn as_str(&self) -> Option<&str> {
         (**self).as_str()
+    }
+
+    fn as_number(&self) -> Option<Number> {
+        (**self).as_number()
+    }
+
+    fn as_raw_number(&self, alloc: Global) -> json_text::Result<Option<RawNumber>> {
+        (**self).as_raw_number(alloc)
     }
 }
 
@@ -161,6 +237,20 @@ impl<V: JsonValueTrait> JsonValueTrait for Option<V> {
             None => None,
         }
     }
+
+    fn as_number(&self) -> Option<Number> {
+        match self {
+            Some(value) => value.as_number(),
+            None => None,
+        }
+    }
+
+    fn as_raw_number(&self, alloc: Global) -> json_text::Result<Option<RawNumber>> {
+        match self {
+            Some(value) => value.as_raw_number(alloc),
+            None => Ok(None),
+        }
+    }
 }
 
 impl<V: JsonValueTrait, E> JsonValueTrait for Result<V, E> {
@@ -184,6 +274,20 @@ impl<V: JsonValueTrait, E> JsonValueTrait for Result<V, E> {
         match self {
             Ok(value) => value.as_str(),
             Err(_) => None,
+        }
+    }
+
+    fn as_number(&self) -> Option<Number> {
+        match self {
+            Ok(value) => value.as_number(),
+            Err(_) => None,
+        }
+    }
+
+    fn as_raw_number(&self, alloc: Global) -> json_text::Result<Option<RawNumber>> {
+        match self {
+            Ok(value) => value.as_raw_number(alloc),
+            Err(_) => Ok(None),
         }
     }
 }

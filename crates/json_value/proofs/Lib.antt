@@ -29,3 +29,4 @@ pub mod Shapes
 pub mod LentPaths
 pub mod Settling
 pub mod Loneness
+pub mod Opened

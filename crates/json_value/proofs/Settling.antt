@@ -1,9 +1,9 @@
 -- What stands where steps lead, told by a result and by what is settled from it.
-use Rattle.std.proofs.Common.{◌≡◌, ◌<◌, length, drop, List, [], ◌∷◌, Some, None, Option, Result, Ok, Err, IfOk, IfErr, MutBor, refl, sym, ap, ◌∙◌}
+use Rattle.std.proofs.Common.{◌≡◌, ◌<◌, length, drop, List, [], ◌∷◌, Some, None, Option, Result, Ok, Err, IfOk, IfErr, MutBor, ◌⊎◌, inl, inr, refl, sym, ap, subst, ◌∙◌}
 use Rattle.std.specs.Prelude.{option_map}
 use Rattle.std.proofs.lemmas.Option.{none-some, same_Some}
 use Rattle.json_grammar.specs.Tree.{Tree}
-use Rattle.json_text.specs.Errors.{no_memory}
+use Rattle.json_text.specs.Errors.{no_memory, type_unmatched as unmatched}
 use Rattle.json_text.specs.declared.error.Error.{Error}
 use Rattle.json_text.specs.declared.error.ErrorCode.{ErrorCode}
 use Rattle.json_text.specs.declared.error.ErrorCode.TheVariants.{NoMemory, NotFound, TypeUnmatched}
@@ -12,19 +12,19 @@ use Rattle.json_text.specs.declared.error.Place.TheVariants.{None as nowhere}
 use Rattle.json_model.specs.Edit.{Step, Changed, Refusal, not_found, type_unmatched, at_path}
 use Rattle.json_value.specs.Denotes.{tree_of}
 use Rattle.json_value.specs.Edits.{RefusesChange, steps_of, step_of as node_step}
-use Rattle.json_value.specs.Lending.{first_node, none_or, settled, name_of, name_of_ok, Stands}
+use Rattle.json_value.specs.Lending.{first_node, none_or, settled, name_of, name_of_ok, Stands, Opens}
 use Rattle.json_value.specs.Steps.{child, tree_at}
 use Rattle.json_value.specs.declared.value.Value.{Value}
 use Rattle.json_value.specs.declared.path.PointerNode.{PointerNode}
 use Rattle.json_value.proofs.LentPaths.{there, back, split, seen_along, refused_along, refused_first}
 
-none_name : (c : ErrorCode) (e : Error) → name_of (none_or c e) ≡ name_of_ok {X = Value} {E = Error} (Err e)
-none_name NoMemory e = refl
-none_name _ e = refl
+none_name : (X : Type 0) (c : ErrorCode) (e : Error) → name_of (none_or {X = X} c e) ≡ name_of_ok {X = X} {E = Error} (Err e)
+none_name X NoMemory e = refl
+none_name X _ e = refl
 
-pub settled_name : (r : Result (MutBor Value) Error) → name_of (settled r) ≡ name_of_ok r
+pub settled_name : {X : Type 0} (r : Result (MutBor X) Error) → name_of (settled r) ≡ name_of_ok r
 settled_name (Ok x) = refl
-settled_name (Err e) = none_name e.code e
+settled_name {X} (Err e) = none_name X e.code e
 
 -- ---- one step
 
@@ -73,7 +73,7 @@ settled_stands p t (Ok x) h = sym h
 settled_stands p t (Err e) h = nothing_at p t e.code e.place e h
 
 memory_left : (p : List Step) (t : Tree) (code : ErrorCode) (place : Place) → ((f : Tree → Changed Tree) → RefusesChange (at_path p f t) code place)
-    → IfErr (none_or code (record { code = code; place = place })) (λ e. e ≡ no_memory)
+    → IfErr (none_or {X = Value} code (record { code = code; place = place })) (λ e. e ≡ no_memory)
 memory_left p t NoMemory nowhere h = refl
 memory_left p t NoMemory place h = absurd (h (λ u. Ok u))
 memory_left p t code place h = tt
@@ -90,3 +90,22 @@ stands_along path rest t c more shorter here (Err e) h = refused_along path rest
 
 pub stands_first : (path : List PointerNode) (t : Tree) (e : Error) → 0 < length path → Stands (node_step (first_node path) ∷ []) t (Err e) → Stands (steps_of path) t (Err e)
 stands_first path t e more h = refused_first path t more e.code e.place h
+
+-- ---- a container
+
+module _ {C A : Type 0} (parts : C → A) (o : Option A) where
+  none_there : (e : Error) → (e ≡ no_memory) ⊎ ((e ≡ unmatched) × (o ≡ None)) → IfOk (none_or {X = C} e.code e) (λ p. option_map (λ (c : MutBor C). parts c.now) p ≡ o)
+  none_there e (inl is) = subst (λ (d : Error). IfOk (none_or {X = C} d.code d) (λ p. option_map (λ (c : MutBor C). parts c.now) p ≡ o)) (sym is) tt
+  none_there e (inr is) = subst (λ (d : Error). IfOk (none_or {X = C} d.code d) (λ p. option_map (λ (c : MutBor C). parts c.now) p ≡ o)) (sym is.0) (sym is.1)
+
+  memory_alone : (e : Error) → (e ≡ no_memory) ⊎ ((e ≡ unmatched) × (o ≡ None)) → IfErr (none_or {X = C} e.code e) (λ d. d ≡ no_memory)
+  memory_alone e (inl is) = subst (λ (d : Error). IfErr (none_or {X = C} d.code d) (λ d. d ≡ no_memory)) (sym is) refl
+  memory_alone e (inr is) = subst (λ (d : Error). IfErr (none_or {X = C} d.code d) (λ d. d ≡ no_memory)) (sym is.0) tt
+
+  pub settled_opens : (r : Result (MutBor C) Error) → Opens parts o r → IfOk (settled r) (λ p. option_map (λ (c : MutBor C). parts c.now) p ≡ o)
+  settled_opens (Ok c) h = sym h
+  settled_opens (Err e) h = none_there e h
+
+  pub settled_opens_only : (r : Result (MutBor C) Error) → Opens parts o r → IfErr (settled r) (λ e. e ≡ no_memory)
+  settled_opens_only (Ok c) h = tt
+  settled_opens_only (Err e) h = memory_alone e h

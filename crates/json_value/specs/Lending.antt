@@ -1,8 +1,10 @@
 -- What calls lend inside a value, and what a write there changes.
-use Rattle.std.specs.Prelude.{◌≡◌, List, [], ◌∷◌, ℕ, Option, Some, None, Result, Ok, Err, cond}
+use denote.RattleType.{RattleType}
+use Rattle.std.specs.Prelude.{◌≡◌, ◌⊎◌, List, [], ◌∷◌, ℕ, Option, Some, None, Result, Ok, Err, cond}
 use Rattle.std.specs.Borrow.{follows_so, name_if_ok, LendsSoOk, MutBor, Fml, GName}
 use mathlib.Core.Option as maybe
 use Rattle.json_grammar.specs.Tree.{Tree, null, pairs, Pairs, no_pairs, pair_and}
+use Rattle.json_text.specs.Errors.{no_memory, type_unmatched}
 use Rattle.json_text.specs.declared.error.Error.{Error}
 use Rattle.json_text.specs.declared.error.ErrorCode.{ErrorCode}
 use Rattle.json_text.specs.declared.error.ErrorCode.TheVariants.{NoMemory}
@@ -34,12 +36,12 @@ abbrev pub put_or_insert : Step → Tree → Tree → Changed Tree
 put_or_insert (key_step k) u t = on_pairs (λ ps. Ok (inserted k u ps)) (opened t)
 put_or_insert (index_step i) u t = on_list (at_index i (λ _. Ok u)) t
 
--- a place; none for a refusal but of want of memory
-abbrev pub none_or : ErrorCode → Error → Result (Option (MutBor Value)) Error
+-- what is lent; none for a refusal but of want of memory
+abbrev pub none_or : {X : Type 0} → ErrorCode → Error → Result (Option (MutBor X)) Error
 none_or NoMemory e = Err e
 none_or _ e = Ok None
 
-abbrev pub settled : Result (MutBor Value) Error → Result (Option (MutBor Value)) Error
+abbrev pub settled : {X : Type 0} → Result (MutBor X) Error → Result (Option (MutBor X)) Error
 settled (Ok x) = Ok (Some x)
 settled (Err e) = none_or e.code e
 
@@ -94,3 +96,12 @@ first_node (s ∷ path) = s
 abbrev pub Stands : List Step → Tree → Result (MutBor Value) Error → Type 0
 Stands p t (Ok x) = tree_at p t ≡ Some (tree_of x.now)
 Stands p t (Err e) = (f : Tree → Changed Tree) → RefusesChange (at_path p f t) e.code e.place
+
+-- a part of s is lent, or none is. With any w written there s ends as an n with P n w, and where none is lent as P₀ says
+abbrev pub LendsPart : (R T : RattleType) → {E : Type 0} → MutBor R.Denot → Result (Option (MutBor T.Denot)) E → (R.Denot → T.Denot → Type 0) → (R.Denot → Type 0) → Fml
+LendsPart R T s r P P₀ = follows_so R T s.ghost_name (name_of r) (λ w n. IsLent (name_of r) → P n w) (λ n. UnlessLent (name_of r) (P₀ n))
+
+-- what a result tells of a container, if it was one: what is in it, or why it is not lent
+abbrev pub Opens : {C A : Type 0} → (C → A) → Option A → Result (MutBor C) Error → Type 0
+Opens parts o (Ok c) = o ≡ Some (parts c.now)
+Opens parts o (Err e) = (e ≡ no_memory) ⊎ ((e ≡ type_unmatched) × (o ≡ None))

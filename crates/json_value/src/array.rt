@@ -60,7 +60,8 @@ impl Container<Value> {
         }
     }
 
-    fn make_owned(&mut self, alloc: Global) -> Result<()>
+    // Makes the list an owned one.
+    pub(crate) fn make_owned(&mut self, alloc: Global) -> Result<()>
         ensures ok { OnOk result (IsOwned self.new.form) }
         ensures same { OnOk result (list_in self.new ≡ list_in self.old) }
         ensures children { OnOk result (FirstList self.old.form (owned_items self.new.form)) }

@@ -31,6 +31,7 @@ mod lookup_tests;
 mod making;
 mod object;
 mod object_view;
+mod opening;
 mod owning;
 mod pair;
 mod path;

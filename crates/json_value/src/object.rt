@@ -66,7 +66,8 @@ impl Container<Keyed<Value>> {
         }
     }
 
-    fn make_owned(&mut self, alloc: Global) -> Result<()>
+    // Makes the list an owned one.
+    pub(crate) fn make_owned(&mut self, alloc: Global) -> Result<()>
         ensures ok { OnOk result (IsOwned self.new.form) }
         ensures same { OnOk result (pairs_in self.new ≡ pairs_in self.old) }
         ensures children { OnOk result (FirstPairs self.old.form (owned_items self.new.form)) }

@@ -1,0 +1,26 @@
+-- The row of a place that is lent, or of none, or of a refusal.
+use Rattle.json_value.proofs.Walking.{refl, named, Laws, MutRef}
+use base.Fml.{Lft}
+use denote.Builtin.{One}
+use denote.Ref.{NamedLft}
+use denote.RattleType.{RattleType}
+use denote.Struct.Field.{mut_ref_field}
+use denote.Struct.Laws.{mut_ref_laws}
+use denote.Param.Laws.{of_field, row_shared}
+use denote.Param.Shared.{mut_ref_shared}
+use Rattle.std.specs.contracts.option.Option as option
+use Rattle.std.specs.contracts.result.Result as result
+use Rattle.std.proofs.option.Option.TheLaws.{the_row_laws as option_laws}
+use Rattle.std.proofs.result.Result.TheLaws.{the_row_laws as result_laws}
+use Rattle.json_text.specs.contracts.error.Error.{the_row as refusal}
+use Rattle.json_text.proofs.error.Error.TheLaws.{the_row_laws as refusal_laws}
+
+abbrev pub maybe_lent : RattleType → Lft → RattleType
+maybe_lent T κ = result.the_row (option.the_row (MutRef (named 0) κ T)) refusal
+
+pub maybe_lent_laws : (T : RattleType) (κ : Lft) → One T.mir → Laws T → Laws (maybe_lent T κ)
+maybe_lent_laws T κ one L =
+    let b : NamedLft = record { mir = named 0; lft = κ } in
+    let F = mut_ref_field b T one in
+    let ref-laws = of_field F (mut_ref_laws b T one) refl (mut_ref_shared b T one (row_shared T L)) in
+    result_laws (option.the_row F.row) refusal (option_laws F.row ref-laws) refusal_laws

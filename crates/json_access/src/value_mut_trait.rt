@@ -1,0 +1,64 @@
+// Places of values, lent to be changed.
+ghost use Rattle.std.specs.Prelude.{◌≡◌, [], ◌∷◌, option_map, IfOk, IfErr, Ok};
+ghost use Rattle.std.specs.Borrow.{sem};
+ghost use Rattle.json_grammar.specs.Tree.{list, pairs, list_trees, list_pairs};
+ghost use Rattle.json_text.specs.Errors.{no_memory};
+ghost use Rattle.json_model.specs.Edit.{edited_once, set_at};
+ghost use Rattle.json_value.specs.Denotes.{tree_of, list_in, pairs_in};
+ghost use Rattle.json_value.specs.Edits.{steps_of};
+ghost use Rattle.json_value.specs.Lending.{LendsPart};
+ghost use Rattle.json_value.specs.Rows.{value_row, array_row, object_row};
+ghost use Rattle.json_value.specs.Seen.{list_of, pairs_of};
+ghost use Rattle.json_value.specs.Steps.{child, tree_at};
+
+use crate::value_trait::JsonValueTrait;
+use json_text::Result;
+use json_value::{Array, Index, Object, PointerNode, Value};
+use std::alloc::Global;
+
+/// What stands for a JSON value and lends the places in it to be changed. What the caller leaves at a place is put there, and
+/// nothing else of the tree changes; a copy of one level is made of each packed container on the way. None and a refusal keep
+/// the tree.
+pub trait JsonValueMutTrait: JsonValueTrait {
+    /// The array; none exactly for another kind. `NoMemory`.
+    fn as_array_mut(&mut self, alloc: Global) -> Result<Option<&mut Array>>
+        ensures* writes_back { sem 𝓛 (LendsPart Self.row array_row self.entry result (λ n w. Self.tree n ≡ list (list_trees (list_in w))) (λ n. Self.tree n ≡ Self.tree self.old)) }
+        ensures array { IfOk result (λ o. option_map (λ a. list_in a.now) o ≡ list_of (Self.tree self.old)) }
+        ensures only { IfErr result (λ e. e ≡ no_memory) };
+
+    /// The object; none exactly for another kind. `NoMemory`.
+    fn as_object_mut(&mut self, alloc: Global) -> Result<Option<&mut Object>>
+        ensures* writes_back { sem 𝓛 (LendsPart Self.row object_row self.entry result (λ n w. Self.tree n ≡ pairs (list_pairs (pairs_in w))) (λ n. Self.tree n ≡ Self.tree self.old)) }
+        ensures object { IfOk result (λ o. option_map (λ a. pairs_in a.now) o ≡ pairs_of (Self.tree self.old)) }
+        ensures only { IfErr result (λ e. e ≡ no_memory) };
+
+    /// The value of the first member of a key, or the element of an index; none where the step leads nowhere. `NoMemory`.
+    fn get_mut<I: Index>(&mut self, alloc: Global, index: I) -> Result<Option<&mut Value>>
+        ensures* writes_back { sem 𝓛 (LendsPart Self.row value_row self.entry result (λ n w. edited_once (set_at (I.step index ∷ []) (tree_of w)) (Self.tree self.old) ≡ Ok (Self.tree n)) (λ n. Self.tree n ≡ Self.tree self.old)) }
+        ensures stands { IfOk result (λ o. option_map (λ x. tree_of x.now) o ≡ child (I.step index) (Self.tree self.old)) }
+        ensures only { IfErr result (λ e. e ≡ no_memory) };
+
+    /// The place to which the steps lead; none where one of them leads nowhere. `NoMemory`.
+    fn pointer_mut(&mut self, alloc: Global, path: &[PointerNode]) -> Result<Option<&mut Value>>
+        ensures* writes_back { sem 𝓛 (LendsPart Self.row value_row self.entry result (λ n w. edited_once (set_at (steps_of path.now) (tree_of w)) (Self.tree self.old) ≡ Ok (Self.tree n)) (λ n. Self.tree n ≡ Self.tree self.old)) }
+        ensures stands { IfOk result (λ o. option_map (λ x. tree_of x.now) o ≡ tree_at (steps_of path.now) (Self.tree self.old)) }
+        ensures only { IfErr result (λ e. e ≡ no_memory) };
+}
+
+impl JsonValueMutTrait for Value {
+    fn as_array_mut(&mut self, alloc: Global) -> Result<Option<&mut Array>> {
+        Value::as_array_mut(self, alloc)
+    }
+
+    fn as_object_mut(&mut self, alloc: Global) -> Result<Option<&mut Object>> {
+        Value::as_object_mut(self, alloc)
+    }
+
+    fn get_mut<I: Index>(&mut self, alloc: Global, index: I) -> Result<Option<&mut Value>> {
+        self.step_mut(alloc, index)
+    }
+
+    fn pointer_mut(&mut self, alloc: Global, path: &[PointerNode]) -> Result<Option<&mut Value>> {
+        self.reach(alloc, path)
+    }
+}

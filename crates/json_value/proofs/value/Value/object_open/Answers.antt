@@ -1,0 +1,17 @@
+use Rattle.std.proofs.Common.{refl, inr}
+use Rattle.json_value.specs.Denotes.{tree_of}
+use Rattle.json_value.proofs.Opened.{pairs_read, pairs_none}
+use Rattle.json_value.proofs.Views.{object_tree}
+use Rattle.json_value.proofs.value.Value.object_open.Goals as goal
+
+pub returns-in_ok-make_owned-in-Some : goal.returns-in_ok-make_owned-in-Some
+returns-in_ok-make_owned-in-Some c = (
+  (refl, (λ w ok. object_tree w), tt),
+  record {
+    writes_back = tt;
+    opens = pairs_read c.args.self.now c.in-Some.object.now c.make_owned.new.self c.in-Some.ensures.value c.in_ok-make_owned-in-Some.ensures.same;
+  },
+)
+
+pub returns-in-None : goal.returns-in-None
+returns-in-None c = ((refl, (λ w never. search), refl), record { writes_back = tt; opens = inr (c.type_unmatched.ensures, pairs_none (tree_of c.args.self.now) c.in-None.ensures.none) })
