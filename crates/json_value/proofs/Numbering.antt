@@ -1,5 +1,5 @@
 -- Numbers that are the same: of two integers by value the integers, of others the literals.
-use Rattle.std.proofs.Common.{◌≡◌, ℕ, ℤ, List, Bool, true, false, ◌&&◌, Option, Some, None, option_map, refl, sym, ap, ap₂, ◌∙◌, bytes_eq}
+use Rattle.std.proofs.Common.{◌≡◌, ℕ, ℤ, List, Bool, true, false, ◌&&◌, Option, Some, None, option_map, refl, sym, ap, ◌∙◌, bytes_eq}
 use Rattle.std.specs.Cmp.{both_ways, signed_Decides}
 use Rattle.std.specs.Fmt.{signed_decimal}
 use Rattle.std.specs.Option.{option_eq}

@@ -1,6 +1,6 @@
 -- Arrays and objects read of a tree, and trees that are none.
-use Rattle.std.proofs.Common.{◌≡◌, List, Some, None, Ok, Err, refl, sym, ap, ◌∙◌}
-use Rattle.json_grammar.specs.Tree.{Tree, null, boolean, num, text, list, pairs, Trees, Pairs, list_trees, list_pairs}
+use Rattle.std.proofs.Common.{◌≡◌, Some, None, Ok, Err, refl, sym, ap, ◌∙◌}
+use Rattle.json_grammar.specs.Tree.{Tree, null, boolean, num, text, list, pairs, Trees, Pairs}
 use Rattle.json_model.specs.Edit.{Changed, Refusal, type_unmatched, on_list, on_pairs}
 use Rattle.json_value.specs.Denotes.{tree_of, list_in, pairs_in}
 use Rattle.json_value.specs.Seen.{list_of, pairs_of}
