@@ -9,6 +9,13 @@ use crate::view::DocView;
 ///
 /// The children of a container stand in a row, at places below its own. Each literal is a number
 /// (RFC 8259, section 6).
+///
+/// ```
+/// use json_doc::read_document;
+/// let doc = read_document(alloc, "[[1], \"x\"]")?;
+/// assert_eq!(rt; doc.cells().len(), 4);
+/// assert_eq!(rt; doc.text(), "x");
+/// ```
 #[derive(Drop)]
 pub struct Doc {
     pub(crate) cells: Vec<Cell>,
