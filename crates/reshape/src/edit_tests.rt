@@ -270,26 +270,97 @@ fn an_edit_value_of_many_levels(rt: HostRuntime) -> Result<(), Fail> {
     Ok(())
 }
 
-#[test]
-fn a_failed_write_behind_edits(rt: HostRuntime) -> Result<(), Fail> {
-    let alloc = rt.alloc();
+/// A sink that takes 4,096 bytes a call and fails at its second, over a text of 20,000 bytes: the opening quote is its first call.
+fn check_failing_sink(rt: &impl Abort, alloc: Global, words: &Words) -> Result<(), Fail> {
     let mut text = Vec::new(alloc);
     text.push(b'"')?;
     text.resize(19_999, b'a')?;
     text.push(b'"')?;
-    let mut words = Words::new(alloc);
-    words.push("[]")?;
-    let mut sink = FakeSink::new(alloc, 4_096, &[2]);
-    let mut errs = VecSink::new(alloc);
     let mut source = SliceSource::new(&text);
-    assert_eq!(rt; run(alloc, &words, &mut source, &mut sink, &mut errs), 5);
-    assert_eq!(rt; Some(sink.as_slice()), text.get(..4_097));
+    let mut sink = FakeSink::new(alloc, 4_096, &[1]);
+    let mut errs = VecSink::new(alloc);
+    assert_eq!(rt; run(alloc, words, &mut source, &mut sink, &mut errs), 5);
+    assert_eq!(rt; Some(sink.as_slice()), text.get(..1));
     assert_eq!(rt; errs.as_slice(), b"Io while writing\n".as_slice());
+    Ok(())
+}
 
-    let mut source = FakeSource::new(b"{\"a\": 1}", 1, &[0]);
+/// A source of one byte a call that fails at the calls of these numbers.
+fn check_source(
+    rt: &impl Abort,
+    alloc: Global,
+    words: &Words,
+    failing: &[u64],
+    output: &[u8],
+    status: u8,
+    told: &str,
+) -> Result<(), Fail> {
+    let input = b"{\"a\": 1, \"b\": true, \"c\": null}".as_slice();
+    let mut source = FakeSource::new(input, 1, failing);
     let mut sink = VecSink::new(alloc);
     let mut errs = VecSink::new(alloc);
-    assert_eq!(rt; run(alloc, &words, &mut source, &mut sink, &mut errs), 4);
-    assert_eq!(rt; sink.as_slice(), b"".as_slice());
+    let answer = run(alloc, words, &mut source, &mut sink, &mut errs);
+    assert_eq!(rt; errs.as_slice(), told.as_bytes());
+    assert_eq!(rt; answer, status);
+    assert_eq!(rt; sink.as_slice(), output);
     Ok(())
+}
+
+#[test]
+fn one_table_of_words_inputs_and_fakes(rt: HostRuntime) -> Result<(), Fail> {
+    let alloc = rt.alloc();
+    let set = "[[\"set\",[\"a\"],2]]";
+    let cases: [(&[u8], &str, &[u8], u8, &str); 7] = [
+        (
+            b"{\"a\": 1, \"a\": true}",
+            set,
+            b"{\"a\":2,\"a\":true}",
+            0,
+            "",
+        ),
+        (
+            b"",
+            "[]",
+            b"",
+            1,
+            "EofWhileParsing at offset 0, line 1 column 1\n",
+        ),
+        (b"\"\\n\"", "[]", b"\"\\n\"", 0, ""),
+        (
+            b"\xff",
+            "[]",
+            b"",
+            1,
+            "InvalidUTF8 at offset 0, line 1 column 1\n",
+        ),
+        (
+            b"{\"a\":[1]}",
+            "[[\"set\",[\"a\",5],0]]",
+            b"",
+            3,
+            "NotFound in edit 0\n",
+        ),
+        (
+            b"null",
+            "[[\"set\",[\"k\"],1]]",
+            b"",
+            3,
+            "TypeUnmatched in edit 0\n",
+        ),
+        (
+            b"1",
+            "[[\"push\",[],1]]",
+            b"",
+            3,
+            "TypeUnmatched in edit 0\n",
+        ),
+    ];
+    for (input, word, output, status, told) in cases {
+        check(&rt, alloc, input, word, output, status, told)?;
+    }
+    let words = Words::new(alloc);
+    check_failing_sink(&rt, alloc, &words)?;
+    check_source(&rt, alloc, &words, &[0], b"", 4, "Io while reading\n")?;
+    let output = b"{\"a\":1,\"b\":true,\"c\":null}".as_slice();
+    check_source(&rt, alloc, &words, &[], output, 0, "")
 }
