@@ -5,6 +5,13 @@ ghost use Rattle.json_text.specs.Errors.{no_memory, number_of, category_of, offs
 use std::alloc::{AllocError, AllocFailed};
 
 /// What is wrong. The discriminant is the code's number.
+///
+/// ```
+/// use json_text::{ErrorCode, Parser};
+/// let code = Parser::new("+1").next().map_err(|error| error.code).err();
+/// assert_eq!(rt; code, Some(ErrorCode::InvalidJsonValue));
+/// assert_eq!(rt; ErrorCode::InvalidJsonValue.number(), 13);
+/// ```
 #[derive(Clone, Copy, Debug, PartialEq, Eq)]
 pub enum ErrorCode {
     /// Memory ran out.
@@ -51,7 +58,16 @@ pub enum ErrorCode {
     BadWords = 24,
 }
 
-/// What kind of refusal a code is.
+/// What kind of refusal a code is. `Eof` is an input that ends too early, `Limit` one that is too long or too deep.
+///
+/// ```
+/// use json_text::{Category, Error, ErrorCode, Parser, Place};
+/// let unfinished = Parser::new(" ").next().map_err(|error| error.classify()).err();
+/// assert_eq!(rt; unfinished, Some(Category::Eof));
+/// let too_deep = Error { code: ErrorCode::RecursionLimitExceeded, place: Place::None };
+/// assert_eq!(rt; too_deep.classify(), Category::Limit);
+/// assert!(rt; !too_deep.is_syntax());
+/// ```
 #[derive(Clone, Copy, Debug, PartialEq, Eq)]
 pub enum Category {
     Io,
@@ -64,6 +80,12 @@ pub enum Category {
 }
 
 /// Where a refusal comes from.
+///
+/// ```
+/// use json_text::{Place, place_of};
+/// let place = place_of(b"[1,\n x]", 5);
+/// assert_eq!(rt; place, Place::At { offset: 5, line: 2, column: 2 });
+/// ```
 #[derive(Clone, Copy, Debug, PartialEq, Eq)]
 pub enum Place {
     /// No place is known.
@@ -83,6 +105,17 @@ pub enum Place {
 }
 
 /// A refusal: what is wrong, and where.
+///
+/// ```
+/// use json_text::{ErrorCode, Parser};
+/// let mut parser = Parser::new("[\n01]");
+/// parser.next()?;
+/// let error = parser.next().err().ok_or("the number was taken")?;
+/// assert_eq!(rt; error.code, ErrorCode::InvalidNumber);
+/// assert_eq!(rt; (error.line(), error.column()), (Some(2), Some(2)));
+/// let shown = format!(in alloc; "{error}")?;
+/// assert_eq!(rt; shown.as_str(), "InvalidNumber at offset 3, line 2 column 2");
+/// ```
 #[derive(Clone, Copy, Debug, PartialEq, Eq)]
 pub struct Error {
     pub code: ErrorCode,
@@ -90,6 +123,14 @@ pub struct Error {
 }
 
 /// The answer of a call that can be refused.
+///
+/// ```
+/// use json_text::check_utf8;
+/// let text: json_text::Result<&str> = check_utf8(b"[1]");
+/// assert_eq!(rt; text, Ok("[1]"));
+/// let refusal: json_text::Result<&str> = check_utf8(b"[\xff]");
+/// assert_eq!(rt; refusal.map_err(|error| error.offset()), Err(Some(1)));
+/// ```
 pub type Result<T> = std::result::Result<T, Error>;
 
 impl ErrorCode {

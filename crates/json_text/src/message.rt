@@ -10,6 +10,12 @@ use std::marker::Model;
 const ROOM: usize = 128;
 
 /// The text of a refusal, at most 128 bytes. Contracts see its bytes.
+///
+/// ```
+/// use json_text::{Error, ErrorCode, Place, fault_text};
+/// let error = Error { code: ErrorCode::Io, place: Place::Writing };
+/// assert_eq!(rt; fault_text(&error).as_bytes(), b"Io while writing\n".as_slice());
+/// ```
 #[derive(Drop)]
 pub struct FaultText {
     field: [u8; ROOM],

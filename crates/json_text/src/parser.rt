@@ -20,7 +20,19 @@ use std::marker::Model;
 /// The most levels of a tree, where the caller chooses none (RFC 8259, section 9).
 const LEVELS: usize = 254;
 
-/// Hands out the events of a text one after another. Takes no memory.
+/// Hands out the events of a text one after another, up to a refusal, which comes again at each later call.
+/// Takes no memory.
+///
+/// ```
+/// use json_text::{Event, Parser};
+/// let mut parser = Parser::new("[1.50, null] ");
+/// assert!(rt; matches!(parser.next()?, Event::BeginArray));
+/// assert!(rt; matches!(parser.next()?, Event::Number("1.50")));
+/// while !parser.done() {
+///     parser.next()?;
+/// }
+/// assert_eq!(rt; parser.index(), 12);
+/// ```
 #[derive(Drop)]
 pub struct Parser<'a> {
     text: &'a str,
