@@ -9,6 +9,13 @@ use crate::json_type::JsonType;
 /// a container counts its elements or pairs, and its link is the place of the first, or 0 where there is
 /// none. The children of a container stand in a row, those of an object a key and its value in turn; how
 /// they lie is this crate's own, and views give them.
+///
+/// ```
+/// use json_doc::{Cell, read_document};
+/// let doc = read_document(alloc, "[-1, 1.5]")?;
+/// let cells = [Cell::Negative(-1), Cell::Raw { start: 0, len: 3 }, Cell::Array { link: 0, len: 2 }];
+/// assert_eq!(rt; doc.cells(), cells.as_slice());
+/// ```
 #[derive(Clone, Copy, Debug, PartialEq, Eq)]
 pub enum Cell {
     Null,

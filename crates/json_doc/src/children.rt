@@ -6,6 +6,16 @@ use crate::doc::Doc;
 use crate::view::DocView;
 
 /// The elements of an array, or the values of an object's pairs, in order.
+///
+/// ```
+/// use json_doc::read_document;
+/// let doc = read_document(alloc, "{\"a\": [], \"b\": [1, 2]}")?;
+/// let mut lengths = Vec::new(alloc);
+/// for value in doc.view().children() {
+///     lengths.push(value.len())?;
+/// }
+/// assert_eq!(rt; lengths.as_slice(), [0, 2].as_slice());
+/// ```
 #[derive(Drop)]
 pub struct DocChildren<'a> {
     doc: &'a Doc,

@@ -14,6 +14,14 @@ use std::rc::Rc;
 /// The front holds the cells of open containers, each with its children so far behind it. The link of
 /// an open container's cell is the place of the container around it. The children of finished
 /// containers are blocks in `done`.
+///
+/// ```
+/// use json_doc::{DocumentVisitor, JsonVisitor};
+/// let mut visitor = DocumentVisitor::new(alloc, "[7]".len())?;
+/// assert!(rt; visitor.visit_array_start() && visitor.visit_u64(7) && visitor.visit_array_end());
+/// let doc = visitor.finish(alloc)?;
+/// assert_eq!(rt; doc.view().len(), 1);
+/// ```
 #[derive(Drop)]
 pub struct DocumentVisitor {
     front: Vec<Cell>,

@@ -2,6 +2,14 @@
 ghost use Rattle.std.specs.Prelude.{◌≡◌, ◌≤◌, ◌⊎◌, IfSome, IfNone, ◌<◌};
 
 /// The kind of a value (RFC 8259, section 3). The discriminant is its number.
+///
+/// ```
+/// use json_doc::{JsonType, read_document};
+/// let doc = read_document(alloc, "[true]")?;
+/// assert_eq!(rt; doc.view().get_type(), JsonType::Array);
+/// assert_eq!(rt; JsonType::Array as u8, 5);
+/// assert_eq!(rt; JsonType::from_u8(1), Some(JsonType::Boolean));
+/// ```
 #[derive(Clone, Copy, Debug, PartialEq, Eq)]
 pub enum JsonType {
     Null = 0,

@@ -5,6 +5,16 @@ use crate::pairs::DocPairs;
 use json_number::Number;
 
 /// A value of a document, by its kind (RFC 8259, section 3). Nothing of it takes memory.
+///
+/// ```
+/// use json_doc::{DocNode, read_document};
+/// let doc = read_document(alloc, "2.50")?;
+/// let literal = match doc.view().node() {
+///     DocNode::Raw(literal) => Some(literal),
+///     _ => None,
+/// };
+/// assert_eq!(rt; literal, Some("2.50"));
+/// ```
 #[derive(Drop)]
 pub enum DocNode<'a> {
     Null,

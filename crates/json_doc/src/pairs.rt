@@ -7,6 +7,16 @@ use crate::doc::Doc;
 use crate::view::{DocView, key_text};
 
 /// The pairs of an object, each its key and its value, in order.
+///
+/// ```
+/// use json_doc::{DocNode, read_document};
+/// let doc = read_document(alloc, "{\"done\": true}")?;
+/// let DocNode::Object(mut pairs) = doc.view().node() else {
+///     return Err("no object".into());
+/// };
+/// let (key, value) = pairs.next().ok_or("no pair")?;
+/// assert_eq!(rt; (key, value.as_bool()), ("done", Some(true)));
+/// ```
 #[derive(Drop)]
 pub struct DocPairs<'a> {
     doc: &'a Doc,

@@ -16,6 +16,16 @@ use crate::pairs::DocPairs;
 use json_number::Number;
 
 /// A place of a document, which stands for the tree there. Nothing of a view takes memory.
+///
+/// ```
+/// use json_doc::read_document;
+/// let doc = read_document(alloc, "{\"name\": \"Ada\", \"born\": 1815}")?;
+/// let person = doc.view();
+/// assert_eq!(rt; person.key(1), Some("born"));
+/// let name = person.pair_value(0).ok_or("no pair")?;
+/// assert_eq!(rt; name.text(), Some("Ada"));
+/// assert!(rt; person.element(0).is_none());
+/// ```
 #[derive(Clone, Copy)]
 pub struct DocView<'a> {
     pub(crate) doc: &'a Doc,

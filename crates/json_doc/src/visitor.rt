@@ -14,6 +14,15 @@ use json_text::Span;
 ///
 /// Each call answers whether the event was recorded. None is recorded where the room is full, nor after
 /// one that was not. While all were recorded, the events so far and this one begin the events of a tree.
+///
+/// ```
+/// use json_doc::{DocumentVisitor, JsonVisitor};
+/// // A text of 4 bytes has no more than 2 nodes and keys.
+/// let mut visitor = DocumentVisitor::new(alloc, 4)?;
+/// assert!(rt; visitor.visit_array_start());
+/// assert!(rt; visitor.visit_bool(true));
+/// assert!(rt; !visitor.visit_null());
+/// ```
 pub trait JsonVisitor {
     // while no event was refused, the events so far were these tokens
     ghost holds: { Self → List Token → Type 0 };

@@ -8,6 +8,14 @@ use crate::number::{Form, Number};
 use crate::raw_number::RawNumber;
 
 /// What stands for a number, and maybe for an integer by value.
+///
+/// ```
+/// use json_number::{JsonNumberTrait, RawNumber};
+/// let big = RawNumber::new(alloc, "9223372036854775808")?;
+/// assert!(rt; big.is_u64());
+/// assert_eq!(rt; big.as_u64(), Some(9223372036854775808));
+/// assert_eq!(rt; big.as_i64(), None);
+/// ```
 pub trait JsonNumberTrait {
     // The integer that it stands for, if any.
     ghost integer: { Self → Option ℤ };

@@ -20,6 +20,13 @@ pub(crate) enum Form {
 }
 
 /// An integer that lies in `i64` or in `u64`: from -2^63 to 2^64 - 1. Equal integers are equal numbers.
+///
+/// ```
+/// use json_number::Number;
+/// assert_eq!(rt; Number::from(7_u8), Number::from(7_i64));
+/// let shown = format!(in alloc; "{}", Number::from(i64::MIN))?;
+/// assert_eq!(rt; shown.as_str(), "-9223372036854775808");
+/// ```
 #[derive(Clone, Copy, Debug)]
 pub struct Number {
     pub(crate) form: Form,

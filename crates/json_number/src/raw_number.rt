@@ -13,6 +13,14 @@ use json_text::{Error, ErrorCode, Place, Result};
 use std::alloc::Global;
 
 /// A number as the literal that spells it (RFC 8259, section 6), of any size and precision.
+///
+/// ```
+/// use json_number::RawNumber;
+/// let price = RawNumber::new(alloc, "1.50")?;
+/// assert_eq!(rt; price.as_str(), "1.50");
+/// assert_eq!(rt; price.to_number(), None);
+/// assert!(rt; RawNumber::new(alloc, "01").is_err());
+/// ```
 #[derive(Debug, Drop)]
 pub struct RawNumber {
     literal: String,

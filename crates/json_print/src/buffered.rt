@@ -12,6 +12,16 @@ use std::alloc::Global;
 const CAPACITY: usize = 8192;
 
 /// The memory of a [`BufferedWriter`], 8,192 bytes.
+///
+/// ```
+/// use json_print::{Buffer, BufferedWriter};
+/// use json_text::{VecSink, flush_all, put_all};
+/// let buffer = Buffer::new(alloc)?;
+/// let mut writer = BufferedWriter::with_buffer(buffer, VecSink::new(alloc));
+/// put_all(&mut writer, b"null")?;
+/// flush_all(&mut writer)?;
+/// assert_eq!(rt; writer.into_inner().as_slice(), b"null".as_slice());
+/// ```
 #[derive(Drop)]
 pub struct Buffer {
     bytes: Vec<u8>,
@@ -32,6 +42,16 @@ impl Buffer {
 ///
 /// It has gained the inner sink's bytes and then those that it holds. Where the inner sink fails, the bytes that it took are not sent
 /// again, and the others stay held.
+///
+/// ```
+/// use json_print::BufferedWriter;
+/// use json_text::{VecSink, flush_all, put_all};
+/// let mut writer = BufferedWriter::new(alloc, VecSink::new(alloc))?;
+/// put_all(&mut writer, b"sent")?;
+/// flush_all(&mut writer)?;
+/// put_all(&mut writer, b"held")?;
+/// assert_eq!(rt; writer.into_inner().as_slice(), b"sent".as_slice());
+/// ```
 #[derive(Drop)]
 pub struct BufferedWriter<W> {
     inner: W,

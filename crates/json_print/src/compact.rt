@@ -8,7 +8,15 @@ use crate::escape::{add_number, add_string};
 use crate::layout::add_byte_array;
 use json_text::{Result, Sink};
 
-/// Writes no whitespace between the tokens.
+/// A formatter that writes no whitespace between the tokens.
+///
+/// ```
+/// use json_print::{CompactFormatter, Formatter};
+/// use json_text::VecSink;
+/// let mut sink = VecSink::new(alloc);
+/// CompactFormatter.write_byte_array(&mut sink, b"\x01\xff")?;
+/// assert_eq!(rt; sink.as_slice(), b"[1,255]".as_slice());
+/// ```
 #[derive(Clone, Copy, Debug)]
 pub struct CompactFormatter;
 

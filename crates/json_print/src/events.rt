@@ -10,7 +10,17 @@ ghost use Rattle.json_print.specs.Taking.{Takes};
 
 use json_text::Result;
 
-/// What comes next.
+/// What comes next of a value's parts. The contracts of [`Events`] say by it which call may come; no call answers it.
+///
+/// ```
+/// use json_print::{CompactFormatter, Formatter, Turn};
+/// use json_text::VecSink;
+/// let mut sink = VecSink::new(alloc);
+/// if let Turn::Element(first) = Turn::Element(false) {
+///     CompactFormatter.begin_array_value(&mut sink, first)?;
+/// }
+/// assert_eq!(rt; sink.as_slice(), b",".as_slice());
+/// ```
 #[derive(Clone, Copy, Debug)]
 pub enum Turn {
     /// The value, with nothing around it.
@@ -25,6 +35,21 @@ pub enum Turn {
     Done,
 }
 
+/// Takes the parts of one value from left to right, a call for each. What is taken does not depend on a hint of how
+/// many elements or members come.
+///
+/// A call that meets an error answers it, and each later call answers it again and changes nothing.
+///
+/// ```
+/// use json_print::{Events, Serializer};
+/// use json_text::VecSink;
+/// let mut out = Serializer::new(alloc, VecSink::new(alloc));
+/// out.begin_array(None)?;
+/// out.text("x")?;
+/// out.raw_number("1e5")?;
+/// out.end_array()?;
+/// assert_eq!(rt; out.into_inner().as_slice(), b"[\"x\",1e5]".as_slice());
+/// ```
 pub trait Events {
     ghost State: { Type 0 };
 

@@ -10,6 +10,16 @@ use json_text::{Result, Sink};
 /// Writes the parts of a JSON text (RFC 8259): each call appends one piece to the writer.
 ///
 /// `Io` at `Writing` comes where the writer failed, and `NoMemory` where it found none; a prefix of the piece was gained then.
+///
+/// ```
+/// use json_print::{Formatter, PrettyFormatter};
+/// use json_text::VecSink;
+/// let mut sink = VecSink::new(alloc);
+/// let mut formatter = PrettyFormatter::new();
+/// formatter.write_string_fast(&mut sink, "a\tb", true)?;
+/// formatter.begin_object_value(&mut sink)?;
+/// assert_eq!(rt; sink.as_slice(), b"\"a\\tb\": ".as_slice());
+/// ```
 pub trait Formatter {
     /// The piece that a call writes.
     ghost piece: { Self → Call → List ℕ };

@@ -9,8 +9,19 @@ use crate::escape::{add_number, add_string};
 use crate::layout::{add_byte_array, add_end, add_start};
 use json_text::{Result, Sink};
 
-/// Writes each element and each key on a line of its own, behind one indent for each container around it. An empty container is `[]`
-/// or `{}`, and `: ` stands behind a key.
+/// A formatter that writes each element and each key on a line of its own, behind one indent for each container around
+/// it. An empty container is `[]` or `{}`, and `: ` stands behind a key.
+///
+/// ```
+/// use json_print::{Events, PrettyFormatter, Serializer};
+/// use json_text::VecSink;
+/// let tabs = PrettyFormatter::with_indent(b"\t");
+/// let mut out = Serializer::with_formatter(alloc, VecSink::new(alloc), tabs);
+/// out.begin_array(None)?;
+/// out.boolean(true)?;
+/// out.end_array()?;
+/// assert_eq!(rt; out.into_inner().as_slice(), b"[\n\ttrue\n]".as_slice());
+/// ```
 #[derive(Clone, Copy, Debug)]
 pub struct PrettyFormatter<'a> {
     indent: &'a [u8],

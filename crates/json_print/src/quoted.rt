@@ -8,7 +8,14 @@ use crate::escape::short_escape;
 use json_text::plain_run;
 use std::fmt;
 
-/// Writes the characters as a JSON string, between quotes and escaped as the formatters do (RFC 8259, section 7).
+/// Shows the characters by std's formatting as a JSON string, between quotes and escaped as the formatters do
+/// (RFC 8259, section 7).
+///
+/// ```
+/// use json_print::Quoted;
+/// let shown = format!(in alloc; "{}", Quoted("say \"hi\"\n"))?;
+/// assert_eq!(rt; shown.as_str(), "\"say \\\"hi\\\"\\n\"");
+/// ```
 #[derive(Clone, Copy)]
 pub struct Quoted<'a>(pub &'a str);
 

@@ -28,6 +28,17 @@ type Step = std::result::Result<(), Halted>;
 ///
 /// `Io` at `Writing` comes where the writer failed, and `NoMemory` where memory ran out. After an error each call answers that error and
 /// writes nothing.
+///
+/// ```
+/// use json_print::{Events, Serializer};
+/// use json_text::VecSink;
+/// let mut out = Serializer::pretty(alloc, VecSink::new(alloc));
+/// out.begin_object(None)?;
+/// out.key("n")?;
+/// out.int(-1)?;
+/// out.end_object()?;
+/// assert_eq!(rt; out.into_inner().as_slice(), b"{\n  \"n\": -1\n}".as_slice());
+/// ```
 #[derive(Drop)]
 pub struct Serializer<W, F> {
     writer: W,

@@ -7,6 +7,14 @@ use json_text::ws_run;
 
 /// How a JSON text is laid out: an indent of whitespace, or none for no whitespace between the tokens, and whether the members of
 /// each object stand in the order of their keys.
+///
+/// ```
+/// use json_print::Style;
+/// let style = Style::new(Some("  "), true).ok_or("no indent")?;
+/// assert_eq!(rt; style.indent(), Some("  "));
+/// assert!(rt; style.sorted());
+/// assert!(rt; Style::new(Some("--"), false).is_none());
+/// ```
 #[derive(Clone, Copy, Debug)]
 pub struct Style<'a> {
     indent: Option<&'a str>,
