@@ -7,6 +7,15 @@ use crate::value_trait::JsonValueTrait;
 use json_value::{Array, Object, Value, ValueRef};
 
 /// What stands for a JSON value and lends the container that the value is. What is missing and what was refused are none.
+///
+/// ```
+/// use json_access::JsonContainerTrait;
+/// use json_value::Value;
+/// let found = Some(Value::from_vec(vec![in alloc; Value::new_null()]?));
+/// let array = found.as_array().ok_or("no array")?;
+/// assert_eq!(rt; array.view().len(), 1);
+/// assert!(rt; found.as_object().is_none());
+/// ```
 pub trait JsonContainerTrait: JsonValueTrait {
     /// The array; none exactly for another kind.
     fn as_array(&self) -> Option<&Array>

@@ -19,6 +19,17 @@ use std::alloc::Global;
 /// What stands for a JSON value and lends the places in it to be changed. What the caller leaves at a place is put there, and
 /// nothing else of the tree changes; a copy of one level is made of each packed container on the way. None and a refusal keep
 /// the tree.
+///
+/// ```
+/// use json_access::JsonValueMutTrait;
+/// use json_doc::read_document;
+/// use json_value::Value;
+/// let doc = read_document(alloc, "[[true], [false]]")?;
+/// let mut value = Value::from_place(alloc, &doc, doc.root())?;
+/// *value.get_mut(alloc, 1usize)?.ok_or("no element")? = Value::new_null();
+/// assert_eq!(rt; value.to_string(alloc)?.as_str(), "[[true],null]");
+/// assert!(rt; value.get_mut(alloc, 2usize)?.is_none());
+/// ```
 pub trait JsonValueMutTrait: JsonValueTrait {
     /// The array; none exactly for another kind. `NoMemory`.
     fn as_array_mut(&mut self, alloc: Global) -> Result<Option<&mut Array>>

@@ -17,6 +17,17 @@ use json_value::{Value, View};
 use std::alloc::Global;
 
 /// What stands for a JSON value. What is missing and what was refused count as null.
+///
+/// ```
+/// use json_access::JsonValueTrait;
+/// use json_value::Value;
+/// let mut value = Value::new_object();
+/// value.insert(alloc, "age", Value::new_i64(-7))?;
+/// let age = value.get("age");
+/// assert!(rt; age.is_number() && !age.is_u64());
+/// assert_eq!(rt; age.as_i64(), Some(-7));
+/// assert!(rt; value.is_object() && value.get("name").is_null());
+/// ```
 pub trait JsonValueTrait {
     /// The tree that it stands for.
     ghost tree: { Self → Tree };

@@ -6,6 +6,17 @@ use crate::array_view::ArrayView;
 use crate::view::View;
 
 /// The elements of an array that are still to come, in order.
+///
+/// ```
+/// use json_doc::read_document;
+/// use json_value::View;
+/// let doc = read_document(alloc, "[\"a\", 1, \"b\"]")?;
+/// let mut joined = String::new(alloc);
+/// for element in View::packed(doc.view()).as_array().ok_or("no array")?.iter() {
+///     joined.push_str(element.text().unwrap_or("-"))?;
+/// }
+/// assert_eq!(rt; joined.as_str(), "a-b");
+/// ```
 #[derive(Drop)]
 pub struct ArrayIter<'a> {
     view: ArrayView<'a>,

@@ -17,6 +17,16 @@ pub(crate) enum ArrayForm<'a> {
 }
 
 /// What is seen of an array. Nothing of a view takes memory.
+///
+/// ```
+/// use json_value::Value;
+/// let mut value = Value::new_array();
+/// value.append_value(alloc, Value::new_bool(true))?;
+/// let array = value.view().as_array().ok_or("no array")?;
+/// assert_eq!(rt; array.len(), 1);
+/// assert_eq!(rt; array.get(0).ok_or("no element")?.as_bool(), Some(true));
+/// assert!(rt; array.get(1).is_none());
+/// ```
 #[derive(Clone, Copy)]
 pub struct ArrayView<'a> {
     pub(crate) form: ArrayForm<'a>,

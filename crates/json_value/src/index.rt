@@ -17,6 +17,15 @@ use std::alloc::Global;
 
 /// A step into a value: a key leads to the first member of an object with that key, an index to an element of an array,
 /// counted from 0.
+///
+/// ```
+/// use json_value::{Index, Value};
+/// let mut value = Value::new_null();
+/// *"a".index_or_insert(alloc, &mut value)? = Value::new_array();
+/// assert_eq!(rt; value.to_string(alloc)?.as_str(), "{\"a\":[]}");
+/// assert!(rt; 0usize.index_or_insert(alloc, &mut value).is_err());
+/// assert_eq!(rt; ("a".as_key(), "a".as_index(), 0usize.as_index()), (Some("a"), None, Some(0)));
+/// ```
 pub trait Index: Drop {
     /// The step.
     ghost step: { Self → Step };

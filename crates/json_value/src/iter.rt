@@ -6,6 +6,16 @@ use crate::object_view::ObjectView;
 use crate::view::View;
 
 /// The members of an object that are still to come, in order.
+///
+/// ```
+/// use json_doc::read_document;
+/// use json_value::View;
+/// let doc = read_document(alloc, "{\"b\": true, \"a\": null}")?;
+/// let mut members = View::packed(doc.view()).as_object().ok_or("no object")?.iter();
+/// let (key, value) = members.next().ok_or("no member")?;
+/// assert_eq!(rt; (key, value.as_bool()), ("b", Some(true)));
+/// assert_eq!(rt; members.len(), 1);
+/// ```
 #[derive(Drop)]
 pub struct Iter<'a> {
     view: ObjectView<'a>,

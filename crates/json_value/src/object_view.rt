@@ -18,6 +18,15 @@ pub(crate) enum ObjectForm<'a> {
 }
 
 /// What is seen of an object. Keys keep their order and may repeat. Nothing of a view takes memory.
+///
+/// ```
+/// use json_doc::read_document;
+/// use json_value::View;
+/// let doc = read_document(alloc, "{\"a\": 1.5, \"b\": true, \"a\": 2.5}")?;
+/// let object = View::packed(doc.view()).as_object().ok_or("no object")?;
+/// assert_eq!(rt; object.len(), 3);
+/// assert_eq!(rt; object.get("a").ok_or("no member")?.literal(), Some("1.5"));
+/// ```
 #[derive(Clone, Copy)]
 pub struct ObjectView<'a> {
     pub(crate) form: ObjectForm<'a>,

@@ -8,7 +8,16 @@ ghost use Rattle.json_value.specs.Written.{with_value, value_in};
 use crate::text::Text;
 use crate::value::{Pair, Value};
 
-/// A key and what it names (RFC 8259, section 4).
+/// A key and what it names (RFC 8259, section 4). A `Pair` names a value.
+///
+/// ```
+/// use json_value::{Keyed, Text, Value};
+/// let mut member = Keyed::new(Text::from_static("born"), Value::new_u64(1815));
+/// assert_eq!(rt; member.key(), "born");
+/// assert!(rt; member.value().eq_u64(1815));
+/// *member.value_mut() = Value::new_null();
+/// assert!(rt; *member.value() == Value::new_null());
+/// ```
 #[derive(Drop)]
 pub struct Keyed<T> {
     pub(crate) key: Text,

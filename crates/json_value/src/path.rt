@@ -9,6 +9,16 @@ use json_text::Result;
 use std::alloc::Global;
 
 /// A step into a value.
+///
+/// ```
+/// use json_doc::read_document;
+/// use json_value::{PointerNode, Text, View};
+/// let doc = read_document(alloc, "{\"a\": [true, false]}")?;
+/// let steps = [PointerNode::Key(Text::from_static("a")), PointerNode::Index(1)];
+/// assert!(rt; matches!(&steps[0], PointerNode::Key(key) if key.as_str() == "a"));
+/// let place = View::packed(doc.view()).pointer(&steps).ok_or("no place")?;
+/// assert_eq!(rt; place.as_bool(), Some(false));
+/// ```
 #[derive(Drop)]
 pub enum PointerNode {
     /// To the first member of an object with this key.
@@ -18,12 +28,32 @@ pub enum PointerNode {
 }
 
 /// Steps from a value to a place within it. No steps lead to the value itself.
+///
+/// ```
+/// use json_value::{Path, PointerNode, Value};
+/// let value = Value::from_vec(vec![in alloc; Value::new_bool(true)]?);
+/// let mut path = Path::new(alloc);
+/// assert!(rt; value.pointer(path.steps()).ok_or("no value")?.as_array().is_some());
+/// path.push(PointerNode::Index(0))?;
+/// assert_eq!(rt; value.pointer(path.steps()).ok_or("no element")?.as_bool(), Some(true));
+/// ```
 #[derive(Drop)]
 pub struct Path {
     pub(crate) steps: Vec<PointerNode>,
 }
 
-/// A change of a value, at the place to which a path leads.
+/// A change of a value, at the place to which a path leads. One that does not apply is refused and changes nothing.
+///
+/// ```
+/// use json_text::ErrorCode;
+/// use json_value::{Edit, Path, Value};
+/// let edit = Edit::Push { path: Path::new(alloc), value: Value::new_bool(true) };
+/// let mut value = Value::new_array();
+/// value.apply(alloc, &edit)?;
+/// assert_eq!(rt; value.to_string(alloc)?.as_str(), "[true]");
+/// let refused = Value::new_null().apply(alloc, &edit).err();
+/// assert!(rt; matches!(refused, Some(error) if error.code == ErrorCode::TypeUnmatched));
+/// ```
 #[derive(Drop)]
 pub enum Edit {
     /// Puts a value at the place.

@@ -16,7 +16,17 @@ use crate::value::Value;
 use json_text::Result;
 use std::alloc::Global;
 
-/// What has places to which paths lead.
+/// What has places to which paths lead, and lends them to be changed.
+///
+/// ```
+/// use json_doc::read_document;
+/// use json_value::{Places, PointerNode, Value, put};
+/// let doc = read_document(alloc, "[[1], [2]]")?;
+/// let mut value = Value::from_place(alloc, &doc, doc.root())?;
+/// let first = value.place_mut(alloc, &[PointerNode::Index(0)])?.take();
+/// put(&mut value, alloc, &[PointerNode::Index(1), PointerNode::Index(0)], first)?;
+/// assert_eq!(rt; value.to_string(alloc)?.as_str(), "[null,[[1]]]");
+/// ```
 pub trait Places {
     /// The tree.
     ghost seen: { Self → Tree };

@@ -20,7 +20,15 @@ pub(crate) enum TextForm {
     Packed(Place),
 }
 
-/// A text: a static one, an owned one, or a place of a shared document.
+/// A text, unescaped: a static one, an owned one, or a place of a shared document.
+///
+/// ```
+/// use json_value::{Text, Value};
+/// let key = Text::from_static("name");
+/// assert_eq!(rt; key.as_str(), "name");
+/// let text = Text::copy(alloc, "say \"hi\"")?;
+/// assert_eq!(rt; Value::Text(text).to_string(alloc)?.as_str(), "\"say \\\"hi\\\"\"");
+/// ```
 #[derive(Drop)]
 pub struct Text {
     pub(crate) form: TextForm,

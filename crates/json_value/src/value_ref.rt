@@ -8,6 +8,16 @@ use crate::value::{Array, Object, Value};
 use json_number::Number;
 
 /// What a value is (RFC 8259, section 3), with what is in it behind references.
+///
+/// ```
+/// use json_value::{Value, ValueRef};
+/// let value = Value::copy_str(alloc, "Ada")?;
+/// let said = match value.as_ref() {
+///     ValueRef::String(text) | ValueRef::RawNumber(text) => text,
+///     _ => "",
+/// };
+/// assert_eq!(rt; said, "Ada");
+/// ```
 #[derive(Clone, Copy)]
 pub enum ValueRef<'a> {
     Null,

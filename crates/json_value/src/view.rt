@@ -22,6 +22,16 @@ pub(crate) enum ViewForm<'a> {
 }
 
 /// What is seen of a value, or of a place of a packed document. Nothing of a view takes memory.
+///
+/// ```
+/// use json_doc::read_document;
+/// use json_value::View;
+/// let doc = read_document(alloc, "{\"name\": \"Ada\", \"rates\": [7, 12.10]}")?;
+/// let view = View::packed(doc.view());
+/// assert_eq!(rt; view.at("name").text(), Some("Ada"));
+/// assert_eq!(rt; view.at("rates").at(1usize).literal(), Some("12.10"));
+/// assert!(rt; view.get("died").is_none());
+/// ```
 #[derive(Clone, Copy)]
 pub struct View<'a> {
     pub(crate) form: ViewForm<'a>,

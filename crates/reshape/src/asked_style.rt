@@ -6,7 +6,18 @@ ghost use Rattle.reshape.specs.Asked.{layout_asked};
 
 use json_print::Style;
 
-/// The style that the words ask for.
+/// The style that the words ask for: compact and not sorted where they say nothing of it.
+///
+/// ```
+/// use json_text::Words;
+/// use reshape::{Asked, asked};
+/// let mut words = Words::new(alloc);
+/// words.push("--tabs")?;
+/// words.push("--sort-keys")?;
+/// let Asked::Reshape(_, asked_style) = asked(alloc, &words)?;
+/// let style = asked_style.style();
+/// assert!(rt; style.indent() == Some("\t") && style.sorted());
+/// ```
 #[derive(Clone, Copy, Debug)]
 pub struct AskedStyle {
     style: Style<'static>,

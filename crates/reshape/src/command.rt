@@ -9,7 +9,18 @@ use crate::edits::Edits;
 use json_print::Style;
 use json_value::Edit;
 
-/// What is asked for.
+/// What the words of the command line ask for.
+///
+/// ```
+/// use json_text::Words;
+/// use reshape::{Asked, asked};
+/// let mut words = Words::new(alloc);
+/// words.push("--indent=4")?;
+/// words.push("[[\"push\",[],true]]")?;
+/// let Asked::Reshape(edits, style) = asked(alloc, &words)?;
+/// assert_eq!(rt; edits.as_slice().len(), 1);
+/// assert_eq!(rt; style.style().indent(), Some("    "));
+/// ```
 #[derive(Drop)]
 pub enum Asked {
     /// The text of the tree that is read, behind these edits and in this style.

@@ -7,6 +7,16 @@ use json_value::Edit;
 use std::alloc::Global;
 
 /// The edits that the words ask for, the first of them first.
+///
+/// ```
+/// use json_text::Words;
+/// use json_value::Edit;
+/// use reshape::{Asked, asked};
+/// let mut words = Words::new(alloc);
+/// words.push("[[\"set\",[\"a\",0],1],[\"remove\",[],\"b\"]]")?;
+/// let Asked::Reshape(edits, _) = asked(alloc, &words)?;
+/// assert!(rt; matches!(edits.as_slice(), [Edit::Set { .. }, Edit::Remove { .. }]));
+/// ```
 #[derive(Drop)]
 pub struct Edits {
     pub(crate) list: Vec<Edit>,
