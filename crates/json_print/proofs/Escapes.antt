@@ -1,11 +1,11 @@
--- Strings by their plain runs, and indents.
-use Rattle.std.proofs.Common.{◌≡◌, ℕ, zero, suc, ◌+◌, ◌-◌, ◌^◌, ◌<◌, ◌≤◌, false, List, [], ◌∷◌, ◌++◌, length, take, drop, get_or, inl, inr, refl, sym, ap, ap₂, ◌∙◌, subst, arith, append_assoc, append-nil, Ok, Err, Result}
+-- Strings by their plain runs.
+use Rattle.std.proofs.Common.{◌≡◌, ℕ, ◌+◌, ◌-◌, ◌^◌, ◌<◌, ◌≤◌, false, List, [], ◌∷◌, ◌++◌, length, take, drop, get_or, inl, inr, refl, sym, ap, ap₂, ◌∙◌, subst, arith, append-nil, Ok, Err, Result}
 use Rattle.std.proofs.Math.Seq.{take-add}
 use Rattle.std.proofs.lemmas.Bool.{ne_eqb, lt-ltb, cases_lt}
 use Rattle.std.proofs.lemmas.Fmt.{hex_byte}
 use Rattle.std.proofs.lemmas.List.{take_all, take_more, take-append-drop}
 use Rattle.std.specs.Fmt.{digits, format_spec, padded_integral}
-use Rattle.json_model.specs.Print.{shown_byte, shown_bytes, unit_escape, indents}
+use Rattle.json_model.specs.Print.{shown_byte, shown_bytes, unit_escape}
 use Rattle.json_model.proofs.Printing.{plain_shown, shown_append}
 use Rattle.json_text.specs.declared.sink.SinkError.{SinkError}
 use Rattle.json_text.specs.Outside.{SinkState}
@@ -53,10 +53,6 @@ pub more_shown : (b c : List ℕ) (i j : ℕ) (r : List ℕ) → c ≡ b → i �
     → (shown_bytes (take i b) ++ r) ++ shown_byte (get_or c j 0) ≡ shown_bytes (take (j + 1) b)
 more_shown b c i j r e l m h p = rw (e, p) (ap (λ o. o ++ shown_byte (get_or b j 0)) (run_shown b i j l h) ∙ byte_shown b j m)
 
-pub indents_more : (n : ℕ) (s : List ℕ) → indents n s ++ s ≡ indents (suc n) s
-indents_more zero s = sym (append-nil s)
-indents_more (suc n) s = append_assoc s (indents n s) s ∙ ap (λ l. s ++ l) (indents_more n s)
-
 -- ---- what stands in a sink
 
 pub run_put : (a b c : SinkState) (value : List ℕ) (i j : ℕ) (r : Result (Unit {0}) SinkError) → i ≤ j → plain (piece value i j) → Adds a b (shown_bytes (take i value)) (Ok tt) → Adds b c (piece value i j) r
@@ -73,21 +69,3 @@ shown_failed a b value i e p =
 
 pub all_put : (a b : SinkState) (value : List ℕ) (i : ℕ) → i ≡ length value → Adds a b (shown_bytes (take i value)) (Ok tt) → Adds a b (shown_bytes value) (Ok tt)
 all_put a b value i e p = subst (λ l. Adds a b (shown_bytes l) (Ok tt)) (take_all i value (omega arith)) p
-
--- one indent more
-pub indents_put : (a b c : SinkState) (left level : ℕ) (s : List ℕ) (r : Result (Unit {0}) SinkError) → left ≤ level → 0 < left → Adds a b (indents (level - left) s) (Ok tt) → Adds b c s r
-    → Adds a c (indents (level - (left - 1)) s) r
-indents_put a b c left level s r h k p q =
-    let e : suc (level - left) ≡ level - (left - 1) = omega arith in
-    subst (λ n. Adds a c (indents n s) r) e (subst (λ l. Adds a c l r) (indents_more (level - left) s) (Adds-then a b c _ _ tt r p q))
-
-indents_cut : (m n : ℕ) (s : List ℕ) → m ≤ n → indents n s ≡ indents m s ++ indents (n - m) s
-indents_cut zero n s h = ap (λ k. indents k s) (omega arith)
-indents_cut (suc m) zero s h = absurd (omega arith)
-indents_cut (suc m) (suc n) s h =
-    let e : n - m ≡ suc n - suc m = omega arith in
-    ap (λ l. s ++ l) (indents_cut m n s (omega arith)) ∙ sym (append_assoc s (indents m s) (indents (n - m) s)) ∙ ap (λ k. (s ++ indents m s) ++ indents k s) e
-
-pub indents_failed : (a b c : SinkState) (left level : ℕ) (s : List ℕ) (e : SinkError) → left ≤ level → 0 < left → Adds a b (indents (level - left) s) (Ok tt) → Adds b c s (Err e) → Adds a c (indents level s) (Err e)
-indents_failed a b c left level s e h k p q =
-    subst (λ l. Adds a c l (Err e)) (sym (indents_cut (level - (left - 1)) level s (omega arith))) (Adds-first a c _ _ e (indents_put a b c left level s (Err e) h k p q))

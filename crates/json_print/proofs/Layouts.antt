@@ -45,8 +45,8 @@ pub plain_laid : {F : Type 0} (f : F) → LaidOut plain_form f None 0 false
 plain_laid f = plain_from f 0 false
 
 abbrev pub pretty_form : Form PrettyFormatter
-pretty_form = record { piece = λ s c. piece_of (Some s.indent.now) s.level s.flag c; next = λ s c. record s { level = level_after s.level c; flag = flag_after s.flag c } }
+pretty_form = record { piece = λ s c. piece_of (Some s.indent.bytes.now) s.level s.flag c; next = λ s c. record s { level = level_after s.level c; flag = flag_after s.flag c } }
 
-pub pretty_from : (s : PrettyFormatter) (cs : List Call) → pieces pretty_form s cs ≡ pieces_of (Some s.indent.now) s.level s.flag cs
+pub pretty_from : (s : PrettyFormatter) (cs : List Call) → pieces pretty_form s cs ≡ pieces_of (Some s.indent.bytes.now) s.level s.flag cs
 pretty_from s [] = refl
-pretty_from s (c ∷ cs) = ap (λ xs. piece_of (Some s.indent.now) s.level s.flag c ∷ xs) (pretty_from (record s { level = level_after s.level c; flag = flag_after s.flag c }) cs)
+pretty_from s (c ∷ cs) = ap (λ xs. piece_of (Some s.indent.bytes.now) s.level s.flag c ∷ xs) (pretty_from (record s { level = level_after s.level c; flag = flag_after s.flag c }) cs)

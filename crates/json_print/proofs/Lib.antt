@@ -1,5 +1,6 @@
 pub mod Pieces
 pub mod Escapes
+pub mod Breaks
 pub mod Elements
 pub mod Layouts
 pub mod Spaces

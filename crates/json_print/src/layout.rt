@@ -1,68 +1,42 @@
-// Lines and indents, and bytes as an array of numbers.
+// What stands around elements and keys, and bytes as an array of numbers.
 ghost use Rattle.std.specs.Prelude.{◌∷◌, ◌++◌, [], true, option_map};
-ghost use Rattle.json_model.specs.Print.{indents, line};
+ghost use Rattle.json_model.specs.Print.{line};
 ghost use Rattle.json_print.specs.Adding.{Adds};
 ghost use Rattle.json_print.specs.Calls.{byte_elements, closing_line, comma, holds_any};
 
 use crate::adding::{Added, add};
 use crate::escape::add_number;
+use crate::indent::{Indent, add_break};
 use json_text::Sink;
 
-fn add_indents<W: Sink>(writer: &mut W, indent: &[u8], level: usize) -> Added
-    ensures { Adds (W.state writer.old) (W.state writer.new) (indents level indent.now) result }
-{
-    let mut left = level;
-    'fill: while left > 0 {
-        match add(writer, indent) {
-            Ok(()) => {}
-            Err(error) => return Err(error),
-        }
-        left -= 1;
-    }
-    Ok(())
-}
-
-fn add_break<W: Sink>(writer: &mut W, indent: &[u8], level: usize) -> Added
-    ensures { Adds (W.state writer.old) (W.state writer.new) (10 ∷ indents level indent.now) result }
-{
-    add(writer, b"\n")?;
-    add_indents(writer, indent, level)
-}
-
-/// A new line, unless there is no indent.
-fn add_line<W: Sink>(writer: &mut W, indent: Option<&[u8]>, level: usize) -> Added
-    ensures { let i = option_map (λ s. s.now) indent.entry in
-        Adds (W.state writer.old) (W.state writer.new) (line i level) result }
-{
-    match indent {
-        None => Ok(()),
-        Some(indent) => add_break(writer, indent, level),
-    }
-}
-
 /// What stands before an element or a key.
-#[inline]
+#[inline(always)]
 pub(crate) fn add_start<W: Sink>(
     writer: &mut W,
-    indent: Option<&[u8]>,
+    indent: Option<Indent<'_>>,
     level: usize,
     first: bool,
 ) -> Added
-    ensures { let i = option_map (λ s. s.now) indent.entry in
+    ensures { let i = option_map (λ s. s.bytes.now) indent.entry in
         Adds (W.state writer.old) (W.state writer.new) (comma first ++ line i level) result }
 {
-    if first {
-        return add_line(writer, indent, level);
+    match indent {
+        Some(indent) => add_break(writer, indent, level, first),
+        None if first => Ok(()),
+        None => add(writer, b","),
     }
-    add(writer, b",")?;
-    add_line(writer, indent, level)
 }
 
-fn add_end_line<W: Sink>(writer: &mut W, indent: Option<&[u8]>, level: usize, bracket: u8) -> Added
-    ensures { let i = option_map (λ s. s.now) indent.entry in
+fn add_end_line<W: Sink>(
+    writer: &mut W,
+    indent: Option<Indent<'_>>,
+    level: usize,
+    bracket: u8,
+) -> Added
+    ensures { let i = option_map (λ s. s.bytes.now) indent.entry in
         Adds (W.state writer.old) (W.state writer.new) (line i level ++ bracket ∷ []) result }
 {
-    add_line(writer, indent, level)?;
+    add_start(writer, indent, level, true)?;
     add(writer, &[bracket])
 }
 
@@ -70,12 +44,12 @@ fn add_end_line<W: Sink>(writer: &mut W, indent: Option<&[u8]>, level: usize, br
 #[inline]
 pub(crate) fn add_end<W: Sink>(
     writer: &mut W,
-    indent: Option<&[u8]>,
+    indent: Option<Indent<'_>>,
     level: usize,
     flag: bool,
     bracket: u8,
 ) -> Added
-    ensures { let i = option_map (λ s. s.now) indent.entry in
+    ensures { let i = option_map (λ s. s.bytes.now) indent.entry in
         Adds (W.state writer.old) (W.state writer.new) (closing_line flag i level ++ bracket ∷ []) result }
 {
     if flag {
@@ -87,12 +61,12 @@ pub(crate) fn add_end<W: Sink>(
 
 fn add_byte_element<W: Sink>(
     writer: &mut W,
-    indent: Option<&[u8]>,
+    indent: Option<Indent<'_>>,
     level: usize,
     first: bool,
     byte: u8,
 ) -> Added
-    ensures { let i = option_map (λ s. s.now) indent.entry in
+    ensures { let i = option_map (λ s. s.bytes.now) indent.entry in
         Adds (W.state writer.old) (W.state writer.new) (byte_elements i level first (byte ∷ [])) result }
 {
     add_start(writer, indent, level, first)?;
@@ -101,11 +75,11 @@ fn add_byte_element<W: Sink>(
 
 fn add_byte_elements<W: Sink>(
     writer: &mut W,
-    indent: Option<&[u8]>,
+    indent: Option<Indent<'_>>,
     level: usize,
     bytes: &[u8],
 ) -> Added
-    ensures { let i = option_map (λ s. s.now) indent.entry in
+    ensures { let i = option_map (λ s. s.bytes.now) indent.entry in
         Adds (W.state writer.old) (W.state writer.new) (byte_elements i level true bytes.now) result }
 {
     let mut at = 0;
@@ -122,12 +96,12 @@ fn add_byte_elements<W: Sink>(
 /// The bytes as an array of numbers.
 pub(crate) fn add_byte_array<W: Sink>(
     writer: &mut W,
-    indent: Option<&[u8]>,
+    indent: Option<Indent<'_>>,
     level: usize,
     outer: usize,
     bytes: &[u8],
 ) -> Added
-    ensures { let i = option_map (λ s. s.now) indent.entry in
+    ensures { let i = option_map (λ s. s.bytes.now) indent.entry in
         Adds (W.state writer.old) (W.state writer.new)
         (91 ∷ (byte_elements i level true bytes.now ++ (closing_line (holds_any bytes.now) i outer ++ 93 ∷ []))) result }
 {

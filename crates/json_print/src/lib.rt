@@ -7,6 +7,7 @@ mod compact;
 mod escape;
 mod events;
 mod formatter;
+mod indent;
 mod layout;
 mod order;
 mod part;

@@ -6,6 +6,7 @@ ghost use Rattle.json_print.specs.Calls.{piece_of, level_after, flag_after};
 use crate::Formatter;
 use crate::adding::{add, told};
 use crate::escape::{add_number, add_string};
+use crate::indent::Indent;
 use crate::layout::{add_byte_array, add_end, add_start};
 use json_text::{Result, Sink};
 
@@ -24,7 +25,7 @@ use json_text::{Result, Sink};
 /// ```
 #[derive(Clone, Copy, Debug)]
 pub struct PrettyFormatter<'a> {
-    indent: &'a [u8],
+    indent: Indent<'a>,
     // How many containers are open, up to the last value of a usize.
     level: usize,
     // Whether the innermost of them holds something.
@@ -48,7 +49,7 @@ impl<'a> PrettyFormatter<'a> {
         ensures laid { LaidOut (record { piece = ⟦<PrettyFormatter<'a> as Formatter>⟧.piece; next = ⟦<PrettyFormatter<'a> as Formatter>⟧.next }) result (Some indent.now) 0 false }
     {
         PrettyFormatter {
-            indent,
+            indent: Indent::new(indent),
             level: 0,
             flag: false,
         }
@@ -65,7 +66,7 @@ impl Default for PrettyFormatter<'static> {
 }
 
 impl Formatter for PrettyFormatter<'_> {
-    ghost piece = { λ s c. piece_of (Some s.indent.now) s.level s.flag c };
+    ghost piece = { λ s c. piece_of (Some s.indent.bytes.now) s.level s.flag c };
 
     ghost next = { λ s c. record s { level = level_after s.level c; flag = flag_after s.flag c } };
 

@@ -118,18 +118,53 @@ fn sorted_text_with_tabs(rt: HostRuntime) -> std::result::Result<(), Fail> {
     Ok(())
 }
 
+// `{"b": 1, "a": 2, "c": 3}`
+fn three_members<E: Events>(out: &mut E) -> Result<()>
+    requires { E.stand (E.state out.old) ≡ record { turn = at_value; opened = [] } }
+{
+    out.begin_object(None)?;
+    out.key("b")?;
+    out.uint(1)?;
+    out.key("a")?;
+    out.uint(2)?;
+    out.key("c")?;
+    out.uint(3)?;
+    out.end_object()
+}
+
+#[test]
+fn members_as_they_came(rt: HostRuntime) -> std::result::Result<(), Fail> {
+    let alloc = rt.alloc();
+    let mut out = Serializer::new(alloc, VecSink::new(alloc));
+    three_members(&mut out)?;
+    let text = out.into_inner().into_vec();
+    assert_eq!(rt; text.as_slice(), b"{\"b\":1,\"a\":2,\"c\":3}".as_slice());
+    Ok(())
+}
+
+#[test]
+fn members_in_the_order_of_their_keys(rt: HostRuntime) -> std::result::Result<(), Fail> {
+    let alloc = rt.alloc();
+    let mut out = Serializer::new(alloc, VecSink::new(alloc)).sort_map_keys();
+    three_members(&mut out)?;
+    let text = out.into_inner().into_vec();
+    assert_eq!(rt; text.as_slice(), b"{\"a\":2,\"b\":1,\"c\":3}".as_slice());
+    Ok(())
+}
+
 #[test]
 fn an_error_stays(rt: HostRuntime) -> std::result::Result<(), Fail> {
     let alloc = rt.alloc();
-    let mut out = Serializer::new(alloc, FakeSink::new(alloc, 2, &[0]));
-    match out.begin_array(None) {
+    let mut out = Serializer::new(alloc, FakeSink::new(alloc, 2, &[1]));
+    out.begin_array(None)?;
+    match out.boolean(true) {
         Ok(()) => assert!(rt; false, "the sink failed"),
         Err(error) => {
             assert_eq!(rt; error.error_code(), ErrorCode::Io);
             assert_eq!(rt; out.null(), Err(error));
         }
     }
-    assert!(rt; out.into_inner().as_slice().is_empty());
+    assert_eq!(rt; out.into_inner().as_slice(), b"[".as_slice());
     Ok(())
 }
 
@@ -153,6 +188,6 @@ fn single_pieces(rt: HostRuntime) -> std::result::Result<(), Fail> {
 #[test]
 fn styles(rt: HostRuntime) {
     assert!(rt; Style::new(Some(" \t\r\n"), true).is_some());
-    assert!(rt; Style::new(Some(" _"), true).is_none());
+    assert!(rt; Style::new(Some("x"), false).is_none());
     assert!(rt; Style::new(None, false).is_some());
 }

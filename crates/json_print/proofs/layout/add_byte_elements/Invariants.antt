@@ -3,7 +3,7 @@ use Rattle.json_print.proofs.Elements.{HasAddedElements}
 use Rattle.json_print.proofs.layout.add_byte_elements.Given as goal
 
 abbrev pub invariant-each : goal.invariant-each
-invariant-each g l = (l.at ≤ length l.bytes) × HasAddedElements (g.W.Sink.state l.fn.writer) (g.W.Sink.state l.writer) (option_map (λ s. s.now) l.indent) l.level l.at l.bytes
+invariant-each g l = (l.at ≤ length l.bytes) × HasAddedElements (g.W.Sink.state l.fn.writer) (g.W.Sink.state l.writer) (option_map (λ s. s.bytes.now) l.indent) l.level l.at l.bytes
 
 abbrev pub decreases-each : goal.decreases-each
 decreases-each g l = length l.bytes - l.at

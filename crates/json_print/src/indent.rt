@@ -1,0 +1,106 @@
+// An indent, and a new line with some of them behind it.
+ghost use Rattle.std.specs.Prelude.{◌≡◌, ◌∷◌, ◌++◌, ◌*◌, ◌≤◌, ◌<◌, ◌↔◌, [], All, IsTrue, length};
+ghost use Rattle.json_model.specs.Print.{indents};
+ghost use Rattle.json_print.specs.Adding.{Adds};
+ghost use Rattle.json_print.specs.Calls.{comma};
+
+use crate::adding::{Added, add};
+use json_text::Sink;
+
+// How many spaces a line has that is ready.
+const SPACES: usize = 64;
+
+// A comma, a new line and the spaces.
+const LINE: &[u8] = b",\n                                                                ";
+
+/// The bytes of an indent.
+#[derive(Clone, Copy, Debug)]
+pub(crate) struct Indent<'a> {
+    bytes: &'a [u8],
+    // How many of them the spaces of a line are. None where the indent is not spaces alone.
+    ready: usize,
+    ghost fits: { ready * length bytes.now ≤ 64 },
+    ghost spaces: { indents ready bytes.now ≡ indents (ready * length bytes.now) (32 ∷ []) },
+}
+
+fn is_spaces(bytes: &[u8]) -> bool
+    ensures { IsTrue result ↔ All (λ x. x ≡ 32) bytes.now }
+{
+    bytes.iter().all(|byte| *byte == b' ')
+}
+
+fn ready(bytes: &[u8]) -> usize
+    ensures fits { result * length bytes.now ≤ 64 }
+    ensures spaces { indents result bytes.now ≡ indents (result * length bytes.now) (32 ∷ []) }
+{
+    if is_spaces(bytes) {
+        SPACES / bytes.len().max(1)
+    } else {
+        0
+    }
+}
+
+impl<'a> Indent<'a> {
+    pub(crate) fn new(bytes: &'a [u8]) -> Indent<'a>
+        ensures { result.bytes.now ≡ bytes.now }
+    {
+        Indent {
+            bytes,
+            ready: ready(bytes),
+        }
+    }
+}
+
+// As many indents as are one piece, up to so many, and how many they are.
+fn piece_of_indents<'a>(indent: Indent<'a>, most: usize) -> (&'a [u8], usize)
+    requires { 0 < most }
+    ensures some { 0 < result.1 }
+    ensures most { result.1 ≤ most }
+    ensures piece { result.0.now ≡ indents result.1 indent.entry.bytes.now }
+{
+    if indent.ready == 0 {
+        return (indent.bytes, 1);
+    }
+    let count = most.min(indent.ready);
+    (&LINE[2..2 + count * indent.bytes.len()], count)
+}
+
+fn add_indents<W: Sink>(writer: &mut W, indent: Indent<'_>, level: usize) -> Added
+    ensures { Adds (W.state writer.old) (W.state writer.new) (indents level indent.entry.bytes.now) result }
+{
+    let mut left = level;
+    'fill: while left > 0 {
+        let (piece, count) = piece_of_indents(indent, left);
+        match add(writer, piece) {
+            Ok(()) => {}
+            Err(error) => return Err(error),
+        }
+        left -= count;
+    }
+    Ok(())
+}
+
+#[inline(never)]
+fn add_long_break<W: Sink>(writer: &mut W, indent: Indent<'_>, level: usize, first: bool) -> Added
+    ensures { Adds (W.state writer.old) (W.state writer.new) (comma first ++ (10 ∷ indents level indent.entry.bytes.now)) result }
+{
+    add(writer, &LINE[usize::from(first)..2])?;
+    add_indents(writer, indent, level)
+}
+
+/// A comma but before the first, and a new line with so many indents behind it.
+#[inline(always)]
+pub(crate) fn add_break<W: Sink>(
+    writer: &mut W,
+    indent: Indent<'_>,
+    level: usize,
+    first: bool,
+) -> Added
+    ensures { Adds (W.state writer.old) (W.state writer.new) (comma first ++ (10 ∷ indents level indent.entry.bytes.now)) result }
+{
+    if level > indent.ready {
+        return add_long_break(writer, indent, level, first);
+    }
+    let end = 2 + level * indent.bytes.len();
+    add(writer, &LINE[usize::from(first)..end])
+}
