@@ -1,27 +1,23 @@
 -- What a place says of a value that stands there.
-use Rattle.std.proofs.Common.{◌≡◌, ℕ, refl, sym, ap, ◌∙◌}
-use Rattle.json_grammar.specs.Tree.{Tree, null, boolean, num, text, list, pairs}
-use Rattle.json_doc.specs.Docs.{doc_tree}
-use Rattle.json_doc.specs.Seen.{view_doc, view_place}
-use Rattle.json_doc.specs.declared.doc.Doc.{Doc}
-use Rattle.json_doc.specs.declared.view.DocView.{DocView}
-use Rattle.json_value.specs.Seen.{seen, form_seen}
-use Rattle.json_value.specs.declared.view.View.{View}
-use Rattle.json_value.specs.declared.view.ViewForm.TheVariants.{Packed}
-use Rattle.json_value.specs.Standing.{read_as}
-use Rattle.json_value.proofs.Trees.{list_back, pairs_back}
+use Rattle.std.proofs.Common.{◌≡◌, sym, ap, ◌∙◌}
+use Rattle.json_grammar.specs.Tree.{Tree, list, pairs, list_trees, list_pairs}
+use Rattle.json_doc.specs.Readings.{type_of}
+use Rattle.json_doc.specs.declared.json_type.JsonType.TheVariants as kind
+use Rattle.json_value.specs.Denotes.{tree_of, form_list, form_pairs}
+use Rattle.json_value.specs.Said.{place_tree}
+use Rattle.json_value.specs.declared.place.Place.{Place}
+use Rattle.json_value.specs.declared.container.Container.{Container}
+use Rattle.json_value.specs.declared.container.Form.{Form}
+use Rattle.json_value.specs.declared.container.Form.TheVariants.{Packed}
+use Rattle.json_value.specs.declared.pair.Keyed.{Keyed}
+use Rattle.json_value.specs.declared.value.Value.{Value, Array, Object}
+use Rattle.json_value.proofs.Trees.{array_back, object_back}
+use Rattle.json_value.proofs.Views.{array_tree, object_tree}
 
--- a tree, read as its own kind
-pub read_itself : (t : Tree) → read_as t t ≡ t
-read_itself null = refl
-read_itself (boolean b) = refl
-read_itself (num l) = refl
-read_itself (text s) = refl
-read_itself (list ts) = ap list (list_back ts)
-read_itself (pairs ps) = ap pairs (pairs_back ps)
+-- an array that is a place of one
+pub array_stands : (v : Value) (a : Container Value) (p : Place) → v ≡ Array a → a.form ≡ Packed p → (t : Tree) → (t ≡ place_tree p) × (type_of (place_tree p) ≡ kind.Array) → t ≡ tree_of v
+array_stands v a p is packed t h = h.0 ∙ sym (ap tree_of is ∙ array_tree a ∙ ap (λ (f : Form Value). list (list_trees (form_list f))) packed ∙ array_back (place_tree p) h.1)
 
--- what is seen of a document, read from where it stands
-pub read_there : (v : View) (d : DocView) (doc : Doc) (at : ℕ) → v.form ≡ Packed d → doc ≡ view_doc d → at ≡ view_place d → read_as (seen v) (doc_tree doc at) ≡ seen v
-read_there v d doc at is e f =
-    let there : doc_tree doc at ≡ seen v = ap (λ (x : Doc). doc_tree x at) e ∙ ap (doc_tree (view_doc d)) f ∙ sym (ap form_seen is) in
-    ap (read_as (seen v)) there ∙ read_itself (seen v)
+-- so an object
+pub object_stands : (v : Value) (o : Container (Keyed Value)) (p : Place) → v ≡ Object o → o.form ≡ Packed p → (t : Tree) → (t ≡ place_tree p) × (type_of (place_tree p) ≡ kind.Object) → t ≡ tree_of v
+object_stands v o p is packed t h = h.0 ∙ sym (ap tree_of is ∙ object_tree o ∙ ap (λ (f : Form (Keyed Value)). pairs (list_pairs (form_pairs f))) packed ∙ object_back (place_tree p) h.1)
