@@ -69,7 +69,7 @@ range_linked : {X : Type 0} (xs : List X) (link m n : ℕ) → (m ≡ 0 → n �
 range_linked xs link zero n h = range_none xs 0 n (h refl) ∙ sym (range_none xs link n (h refl))
 range_linked xs link (suc m) n h = refl
 
-list_back : (ts : Trees) → list_trees (trees_list ts) ≡ ts
+pub list_back : (ts : Trees) → list_trees (trees_list ts) ≡ ts
 list_back no_trees = refl
 list_back (tree_and t ts) = ap (tree_and t) (list_back ts)
 

@@ -13,7 +13,8 @@ use Rattle.json_model.specs.Same.{keys, first_value, same, trees_same, first_sam
 use Rattle.json_model.proofs.Equality.{first_agree}
 use Rattle.json_value.specs.Agreeing.{value_at, keys_in, agree_at}
 use Rattle.json_value.specs.Seen.{list_of, pairs_of, first_of}
-use Rattle.json_value.proofs.Trees.{list_back, pairs_back, pairs_again}
+use Rattle.json_doc.proofs.Pieces.{list_back}
+use Rattle.json_value.proofs.Trees.{pairs_back, pairs_again}
 
 -- ---- what is seen
 
@@ -35,11 +36,11 @@ object_seen (list ts) xs e = absurd (cc)
 object_seen (pairs ps) xs e = let s : xs ≡ pairs_list ps = cc in ap pairs (sym (pairs_back ps) ∙ ap list_pairs (sym s))
 
 -- of two that show the same both are there or none
-pub there : {X Y Z : Type 0} (f : X → Z) (g : Y → Z) (o : Option X) (p : Option Y) → option_map f o ≡ option_map g p → is_some p ≡ is_some o
-there f g None None e = refl
-there f g None (Some y) e = absurd (cc)
-there f g (Some x) None e = absurd (cc)
-there f g (Some x) (Some y) e = refl
+pub found_together : {X Y Z : Type 0} (f : X → Z) (g : Y → Z) (o : Option X) (p : Option Y) → option_map f o ≡ option_map g p → is_some p ≡ is_some o
+found_together f g None None e = refl
+found_together f g None (Some y) e = absurd (cc)
+found_together f g (Some x) None e = absurd (cc)
+found_together f g (Some x) (Some y) e = refl
 
 -- ---- arrays
 
@@ -152,10 +153,10 @@ passed_before f (n ∷ ks) k h g = by (bytes_eq n k) refl h (λ i. passed_before
 -- ---- members
 
 -- the key of a member that stands there
-pub key_at : (ps : List (List ℕ × Tree)) (i : ℕ) (k : List ℕ) (u : Tree) → slice_get ps i ≡ Some (k, u) → slice_get (keys_in ps) i ≡ Some k
-key_at [] i k u e = absurd (cc)
-key_at (p ∷ ps) zero k u e = ap (option_map (λ (q : List ℕ × Tree). q.0)) e
-key_at (p ∷ ps) (suc i) k u e = key_at ps i k u e
+pub key_of_pair : (ps : List (List ℕ × Tree)) (i : ℕ) (k : List ℕ) (u : Tree) → slice_get ps i ≡ Some (k, u) → slice_get (keys_in ps) i ≡ Some k
+key_of_pair [] i k u e = absurd (cc)
+key_of_pair (p ∷ ps) zero k u e = ap (option_map (λ (q : List ℕ × Tree). q.0)) e
+key_of_pair (p ∷ ps) (suc i) k u e = key_of_pair ps i k u e
 
 pub no_key_at : (ps : List (List ℕ × Tree)) (i : ℕ) → slice_get ps i ≡ None → slice_get (keys_in ps) i ≡ None
 no_key_at [] zero e = refl

@@ -10,7 +10,8 @@ use Rattle.json_print.specs.Standing.{Stand, stand_after, TakesValue, TakesKey, 
 use Rattle.json_print.specs.Taking.{after_all, Takes}
 use Rattle.json_value.specs.Readings.{members}
 use Rattle.json_value.specs.Emitting.{StopsAmong, Emits}
-use Rattle.json_value.proofs.Trees.{list_back, pairs_back}
+use Rattle.json_doc.proofs.Pieces.{list_back}
+use Rattle.json_value.proofs.Trees.{pairs_back}
 use Rattle.json_value.proofs.Turns.{after_append, stand_moves, all_tokens, all_pairs, elements_stand, members_stand}
 
 -- ---- one token
@@ -23,11 +24,11 @@ emits_one after stopped old new err err' x ts (Err f) fresh e h = record { all =
 -- ---- what stands in a container
 
 -- an array is the list of its elements
-pub array_seen : (t : Tree) (ts : Trees) (xs : List Tree) → t ≡ list ts → xs ≡ trees_list ts → list (list_trees xs) ≡ t
-array_seen t ts xs e h = ap (λ ys. list (list_trees ys)) h ∙ ap list (list_back ts) ∙ sym e
+pub list_seen : (t : Tree) (ts : Trees) (xs : List Tree) → t ≡ list ts → xs ≡ trees_list ts → list (list_trees xs) ≡ t
+list_seen t ts xs e h = ap (λ ys. list (list_trees ys)) h ∙ ap list (list_back ts) ∙ sym e
 
-pub object_seen : (t : Tree) (ps : Pairs) (xs : List (List ℕ × Tree)) → t ≡ pairs ps → xs ≡ pairs_list ps → pairs (list_pairs xs) ≡ t
-object_seen t ps xs e h = ap (λ ys. pairs (list_pairs ys)) h ∙ ap pairs (pairs_back ps) ∙ sym e
+pub pairs_seen : (t : Tree) (ps : Pairs) (xs : List (List ℕ × Tree)) → t ≡ pairs ps → xs ≡ pairs_list ps → pairs (list_pairs xs) ≡ t
+pairs_seen t ps xs e h = ap (λ ys. pairs (list_pairs ys)) h ∙ ap pairs (pairs_back ps) ∙ sym e
 
 -- no element has more nodes than all
 pub element_within : (ts : List Tree) (i : ℕ) (u : Tree) → slice_get ts i ≡ Some u → nodes u ≤ trees_nodes (list_trees ts)
@@ -106,10 +107,10 @@ rest_from (y ∷ ys) rest (suc i) x e = rest_from ys rest i x e
 pub rest_left : {A : Type 0} (xs rest : List A) (i : ℕ) (x : A) → drop i xs ≡ x ∷ rest → drop (i + 1) xs ≡ rest
 rest_left xs rest i x e = ap (λ n. drop n xs) (next i) ∙ rest_from xs rest i x e
 
-pub none_left : {A : Type 0} (xs : List A) (i : ℕ) → drop i xs ≡ [] → length xs ≤ i
-none_left [] i e = omega arith
-none_left (y ∷ ys) zero e = absurd (cc)
-none_left (y ∷ ys) (suc i) e = omega (arith, none_left ys i e)
+pub nothing_behind : {A : Type 0} (xs : List A) (i : ℕ) → drop i xs ≡ [] → length xs ≤ i
+nothing_behind [] i e = omega arith
+nothing_behind (y ∷ ys) zero e = absurd (cc)
+nothing_behind (y ∷ ys) (suc i) e = omega (arith, nothing_behind ys i e)
 
 -- ---- one more
 

@@ -22,14 +22,14 @@ past k (q ∷ ps) (suc i) n e h = past k ps i n e h
 pub first_next : (k : List ℕ) (ps : List (List ℕ × Tree)) (i : ℕ) (n : List ℕ) → slice_get (map (λ (p : List ℕ × Tree). p.0) ps) i ≡ Some n → bytes_eq n k ≡ false → first_of k (drop i ps) ≡ first_of k (drop (i + 1) ps)
 first_next k ps i n e h = past k ps i n e h ∙ ap (λ j. first_of k (drop j ps)) (next i)
 
-none_left : (k : List ℕ) (ps : List (List ℕ × Tree)) (i : ℕ) → slice_get (map (λ (p : List ℕ × Tree). p.0) ps) i ≡ None → first_of k (drop i ps) ≡ first_of k (drop (suc i) ps)
-none_left k [] zero e = refl
-none_left k [] (suc i) e = refl
-none_left k (q ∷ ps) zero e = absurd (cc)
-none_left k (q ∷ ps) (suc i) e = none_left k ps i e
+no_key_there : (k : List ℕ) (ps : List (List ℕ × Tree)) (i : ℕ) → slice_get (map (λ (p : List ℕ × Tree). p.0) ps) i ≡ None → first_of k (drop i ps) ≡ first_of k (drop (suc i) ps)
+no_key_there k [] zero e = refl
+no_key_there k [] (suc i) e = refl
+no_key_there k (q ∷ ps) zero e = absurd (cc)
+no_key_there k (q ∷ ps) (suc i) e = no_key_there k ps i e
 
 pub first_past : (k : List ℕ) (ps : List (List ℕ × Tree)) (i : ℕ) → slice_get (map (λ (p : List ℕ × Tree). p.0) ps) i ≡ None → first_of k (drop i ps) ≡ first_of k (drop (i + 1) ps)
-first_past k ps i e = none_left k ps i e ∙ ap (λ j. first_of k (drop j ps)) (next i)
+first_past k ps i e = no_key_there k ps i e ∙ ap (λ j. first_of k (drop j ps)) (next i)
 
 pub first_end : (k : List ℕ) (ps : List (List ℕ × Tree)) (i : ℕ) → length ps ≤ i → first_of k (drop i ps) ≡ None
 first_end k [] zero h = refl

@@ -17,7 +17,8 @@ use Rattle.json_value.specs.declared.value.Value.TheFolds.{ind-Value, map-Value}
 use Rattle.json_value.specs.declared.value.Value.TheOpen.{Value-F}
 use Rattle.json_value.specs.declared.value.Value.TheVariants.{rolls-Null, rolls-Bool, rolls-Number, rolls-Raw, rolls-Text, rolls-Array, rolls-Object}
 use Rattle.json_value.proofs.Held.{literal_number, text_utf8}
-use Rattle.json_value.proofs.Trees.{list_back, pairs_back}
+use Rattle.json_doc.proofs.Pieces.{list_back}
+use Rattle.json_value.proofs.Trees.{pairs_back}
 use Rattle.json_value.proofs.Views.{null_tree, bool_tree, number_tree, literal_tree, text_tree, array_tree, object_tree}
 
 abbrev Proper : Value → Type 0

@@ -4,14 +4,11 @@ use Rattle.std.specs.Prelude.{option_map, slice_get, unwrap_or}
 use Rattle.std.proofs.lemmas.List.{length-map}
 use Rattle.json_grammar.specs.Tree.{Tree, null, boolean, num, text, list, pairs, Trees, no_trees, tree_and, Pairs, no_pairs, pair_and, trees_list, list_trees, pairs_list, list_pairs}
 use Rattle.json_number.specs.Integers.{integer_in}
+use Rattle.json_doc.proofs.Pieces.{list_back}
 use Rattle.json_doc.specs.Readings.{type_of, elements, keys, values, children, bool_of}
 use Rattle.json_doc.specs.declared.json_type.JsonType.TheVariants as kind
 use Rattle.json_value.specs.Readings.{members, text_said, literal_said}
 use Rattle.json_value.specs.Spots.{Spot, kept_spot, kept_number}
-
-pub list_back : (ts : Trees) → list_trees (trees_list ts) ≡ ts
-list_back no_trees = refl
-list_back (tree_and t ts) = ap (tree_and t) (list_back ts)
 
 pub list_again : (ts : List Tree) → trees_list (list_trees ts) ≡ ts
 list_again [] = refl
@@ -80,23 +77,6 @@ no_object _ h e = absurd (cc)
 -- which of them are kept as places
 pub integer_kept : (l : List ℕ) (n : ℤ) (s : Spot) → integer_in l ≡ Some n → kept_spot (num l) s ≡ None
 integer_kept l n s e = ap (λ (o : Option ℤ). kept_number o s) e
-
-pub literal_kept : (l : List ℕ) (s : Spot) → integer_in l ≡ None → kept_spot (num l) s ≡ Some s
-literal_kept l s e = ap (λ (o : Option ℤ). kept_number o s) e
-
-pub string_kept : (t : Tree) (s : Spot) → type_of t ≡ kind.String → kept_spot t s ≡ Some s
-string_kept (text c) s h = refl
-string_kept _ s h = absurd (cc)
-
-pub array_kept : (t : Tree) (s : Spot) → type_of t ≡ kind.Array → length (children t) ≢ 0 → kept_spot t s ≡ Some s
-array_kept (list no_trees) s h e = absurd (e refl)
-array_kept (list (tree_and t ts)) s h e = refl
-array_kept _ s h e = absurd (cc)
-
-pub object_kept : (t : Tree) (s : Spot) → type_of t ≡ kind.Object → length (children t) ≢ 0 → kept_spot t s ≡ Some s
-object_kept (pairs no_pairs) s h e = absurd (e refl)
-object_kept (pairs (pair_and k t ps)) s h e = refl
-object_kept _ s h e = absurd (cc)
 
 pub few_elements : (t : Tree) → length (elements t) ≤ length (children t)
 few_elements (list ts) = omega arith

@@ -6,7 +6,7 @@ use Rattle.json_grammar.specs.Sizes.{nodes}
 use Rattle.json_doc.specs.Left.{children_left, pairs_left}
 use Rattle.json_doc.specs.Seen.{view_tree}
 use Rattle.json_value.proofs.Turns.{after_append}
-use Rattle.json_value.proofs.Emitting.{emits_one, emits_refused, emits_last, emits_same, stops_one, stops_within, array_seen, array_tokens, array_around, array_whole, array_front, array_stand, array_step, object_seen, object_tokens, object_around, object_whole, object_front, object_stand, object_step, member_stand, element_within, value_within, item_left, rest_left, none_left}
+use Rattle.json_value.proofs.Emitting.{emits_one, emits_refused, emits_last, emits_same, stops_one, stops_within, list_seen, array_tokens, array_around, array_whole, array_front, array_stand, array_step, pairs_seen, object_tokens, object_around, object_whole, object_front, object_stand, object_step, member_stand, element_within, value_within, item_left, rest_left, nothing_behind}
 use Rattle.json_value.proofs.WholeTrees.{map_there}
 use Rattle.json_value.proofs.emit_packed.+document.Goals as goal
 
@@ -25,22 +25,22 @@ emit_document-returns-in-String g t c = emits_one _ _ _ _ _ _ _ _ _ c.requires.f
 pub emit_document-emit_children-requires : goal.emit_document-emit_children-requires
 emit_document-emit_children-requires g t c κs within =
     let a = c.in-Array.ensures.tree in
-    (omega (arith, ap nodes (array_seen (view_tree c.args.view) a.0 (children_left c.in-Array.children) a.1 a.2)), (within, (c.requires.fresh, c.requires.turn)))
+    (omega (arith, ap nodes (list_seen (view_tree c.args.view) a.0 (children_left c.in-Array.children) a.1 a.2)), (within, (c.requires.fresh, c.requires.turn)))
 
 pub emit_document-emit_pairs-requires : goal.emit_document-emit_pairs-requires
 emit_document-emit_pairs-requires g t c κs within =
     let o = c.in-Object.ensures.tree in
-    (omega (arith, ap nodes (object_seen (view_tree c.args.view) o.0 (pairs_left c.in-Object.members) o.1 o.2)), (within, (c.requires.fresh, c.requires.turn)))
+    (omega (arith, ap nodes (pairs_seen (view_tree c.args.view) o.0 (pairs_left c.in-Object.members) o.1 o.2)), (within, (c.requires.fresh, c.requires.turn)))
 
 pub emit_document-returns-in-Array : goal.emit_document-returns-in-Array
 emit_document-returns-in-Array g t c =
     let a = c.in-Array.ensures.tree in
-    emits_same _ _ _ _ _ _ _ _ (array_seen (view_tree c.args.view) a.0 (children_left c.in-Array.children) a.1 a.2) c.emit_children.ensures
+    emits_same _ _ _ _ _ _ _ _ (list_seen (view_tree c.args.view) a.0 (children_left c.in-Array.children) a.1 a.2) c.emit_children.ensures
 
 pub emit_document-returns-in-Object : goal.emit_document-returns-in-Object
 emit_document-returns-in-Object g t c =
     let o = c.in-Object.ensures.tree in
-    emits_same _ _ _ _ _ _ _ _ (object_seen (view_tree c.args.view) o.0 (pairs_left c.in-Object.members) o.1 o.2) c.emit_pairs.ensures
+    emits_same _ _ _ _ _ _ _ _ (pairs_seen (view_tree c.args.view) o.0 (pairs_left c.in-Object.members) o.1 o.2) c.emit_pairs.ensures
 
 pub emit_children-returns-in_err-begin_array : goal.emit_children-returns-in_err-begin_array
 emit_children-returns-in_err-begin_array g t c =
@@ -71,7 +71,7 @@ emit_children-end_array-requires g t c = λ f. (array_stand g.E.Events.after g.E
 pub emit_children-returns : goal.emit_children-returns
 emit_children-returns g t c =
     let ts = children_left c.args.children in let h = c.loop-child.invariant in
-    emits_last _ _ _ _ _ _ _ (array_front ts h.2) (end array) _ _ h.4 h.5 (array_whole ts h.2 (none_left ts h.2 (h.3 ∙ c.in-None.ensures.steps.0.0))) c.end_array.ensures
+    emits_last _ _ _ _ _ _ _ (array_front ts h.2) (end array) _ _ h.4 h.5 (array_whole ts h.2 (nothing_behind ts h.2 (h.3 ∙ c.in-None.ensures.steps.0.0))) c.end_array.ensures
 
 pub emit_pairs-returns-in_err-begin_object : goal.emit_pairs-returns-in_err-begin_object
 emit_pairs-returns-in_err-begin_object g t c =
@@ -123,4 +123,4 @@ emit_pairs-end_object-requires g t c = λ f. (object_stand g.E.Events.after g.E.
 pub emit_pairs-returns : goal.emit_pairs-returns
 emit_pairs-returns g t c =
     let ps = pairs_left c.args.members in let h = c.loop-key.invariant in
-    emits_last _ _ _ _ _ _ _ (object_front ps h.2) (end object) _ _ h.4 h.5 (object_whole ps h.2 (none_left ps h.2 (h.3 ∙ c.in-None.ensures.steps.0.0))) c.end_object.ensures
+    emits_last _ _ _ _ _ _ _ (object_front ps h.2) (end object) _ _ h.4 h.5 (object_whole ps h.2 (nothing_behind ps h.2 (h.3 ∙ c.in-None.ensures.steps.0.0))) c.end_object.ensures

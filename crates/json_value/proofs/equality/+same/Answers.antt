@@ -6,7 +6,7 @@ use Rattle.json_grammar.specs.Tree.{list_trees}
 use Rattle.json_model.specs.Same.{same, trees_same}
 use Rattle.json_value.specs.Agreeing.{agree_at, keys_in}
 use Rattle.json_value.specs.Seen.{seen, elements_seen, members_seen, first_of}
-use Rattle.json_value.proofs.Agreeing.{nodes_in, element_nodes, member_nodes, array_seen, object_seen, lengths_apart, trees_step, key_at, no_key_at, value_first, passed_before, all_fail, all_more, take_more, members_apart, members_same}
+use Rattle.json_value.proofs.Agreeing.{nodes_in, element_nodes, member_nodes, array_seen, object_seen, lengths_apart, trees_step, key_of_pair, no_key_at, value_first, passed_before, all_fail, all_more, take_more, members_apart, members_same}
 use Rattle.json_value.proofs.equality.+same.Goals.{are_firsts_same-in-Some+else-not-has_before, are_firsts_same-else-not-has_before-via-then-not-has_before+else-not-are_both_same, are_firsts_same-else-not-has_before-via-else-not-has_before, are_firsts_same-in_default}
 use Rattle.json_value.proofs.equality.+same.Goals as goal
 
@@ -38,7 +38,7 @@ are_firsts_same-are_both_same-requires t c = (omega (arith, member_nodes (member
 pub are_firsts_same-returns-then-not-are_both_same : goal.are_firsts_same-returns-then-not-are_both_same
 are_firsts_same-returns-then-not-are_both_same t c =
     let ps = members_seen c.args.first in let qs = members_seen c.args.second in let i = c.members.i in let e = sym c.in-Some.ensures in
-    sym (all_fail (agree_at ps qs) (keys_in ps) i _ (key_at ps i _ _ e)
+    sym (all_fail (agree_at ps qs) (keys_in ps) i _ (key_of_pair ps i _ _ e)
     (ap₂ (option_eq same) (value_first ps i _ _ e (sym c.has_before.ensures ∙ c.if-not-has_before.true)) (sym c.get.ensures) ∙ sym c.are_both_same.ensures ∙ c.if-not-are_both_same.true))
 
 pub are_firsts_same-members-preserved : goal.are_firsts_same-members-preserved
@@ -47,7 +47,7 @@ are_firsts_same-members-preserved t c =
     elim c.match-pair.branch [
       | are_firsts_same-in-Some+else-not-has_before w ↦
           let e = sym w.in-Some.ensures in
-          all_more (agree_at ps qs) (keys_in ps) i _ (key_at ps i _ _ e) h (
+          all_more (agree_at ps qs) (keys_in ps) i _ (key_of_pair ps i _ _ e) h (
           elim w.else-not-has_before.branch [
             | are_firsts_same-else-not-has_before-via-then-not-has_before+else-not-are_both_same w' ↦
                 ap₂ (option_eq same) (value_first ps i _ _ e (sym w.has_before.ensures ∙ w'.if-not-has_before.true)) (sym w'.get.ensures) ∙ sym w'.are_both_same.ensures ∙ w'.if-not-are_both_same.false

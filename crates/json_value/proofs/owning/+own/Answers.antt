@@ -6,28 +6,28 @@ use Rattle.json_doc.specs.Seen.{view_tree}
 use Rattle.json_value.specs.Denotes.{tree_of, pair_of}
 use Rattle.json_value.specs.declared.container.Form.TheVariants.{Owned}
 use Rattle.json_value.proofs.Views.{array_tree, object_tree}
-use Rattle.json_value.proofs.Emitting.{array_seen, object_seen, tree_among, value_among}
+use Rattle.json_value.proofs.Emitting.{list_seen, pairs_seen, tree_among, value_among}
 use Rattle.json_value.proofs.owning.+own.Goals as goal
 
 pub own_document-own_children-requires : goal.own_document-own_children-requires
 own_document-own_children-requires t c =
-    let a = c.in-Array.ensures.tree in (omega (arith, ap nodes (array_seen (view_tree c.args.view) a.0 (children_left c.in-Array.children) a.1 a.2)), tt)
+    let a = c.in-Array.ensures.tree in (omega (arith, ap nodes (list_seen (view_tree c.args.view) a.0 (children_left c.in-Array.children) a.1 a.2)), tt)
 
 pub own_document-own_members-requires : goal.own_document-own_members-requires
 own_document-own_members-requires t c =
-    let o = c.in-Object.ensures.tree in (omega (arith, ap nodes (object_seen (view_tree c.args.view) o.0 (pairs_left c.in-Object.members) o.1 o.2)), tt)
+    let o = c.in-Object.ensures.tree in (omega (arith, ap nodes (pairs_seen (view_tree c.args.view) o.0 (pairs_left c.in-Object.members) o.1 o.2)), tt)
 
 pub own_document-returns-in_ok-list-in-Array-clause-tree : goal.own_document-returns-in_ok-list-in-Array-clause-tree
 own_document-returns-in_ok-list-in-Array-clause-tree t c =
     let a = c.in-Array.ensures.tree in
     array_tree (record { form = Owned c.in_ok-list-in-Array.list }) ∙ ap (λ ts. list (list_trees ts)) c.in_ok-list-in-Array.ensures.list
-    ∙ array_seen (view_tree c.args.view) a.0 (children_left c.in-Array.children) a.1 a.2
+    ∙ list_seen (view_tree c.args.view) a.0 (children_left c.in-Array.children) a.1 a.2
 
 pub own_document-returns-in_ok-list-in-Object-clause-tree : goal.own_document-returns-in_ok-list-in-Object-clause-tree
 own_document-returns-in_ok-list-in-Object-clause-tree t c =
     let o = c.in-Object.ensures.tree in
     object_tree (record { form = Owned c.in_ok-list-in-Object.list }) ∙ ap (λ ps. pairs (list_pairs ps)) c.in_ok-list-in-Object.ensures.pairs
-    ∙ object_seen (view_tree c.args.view) o.0 (pairs_left c.in-Object.members) o.1 o.2
+    ∙ pairs_seen (view_tree c.args.view) o.0 (pairs_left c.in-Object.members) o.1 o.2
 
 pub own_children-own_document-requires : goal.own_children-own_document-requires
 own_children-own_document-requires t c =
