@@ -1,28 +1,22 @@
 // Places of values, lent.
-use crate::{Index, Path, PointerNode, Text, Value, put, update};
-use json_doc::read_document;
+use crate::fixtures::{key, shows, value_of};
+use json_doc::JsonType;
 use json_text::ErrorCode;
+use json_value::{Index, Path, PointerNode, Value, put, update};
 use std::alloc::Global;
-use std::process::Abort;
 use std::test::Fail;
 
-fn value_of(rt: &impl Abort, alloc: Global, json: &str) -> Result<Value, Fail> {
-    assert!(rt; json.len() < 1000);
-    let doc = read_document(alloc, json)?;
-    Ok(Value::from_place(alloc, &doc, doc.root())?)
-}
-
-/// The steps to an element of the member of a key.
-fn element(alloc: Global, key: &'static str, index: usize) -> Result<Path, Fail> {
+// The steps to an element of the member of a key.
+fn element(alloc: Global, name: &'static str, index: usize) -> Result<Path, Fail> {
     let mut path = Path::new(alloc);
-    path.push(PointerNode::Key(Text::from_static(key)))?;
+    path.push(key(name))?;
     path.push(PointerNode::Index(index))?;
     Ok(path)
 }
 
-/// What an element of the member of a key says, if it is a string.
-fn said<'a>(value: &'a Value, key: &str, index: usize) -> Option<&'a str> {
-    let list = value.view().as_object()?.get(key)?.as_array()?;
+// What an element of the member of a key says, if it is a string.
+fn said<'a>(value: &'a Value, name: &str, index: usize) -> Option<&'a str> {
+    let list = value.view().as_object()?.get(name)?.as_array()?;
     list.get(index)?.text()
 }
 
@@ -56,14 +50,53 @@ fn what_is_put_in_is_lent(rt: HostRuntime) -> Result<(), Fail> {
 }
 
 #[test]
+fn values_are_appended_and_inserted(rt: HostRuntime) -> Result<(), Fail> {
+    let alloc = rt.alloc();
+    let mut list = value_of(&rt, alloc, "[1]")?;
+    assert!(rt; list.view().get_type() == JsonType::Array);
+    let _ = list.append_value(alloc, Value::new_u64(2))?;
+    assert!(rt; shows(alloc, &list, "[1,2]")?);
+    let mut members = value_of(&rt, alloc, "{}")?;
+    assert!(rt; members.view().get_type() == JsonType::Object);
+    let _ = members.insert(alloc, "k", Value::new_u64(1))?;
+    assert!(rt; shows(alloc, &members, "{\"k\":1}")?);
+    Ok(())
+}
+
+#[test]
 fn a_key_that_lacks_is_appended(rt: HostRuntime) -> Result<(), Fail> {
     let alloc = rt.alloc();
     let mut value = Value::new_null();
-    let key = PointerNode::Key(Text::from_static("a"));
+    let place = "z".index_or_insert(alloc, &mut value)?;
+    assert!(rt; matches!(place, Value::Null));
+    assert!(rt; shows(alloc, &value, "{\"z\":null}")?);
+    let key = key("z");
     *key.index_or_insert(alloc, &mut value)? = value_of(&rt, alloc, "[\"k\"]")?;
-    assert!(rt; said(&value, "a", 0) == Some("k"));
-    let refused = 0.index_or_insert(alloc, &mut value).err();
+    assert!(rt; shows(alloc, &value, "{\"z\":[\"k\"]}")?);
+    Ok(())
+}
+
+#[test]
+fn steps_that_lead_nowhere_are_refused(rt: HostRuntime) -> Result<(), Fail> {
+    let alloc = rt.alloc();
+    let mut list = value_of(&rt, alloc, "[1]")?;
+    let refused = 1.index_or_insert(alloc, &mut list).err();
+    assert!(rt; matches!(refused, Some(error) if error.code == ErrorCode::NotFound));
+    let mut number = value_of(&rt, alloc, "1")?;
+    let refused = "k".index_or_insert(alloc, &mut number).err();
     assert!(rt; matches!(refused, Some(error) if error.code == ErrorCode::TypeUnmatched));
+    let refused = 0.index_or_insert(alloc, &mut Value::new_object()).err();
+    assert!(rt; matches!(refused, Some(error) if error.code == ErrorCode::TypeUnmatched));
+    Ok(())
+}
+
+#[test]
+fn a_member_is_written(rt: HostRuntime) -> Result<(), Fail> {
+    let alloc = rt.alloc();
+    let mut value = value_of(&rt, alloc, "{\"k\":1}")?;
+    let member = value.step_mut(alloc, "k")?.ok_or("no member")?;
+    *member = Value::new_u64(2);
+    assert!(rt; shows(alloc, &value, "{\"k\":2}")?);
     Ok(())
 }
 

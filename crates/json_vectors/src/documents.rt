@@ -1,0 +1,26 @@
+// Documents, kinds and the builder.
+use crate::fixtures::read;
+use json_doc::{DocumentVisitor, JsonType, JsonVisitor};
+use std::test::Fail;
+
+#[test]
+fn one_cell_for_an_empty_array(rt: HostRuntime) -> Result<(), Fail> {
+    let doc = read(&rt, rt.alloc(), "[]")?;
+    assert_eq!(rt; doc.cells().len(), 1);
+    Ok(())
+}
+
+#[test]
+fn no_kind_above_five(rt: HostRuntime) {
+    assert!(rt; JsonType::from_u8(5) == Some(JsonType::Array));
+    assert!(rt; JsonType::from_u8(6).is_none());
+}
+
+#[test]
+fn no_more_starts_than_there_is_room_for(rt: HostRuntime) -> Result<(), Fail> {
+    let mut visitor = DocumentVisitor::new(rt.alloc(), 4)?;
+    assert!(rt; visitor.visit_array_start());
+    assert!(rt; visitor.visit_array_start());
+    assert!(rt; !visitor.visit_array_start());
+    Ok(())
+}
