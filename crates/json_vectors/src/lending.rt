@@ -2,7 +2,7 @@
 use crate::fixtures::{key, shows, value_of};
 use json_doc::JsonType;
 use json_text::ErrorCode;
-use json_value::{Index, Path, PointerNode, Value, put, update};
+use json_value::{Index, Path, Places, PointerNode, Value, put, update};
 use std::alloc::Global;
 use std::test::Fail;
 
@@ -87,6 +87,20 @@ fn steps_that_lead_nowhere_are_refused(rt: HostRuntime) -> Result<(), Fail> {
     assert!(rt; matches!(refused, Some(error) if error.code == ErrorCode::TypeUnmatched));
     let refused = 0.index_or_insert(alloc, &mut Value::new_object()).err();
     assert!(rt; matches!(refused, Some(error) if error.code == ErrorCode::TypeUnmatched));
+    Ok(())
+}
+
+#[test]
+fn a_place_of_a_path_is_written(rt: HostRuntime) -> Result<(), Fail> {
+    let alloc = rt.alloc();
+    let mut value = value_of(&rt, alloc, "{\"a\":[1,2]}")?;
+    let second = element(alloc, "a", 1)?;
+    let place = value.place_mut(alloc, second.steps())?;
+    *place = Value::new_null();
+    assert!(rt; shows(alloc, &value, "{\"a\":[1,null]}")?);
+    let past = element(alloc, "a", 2)?;
+    let refused = value.place_mut(alloc, past.steps()).err();
+    assert!(rt; matches!(refused, Some(error) if error.code == ErrorCode::NotFound));
     Ok(())
 }
 

@@ -104,6 +104,35 @@ fn containers_are_taken_out(rt: HostRuntime) -> Result<(), Fail> {
     Ok(())
 }
 
+// The kind of a value, and how many elements or members it has.
+fn parts(value: &Value) -> (JsonType, usize) {
+    match value.as_ref() {
+        ValueRef::Null => (JsonType::Null, 0),
+        ValueRef::Bool(_) => (JsonType::Boolean, 0),
+        ValueRef::Number(_) | ValueRef::RawNumber(_) => (JsonType::Number, 0),
+        ValueRef::String(_) => (JsonType::String, 0),
+        ValueRef::Array(array) => (JsonType::Array, array.view().len()),
+        ValueRef::Object(object) => (JsonType::Object, object.view().len()),
+    }
+}
+
+#[test]
+fn what_a_value_is(rt: HostRuntime) -> Result<(), Fail> {
+    let alloc = rt.alloc();
+    for (json, want) in [
+        ("null", (JsonType::Null, 0)),
+        ("true", (JsonType::Boolean, 0)),
+        ("1", (JsonType::Number, 0)),
+        ("\"x\"", (JsonType::String, 0)),
+        ("[1,[]]", (JsonType::Array, 2)),
+        ("{\"k\":1}", (JsonType::Object, 1)),
+    ] {
+        let value = value_of(&rt, alloc, json)?;
+        assert!(rt; parts(&value) == want, "{json}");
+    }
+    Ok(())
+}
+
 #[test]
 fn a_list_is_taken_and_copied(rt: HostRuntime) -> Result<(), Fail> {
     let alloc = rt.alloc();

@@ -1,7 +1,7 @@
 // What steps and paths lead to.
 use crate::fixtures::{key, shows, value_of};
 use json_doc::JsonType;
-use json_value::{Path, PointerNode};
+use json_value::{Index, Path, PointerNode};
 use std::test::Fail;
 
 const NESTED: &str = "{\"x\":{\"y\":[\"z\",\"zz\"]}}";
@@ -35,7 +35,7 @@ fn paths_lead_to_places_or_nowhere(rt: HostRuntime) -> Result<(), Fail> {
     let text = value.pointer(&there).ok_or("no place")?;
     assert!(rt; text.text() == Some("zz"));
     let nowhere = [key("a"), key("b")];
-    assert!(rt; value.pointer(&nowhere).is_none());
+    assert!(rt; value.pointer(&nowhere).is_none() && value.view().pointer(&there).is_some());
     let whole = value.pointer(&[]).ok_or("no value")?;
     assert!(rt; shows(alloc, &whole.to_value(alloc)?, NESTED)?);
     Ok(())
@@ -48,6 +48,15 @@ fn steps_to_nowhere_are_null(rt: HostRuntime) -> Result<(), Fail> {
     assert!(rt; value.at("a").at("b").get_type() == JsonType::Null);
     assert!(rt; value.at("x").at("y").at(1_usize).text() == Some("zz"));
     Ok(())
+}
+
+#[test]
+fn a_step_is_a_key_or_an_index(rt: HostRuntime) {
+    assert_eq!(rt; ("a".as_key(), "a".as_index()), (Some("a"), None));
+    assert_eq!(rt; (7_usize.as_key(), 7_usize.as_index()), (None, Some(7)));
+    let (first, second) = (key("a"), PointerNode::Index(7));
+    assert_eq!(rt; (first.as_key(), first.as_index()), (Some("a"), None));
+    assert_eq!(rt; (second.as_key(), second.as_index()), (None, Some(7)));
 }
 
 #[test]

@@ -48,7 +48,9 @@ fn kinds_are_read(rt: HostRuntime) -> Result<(), Fail> {
         assert!(rt; kind(&value) == Some(want), "{json}");
         assert!(rt; kind(&value.view()) == Some(want), "{json}");
         assert!(rt; kind(&&value) == Some(want), "{json}");
-        assert!(rt; kind(&Some(value)) == Some(want), "{json}");
+        assert!(rt; kind(&Some(&value)) == Some(want), "{json}");
+        let answer: Result<Value, Error> = Ok(value);
+        assert!(rt; kind(&answer) == Some(want), "{json}");
     }
     Ok(())
 }
@@ -154,7 +156,9 @@ fn containers_are_read(rt: HostRuntime) -> Result<(), Fail> {
         let value = value_of(&rt, alloc, json)?;
         assert!(rt; sizes(&value) == want, "{json}");
         assert!(rt; sizes(&&value) == want, "{json}");
-        assert!(rt; sizes(&Some(value)) == want, "{json}");
+        assert!(rt; sizes(&Some(&value)) == want, "{json}");
+        let answer: Result<Value, Error> = Ok(value);
+        assert!(rt; sizes(&answer) == want, "{json}");
     }
     Ok(())
 }
