@@ -1,6 +1,6 @@
-// Documents, kinds and the builder.
+// Documents and kinds.
 use crate::fixtures::read;
-use json_doc::{DocumentVisitor, JsonType, JsonVisitor};
+use json_doc::JsonType;
 use std::test::Fail;
 
 #[test]
@@ -14,13 +14,4 @@ fn one_cell_for_an_empty_array(rt: HostRuntime) -> Result<(), Fail> {
 fn no_kind_above_five(rt: HostRuntime) {
     assert!(rt; JsonType::from_u8(5) == Some(JsonType::Array));
     assert!(rt; JsonType::from_u8(6).is_none());
-}
-
-#[test]
-fn no_more_starts_than_there_is_room_for(rt: HostRuntime) -> Result<(), Fail> {
-    let mut visitor = DocumentVisitor::new(rt.alloc(), 4)?;
-    assert!(rt; visitor.visit_array_start());
-    assert!(rt; visitor.visit_array_start());
-    assert!(rt; !visitor.visit_array_start());
-    Ok(())
 }
