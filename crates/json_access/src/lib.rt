@@ -4,8 +4,6 @@
 
 mod container_trait;
 mod raw;
-#[cfg(test)]
-mod tests;
 mod value_mut_trait;
 mod value_trait;
 

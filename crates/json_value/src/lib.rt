@@ -16,18 +16,12 @@ mod display;
 mod emit;
 mod emit_packed;
 mod equality;
-#[cfg(test)]
-mod equality_tests;
 mod index;
 mod iter;
 pub mod laws;
 mod lending;
-#[cfg(test)]
-mod lending_tests;
 mod literal;
 mod lookup;
-#[cfg(test)]
-mod lookup_tests;
 mod making;
 mod object;
 mod object_view;
@@ -40,15 +34,11 @@ mod places;
 mod placing;
 mod slot;
 mod standing;
-#[cfg(test)]
-mod tests;
 mod text;
 mod value;
 mod value_ref;
 mod view;
 mod view_place;
-#[cfg(test)]
-mod view_tests;
 
 pub use array_iter::ArrayIter;
 pub use array_view::ArrayView;

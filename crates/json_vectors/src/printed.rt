@@ -1,19 +1,11 @@
-// What views show, and the texts that are printed of them.
-use crate::container::{Container, Form};
-use crate::{Pair, Text, Value, View};
-use json_doc::{Doc, JsonType, read_document};
+// The compact texts of values and of views.
+use crate::fixtures::{array_in, object_in, read, value_of};
 use json_number::{Number, RawNumber};
 use json_print::Serializer;
 use json_text::VecSink;
+use json_value::{Object, Pair, Text, Value, View};
 use std::alloc::Global;
-use std::process::Abort;
-use std::rc::Rc;
 use std::test::Fail;
-
-fn read(rt: &impl Abort, alloc: Global, text: &str) -> json_text::Result<Rc<Doc>> {
-    assert!(rt; text.len() < 1000);
-    read_document(alloc, text)
-}
 
 // The compact text of what is seen.
 fn printed(alloc: Global, view: View<'_>) -> json_text::Result<Vec<u8>> {
@@ -24,15 +16,14 @@ fn printed(alloc: Global, view: View<'_>) -> json_text::Result<Vec<u8>> {
 
 // `[null,{"a":true,"b":[],"a":{}},"x"]`, made by hand.
 fn made(alloc: Global) -> json_text::Result<Value> {
-    let mut pairs = Vec::new(alloc);
+    let mut object = Object::new();
+    let pairs = object.pairs_mut(alloc)?;
     pairs.push(Pair::new(Text::from_static("a"), Value::new_bool(true)))?;
     pairs.push(Pair::new(Text::from_static("b"), Value::new_array()))?;
     pairs.push(Pair::new(Text::from_static("a"), Value::new_object()))?;
     let mut list = Vec::new(alloc);
     list.push(Value::new_null())?;
-    list.push(Value::Object(Container {
-        form: Form::Owned(pairs),
-    }))?;
+    list.push(object.into_value())?;
     list.push(Value::from_static_str("x"))?;
     Ok(Value::from_vec(list))
 }
@@ -45,7 +36,7 @@ fn values_of_a_document_are_printed(rt: HostRuntime) -> Result<(), Fail> {
     let doc = read(&rt, alloc, TEXT)?;
     let value = Value::from_place(alloc, &doc, doc.root())?;
     assert_eq!(rt; printed(alloc, value.view())?.as_slice(), TEXT.as_bytes());
-    let copy = value.view().to_value(alloc)?;
+    let copy = View::packed(doc.view()).to_value(alloc)?;
     assert_eq!(rt; printed(alloc, copy.view())?.as_slice(), TEXT.as_bytes());
     Ok(())
 }
@@ -80,22 +71,29 @@ fn numbers_are_printed(rt: HostRuntime) -> Result<(), Fail> {
 }
 
 #[test]
-fn views_show(rt: HostRuntime) -> Result<(), Fail> {
+fn values_are_displayed(rt: HostRuntime) -> Result<(), Fail> {
     let alloc = rt.alloc();
-    let doc = read(&rt, alloc, "{\"a\":[7,\"\\n\"],\"b\":-2.50e3}")?;
-    let view = View::packed(doc.view());
-    let object = view.as_object().ok_or("no object")?;
-    assert!(rt; object.len() == 2 && !object.is_empty());
-    let (key, value) = object.get_key_value("b").ok_or("no member")?;
-    assert_eq!(rt; (key, value.literal()), ("b", Some("-2.50e3")));
-    let array = object
-        .get("a")
-        .ok_or("no value")?
-        .as_array()
-        .ok_or("no array")?;
-    let number = array.get(0).ok_or("no element")?;
-    assert!(rt; number.as_number() == Some(Number::from(7u8)) && number.literal().is_none());
-    let text = array.get(1).ok_or("no element")?;
-    assert!(rt; text.get_type() == JsonType::String && text.text() == Some("\n"));
+    let text = "{\"a\":[\"\\u001f\\\"é\",-2.50e3],\"b\":{}}";
+    let mut value = value_of(&rt, alloc, text)?;
+    assert_eq!(rt; value.to_string(alloc)?.as_str(), text);
+    let object = object_in(&mut value).ok_or("no object")?;
+    let first = object.pairs_mut(alloc)?.first_mut().ok_or("no member")?;
+    let array = array_in(first.value_mut()).ok_or("no array")?;
+    assert_eq!(rt;
+        array.to_string(alloc)?.as_str(),
+        "[\"\\u001f\\\"é\",-2.50e3]"
+    );
+    assert_eq!(rt; object.to_string(alloc)?.as_str(), text);
+    Ok(())
+}
+
+#[test]
+fn what_a_value_shows(rt: HostRuntime) -> Result<(), Fail> {
+    let alloc = rt.alloc();
+    let value = value_of(&rt, alloc, "[1]")?;
+    assert_eq!(rt; value.to_string(alloc)?.as_str(), "[1]");
+    assert_eq!(rt; Number::from(7_u8).to_string(alloc)?.as_str(), "7");
+    let refused = RawNumber::new(alloc, "01").err().ok_or("no error")?;
+    assert_eq!(rt; refused.to_string(alloc)?.as_str(), "InvalidNumber");
     Ok(())
 }
