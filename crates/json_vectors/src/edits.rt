@@ -3,6 +3,8 @@ use crate::fixtures::{array_in, key, object_in, read, shows, value_of};
 use json_doc::Doc;
 use json_text::ErrorCode;
 use json_value::{Edit, Path, PointerNode, Text, Value};
+use std::alloc::Global;
+use std::process::Abort;
 use std::test::Fail;
 
 // The characters of a string or of a literal.
@@ -51,22 +53,48 @@ fn first_write_of_an_object(rt: HostRuntime) -> Result<(), Fail> {
     Ok(())
 }
 
-fn pushed(path: Path, number: u64) -> Edit {
-    Edit::Push {
+// Appends a number to the array to which a path leads.
+fn push_number(value: &mut Value, alloc: Global, path: Path, number: u64) -> json_text::Result<()> {
+    let edit = Edit::Push {
         path,
         value: Value::new_u64(number),
+    };
+    value.apply(alloc, &edit)
+}
+
+// Whether the element of an index is this cell of the document.
+fn stands_at(value: &Value, index: usize, doc: &Doc, at: u32) -> bool {
+    match element_place(value, index) {
+        Some((found, place)) => place == at && are_alike(found, doc),
+        None => false,
     }
 }
 
-// The place of the element of an index, where it has one.
 fn element_place(value: &Value, index: usize) -> Option<(&Doc, u32)> {
     value.get(index)?.place()
 }
 
-fn is_same_cell(first: (&Doc, u32), second: (&Doc, u32)) -> bool {
-    let (doc, at) = first;
-    let (other, place) = second;
-    at == place && doc.cells().len() == other.cells().len() && doc.text() == other.text()
+fn are_alike(first: &Doc, second: &Doc) -> bool {
+    first.cells().len() == second.cells().len() && first.text() == second.text()
+}
+
+// The value with 3 appended to its first element, and a clone from before.
+fn push_and_clone(alloc: Global, mut value: Value) -> json_text::Result<(Value, Value)> {
+    let copy = value.clone(alloc)?;
+    let mut path = Path::new(alloc);
+    path.push(PointerNode::Index(0))?;
+    push_number(&mut value, alloc, path, 3)?;
+    Ok((value, copy))
+}
+
+#[test]
+fn a_clone_keeps_its_elements(rt: HostRuntime) -> Result<(), Fail> {
+    let alloc = rt.alloc();
+    let value = value_of(&rt, alloc, "[[1],[\"x\"],2]")?;
+    let (value, copy) = push_and_clone(alloc, value)?;
+    assert!(rt; shows(alloc, &value, "[[1,3],[\"x\"],2]")?);
+    assert!(rt; shows(alloc, &copy, "[[1],[\"x\"],2]")?);
+    Ok(())
 }
 
 #[test]
@@ -74,17 +102,9 @@ fn an_element_beside_a_push_stays_a_place(rt: HostRuntime) -> Result<(), Fail> {
     let alloc = rt.alloc();
     let doc = read(&rt, alloc, "[[1],[\"x\"],2]")?;
     assert_eq!(rt; (doc.cells().len(), doc.text()), (6, "x"));
-    let mut value = Value::from_place(alloc, &doc, doc.root())?;
-    let copy = value.clone(alloc)?;
-    let mut path = Path::new(alloc);
-    path.push(PointerNode::Index(0))?;
-    value.apply(alloc, &pushed(path, 3))?;
-    assert!(rt;
-        shows(alloc, &value, "[[1,3],[\"x\"],2]")? && shows(alloc, &copy, "[[1],[\"x\"],2]")?
-    );
-    let first = element_place(&value, 1).ok_or("no place")?;
-    let second = element_place(&copy, 1).ok_or("no place")?;
-    assert!(rt; is_same_cell(first, second) && is_same_cell(first, (&doc, 3)));
+    let value = Value::from_place(alloc, &doc, doc.root())?;
+    let (value, copy) = push_and_clone(alloc, value)?;
+    assert!(rt; stands_at(&value, 1, &doc, 3) && stands_at(&copy, 1, &doc, 3));
     Ok(())
 }
 
@@ -107,33 +127,42 @@ fn an_edit_is_applied(rt: HostRuntime) -> Result<(), Fail> {
 #[test]
 fn elements_are_appended_at_the_root(rt: HostRuntime) -> Result<(), Fail> {
     let alloc = rt.alloc();
-    let edit = pushed(Path::new(alloc), 2);
     let mut list = value_of(&rt, alloc, "[1]")?;
-    list.apply(alloc, &edit)?;
+    push_number(&mut list, alloc, Path::new(alloc), 2)?;
     assert!(rt; shows(alloc, &list, "[1,2]")?);
-    let refused = value_of(&rt, alloc, "{}")?.apply(alloc, &edit).err();
+    let mut object = value_of(&rt, alloc, "{}")?;
+    let refused = push_number(&mut object, alloc, Path::new(alloc), 2).err();
     assert!(rt; matches!(refused, Some(error) if error.code == ErrorCode::TypeUnmatched));
     Ok(())
 }
 
+// Applies an edit to `{"k":1}`.
+fn edited(rt: &impl Abort, alloc: Global, edit: Edit) -> json_text::Result<Value> {
+    let mut value = value_of(rt, alloc, "{\"k\":1}")?;
+    value.apply(alloc, &edit)?;
+    Ok(value)
+}
+
 #[test]
-fn places_are_set_and_members_are_inserted(rt: HostRuntime) -> Result<(), Fail> {
+fn a_place_is_set(rt: HostRuntime) -> Result<(), Fail> {
     let alloc = rt.alloc();
-    let mut value = value_of(&rt, alloc, "{\"k\":1}")?;
     let mut path = Path::new(alloc);
     path.push(key("k"))?;
-    let set = Edit::Set {
-        path,
-        value: value_of(&rt, alloc, "{}")?,
-    };
-    value.apply(alloc, &set)?;
+    let value = Value::new_object();
+    let value = edited(&rt, alloc, Edit::Set { path, value })?;
     assert!(rt; shows(alloc, &value, "{\"k\":{}}")?);
-    let insert = Edit::Insert {
+    Ok(())
+}
+
+#[test]
+fn a_member_is_inserted(rt: HostRuntime) -> Result<(), Fail> {
+    let alloc = rt.alloc();
+    let edit = Edit::Insert {
         path: Path::new(alloc),
         key: Text::from_static("z"),
         value: Value::new_null(),
     };
-    value.apply(alloc, &insert)?;
-    assert!(rt; shows(alloc, &value, "{\"k\":{},\"z\":null}")?);
+    let value = edited(&rt, alloc, edit)?;
+    assert!(rt; shows(alloc, &value, "{\"k\":1,\"z\":null}")?);
     Ok(())
 }
