@@ -4,6 +4,7 @@ pub mod Denotes
 pub mod Edits
 pub mod Spots
 pub mod Rows
+pub mod Room
 pub mod Written
 pub mod Emitting
 pub mod Seen
