@@ -5,6 +5,7 @@ pub mod Placed
 pub mod Held
 pub mod Integers
 pub mod Copies
+pub mod PlacesKept
 pub mod Showing
 pub mod Turns
 pub mod Emitting

@@ -3,6 +3,7 @@ pub mod Said
 pub mod Denotes
 pub mod Edits
 pub mod Spots
+pub mod Places
 pub mod Rows
 pub mod Room
 pub mod Written

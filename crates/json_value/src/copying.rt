@@ -2,6 +2,7 @@
 ghost use Rattle.std.specs.Prelude.{◌≡◌, IfOk, IfErr, map};
 ghost use Rattle.json_text.specs.Errors.{no_memory};
 ghost use Rattle.json_value.specs.Denotes.{tree_of, pair_of, list_in, pairs_in};
+ghost use Rattle.json_value.specs.Places.{places_in, member_places};
 ghost use Rattle.json_value.specs.Spots.{spot_of};
 
 use crate::container::{Container, Form};
@@ -16,6 +17,7 @@ impl Value {
     pub fn clone(&self, alloc: Global) -> Result<Value>
         ensures tree { IfOk result (λ v. tree_of v ≡ tree_of self.now) }
         ensures spot { IfOk result (λ v. spot_of v ≡ spot_of self.now) }
+        ensures places { IfOk result (λ v. places_in v ≡ places_in self.now) }
         ensures only { IfErr result (λ e. e ≡ no_memory) }
     {
         match self {
@@ -67,6 +69,7 @@ impl Value {
 #[cycle(copy)]
 fn copy_list(alloc: Global, list: &Vec<Value>) -> Result<Vec<Value>>
     ensures list { IfOk result (λ v. map tree_of v.items ≡ map tree_of list.now.items) }
+    ensures places { IfOk result (λ v. map places_in v.items ≡ map places_in list.now.items) }
     ensures only { IfErr result (λ e. e ≡ no_memory) }
 {
     let mut copies = Vec::with_capacity(alloc, list.len())?;
@@ -79,6 +82,7 @@ fn copy_list(alloc: Global, list: &Vec<Value>) -> Result<Vec<Value>>
 #[cycle(copy)]
 fn copy_pairs(alloc: Global, list: &Vec<Pair>) -> Result<Vec<Pair>>
     ensures pairs { IfOk result (λ v. map pair_of v.items ≡ map pair_of list.now.items) }
+    ensures places { IfOk result (λ v. map member_places v.items ≡ map member_places list.now.items) }
     ensures only { IfErr result (λ e. e ≡ no_memory) }
 {
     let mut copies = Vec::with_capacity(alloc, list.len())?;
