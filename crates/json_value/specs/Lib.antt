@@ -5,6 +5,7 @@ pub mod Edits
 pub mod Spots
 pub mod Places
 pub mod Rows
+pub mod Room
 pub mod Written
 pub mod Emitting
 pub mod Seen

@@ -1,11 +1,12 @@
 // Values from what is none yet.
-ghost use Rattle.std.specs.Prelude.{◌≡◌, map, option_map, IfOk, IfErr, OnOk};
+ghost use Rattle.std.specs.Prelude.{◌≡◌, ◌≤◌, map, option_map, IfOk, IfErr, OnOk};
 ghost use Rattle.std.specs.Char.{encode_utf8};
 ghost use Rattle.json_grammar.specs.Tree.{null, text, list, pairs as object, no_trees, no_pairs, list_trees, list_pairs};
 ghost use Rattle.json_text.specs.Errors.{no_memory};
 ghost use Rattle.json_model.specs.Edit.{inserted};
 ghost use Rattle.json_value.specs.Denotes.{tree_of, pair_of};
 ghost use Rattle.json_value.specs.Merged.{inserted_all};
+ghost use Rattle.json_value.specs.Room.{room_in};
 ghost use Rattle.json_value.specs.Steps.{tree_or_null};
 
 use crate::applying::find_key;
@@ -73,15 +74,19 @@ impl Value {
     /// An array without elements, which takes `capacity` of them before it asks for memory again. `NoMemory`.
     pub fn new_array_with(alloc: Global, capacity: usize) -> Result<Value>
         ensures tree { IfOk result (λ v. tree_of v ≡ list no_trees) }
+        ensures room { IfOk result (λ v. capacity ≤ room_in v) }
         ensures only { IfErr result (λ e. e ≡ no_memory) }
     {
         let items = Vec::with_capacity(alloc, capacity)?;
-        Ok(Value::from_vec(items))
+        Ok(Value::Array(Container {
+            form: Form::Owned(items),
+        }))
     }
 
     /// An object without members, which takes `capacity` of them before it asks for memory again. `NoMemory`.
     pub fn new_object_with(alloc: Global, capacity: usize) -> Result<Value>
         ensures tree { IfOk result (λ v. tree_of v ≡ object no_pairs) }
+        ensures room { IfOk result (λ v. capacity ≤ room_in v) }
         ensures only { IfErr result (λ e. e ≡ no_memory) }
     {
         let members = Vec::with_capacity(alloc, capacity)?;
