@@ -7,7 +7,31 @@ use std::alloc::Global;
 use std::process::Abort;
 use std::test::Fail;
 
-/// Runs with one word over a source and sinks in memory.
+/// Runs with these words over a source and sinks in memory.
+fn check_words(
+    rt: &impl Abort,
+    alloc: Global,
+    input: &[u8],
+    words: &[&str],
+    output: &[u8],
+    status: u8,
+    told: &str,
+) -> Result<(), Fail> {
+    let mut list = Words::new(alloc);
+    for word in words {
+        list.push(word)?;
+    }
+    let mut source = SliceSource::new(input);
+    let mut sink = VecSink::new(alloc);
+    let mut errs = VecSink::new(alloc);
+    let answer = run(alloc, &list, &mut source, &mut sink, &mut errs);
+    assert_eq!(rt; errs.as_slice(), told.as_bytes());
+    assert_eq!(rt; answer, status);
+    assert_eq!(rt; sink.as_slice(), output);
+    Ok(())
+}
+
+/// Runs with one word.
 fn check(
     rt: &impl Abort,
     alloc: Global,
@@ -17,16 +41,7 @@ fn check(
     status: u8,
     told: &str,
 ) -> Result<(), Fail> {
-    let mut words = Words::new(alloc);
-    words.push(word)?;
-    let mut source = SliceSource::new(input);
-    let mut sink = VecSink::new(alloc);
-    let mut errs = VecSink::new(alloc);
-    let answer = run(alloc, &words, &mut source, &mut sink, &mut errs);
-    assert_eq!(rt; errs.as_slice(), told.as_bytes());
-    assert_eq!(rt; answer, status);
-    assert_eq!(rt; sink.as_slice(), output);
-    Ok(())
+    check_words(rt, alloc, input, &[word], output, status, told)
 }
 
 const PERSON: &[u8] = b"{
@@ -309,54 +324,53 @@ fn check_source(
 #[test]
 fn one_table_of_words_inputs_and_fakes(rt: HostRuntime) -> Result<(), Fail> {
     let alloc = rt.alloc();
-    let set = "[[\"set\",[\"a\"],2]]";
-    let cases: [(&[u8], &str, &[u8], u8, &str); 7] = [
+    let cases: [(&[u8], &[&str], &[u8], u8, &str); 7] = [
         (
             b"{\"a\": 1, \"a\": true}",
-            set,
+            &["[[\"set\",[\"a\"],2]]"],
             b"{\"a\":2,\"a\":true}",
             0,
             "",
         ),
         (
             b"",
-            "[]",
+            &[],
             b"",
             1,
             "EofWhileParsing at offset 0, line 1 column 1\n",
         ),
-        (b"\"\\n\"", "[]", b"\"\\n\"", 0, ""),
+        (b"\"\\n\"", &[], b"\"\\n\"", 0, ""),
         (
             b"\xff",
-            "[]",
+            &[],
             b"",
             1,
             "InvalidUTF8 at offset 0, line 1 column 1\n",
         ),
         (
             b"{\"a\":[1]}",
-            "[[\"set\",[\"a\",5],0]]",
+            &["[[\"set\",[\"a\",5],0]]"],
             b"",
             3,
             "NotFound in edit 0\n",
         ),
         (
             b"null",
-            "[[\"set\",[\"k\"],1]]",
+            &["[[\"set\",[\"k\"],1]]"],
             b"",
             3,
             "TypeUnmatched in edit 0\n",
         ),
         (
             b"1",
-            "[[\"push\",[],1]]",
+            &["[[\"push\",[],1]]"],
             b"",
             3,
             "TypeUnmatched in edit 0\n",
         ),
     ];
-    for (input, word, output, status, told) in cases {
-        check(&rt, alloc, input, word, output, status, told)?;
+    for (input, words, output, status, told) in cases {
+        check_words(&rt, alloc, input, words, output, status, told)?;
     }
     let words = Words::new(alloc);
     check_failing_sink(&rt, alloc, &words)?;
