@@ -17,7 +17,7 @@ const LINE: &[u8] = b",\n                                                       
 #[derive(Clone, Copy, Debug)]
 pub(crate) struct Indent<'a> {
     bytes: &'a [u8],
-    // How many of them the spaces of a line are. None where the indent is not spaces alone.
+    // How many indents the spaces of a line are. 0 where the indent is not spaces alone.
     ready: usize,
     ghost fits: { ready * length bytes.now ≤ 64 },
     ghost spaces: { indents ready bytes.now ≡ indents (ready * length bytes.now) (32 ∷ []) },
