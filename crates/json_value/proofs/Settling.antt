@@ -1,6 +1,6 @@
 -- What stands where steps lead, told by a result and by what is settled from it.
 use Rattle.std.proofs.Common.{◌≡◌, ◌<◌, length, drop, List, [], ◌∷◌, Some, None, Option, Result, Ok, Err, IfOk, IfErr, MutBor, ◌⊎◌, inl, inr, refl, sym, ap, subst, ◌∙◌}
-use Rattle.std.specs.Prelude.{option_map}
+use Rattle.std.specs.Prelude.{option_map, IfSome}
 use Rattle.std.proofs.lemmas.Option.{none-some, same_Some}
 use Rattle.json_grammar.specs.Tree.{Tree}
 use Rattle.json_text.specs.Errors.{no_memory, type_unmatched as unmatched}
@@ -12,7 +12,7 @@ use Rattle.json_text.specs.declared.error.Place.TheVariants.{None as nowhere}
 use Rattle.json_model.specs.Edit.{Step, Changed, Refusal, not_found, type_unmatched, at_path}
 use Rattle.json_value.specs.Denotes.{tree_of}
 use Rattle.json_value.specs.Edits.{RefusesChange, steps_of, step_of as node_step}
-use Rattle.json_value.specs.Lending.{first_node, none_or, settled, name_of, name_of_ok, Stands, Opens}
+use Rattle.json_value.specs.Lending.{first_node, none_or, settled, lent, name_of, name_of_ok, Stands, Opens}
 use Rattle.json_value.specs.Steps.{child, tree_at}
 use Rattle.json_value.specs.declared.value.Value.{Value}
 use Rattle.json_value.specs.declared.path.PointerNode.{PointerNode}
@@ -25,6 +25,15 @@ none_name X _ e = refl
 pub settled_name : {X : Type 0} (r : Result (MutBor X) Error) → name_of (settled r) ≡ name_of_ok r
 settled_name (Ok x) = refl
 settled_name {X} (Err e) = none_name X e.code e
+
+none_lent : {X : Type 0} (c : ErrorCode) (e : Error) (P : X → Type 0) → IfSome (lent (none_or {X = X} c e)) P
+none_lent NoMemory e P = tt
+none_lent _ e P = tt
+
+-- what is said of what is lent is said of what is settled
+pub settled_lent : {X : Type 0} (r : Result (MutBor X) Error) (P : X → Type 0) → IfOk r (λ v. P v.now) → IfSome (lent (settled r)) P
+settled_lent (Ok x) P h = h
+settled_lent (Err e) P h = none_lent e.code e P
 
 -- ---- one step
 
@@ -93,7 +102,7 @@ stands_first path t e more h = refused_first path t more e.code e.place h
 
 -- ---- a container
 
-module _ {C A : Type 0} (parts : C → A) (o : Option A) where
+module _ {C A : Type 0} (parts : C → A) (o : Option A) (Opened : C → Type 0) where
   none_there : (e : Error) → (e ≡ no_memory) ⊎ ((e ≡ unmatched) × (o ≡ None)) → IfOk (none_or {X = C} e.code e) (λ p. option_map (λ (c : MutBor C). parts c.now) p ≡ o)
   none_there e (inl is) = subst (λ (d : Error). IfOk (none_or {X = C} d.code d) (λ p. option_map (λ (c : MutBor C). parts c.now) p ≡ o)) (sym is) tt
   none_there e (inr is) = subst (λ (d : Error). IfOk (none_or {X = C} d.code d) (λ p. option_map (λ (c : MutBor C). parts c.now) p ≡ o)) (sym is.0) (sym is.1)
@@ -102,10 +111,14 @@ module _ {C A : Type 0} (parts : C → A) (o : Option A) where
   memory_alone e (inl is) = subst (λ (d : Error). IfErr (none_or {X = C} d.code d) (λ d. d ≡ no_memory)) (sym is) refl
   memory_alone e (inr is) = subst (λ (d : Error). IfErr (none_or {X = C} d.code d) (λ d. d ≡ no_memory)) (sym is.0) tt
 
-  pub settled_opens : (r : Result (MutBor C) Error) → Opens parts o r → IfOk (settled r) (λ p. option_map (λ (c : MutBor C). parts c.now) p ≡ o)
-  settled_opens (Ok c) h = sym h
+  pub settled_opens : (r : Result (MutBor C) Error) → Opens parts o Opened r → IfOk (settled r) (λ p. option_map (λ (c : MutBor C). parts c.now) p ≡ o)
+  settled_opens (Ok c) h = sym h.0
   settled_opens (Err e) h = none_there e h
 
-  pub settled_opens_only : (r : Result (MutBor C) Error) → Opens parts o r → IfErr (settled r) (λ e. e ≡ no_memory)
+  pub settled_opened : (r : Result (MutBor C) Error) → Opens parts o Opened r → IfSome (lent (settled r)) Opened
+  settled_opened (Ok c) h = h.1
+  settled_opened (Err e) h = none_lent e.code e Opened
+
+  pub settled_opens_only : (r : Result (MutBor C) Error) → Opens parts o Opened r → IfErr (settled r) (λ e. e ≡ no_memory)
   settled_opens_only (Ok c) h = tt
   settled_opens_only (Err e) h = memory_alone e h

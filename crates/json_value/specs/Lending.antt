@@ -1,6 +1,6 @@
 -- What calls lend inside a value, and what a write there changes.
 use denote.RattleType.{RattleType}
-use Rattle.std.specs.Prelude.{◌≡◌, ◌⊎◌, List, [], ◌∷◌, ℕ, Option, Some, None, Result, Ok, Err, cond}
+use Rattle.std.specs.Prelude.{◌≡◌, ◌⊎◌, List, [], ◌∷◌, ℕ, Option, Some, None, IfSome, IfOk, Result, Ok, Err, cond}
 use Rattle.std.specs.Borrow.{follows_so, name_if_ok, LendsSoOk, MutBor, Fml, GName}
 use mathlib.Core.Option as maybe
 use Rattle.json_grammar.specs.Tree.{Tree, null, pairs, Pairs, no_pairs, pair_and}
@@ -13,6 +13,7 @@ use Rattle.json_value.specs.Denotes.{tree_of}
 use Rattle.json_value.specs.Edits.{RefusesChange}
 use Rattle.json_value.specs.Rows.{value_row}
 use Rattle.json_value.specs.Steps.{tree_at}
+use Rattle.json_value.specs.Touched.{Exchanges}
 use Rattle.json_value.specs.declared.value.Value.{Value}
 use Rattle.json_value.specs.declared.path.PointerNode.{PointerNode}
 use Rattle.json_value.specs.declared.path.PointerNode.TheVariants.{Index}
@@ -45,6 +46,12 @@ abbrev pub settled : {X : Type 0} → Result (MutBor X) Error → Result (Option
 settled (Ok x) = Ok (Some x)
 settled (Err e) = none_or e.code e
 
+-- what is lent, if something is
+abbrev pub lent : {X E : Type 0} → Result (Option (MutBor X)) E → Option X
+lent (Ok (Some r)) = Some r.now
+lent (Ok None) = None
+lent (Err _) = None
+
 -- the name of the reference that is lent, if one is
 abbrev pub name_of : {X E : Type 0} → Result (Option (MutBor X)) E → maybe.Option GName
 name_of (Ok (Some r)) = maybe.some r.ghost_name
@@ -67,25 +74,21 @@ UnlessLent (maybe.some g) P = Unit {0}
 abbrev pub LendsNamed : MutBor Value → maybe.Option GName → (Value → Value → Type 0) → Fml
 LendsNamed s m P = follows_so value_row value_row s.ghost_name m (λ w n. IsLent m → P n w) (λ n. UnlessLent m (tree_of n ≡ tree_of s.now))
 
--- the same of a result that may be none
-abbrev pub LendsPlace : {E : Type 0} → MutBor Value → Result (Option (MutBor Value)) E → (Value → Value → Type 0) → Fml
-LendsPlace s r = LendsNamed s (name_of r)
+-- w is put where the steps lead from old, in the place of x: so the tree of old becomes that of new, and what is beside the way stays as the first writes leave it
+abbrev pub Puts : List Step → (x w old new : Value) → Type 0
+Puts p x w old new = (edited_once (set_at p (tree_of w)) (tree_of old) ≡ Ok (tree_of new)) × Exchanges p x w old new
 
--- the same of a result that is no option
-abbrev pub LendsOk : {E : Type 0} → MutBor Value → Result (MutBor Value) E → (Value → Value → Type 0) → Fml
-LendsOk s r = LendsNamed s (name_of_ok r)
+-- the same of a result that may be none: s ends as a value n with P x w n, where x is what stood at the place at first
+abbrev pub LendsPlace : {E : Type 0} → MutBor Value → Result (Option (MutBor Value)) E → (Value → Value → Value → Type 0) → Fml
+LendsPlace s r P = LendsNamed s (name_of r) (λ n w. IfSome (lent r) (λ x. P x w n))
 
 -- where a step leads: what is written there is put there, and nothing else changes
 abbrev pub LendsStep : {E : Type 0} → MutBor Value → Step → Result (MutBor Value) E → Fml
-LendsStep s step r = LendsSoOk value_row value_row s r (λ n w. at_path (step ∷ []) (λ _. Ok (tree_of w)) (tree_of s.now) ≡ Ok (tree_of n)) (λ n. tree_of n ≡ tree_of s.now)
+LendsStep s step r = LendsSoOk value_row value_row s r (λ n w. IfOk r (λ v. Puts (step ∷ []) v.now w s.now n)) (λ n. tree_of n ≡ tree_of s.now)
 
 -- the same along a path
 abbrev pub LendsAlong : {E : Type 0} → MutBor Value → List Step → Result (MutBor Value) E → Fml
-LendsAlong s path r = LendsOk s r (λ n w. at_path path (λ _. Ok (tree_of w)) (tree_of s.now) ≡ Ok (tree_of n))
-
--- n is the tree t with w put where the steps lead
-abbrev pub PutAlong : List Step → Tree → Value → Value → Type 0
-PutAlong p t n w = edited_once (set_at p (tree_of w)) t ≡ Ok (tree_of n)
+LendsAlong s path r = LendsNamed s (name_of_ok r) (λ n w. IfOk r (λ v. Puts path v.now w s.now n))
 
 -- the first node of a path
 abbrev pub first_node : List PointerNode → PointerNode
@@ -101,7 +104,7 @@ Stands p t (Err e) = (f : Tree → Changed Tree) → RefusesChange (at_path p f 
 abbrev pub LendsPart : (R T : RattleType) → {E : Type 0} → MutBor R.Denot → Result (Option (MutBor T.Denot)) E → (R.Denot → T.Denot → Type 0) → (R.Denot → Type 0) → Fml
 LendsPart R T s r P P₀ = follows_so R T s.ghost_name (name_of r) (λ w n. IsLent (name_of r) → P n w) (λ n. UnlessLent (name_of r) (P₀ n))
 
--- what a result tells of a container, if it was one: what is in it, or why it is not lent
-abbrev pub Opens : {C A : Type 0} → (C → A) → Option A → Result (MutBor C) Error → Type 0
-Opens parts o (Ok c) = o ≡ Some (parts c.now)
-Opens parts o (Err e) = (e ≡ no_memory) ⊎ ((e ≡ type_unmatched) × (o ≡ None))
+-- what a result tells of a container, if it was one: what is in it, and that it is opened so, or why it is not lent
+abbrev pub Opens : {C A : Type 0} → (C → A) → Option A → (C → Type 0) → Result (MutBor C) Error → Type 0
+Opens parts o Opened (Ok c) = (o ≡ Some (parts c.now)) × Opened c.now
+Opens parts o Opened (Err e) = (e ≡ no_memory) ⊎ ((e ≡ type_unmatched) × (o ≡ None))

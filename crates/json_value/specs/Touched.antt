@@ -1,5 +1,5 @@
--- What an edit touches. A container on its path becomes writable, by one level; all that is beside the change stays as the first write leaves it.
-use Rattle.std.specs.Prelude.{◌≡◌, ℕ, List, [], ◌∷◌, ◌++◌, ◌⊎◌, Option, Some, map, set, remove, filter, not, bytes_eq, slice_get, false, Vec}
+-- What an edit touches, and a write through a lent place. A container on the way becomes writable, by one level; all that is beside the change stays as the first write leaves it.
+use Rattle.std.specs.Prelude.{◌≡◌, ℕ, List, [], ◌∷◌, ◌++◌, ◌⊎◌, Option, Some, None, length, map, set, remove, filter, not, bytes_eq, slice_get, false, Vec}
 use Rattle.std.specs.declared.alloc.Global.{Global}
 use Rattle.json_grammar.specs.Tree.{list_pairs}
 use Rattle.json_model.specs.Edit.{Step, key_step, index_step, has_key}
@@ -15,7 +15,7 @@ use Rattle.json_value.specs.declared.path.PointerNode.TheVariants.{Key, Index}
 use Rattle.json_value.specs.declared.path.Edit.{Edit}
 use Rattle.json_value.specs.declared.path.Edit.TheVariants.{Set, Insert, Push, Remove}
 use Rattle.json_value.specs.declared.text.Text.{Text}
-use Rattle.json_value.specs.declared.value.Value.{Value, Array, Object}
+use Rattle.json_value.specs.declared.value.Value.{Value, Null, Array, Object}
 
 -- an array whose elements after its first write were changed so
 pub record ArrayTouched (Changes : List Value → List Value → Type 0) (old new : Value) : Type 0 where
@@ -57,17 +57,20 @@ pub record AtMember (k : List ℕ) (Changes : Value → Value → Type 0) (items
   pub exchanged : now ≡ set items at (with_value before after)
   pub changed : Changes (value_in before) after
 
--- a member came behind the others, none of which has the key; it stands where the key and the value stand
-pub record Appended (k : Text) (s : Option Spot) (items now : List (Keyed Value)) : Type 0 where
+-- a member that is so came behind the others, none of which has the key
+pub record Appended (k : List ℕ) (Is : Keyed Value → Type 0) (items now : List (Keyed Value)) : Type 0 where
   pub member : Keyed Value
-  pub none : has_key (text_bytes k) (list_pairs (map pair_of items)) ≡ false
+  pub none : has_key k (list_pairs (map pair_of items)) ≡ false
   pub more : now ≡ items ++ member ∷ []
-  pub key : spot_of_text member.key ≡ spot_of_text k
-  pub value : spot_of member.value ≡ s
+  pub is : Is member
+
+-- a member whose key stands where this one does, and whose value stands there
+abbrev pub StandsSo : Text → Option Spot → Keyed Value → Type 0
+StandsSo k s m = (spot_of_text m.key ≡ spot_of_text k) × (spot_of m.value ≡ s)
 
 -- a value that stands there came to the first member of the key, or with a member of its own
 abbrev pub Inserts : Text → Option Spot → List (Keyed Value) → List (Keyed Value) → Type 0
-Inserts k s items now = AtMember (text_bytes k) (λ before after. spot_of after ≡ s) items now ⊎ Appended k s items now
+Inserts k s items now = AtMember (text_bytes k) (λ before after. spot_of after ≡ s) items now ⊎ Appended (text_bytes k) (StandsSo k s) items now
 
 -- a value that stands there came behind the others
 abbrev pub Pushes : Option Spot → List Value → List Value → Type 0
@@ -89,8 +92,43 @@ ChangeTouches (Insert p k v) old new = ObjectTouched (Inserts k (spot_of v)) old
 ChangeTouches (Push p v) old new = ArrayTouched (Pushes (spot_of v)) old new
 ChangeTouches (Remove p s) old new = RemovalTouches s old new
 
+-- the value to which the steps lead was changed so
+abbrev pub Along : List Step → (Value → Value → Type 0) → Value → Value → Type 0
+Along [] Changes old new = Changes old new
+Along (key_step k ∷ p) Changes old new = ObjectTouched (AtMember k (Along p Changes)) old new
+Along (index_step i ∷ p) Changes old new = ArrayTouched (AtElement i (Along p Changes)) old new
+
 -- what the edit leaves of the value from which the steps lead to its place
 abbrev pub Touches : List Step → Edit → Value → Value → Type 0
-Touches [] e old new = ChangeTouches e old new
-Touches (key_step k ∷ p) e old new = ObjectTouched (AtMember k (Touches p e)) old new
-Touches (index_step i ∷ p) e old new = ArrayTouched (AtElement i (Touches p e)) old new
+Touches p e = Along p (ChangeTouches e)
+
+-- ---- through a lent place
+
+-- w came to where the steps lead, in the place of x
+abbrev pub Exchanges : List Step → (x w old new : Value) → Type 0
+Exchanges p x w = Along p (λ before after. (before ≡ x) × (after ≡ w))
+
+-- w came behind the other elements
+abbrev pub Adds : (w old new : Value) → Type 0
+Adds w = ArrayTouched (λ items now. now ≡ items ++ w ∷ [])
+
+-- a member of this value, whose key is no place
+abbrev pub OfValue : Value → Keyed Value → Type 0
+OfValue w m = (spot_of_text m.key ≡ None) × (m.value ≡ w)
+
+-- a member of the key with null came behind the others where none has the key, and then it is the member at i
+abbrev pub SeatedAt : List ℕ → ℕ → (items now : List (Keyed Value)) → Type 0
+SeatedAt k i items now = (now ≡ items) ⊎ ((i ≡ length items) × Appended k (OfValue Null) items now)
+
+-- the value of the first member of the key was changed so, or w came with a member of its own
+abbrev pub Seats : List ℕ → (Value → Value → Type 0) → (w old new : Value) → Type 0
+Seats k Changes w = ObjectTouched (λ items now. AtMember k Changes items now ⊎ Appended k (OfValue w) items now)
+
+-- w came to the member of the key
+abbrev pub SeatsValue : List ℕ → (w old new : Value) → Type 0
+SeatsValue k w = Seats k (λ before after. after ≡ w) w
+
+-- w came to where the step leads, in the place of x, or with a member of its own; null has no other members
+abbrev pub ExchangesOrSeats : Step → (x w old new : Value) → Type 0
+ExchangesOrSeats (key_step k) x w old new = (old ≡ Null) ⊎ Seats k (λ before after. (before ≡ x) × (after ≡ w)) w old new
+ExchangesOrSeats (index_step i) x w old new = Exchanges (index_step i ∷ []) x w old new

@@ -5,7 +5,7 @@ ghost use Rattle.json_grammar.specs.Tree.{Tree};
 ghost use Rattle.json_model.specs.Edit.{Changed, Step, key_step, index_step, at_path};
 ghost use Rattle.json_value.specs.Denotes.{tree_of};
 ghost use Rattle.json_value.specs.Edits.{RefusesChange};
-ghost use Rattle.json_value.specs.Lending.{Stands};
+ghost use Rattle.json_value.specs.Lending.{Puts, Stands};
 ghost use Rattle.json_value.specs.Rows.{value_row};
 ghost use Rattle.json_value.specs.Steps.{child};
 
@@ -18,9 +18,9 @@ use std::alloc::Global;
 
 // The element of the index.
 pub(crate) fn element_of<S: Slot>(slot: &mut S, alloc: Global, index: usize) -> Result<&mut Value>
-    ensures* writes_back { sem 𝓛 (LendsSoOk S.row value_row slot.entry result (λ n w. at_path (index_step index ∷ []) (λ _. Ok (tree_of w)) (S.seen slot.old) ≡ Ok (S.seen n)) (λ n. S.seen n ≡ S.seen slot.old)) }
-    ensures value { IfOk result (λ v. child (index_step index) (S.seen slot.old) ≡ Some (tree_of v.now)) }
-    ensures refused { IfErr result (λ e. (f : Tree → Changed Tree) → RefusesChange (at_path (index_step index ∷ []) f (S.seen slot.old)) e.code e.place) }
+    ensures* writes_back { sem 𝓛 (LendsSoOk S.row value_row slot.entry result (λ n w. IfOk result (λ v. Puts (index_step index ∷ []) v.now w (S.held slot.old) (S.held n))) (λ n. tree_of (S.held n) ≡ tree_of (S.held slot.old))) }
+    ensures value { IfOk result (λ v. child (index_step index) (tree_of (S.held slot.old)) ≡ Some (tree_of v.now)) }
+    ensures refused { IfErr result (λ e. (f : Tree → Changed Tree) → RefusesChange (at_path (index_step index ∷ []) f (tree_of (S.held slot.old))) e.code e.place) }
 {
     let list = slot.list(alloc)?;
     match list.get_mut(index) {
@@ -35,9 +35,9 @@ pub(crate) fn member_of<'s, S: Slot>(
     alloc: Global,
     key: &str,
 ) -> Result<&'s mut Value>
-    ensures* writes_back { sem 𝓛 (LendsSoOk S.row value_row slot.entry result (λ n w. at_path (key_step key.now ∷ []) (λ _. Ok (tree_of w)) (S.seen slot.old) ≡ Ok (S.seen n)) (λ n. S.seen n ≡ S.seen slot.old)) }
-    ensures value { IfOk result (λ v. child (key_step key.now) (S.seen slot.old) ≡ Some (tree_of v.now)) }
-    ensures refused { IfErr result (λ e. (f : Tree → Changed Tree) → RefusesChange (at_path (key_step key.now ∷ []) f (S.seen slot.old)) e.code e.place) }
+    ensures* writes_back { sem 𝓛 (LendsSoOk S.row value_row slot.entry result (λ n w. IfOk result (λ v. Puts (key_step key.now ∷ []) v.now w (S.held slot.old) (S.held n))) (λ n. tree_of (S.held n) ≡ tree_of (S.held slot.old))) }
+    ensures value { IfOk result (λ v. child (key_step key.now) (tree_of (S.held slot.old)) ≡ Some (tree_of v.now)) }
+    ensures refused { IfErr result (λ e. (f : Tree → Changed Tree) → RefusesChange (at_path (key_step key.now ∷ []) f (tree_of (S.held slot.old))) e.code e.place) }
 {
     let pairs = slot.pairs(alloc)?;
     match find_key(pairs.as_slice(), key) {
@@ -55,8 +55,8 @@ pub(crate) fn child_of<'s, S: Slot, I: Index>(
     alloc: Global,
     index: &I,
 ) -> Result<&'s mut Value>
-    ensures* writes_back { sem 𝓛 (LendsSoOk S.row value_row slot.entry result (λ n w. at_path (I.step index.now ∷ []) (λ _. Ok (tree_of w)) (S.seen slot.old) ≡ Ok (S.seen n)) (λ n. S.seen n ≡ S.seen slot.old)) }
-    ensures stands { Stands (I.step index.now ∷ []) (S.seen slot.old) result }
+    ensures* writes_back { sem 𝓛 (LendsSoOk S.row value_row slot.entry result (λ n w. IfOk result (λ v. Puts (I.step index.now ∷ []) v.now w (S.held slot.old) (S.held n))) (λ n. tree_of (S.held n) ≡ tree_of (S.held slot.old))) }
+    ensures stands { Stands (I.step index.now ∷ []) (tree_of (S.held slot.old)) result }
 {
     if let Some(key) = index.as_key() {
         return member_of(slot, alloc, key);
@@ -73,8 +73,8 @@ pub(crate) fn step_of<S: Slot, I: Index>(
     alloc: Global,
     index: I,
 ) -> Result<&mut Value>
-    ensures* writes_back { sem 𝓛 (LendsSoOk S.row value_row slot.entry result (λ n w. at_path (I.step index ∷ []) (λ _. Ok (tree_of w)) (S.seen slot.old) ≡ Ok (S.seen n)) (λ n. S.seen n ≡ S.seen slot.old)) }
-    ensures stands { Stands (I.step index ∷ []) (S.seen slot.old) result }
+    ensures* writes_back { sem 𝓛 (LendsSoOk S.row value_row slot.entry result (λ n w. IfOk result (λ v. Puts (I.step index ∷ []) v.now w (S.held slot.old) (S.held n))) (λ n. tree_of (S.held n) ≡ tree_of (S.held slot.old))) }
+    ensures stands { Stands (I.step index ∷ []) (tree_of (S.held slot.old)) result }
 {
     child_of(slot, alloc, &index)
 }

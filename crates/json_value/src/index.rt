@@ -8,6 +8,7 @@ ghost use Rattle.json_value.specs.Edits.{step_of, RefusesChange};
 ghost use Rattle.json_value.specs.Lending.{put_or_insert};
 ghost use Rattle.json_value.specs.Rows.{value_row};
 ghost use Rattle.json_value.specs.Steps.{key_in, index_in, child, tree_or_null};
+ghost use Rattle.json_value.specs.Touched.{ExchangesOrSeats};
 
 use crate::path::PointerNode;
 use crate::placing::place_or_insert;
@@ -42,7 +43,7 @@ pub trait Index: Drop {
     /// object. What is written there changes that place and no other. `NotFound` for an index that an array lacks;
     /// `TypeUnmatched` for an index on no array, or a key on neither an object nor null; `NoMemory`. A refusal keeps the tree.
     final fn index_or_insert<'v>(&self, alloc: Global, v: &'v mut Value) -> Result<&'v mut Value>
-        ensures* writes_back { sem 𝓛 (LendsSoOk value_row value_row v.entry result (λ n w. put_or_insert (step self.now) (tree_of w) (tree_of v.old) ≡ Ok (tree_of n)) (λ n. tree_of n ≡ tree_of v.old)) }
+        ensures* writes_back { sem 𝓛 (LendsSoOk value_row value_row v.entry result (λ n w. (put_or_insert (step self.now) (tree_of w) (tree_of v.old) ≡ Ok (tree_of n)) × IfOk result (λ x. ExchangesOrSeats (step self.now) x.now w v.old n)) (λ n. tree_of n ≡ tree_of v.old)) }
         ensures value { IfOk result (λ x. tree_of x.now ≡ tree_or_null (child (step self.now) (tree_of v.old))) }
         ensures refused { IfErr result (λ e. (u : Tree) → RefusesChange (put_or_insert (step self.now) u (tree_of v.old)) e.code e.place) }
     {

@@ -8,9 +8,10 @@ ghost use Rattle.json_text.specs.Errors.{no_memory};
 ghost use Rattle.json_model.specs.Edit.{at_path, on_list, on_pairs, inserted, pushed};
 ghost use Rattle.json_value.specs.Denotes.{tree_of};
 ghost use Rattle.json_value.specs.Edits.{step_of, steps_of};
-ghost use Rattle.json_value.specs.Lending.{settled, first_node, Stands, PutAlong, LendsPlace, LendsAlong};
+ghost use Rattle.json_value.specs.Lending.{settled, first_node, Stands, Puts, LendsPlace, LendsAlong};
 ghost use Rattle.json_value.specs.Rows.{value_row};
 ghost use Rattle.json_value.specs.Steps.{child, tree_at};
+ghost use Rattle.json_value.specs.Touched.{Adds, SeatsValue};
 
 use crate::child::{child_of, step_of};
 use crate::index::Index;
@@ -55,8 +56,8 @@ fn first_place<'v, S: Slot>(
     path: &[PointerNode],
 ) -> Result<&'v mut Value>
     requires { 0 < length path.now }
-    ensures* writes_back { sem 𝓛 (LendsSoOk S.row value_row slot.entry result (λ n w. at_path (step_of (first_node path.now) ∷ []) (λ _. Ok (tree_of w)) (S.seen slot.old) ≡ Ok (S.seen n)) (λ n. S.seen n ≡ S.seen slot.old)) }
-    ensures stands { Stands (step_of (first_node path.now) ∷ []) (S.seen slot.old) result }
+    ensures* writes_back { sem 𝓛 (LendsSoOk S.row value_row slot.entry result (λ n w. IfOk result (λ v. Puts (step_of (first_node path.now) ∷ []) v.now w (S.held slot.old) (S.held n))) (λ n. tree_of (S.held n) ≡ tree_of (S.held slot.old))) }
+    ensures stands { Stands (step_of (first_node path.now) ∷ []) (tree_of (S.held slot.old)) result }
 {
     child_of(slot, alloc, &path[0])
 }
@@ -83,7 +84,7 @@ impl Value {
     /// The place to which the steps lead; none where they lead nowhere. What is written there changes that place and no
     /// other; a copy of one level is made of each packed container on the way. None and a refusal keep the tree. `NoMemory`.
     pub fn reach(&mut self, alloc: Global, path: &[PointerNode]) -> Result<Option<&mut Value>>
-        ensures* writes_back { sem 𝓛 (LendsPlace self.entry result (PutAlong (steps_of path.now) (tree_of self.old))) }
+        ensures* writes_back { sem 𝓛 (LendsPlace self.entry result (λ x w n. Puts (steps_of path.now) x w self.old n)) }
         ensures stands { IfOk result (λ o. option_map (λ x. tree_of x.now) o ≡ tree_at (steps_of path.now) (tree_of self.old)) }
         ensures only { IfErr result (λ e. e ≡ no_memory) }
     {
@@ -93,7 +94,7 @@ impl Value {
     /// The place to which the step leads; none where it leads nowhere. What is written there changes that place and no
     /// other; a packed container is copied by one level. None and a refusal keep the tree. `NoMemory`.
     pub fn step_mut<I: Index>(&mut self, alloc: Global, index: I) -> Result<Option<&mut Value>>
-        ensures* writes_back { sem 𝓛 (LendsPlace self.entry result (PutAlong (I.step index ∷ []) (tree_of self.old))) }
+        ensures* writes_back { sem 𝓛 (LendsPlace self.entry result (λ x w n. Puts (I.step index ∷ []) x w self.old n)) }
         ensures stands { IfOk result (λ o. option_map (λ x. tree_of x.now) o ≡ child (I.step index) (tree_of self.old)) }
         ensures only { IfErr result (λ e. e ≡ no_memory) }
     {
@@ -103,7 +104,7 @@ impl Value {
     /// Appends the value to the array, and lends its place. The value has to be an array. A refusal keeps the tree. `NoMemory`.
     pub fn append_value(&mut self, alloc: Global, val: Value) -> Result<&mut Value>
         requires { type_of (tree_of self.old) ≡ JsonType.Array }
-        ensures* writes_back { sem 𝓛 (LendsSoOk value_row value_row self.entry result (λ n w. on_list (λ ts. Ok (pushed (tree_of w) ts)) (tree_of self.old) ≡ Ok (tree_of n)) (λ n. tree_of n ≡ tree_of self.old)) }
+        ensures* writes_back { sem 𝓛 (LendsSoOk value_row value_row self.entry result (λ n w. (on_list (λ ts. Ok (pushed (tree_of w) ts)) (tree_of self.old) ≡ Ok (tree_of n)) × Adds w self.old n) (λ n. tree_of n ≡ tree_of self.old)) }
         ensures value { IfOk result (λ v. v.now ≡ val) }
         ensures only { IfErr result (λ e. e ≡ no_memory) }
     {
@@ -114,7 +115,7 @@ impl Value {
     /// object. A refusal keeps the tree. `NoMemory`.
     pub fn insert(&mut self, alloc: Global, key: &str, val: Value) -> Result<&mut Value>
         requires { type_of (tree_of self.old) ≡ JsonType.Object }
-        ensures* writes_back { sem 𝓛 (LendsSoOk value_row value_row self.entry result (λ n w. on_pairs (λ ps. Ok (inserted key.now (tree_of w) ps)) (tree_of self.old) ≡ Ok (tree_of n)) (λ n. tree_of n ≡ tree_of self.old)) }
+        ensures* writes_back { sem 𝓛 (LendsSoOk value_row value_row self.entry result (λ n w. (on_pairs (λ ps. Ok (inserted key.now (tree_of w) ps)) (tree_of self.old) ≡ Ok (tree_of n)) × SeatsValue key.now w self.old n) (λ n. tree_of n ≡ tree_of self.old)) }
         ensures value { IfOk result (λ v. v.now ≡ val) }
         ensures only { IfErr result (λ e. e ≡ no_memory) }
     {

@@ -1,14 +1,15 @@
 // Places by paths, for callers that change what stands there.
-ghost use Rattle.std.specs.Prelude.{◌≡◌, IfErr, OnOk, OnErr, Ok, Some};
+ghost use Rattle.std.specs.Prelude.{◌≡◌, IfOk, IfErr, OnOk, OnErr, Ok, Some};
 ghost use Rattle.std.specs.Borrow.{LendsSoOk, sem};
 ghost use Rattle.std.specs.Fn.{FnOnceReturnsAtMut};
-ghost use Rattle.json_grammar.specs.Tree.{Tree};
 ghost use Rattle.json_model.specs.Edit.{set_at, edited_once};
 ghost use Rattle.json_value.specs.Denotes.{tree_of};
 ghost use Rattle.json_value.specs.Edits.{steps_of, RefusesChange};
-ghost use Rattle.json_value.specs.Lending.{Stands};
+ghost use Rattle.json_value.specs.Lending.{Puts, Stands};
 ghost use Rattle.json_value.specs.Rows.{value_row};
 ghost use Rattle.json_value.specs.Steps.{tree_at};
+ghost use Rattle.json_value.specs.Touched.{Along};
+ghost use Rattle.json_value.specs.declared.value.Value.{Value};
 
 use crate::lending::reach_in;
 use crate::path::PointerNode;
@@ -28,19 +29,19 @@ use std::alloc::Global;
 /// assert_eq!(rt; value.to_string(alloc)?.as_str(), "[null,[[1]]]");
 /// ```
 pub trait Places {
-    /// The tree.
-    ghost seen: { Self → Tree };
+    /// The value whose places are lent.
+    ghost held: { Self → Value };
 
     /// The place to which the steps lead. What is written there changes that place and no other. `NotFound` where a step
     /// names a key or an index that is not there; `TypeUnmatched` where a key meets no object, or an index no array;
     /// `NoMemory`. A refusal keeps the tree.
     fn place_mut<'v>(&'v mut self, alloc: Global, path: &[PointerNode]) -> Result<&'v mut Value>
-        ensures* writes_back { sem 𝓛 (LendsSoOk Self.row value_row self.entry result (λ n w. edited_once (set_at (steps_of path.now) (tree_of w)) (seen self.old) ≡ Ok (seen n)) (λ n. seen n ≡ seen self.old)) }
-        ensures stands { Stands (steps_of path.now) (seen self.old) result };
+        ensures* writes_back { sem 𝓛 (LendsSoOk Self.row value_row self.entry result (λ n w. IfOk result (λ v. Puts (steps_of path.now) v.now w (held self.old) (held n))) (λ n. tree_of (held n) ≡ tree_of (held self.old))) }
+        ensures stands { Stands (steps_of path.now) (tree_of (held self.old)) result };
 }
 
 impl Places for Value {
-    ghost seen = { tree_of };
+    ghost held = { λ v. v };
 
     fn place_mut<'v>(&'v mut self, alloc: Global, path: &[PointerNode]) -> Result<&'v mut Value> {
         reach_in(self, alloc, path)
@@ -50,9 +51,10 @@ impl Places for Value {
 /// Puts a value at the place to which the steps lead. `NotFound`, `TypeUnmatched` and `NoMemory` as of `place_mut`. A refusal
 /// keeps the tree.
 pub fn put<V: Places>(target: &mut V, alloc: Global, path: &[PointerNode], new: Value) -> Result<()>
-    ensures ok { OnOk result (edited_once (set_at (steps_of path.now) (tree_of new)) (V.seen target.old) ≡ Ok (V.seen target.new)) }
-    ensures kept { OnErr result (V.seen target.new ≡ V.seen target.old) }
-    ensures refused { IfErr result (λ e. RefusesChange (edited_once (set_at (steps_of path.now) (tree_of new)) (V.seen target.old)) e.code e.place) }
+    ensures ok { OnOk result (edited_once (set_at (steps_of path.now) (tree_of new)) (tree_of (V.held target.old)) ≡ Ok (tree_of (V.held target.new))) }
+    ensures children { OnOk result (Along (steps_of path.now) (λ before after. after ≡ new) (V.held target.old) (V.held target.new)) }
+    ensures kept { OnErr result (tree_of (V.held target.new) ≡ tree_of (V.held target.old)) }
+    ensures refused { IfErr result (λ e. RefusesChange (edited_once (set_at (steps_of path.now) (tree_of new)) (tree_of (V.held target.old))) e.code e.place) }
 {
     let place = target.place_mut(alloc, path)?;
     *place = new;
@@ -68,8 +70,8 @@ pub fn update<V: Places, F: FnOnce(&mut Value)>(
     change: F,
 ) -> Result<()>
     requires { F.IsAlwaysCallable change }
-    ensures ok { OnOk result ((x : Value) × (y : Value) × (tree_at (steps_of path.now) (V.seen target.old) ≡ Some (tree_of x)) × (FnOnceReturnsAtMut F.FnOnce change x tt y) × (edited_once (set_at (steps_of path.now) (tree_of y)) (V.seen target.old) ≡ Ok (V.seen target.new))) }
-    ensures kept { OnErr result (V.seen target.new ≡ V.seen target.old) }
+    ensures ok { OnOk result ((x : Value) × (y : Value) × (tree_at (steps_of path.now) (tree_of (V.held target.old)) ≡ Some (tree_of x)) × (FnOnceReturnsAtMut F.FnOnce change x tt y) × Puts (steps_of path.now) x y (V.held target.old) (V.held target.new)) }
+    ensures kept { OnErr result (tree_of (V.held target.new) ≡ tree_of (V.held target.old)) }
 {
     let place = target.place_mut(alloc, path)?;
     change(place);

@@ -1,13 +1,15 @@
 // What lends its elements and its members.
 ghost use Rattle.std.specs.Prelude.{◌≡◌, ◌⊎◌, ◌↔◌, [], ◌∷◌, map, IfOk, IfErr, OnOk, OnErr, IsOk};
 ghost use Rattle.std.specs.Borrow.{LendsSoOk, sem};
-ghost use Rattle.json_grammar.specs.Tree.{Tree, Trees, Pairs, list, pairs, list_trees, list_pairs};
+ghost use Rattle.json_grammar.specs.Tree.{Trees, Pairs, list, pairs, list_trees, list_pairs};
 ghost use Rattle.json_text.specs.Errors.{no_memory};
 ghost use Rattle.json_model.specs.Edit.{Changed, on_list, on_pairs};
 ghost use Rattle.json_value.specs.Denotes.{tree_of, pair_of};
 ghost use Rattle.json_value.specs.Edits.{RefusesChange};
 ghost use Rattle.json_value.specs.Lending.{opened, opened_with};
 ghost use Rattle.json_value.specs.Rows.{value_row, pair_row, vec_row, IsOwnObject};
+ghost use Rattle.json_value.specs.Touched.{ArrayTouched, ObjectTouched};
+ghost use Rattle.json_value.specs.declared.value.Value.{Value, Null as NullValue};
 
 use crate::applying::type_unmatched;
 use crate::container::{Container, Form};
@@ -19,32 +21,32 @@ use std::alloc::Global;
 
 // What is an array or an object, if it is one.
 pub(crate) trait Slot {
-    ghost seen: { Self → Tree };
+    ghost held: { Self → Value };
 
     // The elements, to be changed.
     fn list(&mut self, alloc: Global) -> Result<&mut Vec<Value>>
-        ensures* writes_back { sem 𝓛 (LendsSoOk Self.row (vec_row value_row) self.entry result (λ n w. seen n ≡ list (list_trees (map tree_of w.items))) (λ n. seen n ≡ seen self.old)) }
-        ensures value { IfOk result (λ v. seen self.old ≡ list (list_trees (map tree_of v.now.items))) }
-        ensures refused { IfErr result (λ e. (f : Trees → Changed Trees) → RefusesChange (on_list f (seen self.old)) e.code e.place) };
+        ensures* writes_back { sem 𝓛 (LendsSoOk Self.row (vec_row value_row) self.entry result (λ n w. (tree_of (held n) ≡ list (list_trees (map tree_of w.items))) × IfOk result (λ v. ArrayTouched (λ items now. (items ≡ v.now.items) × (now ≡ w.items)) (held self.old) (held n))) (λ n. tree_of (held n) ≡ tree_of (held self.old))) }
+        ensures value { IfOk result (λ v. tree_of (held self.old) ≡ list (list_trees (map tree_of v.now.items))) }
+        ensures refused { IfErr result (λ e. (f : Trees → Changed Trees) → RefusesChange (on_list f (tree_of (held self.old))) e.code e.place) };
 
     // The members, to be changed.
     fn pairs(&mut self, alloc: Global) -> Result<&mut Vec<Pair>>
-        ensures* writes_back { sem 𝓛 (LendsSoOk Self.row (vec_row pair_row) self.entry result (λ n w. seen n ≡ pairs (list_pairs (map pair_of w.items))) (λ n. seen n ≡ seen self.old)) }
-        ensures value { IfOk result (λ v. seen self.old ≡ pairs (list_pairs (map pair_of v.now.items))) }
-        ensures refused { IfErr result (λ e. (f : Pairs → Changed Pairs) → RefusesChange (on_pairs f (seen self.old)) e.code e.place) };
+        ensures* writes_back { sem 𝓛 (LendsSoOk Self.row (vec_row pair_row) self.entry result (λ n w. (tree_of (held n) ≡ pairs (list_pairs (map pair_of w.items))) × IfOk result (λ v. ObjectTouched (λ items now. (items ≡ v.now.items) × (now ≡ w.items)) (held self.old) (held n))) (λ n. tree_of (held n) ≡ tree_of (held self.old))) }
+        ensures value { IfOk result (λ v. tree_of (held self.old) ≡ pairs (list_pairs (map pair_of v.now.items))) }
+        ensures refused { IfErr result (λ e. (f : Pairs → Changed Pairs) → RefusesChange (on_pairs f (tree_of (held self.old))) e.code e.place) };
 
     // The members, to be changed, where null is first made the object of this key with null.
     fn pairs_with(&mut self, alloc: Global, key: &str) -> Result<&mut Vec<Pair>>
-        ensures* writes_back { sem 𝓛 (LendsSoOk Self.row (vec_row pair_row) self.entry result (λ n w. seen n ≡ pairs (list_pairs (map pair_of w.items))) (λ n. seen n ≡ seen self.old)) }
-        ensures value { IfOk result (λ v. opened_with key.now (seen self.old) ≡ pairs (list_pairs (map pair_of v.now.items))) }
-        ensures refused { IfErr result (λ e. (f : Pairs → Changed Pairs) → RefusesChange (on_pairs f (opened (seen self.old))) e.code e.place) };
+        ensures* writes_back { sem 𝓛 (LendsSoOk Self.row (vec_row pair_row) self.entry result (λ n w. (tree_of (held n) ≡ pairs (list_pairs (map pair_of w.items))) × IfOk result (λ v. (held self.old ≡ NullValue) ⊎ ObjectTouched (λ items now. (items ≡ v.now.items) × (now ≡ w.items)) (held self.old) (held n))) (λ n. tree_of (held n) ≡ tree_of (held self.old))) }
+        ensures value { IfOk result (λ v. opened_with key.now (tree_of (held self.old)) ≡ pairs (list_pairs (map pair_of v.now.items))) }
+        ensures refused { IfErr result (λ e. (f : Pairs → Changed Pairs) → RefusesChange (on_pairs f (opened (tree_of (held self.old)))) e.code e.place) };
 }
 
 impl Value {
     // Null becomes the object of this key with null.
     fn open_with(&mut self, alloc: Global, key: &str) -> Result<()>
         ensures ok { OnOk result (tree_of self.new ≡ opened_with key.now (tree_of self.old)) }
-        ensures made { OnOk result ((self.new ≡ self.old) ⊎ IsOwnObject self.new) }
+        ensures made { OnOk result ((self.new ≡ self.old) ⊎ ((self.old ≡ NullValue) × IsOwnObject self.new)) }
         ensures kept { OnErr result (self.new ≡ self.old) }
         ensures only { IfErr result (λ e. e ≡ no_memory) }
     {
@@ -64,7 +66,7 @@ impl Value {
 }
 
 impl Slot for Value {
-    ghost seen = { tree_of };
+    ghost held = { λ v. v };
 
     fn list(&mut self, alloc: Global) -> Result<&mut Vec<Value>> {
         match self.array_mut() {

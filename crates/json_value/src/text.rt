@@ -1,5 +1,5 @@
 // A text.
-ghost use Rattle.std.specs.Prelude.{◌≡◌, ◌<◌, Some, IfOk, IfErr, length};
+ghost use Rattle.std.specs.Prelude.{◌≡◌, ◌<◌, Some, None, IfOk, IfErr, length};
 ghost use Rattle.json_text.specs.Errors.{no_memory};
 ghost use Rattle.std.specs.Str.{IsUtf8};
 ghost use Rattle.json_doc.specs.Docs.{doc_cells, doc_tree};
@@ -51,6 +51,7 @@ impl Text {
     /// An owned text of these characters. `NoMemory`.
     pub fn copy(alloc: Global, s: &str) -> Result<Text>
         ensures text { IfOk result (λ t. text_bytes t ≡ s.now) }
+        ensures spot { IfOk result (λ t. spot_of_text t ≡ None) }
         ensures only { IfErr result (λ e. e ≡ no_memory) }
     {
         let copied = String::from_str(alloc, s)?;

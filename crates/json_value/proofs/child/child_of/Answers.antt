@@ -1,27 +1,41 @@
-use Rattle.std.proofs.Common.{◌≡◌, ◌∷◌, [], Ok, refl, subst}
-use Rattle.json_model.specs.Edit.{Step, at_path, key_step, index_step}
+use Rattle.std.proofs.Common.{◌∷◌, [], IfOk, refl, subst}
+use Rattle.json_model.specs.Edit.{Step, key_step, index_step}
 use Rattle.json_value.specs.Denotes.{tree_of}
-use Rattle.json_value.specs.Lending.{Stands}
+use Rattle.json_value.specs.Lending.{Puts, Stands}
 use Rattle.json_value.proofs.Lent.{is_key, is_index}
 use Rattle.json_value.proofs.Settling.{stands_one}
 use Rattle.json_value.proofs.child.child_of.Goals as goal
 
 pub returns-in-Some : goal.returns-in-Some
 returns-in-Some g c =
-    let t = g.S.Slot.seen c.args.slot.now in
+    let old = g.S.Slot.held c.args.slot.now in
     let k = c.in-Some.key.now in
     let r = c.member_of.result in
     let step = is_key (g.I.Index.step c.args.index.now) k c.in-Some.ensures.key in (
-      (refl, (λ w ok. subst (λ (s : Step). at_path (s ∷ []) (λ _. Ok (tree_of w)) t ≡ Ok (g.S.Slot.seen (c.member_of.follows.lender w))) step (c.member_of.follows.holds w ok)), c.member_of.follows.holds-at-none),
-      record { writes_back = tt; stands = subst (λ (s : Step). Stands (s ∷ []) t r) step (stands_one (key_step k) t r c.member_of.ensures.value c.member_of.ensures.refused) },
+      (
+        refl,
+        (λ w ok. subst (λ (s : Step). IfOk r (λ v. Puts (s ∷ []) v.now w old (g.S.Slot.held (c.member_of.follows.lender w)))) step (c.member_of.follows.holds w ok)),
+        c.member_of.follows.holds-at-none,
+      ),
+      record {
+        writes_back = tt;
+        stands = subst (λ (s : Step). Stands (s ∷ []) (tree_of old) r) step (stands_one (key_step k) (tree_of old) r c.member_of.ensures.value c.member_of.ensures.refused);
+      },
     )
 
 pub returns-in-Some-as_index : goal.returns-in-Some-as_index
 returns-in-Some-as_index g c =
-    let t = g.S.Slot.seen c.args.slot.now in
+    let old = g.S.Slot.held c.args.slot.now in
     let i = c.in-Some-as_index.i in
     let r = c.element_of.result in
     let step = is_index (g.I.Index.step c.args.index.now) i c.in-Some-as_index.ensures.index in (
-      (refl, (λ w ok. subst (λ (s : Step). at_path (s ∷ []) (λ _. Ok (tree_of w)) t ≡ Ok (g.S.Slot.seen (c.element_of.follows.lender w))) step (c.element_of.follows.holds w ok)), c.element_of.follows.holds-at-none),
-      record { writes_back = tt; stands = subst (λ (s : Step). Stands (s ∷ []) t r) step (stands_one (index_step i) t r c.element_of.ensures.value c.element_of.ensures.refused) },
+      (
+        refl,
+        (λ w ok. subst (λ (s : Step). IfOk r (λ v. Puts (s ∷ []) v.now w old (g.S.Slot.held (c.element_of.follows.lender w)))) step (c.element_of.follows.holds w ok)),
+        c.element_of.follows.holds-at-none,
+      ),
+      record {
+        writes_back = tt;
+        stands = subst (λ (s : Step). Stands (s ∷ []) (tree_of old) r) step (stands_one (index_step i) (tree_of old) r c.element_of.ensures.value c.element_of.ensures.refused);
+      },
     )

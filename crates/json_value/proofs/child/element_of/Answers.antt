@@ -1,30 +1,44 @@
-use Rattle.std.proofs.Common.{◌≡◌, ◌≤◌, ◌∷◌, [], length, map, Vec, Global, refl, sym, ◌∙◌, arith}
+use Rattle.std.proofs.Common.{◌≡◌, ◌≤◌, ◌∷◌, [], length, map, Vec, Global, set, refl, sym, ◌∙◌, arith}
 use Rattle.std.specs.Vec.{with_item}
 use Rattle.json_grammar.specs.Tree.{list, list_trees}
 use Rattle.json_text.specs.Errors.{not_found}
 use Rattle.json_model.specs.Edit.{at_path, index_step}
 use Rattle.json_value.specs.Denotes.{tree_of}
+use Rattle.json_value.specs.Touched.{ArrayTouched}
 use Rattle.json_value.specs.declared.value.Value.{Value}
 use Rattle.json_value.proofs.AppliedTrees.{refused_as}
 use Rattle.json_value.proofs.Lent.{element_there, element_put, element_past}
+use Rattle.json_value.proofs.Touching.{Written, element_exchanged}
 use Rattle.json_value.proofs.child.element_of.Goals as goal
 
 pub returns-in-Some : goal.returns-in-Some
 returns-in-Some g c =
-    let t = g.S.Slot.seen c.args.slot.now in
+    let old = g.S.Slot.held c.args.slot.now in
+    let t = tree_of old in
     let lent = c.in_ok-list.list.now in
     let i = c.args.index in
     let v = c.in-Some.value.now in
     let low = c.in-Some.ensures.item.3.0 in
-    let after : (w : Vec Value Global) → g.S.Slot.seen (c.list.follows.lender w) ≡ list (list_trees (map tree_of w.items)) = λ w. (rw c.in_ok-list.was at (c.list.follows.holds w)) refl in
-    ((refl, (λ w ok. element_put t lent.items i c.in_ok-list.ensures.value v w _ low c.in-Some.ensures.value (after (with_item lent i w))), tt), record { writes_back = tt; value = element_there t lent.items i c.in_ok-list.ensures.value v low c.in-Some.ensures.value; refused = tt })
+    let after : (w : Vec Value Global) → (tree_of (g.S.Slot.held (c.list.follows.lender w)) ≡ list (list_trees (map tree_of w.items))) × ArrayTouched (Written lent.items w.items) old (g.S.Slot.held (c.list.follows.lender w)) =
+        λ w. (rw c.in_ok-list.was at (c.list.follows.holds w)) refl
+    in (
+      (
+        refl,
+        (λ w ok. (
+          element_put t lent.items i c.in_ok-list.ensures.value v w _ low c.in-Some.ensures.value (after (with_item lent i w)).0,
+          element_exchanged lent.items i v w old _ low c.in-Some.ensures.value (after (with_item lent i w)).1,
+        )),
+        tt,
+      ),
+      record { writes_back = tt; value = element_there t lent.items i c.in_ok-list.ensures.value v low c.in-Some.ensures.value; refused = tt },
+    )
 
 pub returns-in-None : goal.returns-in-None
 returns-in-None g c =
-    let t = g.S.Slot.seen c.args.slot.now in
+    let t = tree_of (g.S.Slot.held c.args.slot.now) in
     let lent = c.in_ok-list.list.now in
     let is = c.in_ok-list.ensures.value in
     let i = c.args.index in
-    let after : (w : Vec Value Global) → g.S.Slot.seen (c.list.follows.lender w) ≡ list (list_trees (map tree_of w.items)) = λ w. (rw c.in_ok-list.was at (c.list.follows.holds w)) refl in
+    let after : tree_of (g.S.Slot.held (c.list.follows.lender lent)) ≡ list (list_trees (map tree_of lent.items)) = ((rw c.in_ok-list.was at (c.list.follows.holds lent)) refl).0 in
     let past : length lent.items ≤ i = grind (arith, c.in-None.ensures.variant, lent.ok.0) in
-    ((refl, (λ w never. search), after lent ∙ sym is), record { writes_back = tt; value = tt; refused = λ f. refused_as (at_path (index_step i ∷ []) f t) c.not_found.result not_found c.not_found.ensures (element_past t lent.items i is f past) })
+    ((refl, (λ w never. search), after ∙ sym is), record { writes_back = tt; value = tt; refused = λ f. refused_as (at_path (index_step i ∷ []) f t) c.not_found.result not_found c.not_found.ensures (element_past t lent.items i is f past) })

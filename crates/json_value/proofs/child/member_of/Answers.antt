@@ -5,30 +5,45 @@ use Rattle.json_text.specs.Errors.{not_found}
 use Rattle.json_model.specs.Edit.{at_path, key_step}
 use Rattle.json_value.specs.Denotes.{tree_of, pair_of}
 use Rattle.json_value.specs.Rows.{keyed_so}
+use Rattle.json_value.specs.Touched.{ObjectTouched}
 use Rattle.json_value.specs.declared.value.Value.{Value}
 use Rattle.json_value.specs.declared.pair.Keyed.{Keyed}
 use Rattle.json_value.proofs.AppliedTrees.{first_moved, none_moved, refused_as}
 use Rattle.json_value.proofs.Lent.{member_there, member_put, member_missed}
+use Rattle.json_value.proofs.Touching.{Written, member_exchanged, value_exchanged}
 use Rattle.json_value.proofs.child.member_of.Goals as goal
 
 pub returns-in-Some : goal.returns-in-Some
 returns-in-Some g c =
-    let t = g.S.Slot.seen c.args.slot.now in
+    let old = g.S.Slot.held c.args.slot.now in
+    let t = tree_of old in
     let k = c.args.key.now in
     let lent = c.in_ok-pairs.pairs.now in
     let is = c.in_ok-pairs.ensures.value in
     let i = c.in-Some.i in
     let p = c.index_mut-pair.result.now in
+    let read = c.index_mut-pair.ensures.value in
     let first = first_moved k k c.as_slice.result.now lent.items i refl c.as_slice.ensures.value c.in-Some.ensures.first in
-    let after : (w : Vec (Keyed Value) Global) → g.S.Slot.seen (c.pairs.follows.lender w) ≡ pairs (list_pairs (map pair_of w.items)) = λ w. (rw c.in_ok-pairs.was at (c.pairs.follows.holds w)) refl in
-    ((refl, (λ w ok. member_put t k lent.items is i p c.index_mut-pair.ensures.value first w _ (after (with_item lent i (keyed_so p.key w)))), tt), (member_there t k lent.items is i p c.index_mut-pair.ensures.value first ∙ sym (ap (λ v. Some (tree_of v)) c.value_mut.ensures.value), tt))
+    let after : (w : Vec (Keyed Value) Global) → (tree_of (g.S.Slot.held (c.pairs.follows.lender w)) ≡ pairs (list_pairs (map pair_of w.items))) × ObjectTouched (Written lent.items w.items) old (g.S.Slot.held (c.pairs.follows.lender w)) =
+        λ w. (rw c.in_ok-pairs.was at (c.pairs.follows.holds w)) refl
+    in (
+      (
+        refl,
+        (λ w ok. (
+          member_put t k lent.items is i p read first w _ (after (with_item lent i (keyed_so p.key w))).0,
+          value_exchanged k p.value c.value_mut.result.now w old _ c.value_mut.ensures.value (member_exchanged k lent.items i p w old _ read first (after (with_item lent i (keyed_so p.key w))).1),
+        )),
+        tt,
+      ),
+      (member_there t k lent.items is i p read first ∙ sym (ap (λ v. Some (tree_of v)) c.value_mut.ensures.value), tt),
+    )
 
 pub returns-in-None : goal.returns-in-None
 returns-in-None g c =
-    let t = g.S.Slot.seen c.args.slot.now in
+    let t = tree_of (g.S.Slot.held c.args.slot.now) in
     let k = c.args.key.now in
     let lent = c.in_ok-pairs.pairs.now in
     let is = c.in_ok-pairs.ensures.value in
     let none = none_moved k k c.as_slice.result.now lent.items refl c.as_slice.ensures.value c.in-None.ensures.none in
-    let after : (w : Vec (Keyed Value) Global) → g.S.Slot.seen (c.pairs.follows.lender w) ≡ pairs (list_pairs (map pair_of w.items)) = λ w. (rw c.in_ok-pairs.was at (c.pairs.follows.holds w)) refl in
-    ((refl, (λ w never. search), after lent ∙ sym is), (tt, λ f. refused_as (at_path (key_step k ∷ []) f t) c.not_found.result not_found c.not_found.ensures (member_missed t k lent.items is f none)))
+    let after : tree_of (g.S.Slot.held (c.pairs.follows.lender lent)) ≡ pairs (list_pairs (map pair_of lent.items)) = ((rw c.in_ok-pairs.was at (c.pairs.follows.holds lent)) refl).0 in
+    ((refl, (λ w never. search), after ∙ sym is), (tt, λ f. refused_as (at_path (key_step k ∷ []) f t) c.not_found.result not_found c.not_found.ensures (member_missed t k lent.items is f none)))

@@ -55,9 +55,10 @@ use Rattle.json_value.proofs.path.PointerNode.TheLaws.{the_row_laws as node_laws
 use Rattle.json_value.proofs.value.Value.TheLaws.{the_row_laws as value_laws}
 use Rattle.json_value.proofs.Results.{ok_val, err_val, ok_out, err_out, ok_in, err_in}
 use Rattle.json_value.proofs.Follows.{so_then, so_none, so_self}
-use Rattle.json_value.proofs.Named.{no_place}
-use Rattle.json_value.proofs.LentPaths.{along, along_kept, fewer, put_end, seen_end, on_true, on_false, which}
+use Rattle.json_value.proofs.Named.{no_place, each_ok}
+use Rattle.json_value.proofs.LentPaths.{along_kept, fewer, put_end, seen_end, on_true, on_false, which}
 use Rattle.json_value.proofs.Settling.{one_step, stands_along, stands_first}
+use Rattle.json_value.proofs.Touching.{exchanged_here, puts_along}
 use Rattle.json_value.specs.contracts.lending.reach_in as f
 use Rattle.json_value.proofs.lending.+reach_in.{statement}
 use Rattle.json_value.proofs.lending.+reach_in.Code as code
@@ -189,8 +190,8 @@ module _ {M : Type 1} (𝓤 : Ura M) (𝓛 : Logic 𝓤) (𝓜 : Model 𝓤 𝓛
           -- [the result; the tokens; what it lends; what x lends]
           move ! (2 ∷ []) $ pick ! (λ ws4. split ! $ drop ! $ split ! $ move ! (1 ∷ []) $ heard ! _ (λ seen.
           move ! (3 ∷ 0 ∷ []) $ use2 𝓛 (‵ (LendsAlong v (steps_of path.now) s)) (so_then 𝓛 value value value v.ghost_name x.ghost_name _ _ (name_of_ok s) _ _ _ _
-          (λ w z n p q at. along path.now rest.now (tree_of v.now) (tree_of x.now) more shorter here (tree_of n) (tree_of z) (tree_of w) (p refl) (q at))
-          (λ z n p q. no_place s (λ k. along_kept (step_of (first_node path.now)) (tree_of v.now) (tree_of x.now) here (tree_of n) (tree_of z) (p refl) k) q)) $
+          (λ w z n p q at. each_ok s (λ y h. puts_along path.now rest.now x.now z y.now w v.now n more shorter here (p refl) h) (q at))
+          (λ z n p q. no_place s (λ k. along_kept (step_of (first_node path.now)) (tree_of v.now) (tree_of x.now) here (tree_of n) (tree_of z) (p refl).0 k) q)) $
           suffices ! _ (ends_at 𝓛 f.ended stayed (f.clauses 𝓛 𝓜.mem 𝓡.returns) y0 i s (tt, (tt, (tt, tt))) (tt, (tt, (tt, tt)))) $
           nothing ! $ nothing ! $ join ! $ nothing ! $ join ! $ nothing ! $ join ! $ move ! (3 ∷ 0 ∷ 2 ∷ 1 ∷ []) $ group ! 3 $ frame ! $
           says ! (stands_along path.now rest.now (tree_of v.now) (tree_of x.now) more shorter here s seen) $ done !))))))))))
@@ -242,7 +243,7 @@ unfolding tables_of
     use1 𝓛 (‵ ((result.the_row T refusal).own_val (Ok v) (ok_val κs.0 value refusal refusal_told v ∷ []))) (ok_in κs.0 value refusal refusal_told 𝓛 v) $
     suffices ! _ (ends_at 𝓛 f.ended stayed c y0 (ok_val κs.0 value refusal refusal_told v) (Ok v) (tt, (tt, (tt, tt))) (tt, (tt, (tt, tt)))) $
     nothing ! $ move ! (3 ∷ 0 ∷ []) $ join ! $ move ! (2 ∷ 0 ∷ []) $ join ! $ nothing ! $ nothing ! $ join ! $ nothing ! $ join ! $ nothing ! $ join ! $
-    use0 𝓛 (‵ (LendsAlong {E = refusal.Denot} v (steps_of path.now) (Ok v))) (so_self 𝓛 value v.ghost_name _ _ v.now (λ w _. put_end path.now (tree_of v.now) (tree_of w) done_at) tt) $
+    use0 𝓛 (‵ (LendsAlong {E = refusal.Denot} v (steps_of path.now) (Ok v))) (so_self 𝓛 value v.ghost_name _ _ v.now (λ w _. (put_end path.now (tree_of v.now) (tree_of w) done_at, exchanged_here path.now v.now w done_at)) tt) $
     move ! (2 ∷ 1 ∷ 3 ∷ 0 ∷ []) $ group ! 3 $ frame ! $ says ! (seen_end path.now (tree_of v.now) done_at) $ done !)
     (λ no. skips ! $ exec ! 𝓣.C 𝓣.Λ En (after 2 (code.reach_in-function).body) (at_ret En Post) $
     let more : 0 < length path.now = on_false b _ no longer in

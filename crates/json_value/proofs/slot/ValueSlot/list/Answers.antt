@@ -2,14 +2,16 @@ use Rattle.std.proofs.Common.{refl}
 use Rattle.json_value.specs.Rows.{owned}
 use Rattle.json_value.proofs.Views.{array_tree}
 use Rattle.json_value.proofs.AppliedTrees.{array_before}
+use Rattle.json_value.proofs.Touching.{Written, array_touched}
 use Rattle.json_value.proofs.slot.ValueSlot.list.Goals as goal
 
 pub returns-in_ok-list-in-Some : goal.returns-in_ok-list-in-Some
-returns-in_ok-list-in-Some c = (
-  (refl, (λ w ok. array_tree (owned w)), tt),
-  record {
-    writes_back = tt;
-    value = array_before c.args.self.now c.in-Some.array.now c.in_ok-list-in-Some.list.now c.in-Some.ensures.value c.in_ok-list-in-Some.ensures.list;
-    refused = tt;
-  },
-)
+returns-in_ok-list-in-Some c =
+    let self = c.args.self.now in
+    let array = c.in-Some.array.now in
+    let list = c.in_ok-list-in-Some.list.now in
+    let was = c.in-Some.ensures.value in
+    let told = c.in_ok-list-in-Some.ensures in (
+      (refl, (λ w ok. (array_tree (owned w), array_touched (Written list.items w.items) self array list w was told.list told.children (refl, refl))), tt),
+      record { writes_back = tt; value = array_before self array list was told.list; refused = tt },
+    )

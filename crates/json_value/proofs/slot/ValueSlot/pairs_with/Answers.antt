@@ -7,13 +7,27 @@ use Rattle.json_value.specs.Rows.{owned}
 use Rattle.json_value.proofs.Views.{object_tree}
 use Rattle.json_value.proofs.AppliedTrees.{object_before, refused_as}
 use Rattle.json_value.proofs.Lent.{unopened}
+use Rattle.json_value.proofs.Touching.{Written, object_touched, opened_touched}
 use Rattle.json_value.proofs.slot.ValueSlot.pairs_with.Goals as goal
 
 pub returns-in_ok-pairs-in-Some : goal.returns-in_ok-pairs-in-Some
-returns-in_ok-pairs-in-Some c = (
-  (refl, (λ w ok. object_tree (owned w)), tt),
-  (sym c.in_ok-open_with.ensures.ok ∙ object_before c.open_with.new.self c.in-Some.object.now c.in_ok-pairs-in-Some.pairs.now c.in-Some.ensures.value c.in_ok-pairs-in-Some.ensures.pairs, tt),
-)
+returns-in_ok-pairs-in-Some c =
+    let self = c.args.self.now in
+    let filled = c.open_with.new.self in
+    let object = c.in-Some.object.now in
+    let pairs = c.in_ok-pairs-in-Some.pairs.now in
+    let was = c.in-Some.ensures.value in
+    let told = c.in_ok-pairs-in-Some.ensures in (
+      (
+        refl,
+        (λ w ok. (
+          object_tree (owned w),
+          opened_touched (Written pairs.items w.items) self filled _ c.in_ok-open_with.ensures.made (object_touched (Written pairs.items w.items) filled object pairs w was told.pairs told.children (refl, refl)),
+        )),
+        tt,
+      ),
+      (sym c.in_ok-open_with.ensures.ok ∙ object_before filled object pairs was told.pairs, tt),
+    )
 
 pub returns-in-None : goal.returns-in-None
 returns-in-None c =

@@ -6,10 +6,13 @@ use Rattle.json_value.proofs.value.Value.object_open.Goals as goal
 
 pub returns-in_ok-make_owned-in-Some : goal.returns-in_ok-make_owned-in-Some
 returns-in_ok-make_owned-in-Some c = (
-  (refl, (λ w ok. object_tree w), tt),
+  (refl, (λ w ok. (object_tree w, refl)), tt),
   record {
     writes_back = tt;
-    opens = pairs_read c.args.self.now c.in-Some.object.now c.make_owned.new.self c.in-Some.ensures.value c.in_ok-make_owned-in-Some.ensures.same;
+    opens = (
+      pairs_read c.args.self.now c.in-Some.object.now c.make_owned.new.self c.in-Some.ensures.value c.in_ok-make_owned-in-Some.ensures.same,
+      record { object = c.in-Some.object.now; was = c.in-Some.ensures.value; is_owned = c.in_ok-make_owned-in-Some.ensures.ok; unpacked = c.in_ok-make_owned-in-Some.ensures.children },
+    );
   },
 )
 

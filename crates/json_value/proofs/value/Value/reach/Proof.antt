@@ -7,7 +7,7 @@ use denote.Struct.Field.{mut_ref_field}
 use denote.Struct.Laws.{mut_ref_laws}
 use denote.Param.Laws.{of_field, row_shared}
 use denote.Param.Shared.{mut_ref_shared}
-use Rattle.std.specs.Prelude.{IfOk, IfErr, option_map}
+use Rattle.std.specs.Prelude.{IfOk, IfErr, IfSome, option_map}
 use Rattle.std.specs.contracts.alloc.Global.{the_row as global}
 use Rattle.std.specs.contracts.option.Option as option
 use Rattle.std.specs.contracts.result.Result as result
@@ -18,8 +18,9 @@ use Rattle.json_value.specs.Denotes.{tree_of}
 use Rattle.json_value.specs.Edits.{steps_of}
 use Rattle.json_value.specs.Steps.{tree_at}
 use Rattle.json_text.specs.Errors.{no_memory}
-use Rattle.json_value.specs.Lending.{LendsAlong, LendsNamed, PutAlong, Stands, settled, name_of}
-use Rattle.json_value.proofs.Settling.{settled_name, settled_stands, settled_only}
+use Rattle.json_value.specs.Lending.{LendsAlong, LendsNamed, Puts, Stands, settled, lent, name_of, name_of_ok}
+use Rattle.json_value.proofs.Follows.{so_weaken}
+use Rattle.json_value.proofs.Settling.{settled_name, settled_lent, settled_stands, settled_only}
 use Rattle.json_value.specs.declared.value.Value.{Value}
 use Rattle.json_value.specs.contracts.value.Value.{the_row as value}
 use Rattle.json_text.specs.contracts.error.Error.{the_row as refusal}
@@ -71,7 +72,9 @@ reach_spec 𝓤 𝓛 𝓜 𝓡 wired =
     -- [the result; the first token; nothing; what settle says; the second token and nothing; what was lent]
     move ! (3 ∷ []) $ pick ! (λ ws2. split ! $ drop ! $ heard ! _ (λ same.
     move ! (4 ∷ []) $ pick ! (λ ws. split ! $ drop ! $ split ! $ move ! (1 ∷ []) $ heard ! _ (λ seen. keep ! (0 ∷ 1 ∷ 2 ∷ 4 ∷ []) $
-    let Put : Value → Value → Type 0 = PutAlong (steps_of path.now) (tree_of v.now) in
+    let Put : Value → Value → Type 0 = λ n w. IfSome (lent s) (λ x. Puts (steps_of path.now) x w v.now n) in
+    use1 𝓛 (‵ (LendsNamed v (name_of_ok r) Put)) (so_weaken 𝓛 value value v.ghost_name (name_of_ok r) _ _ _ _
+    (λ w n p at. subst (λ (q : O.Denot). IfSome (lent q) (λ x. Puts (steps_of path.now) x w v.now n)) (sym same) (settled_lent r (λ x. Puts (steps_of path.now) x w v.now n) (p at))) (λ n p. p)) $
     rewrite ! 0 (λ (m : maybe.Option GName). ‵ (LendsNamed v m Put)) (sym (ap name_of same ∙ settled_name r)) refl $
     suffices ! _ (ends_at 𝓛 f.ended stayed c z o s (tt, (tt, (tt, tt))) (tt, (tt, (tt, tt)))) $
     -- [what is lent; the result; the first token; the second token and nothing]

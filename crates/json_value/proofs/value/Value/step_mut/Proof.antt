@@ -20,16 +20,16 @@ use denote.Struct.Field.{mut_ref_field}
 use denote.Struct.Laws.{mut_ref_laws}
 use denote.Param.Laws.{of_field, row_shared}
 use denote.Param.Shared.{mut_ref_shared}
-use Rattle.json_value.specs.Lending.{LendsStep, LendsNamed, PutAlong, Stands, settled, name_of, name_of_ok}
+use Rattle.json_value.specs.Lending.{LendsStep, LendsNamed, Puts, Stands, settled, lent, name_of, name_of_ok}
 use Rattle.json_value.specs.Steps.{child}
-use Rattle.json_value.proofs.Settling.{one_step, settled_name, settled_stands, settled_only}
+use Rattle.json_value.proofs.Settling.{settled_lent, one_step, settled_name, settled_stands, settled_only}
 use Rattle.json_text.specs.Errors.{no_memory}
 use Rattle.json_value.specs.contracts.value.Value.{the_row as value}
 use Rattle.json_text.specs.contracts.error.Error.{the_row as refusal}
 use Rattle.std.specs.contracts.alloc.Global.{the_row as global}
 use Rattle.std.specs.contracts.option.Option as option
 use Rattle.std.specs.contracts.result.Result as result
-use Rattle.std.specs.Prelude.{IfOk, IfErr, Option, option_map}
+use Rattle.std.specs.Prelude.{IfOk, IfErr, Option, option_map, IfSome}
 use Rattle.json_grammar.specs.Tree.{Tree}
 use Rattle.json_value.specs.Denotes.{tree_of}
 use Rattle.json_value.specs.declared.value.Value.{Value}
@@ -110,8 +110,9 @@ step_mut_spec {M} 𝓤 𝓛 𝓜 𝓡 wired I L x d dd met glue =
     -- [the result; the token; nothing; what settle says; the other tokens; what was lent]
     move ! (3 ∷ []) $ pick ! (λ ws2. split ! $ drop ! $ heard ! _ (λ same.
     move ! (4 ∷ []) $ pick ! (λ ws. split ! $ drop ! $ split ! $ move ! (1 ∷ []) $ heard ! _ (λ seen. move ! (4 ∷ []) $ split ! $ keep ! (2 ∷ 3 ∷ 4 ∷ 1 ∷ []) $
-    let Put : Value → Value → Type 0 = PutAlong (x.step i ∷ []) (tree_of v.now) in
-    use1 𝓛 (‵ (LendsNamed v (name_of_ok r) Put)) (so_weaken 𝓛 value value v.ghost_name (name_of_ok r) _ _ _ _ (λ w n p at. p (place_ok r at)) (λ n p. on_no_place r _ p)) $
+    let Put : Value → Value → Type 0 = λ n w. IfSome (lent s) (λ y. Puts (x.step i ∷ []) y w v.now n) in
+    use1 𝓛 (‵ (LendsNamed v (name_of_ok r) Put)) (so_weaken 𝓛 value value v.ghost_name (name_of_ok r) _ _ _ _
+    (λ w n p at. subst (λ (q : O.Denot). IfSome (lent q) (λ y. Puts (x.step i ∷ []) y w v.now n)) (sym same) (settled_lent r (λ y. Puts (x.step i ∷ []) y w v.now n) (p (place_ok r at)))) (λ n p. on_no_place r _ p)) $
     rewrite ! 0 (λ (m : maybe.Option GName). ‵ (LendsNamed v m Put)) (sym (ap name_of same ∙ settled_name r)) refl $
     suffices ! _ (ends_at 𝓛 En stays c z o s (tt, (tt, (tt, tt))) (tt, (tt, (tt, tt)))) $
     -- [what is lent; the result; the first token; the second and nothing]
