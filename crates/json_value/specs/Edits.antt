@@ -1,7 +1,7 @@
 -- What edits of values are edits of trees, and what paths lead through them.
 use Rattle.std.specs.Prelude.{◌≡◌, List, map, ⊤, Err, Ok}
 use Rattle.json_grammar.specs.Tree.{Tree}
-use Rattle.json_model.specs.Edit.{Step, key_step, index_step, set_at, insert_at, push_at, remove_at, Changed, inserted, pushed, removed, on_list, on_pairs, edited_once, not_found, type_unmatched}
+use Rattle.json_model.specs.Edit.{Step, key_step, index_step, set_at, insert_at, push_at, remove_at, Changed, inserted, pushed, removed, on_list, on_pairs, not_found, type_unmatched}
 use Rattle.json_model.specs.Edit as model
 use Rattle.json_text.specs.declared.error.ErrorCode.{ErrorCode}
 use Rattle.json_text.specs.declared.error.ErrorCode.TheVariants.{NoMemory, NotFound, TypeUnmatched}

@@ -1,5 +1,5 @@
 // Edits, applied.
-ghost use Rattle.std.specs.Prelude.{◌≡◌, ◌<◌, List, length, map, set, Ok, Err, OnOk, OnErr, IfErr, IfSome, IfNone, IsTrue, IsFalse, true, false};
+ghost use Rattle.std.specs.Prelude.{◌≡◌, ◌<◌, map, Ok, Err, OnOk, OnErr, IfErr, IfSome, IfNone, IsTrue, IsFalse, true, false};
 ghost use Rattle.std.specs.Borrow.{LendsIf, sem};
 ghost use Rattle.json_grammar.specs.Tree.{Trees, Pairs, list_trees, list_pairs};
 ghost use Rattle.json_text.specs.Errors.{no_memory, not_found, type_unmatched};

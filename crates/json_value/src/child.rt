@@ -2,7 +2,7 @@
 ghost use Rattle.std.specs.Prelude.{◌≡◌, [], ◌∷◌, IfOk, IfErr, Some, Ok};
 ghost use Rattle.std.specs.Borrow.{LendsSoOk, sem};
 ghost use Rattle.json_grammar.specs.Tree.{Tree};
-ghost use Rattle.json_model.specs.Edit.{Changed, Step, key_step, index_step, at_path};
+ghost use Rattle.json_model.specs.Edit.{Changed, key_step, index_step, at_path};
 ghost use Rattle.json_value.specs.Denotes.{tree_of};
 ghost use Rattle.json_value.specs.Edits.{RefusesChange};
 ghost use Rattle.json_value.specs.Lending.{Puts, Stands};

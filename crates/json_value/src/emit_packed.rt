@@ -1,5 +1,5 @@
 // The tokens of a document's tree, from left to right.
-ghost use Rattle.std.specs.Prelude.{◌≡◌, [], None};
+ghost use Rattle.std.specs.Prelude.{◌≡◌, None};
 ghost use Rattle.json_grammar.specs.Tree.{num, list, no_trees, list_trees, pairs, no_pairs, list_pairs, tokens};
 ghost use Rattle.json_number.specs.Numbers.{text_of_number};
 ghost use Rattle.json_doc.specs.Left.{children_left, pairs_left};

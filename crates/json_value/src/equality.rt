@@ -1,5 +1,5 @@
 // Whether two values are the same.
-ghost use Rattle.std.specs.Prelude.{◌≡◌, None, map, take, option_map, is_some, bytes_eq};
+ghost use Rattle.std.specs.Prelude.{◌≡◌, None, take, option_map, is_some, bytes_eq};
 ghost use Rattle.std.specs.List.{list_all, list_any};
 ghost use Rattle.std.specs.Option.{option_eq};
 ghost use Rattle.json_grammar.specs.Tree.{list, list_trees, pairs, list_pairs};

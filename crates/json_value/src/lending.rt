@@ -5,7 +5,7 @@ ghost use Rattle.std.specs.Borrow.{LendsSoOk, sem};
 ghost use Rattle.json_doc.specs.Readings.{type_of};
 ghost use Rattle.json_doc.specs.declared.json_type.JsonType.{JsonType};
 ghost use Rattle.json_text.specs.Errors.{no_memory};
-ghost use Rattle.json_model.specs.Edit.{at_path, on_list, on_pairs, inserted, pushed};
+ghost use Rattle.json_model.specs.Edit.{on_list, on_pairs, inserted, pushed};
 ghost use Rattle.json_value.specs.Denotes.{tree_of};
 ghost use Rattle.json_value.specs.Edits.{step_of, steps_of};
 ghost use Rattle.json_value.specs.Lending.{settled, first_node, Stands, Puts, LendsPlace, LendsAlong};

@@ -5,13 +5,13 @@ ghost use Rattle.json_grammar.specs.Tree.{Tree, Pairs, list_pairs};
 ghost use Rattle.json_doc.specs.Readings.{type_of};
 ghost use Rattle.json_doc.specs.declared.json_type.JsonType.{JsonType};
 ghost use Rattle.json_text.specs.Errors.{no_memory};
-ghost use Rattle.json_model.specs.Edit.{Changed, Step, key_step, index_step, at_path, on_list, on_pairs, inserted, pushed, has_key};
+ghost use Rattle.json_model.specs.Edit.{Changed, key_step, on_list, on_pairs, inserted, pushed, has_key};
 ghost use Rattle.json_value.specs.Denotes.{tree_of, pair_of};
 ghost use Rattle.json_value.specs.Edits.{RefusesChange};
 ghost use Rattle.json_value.specs.FirstMember.{IsFirstOf};
 ghost use Rattle.json_value.specs.Lending.{put_or_insert, with_key};
 ghost use Rattle.json_value.specs.Rows.{value_row};
-ghost use Rattle.json_value.specs.Seen.{first_of};
+
 ghost use Rattle.json_value.specs.Steps.{child, tree_or_null};
 ghost use Rattle.json_value.specs.Touched.{Adds, SeatedAt, SeatsValue, ExchangesOrSeats};
 

@@ -1,5 +1,5 @@
 // What lends its elements and its members.
-ghost use Rattle.std.specs.Prelude.{◌≡◌, ◌⊎◌, ◌↔◌, [], ◌∷◌, map, IfOk, IfErr, OnOk, OnErr, IsOk};
+ghost use Rattle.std.specs.Prelude.{◌≡◌, ◌⊎◌, map, IfOk, IfErr, OnOk, OnErr};
 ghost use Rattle.std.specs.Borrow.{LendsSoOk, sem};
 ghost use Rattle.json_grammar.specs.Tree.{Trees, Pairs, list, pairs, list_trees, list_pairs};
 ghost use Rattle.json_text.specs.Errors.{no_memory};
