@@ -40,8 +40,9 @@ pub trait Index: Drop {
         ensures index { result ≡ index_in (step self.now) };
 
     /// The place to which the step leads. A key that an object lacks is appended with null, and null counts as an empty
-    /// object. What is written there changes that place and no other. `NotFound` for an index that an array lacks;
-    /// `TypeUnmatched` for an index on no array, or a key on neither an object nor null; `NoMemory`. A refusal keeps the tree.
+    /// object. What is written there changes that place and no other; a packed container is copied by one level. `NotFound`
+    /// for an index that an array lacks; `TypeUnmatched` for an index on no array, or a key on neither an object nor null;
+    /// `NoMemory`. A refusal keeps the tree.
     final fn index_or_insert<'v>(&self, alloc: Global, v: &'v mut Value) -> Result<&'v mut Value>
         ensures* writes_back { sem 𝓛 (LendsSoOk value_row value_row v.entry result (λ n w. (put_or_insert (step self.now) (tree_of w) (tree_of v.old) ≡ Ok (tree_of n)) × IfOk result (λ x. ExchangesOrSeats (step self.now) x.now w v.old n)) (λ n. tree_of n ≡ tree_of v.old)) }
         ensures value { IfOk result (λ x. tree_of x.now ≡ tree_or_null (child (step self.now) (tree_of v.old))) }

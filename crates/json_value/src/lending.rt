@@ -101,7 +101,8 @@ impl Value {
         settle(step_of(self, alloc, index))
     }
 
-    /// Appends the value to the array, and lends its place. The value has to be an array. A refusal keeps the tree. `NoMemory`.
+    /// Appends the value to the array, and lends its place. The value has to be an array; a packed one is copied by one level.
+    /// A refusal keeps the tree. `NoMemory`.
     pub fn append_value(&mut self, alloc: Global, val: Value) -> Result<&mut Value>
         requires { type_of (tree_of self.old) ≡ JsonType.Array }
         ensures* writes_back { sem 𝓛 (LendsSoOk value_row value_row self.entry result (λ n w. (on_list (λ ts. Ok (pushed (tree_of w) ts)) (tree_of self.old) ≡ Ok (tree_of n)) × Adds w self.old n) (λ n. tree_of n ≡ tree_of self.old)) }
@@ -112,7 +113,7 @@ impl Value {
     }
 
     /// Puts the value at the first member of the key, or appends such a member, and lends its place. The value has to be an
-    /// object. A refusal keeps the tree. `NoMemory`.
+    /// object; a packed one is copied by one level. A refusal keeps the tree. `NoMemory`.
     pub fn insert(&mut self, alloc: Global, key: &str, val: Value) -> Result<&mut Value>
         requires { type_of (tree_of self.old) ≡ JsonType.Object }
         ensures* writes_back { sem 𝓛 (LendsSoOk value_row value_row self.entry result (λ n w. (on_pairs (λ ps. Ok (inserted key.now (tree_of w) ps)) (tree_of self.old) ≡ Ok (tree_of n)) × SeatsValue key.now w self.old n) (λ n. tree_of n ≡ tree_of self.old)) }

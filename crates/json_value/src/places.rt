@@ -32,9 +32,9 @@ pub trait Places {
     /// The value whose places are lent.
     ghost held: { Self → Value };
 
-    /// The place to which the steps lead. What is written there changes that place and no other. `NotFound` where a step
-    /// names a key or an index that is not there; `TypeUnmatched` where a key meets no object, or an index no array;
-    /// `NoMemory`. A refusal keeps the tree.
+    /// The place to which the steps lead. What is written there changes that place and no other; a copy of one level is made
+    /// of each packed container on the way. `NotFound` where a step names a key or an index that is not there;
+    /// `TypeUnmatched` where a key meets no object, or an index no array; `NoMemory`. A refusal keeps the tree.
     fn place_mut<'v>(&'v mut self, alloc: Global, path: &[PointerNode]) -> Result<&'v mut Value>
         ensures* writes_back { sem 𝓛 (LendsSoOk Self.row value_row self.entry result (λ n w. IfOk result (λ v. Puts (steps_of path.now) v.now w (held self.old) (held n))) (λ n. tree_of (held n) ≡ tree_of (held self.old))) }
         ensures stands { Stands (steps_of path.now) (tree_of (held self.old)) result };
