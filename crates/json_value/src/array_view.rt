@@ -9,7 +9,7 @@ use crate::container::{Container, Form};
 use crate::packed_view::PackedView;
 use crate::value::Value;
 use crate::view::{View, ViewForm};
-use json_doc::JsonType;
+use json_doc::{DocView, JsonType};
 
 #[derive(Clone, Copy)]
 pub(crate) enum ArrayForm<'a> {
@@ -75,7 +75,7 @@ impl<'a> ArrayView<'a> {
         ensures { result ≡ length (elements_seen self.entry) }
     {
         match self.form {
-            ArrayForm::Packed(packed) => packed_len(packed),
+            ArrayForm::Packed(packed) => packed_len(packed.view),
             ArrayForm::Whole(values) => values.len(),
         }
     }
@@ -100,11 +100,11 @@ impl<'a> ArrayView<'a> {
     }
 }
 
-fn packed_len(packed: PackedView<'_>) -> usize
-    ensures { result ≡ length (elements (view_tree packed.entry.view)) }
+fn packed_len(view: DocView<'_>) -> usize
+    ensures { result ≡ length (elements (view_tree view.entry)) }
 {
-    match packed.view.get_type() {
-        JsonType::Array => packed.view.len(),
+    match view.get_type() {
+        JsonType::Array => view.len(),
         _ => 0,
     }
 }

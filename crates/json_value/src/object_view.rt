@@ -10,7 +10,7 @@ use crate::packed_view::PackedView;
 use crate::pair::Keyed;
 use crate::value::{Pair, Value};
 use crate::view::{View, ViewForm};
-use json_doc::JsonType;
+use json_doc::{DocView, JsonType};
 
 #[derive(Clone, Copy)]
 pub(crate) enum ObjectForm<'a> {
@@ -75,7 +75,7 @@ impl<'a> ObjectView<'a> {
         ensures { result ≡ length (members_seen self.entry) }
     {
         match self.form {
-            ObjectForm::Packed(packed) => packed_len(packed),
+            ObjectForm::Packed(packed) => packed_len(packed.view),
             ObjectForm::Whole(pairs) => pairs.len(),
         }
     }
@@ -120,11 +120,11 @@ impl<'a> ObjectView<'a> {
     }
 }
 
-fn packed_len(packed: PackedView<'_>) -> usize
-    ensures { result ≡ length (members (view_tree packed.entry.view)) }
+fn packed_len(view: DocView<'_>) -> usize
+    ensures { result ≡ length (members (view_tree view.entry)) }
 {
-    match packed.view.get_type() {
-        JsonType::Object => packed.view.len(),
+    match view.get_type() {
+        JsonType::Object => view.len(),
         _ => 0,
     }
 }

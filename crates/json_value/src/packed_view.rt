@@ -17,6 +17,7 @@ pub(crate) struct PackedView<'a> {
 
 impl<'a> PackedView<'a> {
     // A place of a document alone.
+    #[inline]
     pub(crate) fn of_document(view: DocView<'a>) -> PackedView<'a>
         ensures view { result.view ≡ view.entry }
         ensures holder { result.holder ≡ None }
@@ -25,6 +26,7 @@ impl<'a> PackedView<'a> {
     }
 
     // A place that a value holds.
+    #[inline]
     pub(crate) fn of_place(place: &'a Place) -> PackedView<'a>
         ensures tree { view_tree result.view ≡ doc_tree place.now.doc.value place.now.at }
         ensures holder { option_map (λ d. d.now.value) result.holder ≡ Some place.now.doc.value }
@@ -36,6 +38,7 @@ impl<'a> PackedView<'a> {
     }
 
     // Another place of the same document.
+    #[inline]
     pub(crate) fn beside(self, view: DocView<'a>) -> PackedView<'a>
         requires { view_doc view ≡ view_doc self.view }
         ensures view { result.view ≡ view.entry }
