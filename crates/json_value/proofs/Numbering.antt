@@ -25,7 +25,7 @@ use Rattle.json_value.specs.declared.view.ViewForm.TheVariants as whole
 use Rattle.json_value.proofs.ProperValues.{value_proper}
 
 form_proper : (f : ViewForm) → IsProper (form_seen f)
-form_proper (whole.Packed v) = doc_proper v.doc.now v.at v.inside
+form_proper (whole.Packed p) = doc_proper p.view.doc.now p.view.at p.view.inside
 form_proper (whole.Whole v) = value_proper v.now
 form_proper whole.Absent = tt
 

@@ -17,7 +17,7 @@ use Rattle.json_value.specs.declared.object_view.ObjectForm.TheVariants as objec
 
 -- the tree that is seen
 abbrev pub form_seen : ViewForm → Tree
-form_seen (whole.Packed v) = view_tree v
+form_seen (whole.Packed p) = view_tree p.view
 form_seen (whole.Whole v) = tree_of v.now
 form_seen whole.Absent = null
 
@@ -26,7 +26,7 @@ seen v = form_seen v.form
 
 -- the elements that are seen
 abbrev pub array_form_seen : ArrayForm → List Tree
-array_form_seen (array.Packed v) = elements (view_tree v)
+array_form_seen (array.Packed p) = elements (view_tree p.view)
 array_form_seen (array.Whole vs) = map tree_of vs.now
 
 abbrev pub elements_seen : ArrayView → List Tree
@@ -34,7 +34,7 @@ elements_seen v = array_form_seen v.form
 
 -- the members that are seen
 abbrev pub object_form_seen : ObjectForm → List (List ℕ × Tree)
-object_form_seen (object.Packed v) = members (view_tree v)
+object_form_seen (object.Packed p) = members (view_tree p.view)
 object_form_seen (object.Whole ps) = map pair_of ps.now
 
 abbrev pub members_seen : ObjectView → List (List ℕ × Tree)

@@ -6,13 +6,14 @@ ghost use Rattle.json_value.specs.Denotes.{tree_of, list_in};
 ghost use Rattle.json_value.specs.Seen.{seen, elements_seen, list_of};
 
 use crate::container::{Container, Form};
+use crate::packed_view::PackedView;
 use crate::value::Value;
 use crate::view::{View, ViewForm};
 use json_doc::{DocView, JsonType};
 
 #[derive(Clone, Copy)]
 pub(crate) enum ArrayForm<'a> {
-    Packed(DocView<'a>),
+    Packed(PackedView<'a>),
     Whole(&'a [Value]),
 }
 
@@ -41,19 +42,19 @@ impl Container<Value> {
         let form = match &self.form {
             Form::Empty => ArrayForm::Whole(&[]),
             Form::Owned(values) => ArrayForm::Whole(values.as_slice()),
-            Form::Packed(place) => ArrayForm::Packed(place.view()),
+            Form::Packed(place) => ArrayForm::Packed(PackedView::of_place(place)),
         };
         ArrayView { form }
     }
 }
 
 impl<'a> ArrayView<'a> {
-    pub(crate) fn of_document(view: DocView<'a>) -> Option<ArrayView<'a>>
-        ensures { option_map elements_seen result ≡ list_of (view_tree view.entry) }
+    pub(crate) fn of_packed(packed: PackedView<'a>) -> Option<ArrayView<'a>>
+        ensures { option_map elements_seen result ≡ list_of (view_tree packed.entry.view) }
     {
-        match view.get_type() {
+        match packed.view.get_type() {
             JsonType::Array => Some(ArrayView {
-                form: ArrayForm::Packed(view),
+                form: ArrayForm::Packed(packed),
             }),
             _ => None,
         }
@@ -74,7 +75,7 @@ impl<'a> ArrayView<'a> {
         ensures { result ≡ length (elements_seen self.entry) }
     {
         match self.form {
-            ArrayForm::Packed(view) => packed_len(view),
+            ArrayForm::Packed(packed) => packed_len(packed.view),
             ArrayForm::Whole(values) => values.len(),
         }
     }
@@ -93,7 +94,7 @@ impl<'a> ArrayView<'a> {
         ensures { option_map seen result ≡ slice_get (elements_seen self.entry) i }
     {
         match self.form {
-            ArrayForm::Packed(view) => packed_element(view, i),
+            ArrayForm::Packed(packed) => packed_element(packed, i),
             ArrayForm::Whole(values) => whole_element(values, i),
         }
     }
@@ -108,11 +109,13 @@ fn packed_len(view: DocView<'_>) -> usize
     }
 }
 
-fn packed_element(view: DocView<'_>, i: usize) -> Option<View<'_>>
-    ensures { option_map seen result ≡ slice_get (elements (view_tree view.entry)) i }
+fn packed_element(packed: PackedView<'_>, i: usize) -> Option<View<'_>>
+    ensures { option_map seen result ≡ slice_get (elements (view_tree packed.entry.view)) i }
 {
-    match view.element(i) {
-        Some(element) => Some(View::packed(element)),
+    match packed.view.element(i) {
+        Some(element) => Some(View {
+            form: ViewForm::Packed(packed.beside(element)),
+        }),
         None => None,
     }
 }

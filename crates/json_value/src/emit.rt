@@ -24,7 +24,7 @@ impl<'a> View<'a> {
         ensures { Emits E.after E.stopped (E.state out.old) (E.state out.new) (E.failed out.new) (tokens (seen self.entry)) result }
     {
         match self.form {
-            ViewForm::Packed(view) => emit_document(view, out),
+            ViewForm::Packed(packed) => emit_document(packed.view, out),
             ViewForm::Whole(value) => emit_value(value, out),
             ViewForm::Absent => out.null(),
         }

@@ -27,6 +27,7 @@ mod object;
 mod object_view;
 mod opening;
 mod owning;
+mod packed_view;
 mod pair;
 mod path;
 mod place;

@@ -6,6 +6,7 @@ ghost use Rattle.json_value.specs.Readings.{members};
 ghost use Rattle.json_value.specs.Seen.{seen, members_seen, pairs_of, first_of};
 
 use crate::container::{Container, Form};
+use crate::packed_view::PackedView;
 use crate::pair::Keyed;
 use crate::value::{Pair, Value};
 use crate::view::{View, ViewForm};
@@ -13,7 +14,7 @@ use json_doc::{DocView, JsonType};
 
 #[derive(Clone, Copy)]
 pub(crate) enum ObjectForm<'a> {
-    Packed(DocView<'a>),
+    Packed(PackedView<'a>),
     Whole(&'a [Pair]),
 }
 
@@ -41,19 +42,19 @@ impl Container<Keyed<Value>> {
         let form = match &self.form {
             Form::Empty => ObjectForm::Whole(&[]),
             Form::Owned(pairs) => ObjectForm::Whole(pairs.as_slice()),
-            Form::Packed(place) => ObjectForm::Packed(place.view()),
+            Form::Packed(place) => ObjectForm::Packed(PackedView::of_place(place)),
         };
         ObjectView { form }
     }
 }
 
 impl<'a> ObjectView<'a> {
-    pub(crate) fn of_document(view: DocView<'a>) -> Option<ObjectView<'a>>
-        ensures { option_map members_seen result ≡ pairs_of (view_tree view.entry) }
+    pub(crate) fn of_packed(packed: PackedView<'a>) -> Option<ObjectView<'a>>
+        ensures { option_map members_seen result ≡ pairs_of (view_tree packed.entry.view) }
     {
-        match view.get_type() {
+        match packed.view.get_type() {
             JsonType::Object => Some(ObjectView {
-                form: ObjectForm::Packed(view),
+                form: ObjectForm::Packed(packed),
             }),
             _ => None,
         }
@@ -74,7 +75,7 @@ impl<'a> ObjectView<'a> {
         ensures { result ≡ length (members_seen self.entry) }
     {
         match self.form {
-            ObjectForm::Packed(view) => packed_len(view),
+            ObjectForm::Packed(packed) => packed_len(packed.view),
             ObjectForm::Whole(pairs) => pairs.len(),
         }
     }
@@ -93,7 +94,7 @@ impl<'a> ObjectView<'a> {
         ensures { option_map (λ p. (p.0.now, seen p.1)) result ≡ slice_get (members_seen self.entry) i }
     {
         match self.form {
-            ObjectForm::Packed(view) => packed_pair(view, i),
+            ObjectForm::Packed(packed) => packed_pair(packed, i),
             ObjectForm::Whole(pairs) => whole_pair(pairs, i),
         }
     }
@@ -103,7 +104,7 @@ impl<'a> ObjectView<'a> {
         ensures { option_map (λ p. (p.0.now, seen p.1)) result ≡ first_of key.now (members_seen self.entry) }
     {
         match self.form {
-            ObjectForm::Packed(view) => packed_first(view, key),
+            ObjectForm::Packed(packed) => packed_first(packed, key),
             ObjectForm::Whole(pairs) => whole_first(pairs, key),
         }
     }
@@ -128,12 +129,15 @@ fn packed_len(view: DocView<'_>) -> usize
     }
 }
 
-fn packed_pair(view: DocView<'_>, i: usize) -> Option<(&str, View<'_>)>
-    ensures { option_map (λ p. (p.0.now, seen p.1)) result ≡ slice_get (members (view_tree view.entry)) i }
+fn packed_pair(packed: PackedView<'_>, i: usize) -> Option<(&str, View<'_>)>
+    ensures { option_map (λ p. (p.0.now, seen p.1)) result ≡ slice_get (members (view_tree packed.entry.view)) i }
 {
-    match view.key(i) {
-        Some(key) => match view.pair_value(i) {
-            Some(value) => Some((key, View::packed(value))),
+    match packed.view.key(i) {
+        Some(key) => match packed.view.pair_value(i) {
+            Some(value) => {
+                let form = ViewForm::Packed(packed.beside(value));
+                Some((key, View { form }))
+            }
             None => None,
         },
         None => None,
@@ -150,13 +154,13 @@ fn whole_pair(pairs: &[Pair], i: usize) -> Option<(&str, View<'_>)>
     }
 }
 
-fn packed_first<'a>(view: DocView<'a>, key: &str) -> Option<(&'a str, View<'a>)>
-    ensures { option_map (λ p. (p.0.now, seen p.1)) result ≡ first_of key.now (members (view_tree view.entry)) }
+fn packed_first<'a>(packed: PackedView<'a>, key: &str) -> Option<(&'a str, View<'a>)>
+    ensures { option_map (λ p. (p.0.now, seen p.1)) result ≡ first_of key.now (members (view_tree packed.entry.view)) }
 {
-    for i in 0..view.len() {
-        if let Some(found) = view.key(i) {
+    for i in 0..packed.view.len() {
+        if let Some(found) = packed.view.key(i) {
             if found == key {
-                return packed_pair(view, i);
+                return packed_pair(packed, i);
             }
         }
     }

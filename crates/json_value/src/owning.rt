@@ -1,13 +1,16 @@
 // Copies of what views show, as values that hold no view.
-ghost use Rattle.std.specs.Prelude.{◌≡◌, map, IfOk, IfErr};
+ghost use Rattle.std.specs.Prelude.{◌≡◌, None, map, IfOk, IfErr};
 ghost use Rattle.json_text.specs.Errors.{no_memory};
 ghost use Rattle.json_doc.specs.Left.{children_left, pairs_left};
-ghost use Rattle.json_doc.specs.Seen.{view_tree};
+ghost use Rattle.json_doc.specs.Seen.{view_place, view_tree};
 ghost use Rattle.json_value.specs.Denotes.{tree_of, pair_of};
 ghost use Rattle.json_value.specs.Seen.{seen};
+ghost use Rattle.json_value.specs.Spots.{spot_of};
+ghost use Rattle.json_value.specs.Standing.{held_spot, spot_kept, KeepsPlaces};
 
 use crate::container::{Container, Form};
 use crate::literal::Literal;
+use crate::packed_view::PackedView;
 use crate::pair::Keyed;
 use crate::text::Text;
 use crate::value::{Pair, Value};
@@ -17,16 +20,32 @@ use json_text::Result;
 use std::alloc::Global;
 
 impl<'a> View<'a> {
-    /// A value of the tree that is seen, which no later write to a value that is seen reaches. A tree of a document alone is
-    /// copied whole; in a value places stay places of the same document. `NoMemory`.
+    /// A value of the tree that is seen, which no later write to a value that is seen reaches: of a whole value a `clone`, of
+    /// a packed part of a value the value at that place of the same document, of a document alone a copy. `NoMemory`.
     pub fn to_value(self, alloc: Global) -> Result<Value>
         ensures tree { IfOk result (λ v. tree_of v ≡ seen self.entry) }
+        ensures spot { IfOk result (λ v. spot_of v ≡ spot_kept self.entry) }
+        ensures places { IfOk result (λ v. KeepsPlaces self.entry v) }
         ensures only { IfErr result (λ e. e ≡ no_memory) }
     {
         match self.form {
-            ViewForm::Packed(view) => own_document(alloc, view),
+            ViewForm::Packed(packed) => packed.to_value(alloc),
             ViewForm::Whole(value) => value.clone(alloc),
             ViewForm::Absent => Ok(Value::Null),
+        }
+    }
+}
+
+impl<'a> PackedView<'a> {
+    // A value of the tree that is seen: of the same document, if a value holds it, else a copy.
+    fn to_value(self, alloc: Global) -> Result<Value>
+        ensures tree { IfOk result (λ v. tree_of v ≡ view_tree self.entry.view) }
+        ensures spot { IfOk result (λ v. spot_of v ≡ held_spot self.entry.holder (view_place self.entry.view)) }
+        ensures only { IfErr result (λ e. e ≡ no_memory) }
+    {
+        match self.holder {
+            Some(doc) => Value::from_place(alloc, doc, self.view.place()),
+            None => own_document(alloc, self.view),
         }
     }
 }
@@ -34,6 +53,7 @@ impl<'a> View<'a> {
 #[cycle(own)]
 fn own_document(alloc: Global, view: DocView<'_>) -> Result<Value>
     ensures tree { IfOk result (λ v. tree_of v ≡ view_tree view.entry) }
+    ensures spot { IfOk result (λ v. spot_of v ≡ None) }
     ensures only { IfErr result (λ e. e ≡ no_memory) }
 {
     match view.node() {

@@ -9,13 +9,14 @@ ghost use Rattle.json_value.specs.Seen.{seen, elements_seen, members_seen, list_
 
 use crate::array_view::ArrayView;
 use crate::object_view::ObjectView;
+use crate::packed_view::PackedView;
 use crate::value::Value;
 use json_doc::{DocView, JsonType};
 use json_number::Number;
 
 #[derive(Clone, Copy)]
 pub(crate) enum ViewForm<'a> {
-    Packed(DocView<'a>),
+    Packed(PackedView<'a>),
     Whole(&'a Value),
     // Null, which stands nowhere.
     Absent,
@@ -56,7 +57,7 @@ impl<'a> View<'a> {
         ensures { seen result ≡ view_tree view.entry }
     {
         View {
-            form: ViewForm::Packed(view),
+            form: ViewForm::Packed(PackedView::of_document(view)),
         }
     }
 
@@ -66,7 +67,7 @@ impl<'a> View<'a> {
         ensures { result ≡ type_of (seen self.entry) }
     {
         match self.form {
-            ViewForm::Packed(view) => view.get_type(),
+            ViewForm::Packed(packed) => packed.view.get_type(),
             ViewForm::Whole(value) => value_type(value),
             ViewForm::Absent => JsonType::Null,
         }
@@ -78,7 +79,7 @@ impl<'a> View<'a> {
         ensures { result ≡ bool_of (seen self.entry) }
     {
         match self.form {
-            ViewForm::Packed(view) => view.as_bool(),
+            ViewForm::Packed(packed) => packed.view.as_bool(),
             ViewForm::Whole(value) => value_bool(value),
             ViewForm::Absent => None,
         }
@@ -91,7 +92,7 @@ impl<'a> View<'a> {
         ensures text { IfSome result (λ n. seen self.entry ≡ num (text_of_number n)) }
     {
         match self.form {
-            ViewForm::Packed(view) => view.as_number(),
+            ViewForm::Packed(packed) => packed.view.as_number(),
             ViewForm::Whole(value) => value_number(value),
             ViewForm::Absent => None,
         }
@@ -103,7 +104,7 @@ impl<'a> View<'a> {
         ensures { option_map (λ s. s.now) result ≡ literal_of (seen self.entry) }
     {
         match self.form {
-            ViewForm::Packed(view) => view.literal(),
+            ViewForm::Packed(packed) => packed.view.literal(),
             ViewForm::Whole(value) => value_literal(value),
             ViewForm::Absent => None,
         }
@@ -115,7 +116,7 @@ impl<'a> View<'a> {
         ensures { option_map (λ s. s.now) result ≡ string_of (seen self.entry) }
     {
         match self.form {
-            ViewForm::Packed(view) => view.text(),
+            ViewForm::Packed(packed) => packed.view.text(),
             ViewForm::Whole(value) => value_text(value),
             ViewForm::Absent => None,
         }
@@ -127,7 +128,7 @@ impl<'a> View<'a> {
         ensures { option_map elements_seen result ≡ list_of (seen self.entry) }
     {
         match self.form {
-            ViewForm::Packed(view) => ArrayView::of_document(view),
+            ViewForm::Packed(packed) => ArrayView::of_packed(packed),
             ViewForm::Whole(value) => ArrayView::of_value(value),
             ViewForm::Absent => None,
         }
@@ -139,7 +140,7 @@ impl<'a> View<'a> {
         ensures { option_map members_seen result ≡ pairs_of (seen self.entry) }
     {
         match self.form {
-            ViewForm::Packed(view) => ObjectView::of_document(view),
+            ViewForm::Packed(packed) => ObjectView::of_packed(packed),
             ViewForm::Whole(value) => ObjectView::of_value(value),
             ViewForm::Absent => None,
         }

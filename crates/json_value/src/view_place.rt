@@ -17,7 +17,7 @@ impl<'a> View<'a> {
         ensures tree { IfSome result (λ p. doc_tree p.0.now p.1 ≡ seen self.entry) }
     {
         match self.form {
-            ViewForm::Packed(view) => Some((view.doc(), view.place())),
+            ViewForm::Packed(packed) => Some((packed.view.doc(), packed.view.place())),
             ViewForm::Whole(value) => value.place(),
             ViewForm::Absent => None,
         }

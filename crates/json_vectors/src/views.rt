@@ -1,8 +1,9 @@
 // What views show.
-use crate::fixtures::{read, value_of};
+use crate::fixtures::{read, shows, value_of};
 use json_doc::JsonType;
 use json_number::Number;
 use json_value::{Pair, Text, Value, View};
+use std::rc::Rc;
 use std::test::Fail;
 
 #[test]
@@ -45,4 +46,31 @@ fn members_are_seen(rt: HostRuntime) {
     let mut member = Pair::new(Text::from_static("k"), Value::new_null());
     *member.value_mut() = Value::new_bool(true);
     assert!(rt; member.key() == "k" && member.value().eq_bool(true));
+}
+
+#[test]
+fn a_packed_part_of_a_value_is_shared(rt: HostRuntime) -> Result<(), Fail> {
+    let alloc = rt.alloc();
+    let doc = read(&rt, alloc, "[0.5,{\"k\":[\"x\",2.50]}]")?;
+    let value = Value::from_place(alloc, &doc, doc.root())?;
+    let element = value.at(1_usize).at("k").at(1_usize);
+    let (_, seen_at) = element.place().ok_or("no place")?;
+    let before = Rc::strong_count(&doc);
+    let shared = element.to_value(alloc)?;
+    let (document, at) = shared.place().ok_or("no place")?;
+    assert!(rt; document.text() == doc.text() && at == seen_at);
+    assert_eq!(rt; (before, Rc::strong_count(&doc)), (2, 3));
+    Ok(())
+}
+
+#[test]
+fn a_part_of_a_document_alone_is_copied(rt: HostRuntime) -> Result<(), Fail> {
+    let alloc = rt.alloc();
+    let doc = read(&rt, alloc, "[[2.50,\"x\"]]")?;
+    let element = View::packed(doc.view()).at(0_usize);
+    let copy = element.to_value(alloc)?;
+    assert!(rt; element.place().is_some() && copy.place().is_none());
+    assert!(rt; shows(alloc, &copy, "[2.50,\"x\"]")?);
+    assert_eq!(rt; Rc::strong_count(&doc), 1);
+    Ok(())
 }
