@@ -11,7 +11,6 @@ ghost use Rattle.json_value.specs.Edits.{RefusesChange};
 ghost use Rattle.json_value.specs.FirstMember.{IsFirstOf};
 ghost use Rattle.json_value.specs.Lending.{put_or_insert, with_key};
 ghost use Rattle.json_value.specs.Rows.{value_row};
-
 ghost use Rattle.json_value.specs.Steps.{child, tree_or_null};
 ghost use Rattle.json_value.specs.Touched.{Adds, SeatedAt, SeatsValue, ExchangesOrSeats};
 

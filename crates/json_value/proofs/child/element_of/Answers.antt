@@ -20,7 +20,7 @@ returns-in-Some g c =
     let v = c.in-Some.value.now in
     let low = c.in-Some.ensures.item.3.0 in
     let after : (w : Vec Value Global) → (tree_of (g.S.Slot.held (c.list.follows.lender w)) ≡ list (list_trees (map tree_of w.items))) × ArrayTouched (Written lent.items w.items) old (g.S.Slot.held (c.list.follows.lender w)) =
-        λ w. (rw c.in_ok-list.was at (c.list.follows.holds w)) refl
+    λ w. (rw c.in_ok-list.was at (c.list.follows.holds w)) refl
     in (
       (
         refl,

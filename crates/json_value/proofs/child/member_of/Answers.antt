@@ -25,7 +25,7 @@ returns-in-Some g c =
     let read = c.index_mut-pair.ensures.value in
     let first = first_moved k k c.as_slice.result.now lent.items i refl c.as_slice.ensures.value c.in-Some.ensures.first in
     let after : (w : Vec (Keyed Value) Global) → (tree_of (g.S.Slot.held (c.pairs.follows.lender w)) ≡ pairs (list_pairs (map pair_of w.items))) × ObjectTouched (Written lent.items w.items) old (g.S.Slot.held (c.pairs.follows.lender w)) =
-        λ w. (rw c.in_ok-pairs.was at (c.pairs.follows.holds w)) refl
+    λ w. (rw c.in_ok-pairs.was at (c.pairs.follows.holds w)) refl
     in (
       (
         refl,

@@ -28,7 +28,7 @@ returns g c =
     let made = c.in_ok-last.ensures.items in
     let end = c.in_ok-last.ensures.index in
     let after : (w : Vec Value Global) → (tree_of (g.S.Slot.held (c.list.follows.lender w)) ≡ list (list_trees (map tree_of w.items))) × ArrayTouched (Written lent.items w.items) old (g.S.Slot.held (c.list.follows.lender w)) =
-        λ w. (rw c.in_ok-list.was at (c.list.follows.holds w)) refl
+    λ w. (rw c.in_ok-list.was at (c.list.follows.holds w)) refl
     in (
       (
         refl,

@@ -30,7 +30,7 @@ returns g c =
     let first = c.in_ok-i.ensures.first in
     let x = c.value_mut.result.now in
     let after : (w : Vec (Keyed Value) Global) → (tree_of (g.S.Slot.held (c.pairs_with.follows.lender w)) ≡ pairs (list_pairs (map pair_of w.items))) × ((old ≡ Null) ⊎ ObjectTouched (Written lent.items w.items) old (g.S.Slot.held (c.pairs_with.follows.lender w))) =
-        λ w. (rw c.in_ok-pairs.was at (c.pairs_with.follows.holds w)) refl
+    λ w. (rw c.in_ok-pairs.was at (c.pairs_with.follows.holds w)) refl
     in (
       (
         refl,

@@ -16,10 +16,14 @@ returns-in-Some g c =
     let t = tree_of old in
     let r = c.member_or_null.result in
     let step = is_key (g.I.Index.step c.args.index.now) c.in-Some.key.now c.in-Some.ensures.key in (
-      (refl, (λ w ok. (
-        subst (λ (s : Step). put_or_insert s (tree_of w) t ≡ Ok (tree_of (g.S.Slot.held (c.member_or_null.follows.lender w)))) step (c.member_or_null.follows.holds w ok).0,
-        subst (λ (s : Step). IfOk r (λ v. ExchangesOrSeats s v.now w old (g.S.Slot.held (c.member_or_null.follows.lender w)))) step (c.member_or_null.follows.holds w ok).1,
-      )), c.member_or_null.follows.holds-at-none),
+      (
+        refl,
+        (λ w ok. (
+          subst (λ (s : Step). put_or_insert s (tree_of w) t ≡ Ok (tree_of (g.S.Slot.held (c.member_or_null.follows.lender w)))) step (c.member_or_null.follows.holds w ok).0,
+          subst (λ (s : Step). IfOk r (λ v. ExchangesOrSeats s v.now w old (g.S.Slot.held (c.member_or_null.follows.lender w)))) step (c.member_or_null.follows.holds w ok).1,
+        )),
+        c.member_or_null.follows.holds-at-none,
+      ),
       record {
         writes_back = tt;
         value = subst (λ (s : Step). IfOk r (λ v. tree_of v.now ≡ tree_or_null (child s t))) step c.member_or_null.ensures.value;
@@ -34,10 +38,14 @@ returns-in-Some-as_index g c =
     let i = c.in-Some-as_index.i in
     let r = c.element_of.result in
     let step = is_index (g.I.Index.step c.args.index.now) i c.in-Some-as_index.ensures.index in (
-      (refl, (λ w ok. (
-        subst (λ (s : Step). put_or_insert s (tree_of w) t ≡ Ok (tree_of (g.S.Slot.held (c.element_of.follows.lender w)))) step (on_ok r ok (λ v h. h.0) (c.element_of.follows.holds w ok)),
-        subst (λ (s : Step). IfOk r (λ v. ExchangesOrSeats s v.now w old (g.S.Slot.held (c.element_of.follows.lender w)))) step (each_ok r (λ v h. h.1) (c.element_of.follows.holds w ok)),
-      )), c.element_of.follows.holds-at-none),
+      (
+        refl,
+        (λ w ok. (
+          subst (λ (s : Step). put_or_insert s (tree_of w) t ≡ Ok (tree_of (g.S.Slot.held (c.element_of.follows.lender w)))) step (on_ok r ok (λ v h. h.0) (c.element_of.follows.holds w ok)),
+          subst (λ (s : Step). IfOk r (λ v. ExchangesOrSeats s v.now w old (g.S.Slot.held (c.element_of.follows.lender w)))) step (each_ok r (λ v h. h.1) (c.element_of.follows.holds w ok)),
+        )),
+        c.element_of.follows.holds-at-none,
+      ),
       record {
         writes_back = tt;
         value = subst (λ (s : Step). IfOk r (λ v. tree_of v.now ≡ tree_or_null (child s t))) step (found_element i t r c.element_of.ensures.value);
