@@ -1,41 +1,73 @@
 // What views show.
-use crate::fixtures::{read, value_of};
 use json_doc::JsonType;
+use json_fixtures::{read, value_of};
 use json_number::Number;
-use json_value::{Pair, Text, Value, View};
+use json_value::{ObjectView, Pair, Text, Value, View};
 use std::test::Fail;
 
-#[test]
-fn views_show(rt: HostRuntime) -> Result<(), Fail> {
-    let alloc = rt.alloc();
-    let doc = read(&rt, alloc, "{\"a\":[7,\"\\n\"],\"b\":-2.50e3}")?;
-    let view = View::packed(doc.view());
-    let object = view.as_object().ok_or("no object")?;
-    assert!(rt; object.len() == 2 && !object.is_empty());
-    let (key, value) = object.get_key_value("b").ok_or("no member")?;
-    assert_eq!(rt; (key, value.literal()), ("b", Some("-2.50e3")));
-    let array = object
-        .get("a")
-        .ok_or("no value")?
-        .as_array()
-        .ok_or("no array")?;
-    let number = array.get(0).ok_or("no element")?;
-    assert!(rt; number.as_number() == Some(Number::from(7u8)) && number.literal().is_none());
-    let text = array.get(1).ok_or("no element")?;
-    assert!(rt; text.get_type() == JsonType::String && text.text() == Some("\n"));
-    Ok(())
+// The literal of the member of a key.
+fn literal_of<'a>(object: ObjectView<'a>, name: &str) -> Option<&'a str> {
+    let (key, value) = object.get_key_value(name)?;
+    if key == name { value.literal() } else { None }
+}
+
+// The element of an index of the array that is the value of a key.
+fn element_of<'a>(object: ObjectView<'a>, name: &str, index: usize) -> Option<View<'a>> {
+    object.get(name)?.as_array()?.get(index)
+}
+
+fn is_seven(view: View<'_>) -> bool {
+    view.as_number() == Some(Number::from(7u8)) && view.literal().is_none()
+}
+
+fn is_text(view: View<'_>, text: &str) -> bool {
+    view.get_type() == JsonType::String && view.text() == Some(text)
 }
 
 #[test]
-fn parts_are_counted(rt: HostRuntime) -> Result<(), Fail> {
-    let alloc = rt.alloc();
-    let value = value_of(&rt, alloc, "[1,null]")?;
-    let array = value.view().as_array().ok_or("no array")?;
-    assert!(rt; !array.is_empty() && array.iter().len() == 2);
-    let value = value_of(&rt, alloc, "{\"k\":true}")?;
+fn views_show(rt: HostRuntime) -> Result<(), Fail> {
+    let doc = read(rt.alloc(), "{\"a\":[7,\"\\n\"],\"b\":-2.50e3}")?;
+    let view = View::packed(doc.view());
+    let object = view.as_object().ok_or("no object")?;
+    assert!(rt; object.len() == 2 && !object.is_empty());
+    assert!(rt; literal_of(object, "b") == Some("-2.50e3"));
+    assert!(rt; element_of(object, "a", 0).is_some_and(is_seven));
+    assert!(rt; element_of(object, "a", 1).is_some_and(|text| is_text(text, "\n")));
+    Ok(())
+}
+
+// How many elements an array has, where it has some.
+fn elements(view: View<'_>) -> Option<usize> {
+    let array = view.as_array()?;
+    if array.is_empty() {
+        None
+    } else {
+        Some(array.iter().len())
+    }
+}
+
+#[test]
+fn elements_are_counted(rt: HostRuntime) -> Result<(), Fail> {
+    let value = value_of(rt.alloc(), "[1,null]")?;
+    assert!(rt; elements(value.view()) == Some(2));
+    Ok(())
+}
+
+// Whether the only member of an object has this key and is true.
+fn is_only(object: ObjectView<'_>, name: &str) -> bool {
+    match object.pair(0) {
+        Some((key, value)) => {
+            key == name && value.as_bool() == Some(true) && object.pair(1).is_none()
+        }
+        None => false,
+    }
+}
+
+#[test]
+fn members_are_counted(rt: HostRuntime) -> Result<(), Fail> {
+    let value = value_of(rt.alloc(), "{\"k\":true}")?;
     let object = value.view().as_object().ok_or("no object")?;
-    let (key, truth) = object.pair(0).ok_or("no member")?;
-    assert!(rt; key == "k" && truth.as_bool() == Some(true) && object.pair(1).is_none());
+    assert!(rt; is_only(object, "k"));
     assert!(rt; object.iter().len() == 1);
     Ok(())
 }
