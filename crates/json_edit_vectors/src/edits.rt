@@ -48,7 +48,7 @@ fn first_write_of_an_array(rt: HostRuntime) -> Result<(), Fail> {
     Ok(())
 }
 
-// Whether a clone from before a first write is this cell of the document still, and the value is none.
+// Whether a clone from before a first write stands at this cell still, and the value at none.
 fn clone_stays(value: &mut Value, alloc: Global, at: u32) -> json_text::Result<bool> {
     let copy = copied(alloc, value)?;
     let opened = list_in(value, alloc)?.is_some();
@@ -58,14 +58,8 @@ fn clone_stays(value: &mut Value, alloc: Global, at: u32) -> json_text::Result<b
 #[test]
 fn a_clone_from_before_a_first_write_stays_a_place(rt: HostRuntime) -> Result<(), Fail> {
     let json = "[[1],[\"x\"],1.5]";
-    assert!(rt;
-        becomes(
-            rt.alloc(),
-            json,
-            |value, alloc| clone_stays(value, alloc, 5),
-            json
-        )?
-    );
+    let change = |value: &mut Value, alloc| clone_stays(value, alloc, 5);
+    assert!(rt; becomes(rt.alloc(), json, change, json)?);
     Ok(())
 }
 
@@ -150,8 +144,7 @@ fn an_element_beside_a_push_stays_a_place(rt: HostRuntime) -> Result<(), Fail> {
     let doc = read(alloc, "[[1],[\"x\"],2]")?;
     let change = |value: &mut Value, alloc| push_beside_clone(value, alloc, &doc);
     let (value, done) = changed(alloc, &doc, change)?;
-    assert!(rt; done);
-    assert!(rt; stands_at(&value, 1_usize, &doc, 3));
+    assert!(rt; done && stands_at(&value, 1_usize, &doc, 3));
     Ok(())
 }
 

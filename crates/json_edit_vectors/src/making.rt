@@ -1,6 +1,6 @@
 // Values that are made from what is none yet, taken apart, and copied.
 use json_doc::JsonType;
-use json_fixtures::{copied, list_in, pairs_in, said, shows, value_of};
+use json_fixtures::{becomes, copied, list_in, pairs_in, said, shows, value_of};
 use json_number::{Number, RawNumber};
 use json_value::{Array, Object, Pair, Text, Value, ValueRef};
 use std::alloc::Global;
@@ -238,13 +238,17 @@ fn array_copy(value: &Value, alloc: Global, json: &str) -> json_text::Result<Opt
     }
 }
 
+// The copies before and behind a first write.
+fn copy_array(value: &mut Value, alloc: Global) -> json_text::Result<bool> {
+    let before = array_copy(value, alloc, "[1]")? == Some(false);
+    let opened = list_in(value, alloc)?.is_some_and(|list| list.len() == 1);
+    let behind = array_copy(value, alloc, "[1]")? == Some(true);
+    Ok(before && opened && behind)
+}
+
 #[test]
 fn arrays_are_copied(rt: HostRuntime) -> Result<(), Fail> {
-    let alloc = rt.alloc();
-    let mut value = value_of(alloc, "[1]")?;
-    assert!(rt; array_copy(&value, alloc, "[1]")? == Some(false));
-    assert!(rt; list_in(&mut value, alloc)?.is_some_and(|list| list.len() == 1));
-    assert!(rt; array_copy(&value, alloc, "[1]")? == Some(true));
+    assert!(rt; becomes(rt.alloc(), "[1]", copy_array, "[1]")?);
     Ok(())
 }
 
@@ -260,13 +264,17 @@ fn object_copy(value: &Value, alloc: Global, json: &str) -> json_text::Result<Op
     }
 }
 
+// The copies before and behind a first write.
+fn copy_object(value: &mut Value, alloc: Global) -> json_text::Result<bool> {
+    let before = object_copy(value, alloc, "{\"k\":1}")? == Some(false);
+    let opened = pairs_in(value, alloc)?.is_some_and(|pairs| pairs.len() == 1);
+    let behind = object_copy(value, alloc, "{\"k\":1}")? == Some(true);
+    Ok(before && opened && behind)
+}
+
 #[test]
 fn objects_are_copied(rt: HostRuntime) -> Result<(), Fail> {
-    let alloc = rt.alloc();
-    let mut value = value_of(alloc, "{\"k\":1}")?;
-    assert!(rt; object_copy(&value, alloc, "{\"k\":1}")? == Some(false));
-    assert!(rt; pairs_in(&mut value, alloc)?.is_some_and(|pairs| pairs.len() == 1));
-    assert!(rt; object_copy(&value, alloc, "{\"k\":1}")? == Some(true));
+    assert!(rt; becomes(rt.alloc(), "{\"k\":1}", copy_object, "{\"k\":1}")?);
     Ok(())
 }
 

@@ -1,7 +1,7 @@
 // What stands beside a place that is written stays where it stood.
 use crate::writing::write_null;
 use json_doc::{Doc, JsonType};
-use json_fixtures::{changed, read, shows, whole};
+use json_fixtures::{changed, read, shows};
 use json_value::{Array, Index, PointerNode, Value, put};
 use std::alloc::Global;
 use std::test::Fail;
@@ -38,17 +38,34 @@ pub(crate) fn stands_at<I: Index>(value: &Value, step: I, doc: &Doc, at: u32) ->
     is_cell(child_place(value, step), doc, at)
 }
 
+// Whether the document of a text has so many cells, the last of which is its root, and these texts in a row.
+fn is_packed(alloc: Global, json: &str, cells: usize, texts: &str) -> json_text::Result<bool> {
+    let doc = read(alloc, json)?;
+    let root = doc.root() as usize;
+    Ok(doc.cells().len() == cells && root + 1 == cells && doc.text() == texts)
+}
+
 #[test]
 fn cells_are_counted(rt: HostRuntime) -> Result<(), Fail> {
-    let alloc = rt.alloc();
-    let list = read(alloc, LIST)?;
-    assert_eq!(rt; (list.cells().len(), list.root(), list.text()), (6, 5, "x"));
-    let members = read(alloc, MEMBERS)?;
-    assert_eq!(rt;
-        (members.cells().len(), members.root(), members.text()),
-        (7, 6, "abx")
-    );
+    assert!(rt; is_packed(rt.alloc(), LIST, 6, "x")?);
+    assert!(rt; is_packed(rt.alloc(), MEMBERS, 7, "abx")?);
     Ok(())
+}
+
+// Whether a change answers that it was done, and then a child is this cell of the document, and the value has this compact text.
+fn keeps<F: FnOnce(&mut Value, Global) -> json_text::Result<bool>, I: Index>(
+    alloc: Global,
+    json: &str,
+    change: F,
+    step: I,
+    at: u32,
+    then: &str,
+) -> json_text::Result<bool>
+    requires { F.IsAlwaysCallable change }
+{
+    let doc = read(alloc, json)?;
+    let (value, done) = changed(alloc, &doc, change)?;
+    Ok(done && stands_at(&value, step, &doc, at) && shows(alloc, &value, then)?)
 }
 
 fn reach_first(value: &mut Value, alloc: Global) -> json_text::Result<bool> {
@@ -57,12 +74,8 @@ fn reach_first(value: &mut Value, alloc: Global) -> json_text::Result<bool> {
 
 #[test]
 fn an_element_beside_a_place_that_is_reached_stays_a_place(rt: HostRuntime) -> Result<(), Fail> {
-    let alloc = rt.alloc();
-    let doc = read(alloc, LIST)?;
-    let (value, done) = changed(alloc, &doc, reach_first)?;
-    assert!(rt; done);
-    assert!(rt; stands_at(&value, 1_usize, &doc, 3));
-    assert!(rt; shows(alloc, &value, "[null,[\"x\"],2]")?);
+    let then = "[null,[\"x\"],2]";
+    assert!(rt; keeps(rt.alloc(), LIST, reach_first, 1_usize, 3, then)?);
     Ok(())
 }
 
@@ -73,12 +86,8 @@ fn put_first(value: &mut Value, alloc: Global) -> json_text::Result<bool> {
 
 #[test]
 fn an_element_beside_one_that_is_put_stays_a_place(rt: HostRuntime) -> Result<(), Fail> {
-    let alloc = rt.alloc();
-    let doc = read(alloc, LIST)?;
-    let (value, done) = changed(alloc, &doc, put_first)?;
-    assert!(rt; done);
-    assert!(rt; stands_at(&value, 1_usize, &doc, 3));
-    assert!(rt; shows(alloc, &value, "[null,[\"x\"],2]")?);
+    let then = "[null,[\"x\"],2]";
+    assert!(rt; keeps(rt.alloc(), LIST, put_first, 1_usize, 3, then)?);
     Ok(())
 }
 
@@ -88,12 +97,8 @@ fn step_to_first(value: &mut Value, alloc: Global) -> json_text::Result<bool> {
 
 #[test]
 fn an_element_beside_a_step_that_is_written_stays_a_place(rt: HostRuntime) -> Result<(), Fail> {
-    let alloc = rt.alloc();
-    let doc = read(alloc, LIST)?;
-    let (value, done) = changed(alloc, &doc, step_to_first)?;
-    assert!(rt; done);
-    assert!(rt; stands_at(&value, 1_usize, &doc, 3));
-    assert!(rt; shows(alloc, &value, "[null,[\"x\"],2]")?);
+    let then = "[null,[\"x\"],2]";
+    assert!(rt; keeps(rt.alloc(), LIST, step_to_first, 1_usize, 3, then)?);
     Ok(())
 }
 
@@ -108,13 +113,9 @@ fn append_null(value: &mut Value, alloc: Global) -> json_text::Result<bool> {
 
 #[test]
 fn elements_before_one_that_is_appended_stay_places(rt: HostRuntime) -> Result<(), Fail> {
-    let alloc = rt.alloc();
-    let doc = read(alloc, LIST)?;
-    let (value, done) = changed(alloc, &doc, append_null)?;
-    assert!(rt; done);
-    assert!(rt; stands_at(&value, 0_usize, &doc, 2));
-    assert!(rt; stands_at(&value, 1_usize, &doc, 3));
-    assert!(rt; shows(alloc, &value, "[[1],[\"x\"],2,null]")?);
+    let then = "[[1],[\"x\"],2,null]";
+    assert!(rt; keeps(rt.alloc(), LIST, append_null, 0_usize, 2, then)?);
+    assert!(rt; keeps(rt.alloc(), LIST, append_null, 1_usize, 3, then)?);
     Ok(())
 }
 
@@ -129,12 +130,8 @@ fn insert_null(value: &mut Value, alloc: Global) -> json_text::Result<bool> {
 
 #[test]
 fn a_member_beside_one_that_is_inserted_stays_a_place(rt: HostRuntime) -> Result<(), Fail> {
-    let alloc = rt.alloc();
-    let doc = read(alloc, MEMBERS)?;
-    let (value, done) = changed(alloc, &doc, insert_null)?;
-    assert!(rt; done);
-    assert!(rt; stands_at(&value, "b", &doc, 5));
-    assert!(rt; shows(alloc, &value, "{\"a\":null,\"b\":[\"x\"]}")?);
+    let then = "{\"a\":null,\"b\":[\"x\"]}";
+    assert!(rt; keeps(rt.alloc(), MEMBERS, insert_null, "b", 5, then)?);
     Ok(())
 }
 
@@ -145,12 +142,8 @@ fn lend_key(value: &mut Value, alloc: Global) -> json_text::Result<bool> {
 
 #[test]
 fn a_member_before_a_key_that_lacked_stays_a_place(rt: HostRuntime) -> Result<(), Fail> {
-    let alloc = rt.alloc();
-    let doc = read(alloc, MEMBERS)?;
-    let (value, done) = changed(alloc, &doc, lend_key)?;
-    assert!(rt; done);
-    assert!(rt; stands_at(&value, "b", &doc, 5));
-    assert!(rt; shows(alloc, &value, "{\"a\":[1],\"b\":[\"x\"],\"c\":null}")?);
+    let then = "{\"a\":[1],\"b\":[\"x\"],\"c\":null}";
+    assert!(rt; keeps(rt.alloc(), MEMBERS, lend_key, "b", 5, then)?);
     Ok(())
 }
 
@@ -167,7 +160,6 @@ fn elements_of_an_array_that_is_lent_are_places(rt: HostRuntime) -> Result<(), F
     let alloc = rt.alloc();
     let doc = read(alloc, LIST)?;
     let (value, done) = changed(alloc, &doc, |value, alloc| lends(value, alloc, &doc, 3))?;
-    assert!(rt; done);
-    assert!(rt; stands_at(&value, 1_usize, &doc, 3));
+    assert!(rt; done && stands_at(&value, 1_usize, &doc, 3));
     Ok(())
 }

@@ -1,4 +1,5 @@
 // The compact texts of values and of views.
+use json_doc::Doc;
 use json_fixtures::{array_in, pairs_in, read, value_of, whole};
 use json_number::{Number, RawNumber};
 use json_print::Serializer;
@@ -14,6 +15,16 @@ fn prints(alloc: Global, view: View<'_>, json: &[u8]) -> json_text::Result<bool>
     Ok(out.into_inner().as_slice() == json)
 }
 
+// The same of a value.
+fn value_prints(alloc: Global, value: &Value, json: &[u8]) -> json_text::Result<bool> {
+    prints(alloc, value.view(), json)
+}
+
+// A copy of a whole document.
+fn copied(alloc: Global, doc: &Doc) -> json_text::Result<Value> {
+    View::packed(doc.view()).to_value(alloc)
+}
+
 const TEXT: &str = "{\"a\":[1,-2.50e3,\"\\n\"],\"b\":{},\"a\":[],\"c\":false,\"d\":null}";
 
 #[test]
@@ -21,9 +32,9 @@ fn values_of_a_document_are_printed(rt: HostRuntime) -> Result<(), Fail> {
     let alloc = rt.alloc();
     let doc = read(alloc, TEXT)?;
     let value = whole(alloc, &doc)?;
-    assert!(rt; prints(alloc, value.view(), TEXT.as_bytes())?);
-    let copy = View::packed(doc.view()).to_value(alloc)?;
-    assert!(rt; prints(alloc, copy.view(), TEXT.as_bytes())?);
+    assert!(rt; value_prints(alloc, &value, TEXT.as_bytes())?);
+    let copy = copied(alloc, &doc)?;
+    assert!(rt; value_prints(alloc, &copy, TEXT.as_bytes())?);
     Ok(())
 }
 
@@ -51,7 +62,7 @@ fn values_made_by_hand_are_printed(rt: HostRuntime) -> Result<(), Fail> {
     let alloc = rt.alloc();
     let value = made(alloc)?;
     let json = b"[null,{\"a\":true,\"b\":[],\"a\":{}},\"x\"]";
-    assert!(rt; prints(alloc, value.view(), json)?);
+    assert!(rt; value_prints(alloc, &value, json)?);
     Ok(())
 }
 
@@ -69,7 +80,7 @@ fn numbers(alloc: Global) -> json_text::Result<Value> {
 fn numbers_are_printed(rt: HostRuntime) -> Result<(), Fail> {
     let alloc = rt.alloc();
     let value = numbers(alloc)?;
-    assert!(rt; prints(alloc, value.view(), b"[18446744073709551615,-7,1,-0]")?);
+    assert!(rt; value_prints(alloc, &value, b"[18446744073709551615,-7,1,-0]")?);
     Ok(())
 }
 

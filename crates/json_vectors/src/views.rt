@@ -1,5 +1,5 @@
 // What views show.
-use json_doc::JsonType;
+use json_doc::{Doc, JsonType};
 use json_fixtures::{read, value_of};
 use json_number::Number;
 use json_value::{ObjectView, Pair, Text, Value, View};
@@ -24,11 +24,15 @@ fn is_text(view: View<'_>, text: &str) -> bool {
     view.get_type() == JsonType::String && view.text() == Some(text)
 }
 
+// The members of a whole document.
+fn members_of(doc: &Doc) -> Option<ObjectView<'_>> {
+    View::packed(doc.view()).as_object()
+}
+
 #[test]
 fn views_show(rt: HostRuntime) -> Result<(), Fail> {
     let doc = read(rt.alloc(), "{\"a\":[7,\"\\n\"],\"b\":-2.50e3}")?;
-    let view = View::packed(doc.view());
-    let object = view.as_object().ok_or("no object")?;
+    let object = members_of(&doc).ok_or("no object")?;
     assert!(rt; object.len() == 2 && !object.is_empty());
     assert!(rt; literal_of(object, "b") == Some("-2.50e3"));
     assert!(rt; element_of(object, "a", 0).is_some_and(is_seven));
@@ -37,8 +41,8 @@ fn views_show(rt: HostRuntime) -> Result<(), Fail> {
 }
 
 // How many elements an array has, where it has some.
-fn elements(view: View<'_>) -> Option<usize> {
-    let array = view.as_array()?;
+fn elements(value: &Value) -> Option<usize> {
+    let array = value.view().as_array()?;
     if array.is_empty() {
         None
     } else {
@@ -49,11 +53,11 @@ fn elements(view: View<'_>) -> Option<usize> {
 #[test]
 fn elements_are_counted(rt: HostRuntime) -> Result<(), Fail> {
     let value = value_of(rt.alloc(), "[1,null]")?;
-    assert!(rt; elements(value.view()) == Some(2));
+    assert!(rt; elements(&value) == Some(2));
     Ok(())
 }
 
-// Whether the only member of an object has this key and is true.
+// Whether the first member has this key and is true, and there is no second.
 fn is_only(object: ObjectView<'_>, name: &str) -> bool {
     match object.pair(0) {
         Some((key, value)) => {
@@ -63,18 +67,33 @@ fn is_only(object: ObjectView<'_>, name: &str) -> bool {
     }
 }
 
+// Whether a value is an object of such a member alone.
+fn has_only(value: &Value, name: &str) -> bool {
+    match value.view().as_object() {
+        Some(object) => object.iter().len() == 1 && is_only(object, name),
+        None => false,
+    }
+}
+
 #[test]
 fn members_are_counted(rt: HostRuntime) -> Result<(), Fail> {
     let value = value_of(rt.alloc(), "{\"k\":true}")?;
-    let object = value.view().as_object().ok_or("no object")?;
-    assert!(rt; is_only(object, "k"));
-    assert!(rt; object.iter().len() == 1);
+    assert!(rt; has_only(&value, "k"));
     Ok(())
+}
+
+// Writes true at a member.
+fn write_true(member: &mut Pair) {
+    *member.value_mut() = Value::new_bool(true);
+}
+
+fn is_true(member: &Pair, key: &str) -> bool {
+    member.key() == key && member.value().eq_bool(true)
 }
 
 #[test]
 fn members_are_seen(rt: HostRuntime) {
     let mut member = Pair::new(Text::from_static("k"), Value::new_null());
-    *member.value_mut() = Value::new_bool(true);
-    assert!(rt; member.key() == "k" && member.value().eq_bool(true));
+    write_true(&mut member);
+    assert!(rt; is_true(&member, "k"));
 }
