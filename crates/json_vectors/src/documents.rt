@@ -1,11 +1,11 @@
 // Documents and kinds.
-use crate::fixtures::read;
 use json_doc::JsonType;
+use json_fixtures::read;
 use std::test::Fail;
 
 #[test]
 fn one_cell_for_an_empty_array(rt: HostRuntime) -> Result<(), Fail> {
-    let doc = read(&rt, rt.alloc(), "[]")?;
+    let doc = read(rt.alloc(), "[]")?;
     assert_eq!(rt; doc.cells().len(), 1);
     Ok(())
 }

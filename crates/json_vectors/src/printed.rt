@@ -1,5 +1,6 @@
 // The compact texts of values and of views.
-use crate::fixtures::{array_in, object_in, read, value_of};
+use json_doc::Doc;
+use json_fixtures::{array_in, pairs_in, read, value_of, whole};
 use json_number::{Number, RawNumber};
 use json_print::Serializer;
 use json_text::VecSink;
@@ -7,25 +8,21 @@ use json_value::{Object, Pair, Text, Value, View};
 use std::alloc::Global;
 use std::test::Fail;
 
-// The compact text of what is seen.
-fn printed(alloc: Global, view: View<'_>) -> json_text::Result<Vec<u8>> {
+// Whether this is the compact text of what is seen.
+fn prints(alloc: Global, view: View<'_>, json: &[u8]) -> json_text::Result<bool> {
     let mut out = Serializer::new(alloc, VecSink::new(alloc));
     view.emit(&mut out)?;
-    Ok(out.into_inner().into_vec())
+    Ok(out.into_inner().as_slice() == json)
 }
 
-// `[null,{"a":true,"b":[],"a":{}},"x"]`, made by hand.
-fn made(alloc: Global) -> json_text::Result<Value> {
-    let mut object = Object::new();
-    let pairs = object.pairs_mut(alloc)?;
-    pairs.push(Pair::new(Text::from_static("a"), Value::new_bool(true)))?;
-    pairs.push(Pair::new(Text::from_static("b"), Value::new_array()))?;
-    pairs.push(Pair::new(Text::from_static("a"), Value::new_object()))?;
-    let mut list = Vec::new(alloc);
-    list.push(Value::new_null())?;
-    list.push(object.into_value())?;
-    list.push(Value::from_static_str("x"))?;
-    Ok(Value::from_vec(list))
+// The same of a value.
+fn value_prints(alloc: Global, value: &Value, json: &[u8]) -> json_text::Result<bool> {
+    prints(alloc, value.view(), json)
+}
+
+// A copy of a whole document.
+fn copied(alloc: Global, doc: &Doc) -> json_text::Result<Value> {
+    View::packed(doc.view()).to_value(alloc)
 }
 
 const TEXT: &str = "{\"a\":[1,-2.50e3,\"\\n\"],\"b\":{},\"a\":[],\"c\":false,\"d\":null}";
@@ -33,67 +30,115 @@ const TEXT: &str = "{\"a\":[1,-2.50e3,\"\\n\"],\"b\":{},\"a\":[],\"c\":false,\"d
 #[test]
 fn values_of_a_document_are_printed(rt: HostRuntime) -> Result<(), Fail> {
     let alloc = rt.alloc();
-    let doc = read(&rt, alloc, TEXT)?;
-    let value = Value::from_place(alloc, &doc, doc.root())?;
-    assert_eq!(rt; printed(alloc, value.view())?.as_slice(), TEXT.as_bytes());
-    let copy = View::packed(doc.view()).to_value(alloc)?;
-    assert_eq!(rt; printed(alloc, copy.view())?.as_slice(), TEXT.as_bytes());
+    let doc = read(alloc, TEXT)?;
+    let value = whole(alloc, &doc)?;
+    assert!(rt; value_prints(alloc, &value, TEXT.as_bytes())?);
+    let copy = copied(alloc, &doc)?;
+    assert!(rt; value_prints(alloc, &copy, TEXT.as_bytes())?);
     Ok(())
+}
+
+// `{"a":true,"b":[],"a":{}}`, made by hand.
+fn made_object(alloc: Global) -> json_text::Result<Value> {
+    let mut object = Object::new();
+    let pairs = object.pairs_mut(alloc)?;
+    pairs.push(Pair::new(Text::from_static("a"), Value::new_bool(true)))?;
+    pairs.push(Pair::new(Text::from_static("b"), Value::new_array()))?;
+    pairs.push(Pair::new(Text::from_static("a"), Value::new_object()))?;
+    Ok(object.into_value())
+}
+
+// `[null,{"a":true,"b":[],"a":{}},"x"]`, made by hand.
+fn made(alloc: Global) -> json_text::Result<Value> {
+    let mut list = Vec::new(alloc);
+    list.push(Value::new_null())?;
+    list.push(made_object(alloc)?)?;
+    list.push(Value::from_static_str("x"))?;
+    Ok(Value::from_vec(list))
 }
 
 #[test]
 fn values_made_by_hand_are_printed(rt: HostRuntime) -> Result<(), Fail> {
     let alloc = rt.alloc();
     let value = made(alloc)?;
-    let text = printed(alloc, value.view())?;
-    assert_eq!(rt;
-        text.as_slice(),
-        b"[null,{\"a\":true,\"b\":[],\"a\":{}},\"x\"]".as_slice()
-    );
+    let json = b"[null,{\"a\":true,\"b\":[],\"a\":{}},\"x\"]";
+    assert!(rt; value_prints(alloc, &value, json)?);
     Ok(())
 }
 
-#[test]
-fn numbers_are_printed(rt: HostRuntime) -> Result<(), Fail> {
-    let alloc = rt.alloc();
+// The numbers `[18446744073709551615,-7,1,-0]`.
+fn numbers(alloc: Global) -> json_text::Result<Value> {
     let mut items = Vec::new(alloc);
     items.push(Value::new_u64(18_446_744_073_709_551_615))?;
     items.push(Value::new_i64(-7))?;
     items.push(Value::from_number(Number::from(1u8)))?;
     items.push(Value::from_raw_number(RawNumber::new(alloc, "-0")?))?;
-    let value = Value::from_vec(items);
-    let text = printed(alloc, value.view())?;
-    assert_eq!(rt;
-        text.as_slice(),
-        b"[18446744073709551615,-7,1,-0]".as_slice()
-    );
+    Ok(Value::from_vec(items))
+}
+
+#[test]
+fn numbers_are_printed(rt: HostRuntime) -> Result<(), Fail> {
+    let alloc = rt.alloc();
+    let value = numbers(alloc)?;
+    assert!(rt; value_prints(alloc, &value, b"[18446744073709551615,-7,1,-0]")?);
     Ok(())
+}
+
+// Whether the text of a value is this one.
+fn is_displayed(alloc: Global, value: &Value, json: &str) -> json_text::Result<bool> {
+    let text = value.to_string(alloc)?;
+    Ok(text.as_str() == json)
+}
+
+// Whether the text of an array is this one.
+fn is_array_displayed(alloc: Global, value: &mut Value, json: &str) -> json_text::Result<bool> {
+    match array_in(value) {
+        Some(array) => Ok(array.to_string(alloc)?.as_str() == json),
+        None => Ok(false),
+    }
+}
+
+// Whether the text of an object is this one.
+fn is_object_displayed(alloc: Global, value: &Value, json: &str) -> json_text::Result<bool> {
+    match value {
+        Value::Object(object) => Ok(object.to_string(alloc)?.as_str() == json),
+        _ => Ok(false),
+    }
+}
+
+// The same of the value of the first member, behind the first write of its object.
+fn first_is_displayed(alloc: Global, value: &mut Value, json: &str) -> json_text::Result<bool> {
+    let pairs = pairs_in(value, alloc)?;
+    match pairs.and_then(|pairs| pairs.first_mut()) {
+        Some(first) => is_array_displayed(alloc, first.value_mut(), json),
+        None => Ok(false),
+    }
 }
 
 #[test]
 fn values_are_displayed(rt: HostRuntime) -> Result<(), Fail> {
     let alloc = rt.alloc();
     let text = "{\"a\":[\"\\u001f\\\"é\",-2.50e3],\"b\":{}}";
-    let mut value = value_of(&rt, alloc, text)?;
-    assert_eq!(rt; value.to_string(alloc)?.as_str(), text);
-    let object = object_in(&mut value).ok_or("no object")?;
-    let first = object.pairs_mut(alloc)?.first_mut().ok_or("no member")?;
-    let array = array_in(first.value_mut()).ok_or("no array")?;
-    assert_eq!(rt;
-        array.to_string(alloc)?.as_str(),
-        "[\"\\u001f\\\"é\",-2.50e3]"
-    );
-    assert_eq!(rt; object.to_string(alloc)?.as_str(), text);
+    let mut value = value_of(alloc, text)?;
+    assert!(rt; is_displayed(alloc, &value, text)?);
+    assert!(rt; first_is_displayed(alloc, &mut value, "[\"\\u001f\\\"é\",-2.50e3]")?);
+    assert!(rt; is_object_displayed(alloc, &value, text)?);
     Ok(())
 }
 
 #[test]
-fn what_a_value_shows(rt: HostRuntime) -> Result<(), Fail> {
+fn an_array_is_displayed(rt: HostRuntime) -> Result<(), Fail> {
     let alloc = rt.alloc();
-    let value = value_of(&rt, alloc, "[1]")?;
-    assert_eq!(rt; value.to_string(alloc)?.as_str(), "[1]");
-    assert_eq!(rt; Number::from(7_u8).to_string(alloc)?.as_str(), "7");
+    let value = value_of(alloc, "[1]")?;
+    assert!(rt; is_displayed(alloc, &value, "[1]")?);
+    Ok(())
+}
+
+#[test]
+fn numbers_and_errors_are_displayed(rt: HostRuntime) -> Result<(), Fail> {
+    let alloc = rt.alloc();
+    assert!(rt; Number::from(7_u8).to_string(alloc)?.as_str() == "7");
     let refused = RawNumber::new(alloc, "01").err().ok_or("no error")?;
-    assert_eq!(rt; refused.to_string(alloc)?.as_str(), "InvalidNumber");
+    assert!(rt; refused.to_string(alloc)?.as_str() == "InvalidNumber");
     Ok(())
 }

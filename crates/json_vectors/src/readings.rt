@@ -1,17 +1,12 @@
 // What is read through the traits.
-use crate::fixtures::value_of;
 use json_access::{JsonContainerTrait, JsonValueTrait};
 use json_doc::JsonType;
+use json_fixtures::value_of;
 use json_number::{JsonNumberTrait, Number};
 use json_text::Error;
 use json_value::{Value, View};
 use std::alloc::Global;
 use std::test::Fail;
-
-// Whether it is true, and whether it is false.
-fn truths<V: JsonValueTrait>(value: &V) -> (bool, bool) {
-    (value.is_true(), value.is_false())
-}
 
 // The kind, where the question for just this kind is answered by yes.
 fn kind<V: JsonValueTrait>(value: &V) -> Option<JsonType> {
@@ -31,6 +26,15 @@ fn kind<V: JsonValueTrait>(value: &V) -> Option<JsonType> {
     Some(value.get_type())
 }
 
+// Whether a value, a view of it, and what may be missing or refused but is this value are of this kind.
+fn are_of_kind(alloc: Global, json: &str, want: JsonType) -> json_text::Result<bool> {
+    let value = value_of(alloc, json)?;
+    let seen = kind(&value) == Some(want) && kind(&value.view()) == Some(want);
+    let lent = kind(&&value) == Some(want) && kind(&Some(&value)) == Some(want);
+    let answer: Result<Value, Error> = Ok(value);
+    Ok(seen && lent && kind(&answer) == Some(want))
+}
+
 #[test]
 fn kinds_are_read(rt: HostRuntime) -> Result<(), Fail> {
     let alloc = rt.alloc();
@@ -44,65 +48,91 @@ fn kinds_are_read(rt: HostRuntime) -> Result<(), Fail> {
         ("{\"k\":1}", JsonType::Object),
     ];
     for (json, want) in cases {
-        let value = value_of(&rt, alloc, json)?;
-        assert!(rt; kind(&value) == Some(want), "{json}");
-        assert!(rt; kind(&value.view()) == Some(want), "{json}");
-        assert!(rt; kind(&&value) == Some(want), "{json}");
-        assert!(rt; kind(&Some(&value)) == Some(want), "{json}");
-        let answer: Result<Value, Error> = Ok(value);
-        assert!(rt; kind(&answer) == Some(want), "{json}");
+        assert!(rt; are_of_kind(alloc, json, want)?, "{json}");
     }
     Ok(())
+}
+
+// Whether it is the one boolean and not the other.
+fn is_boolean<V: JsonValueTrait>(value: &V, boolean: bool) -> bool {
+    value.is_true() == boolean && value.is_false() != boolean
+}
+
+fn is_no_boolean<V: JsonValueTrait>(value: &V) -> bool {
+    !value.is_true() && !value.is_false()
 }
 
 #[test]
 fn booleans_are_read(rt: HostRuntime) {
     let value = Value::new_bool(true);
-    assert_eq!(rt; truths(&value), (true, false));
-    assert_eq!(rt; truths(&value.view()), (true, false));
-    assert_eq!(rt; truths(&Some(value)), (true, false));
-    assert_eq!(rt; truths(&Value::new_bool(false)), (false, true));
-    assert_eq!(rt; truths(&Value::new_null()), (false, false));
+    assert!(rt; is_boolean(&value, true));
+    assert!(rt; is_boolean(&value.view(), true));
+    assert!(rt; is_boolean(&Some(value), true));
+    assert!(rt; is_boolean(&Value::new_bool(false), false));
+    assert!(rt; is_no_boolean(&Value::new_null()));
+}
+
+fn is_missing<V: JsonContainerTrait>(value: &V) -> bool {
+    value.is_null() && value.as_array().is_none() && value.as_object().is_none()
 }
 
 #[test]
 fn what_is_missing_is_null(rt: HostRuntime) {
     let none: Option<Value> = None;
-    assert!(rt; none.is_null() && none.as_array().is_none());
+    assert!(rt; is_missing(&none));
     let no_view: Option<View<'static>> = None;
-    assert!(rt; no_view.get_type() == JsonType::Null);
+    assert!(rt; kind(&no_view) == Some(JsonType::Null));
+}
+
+#[test]
+fn what_was_refused_is_null(rt: HostRuntime) {
     let refused: Result<Value, Error> = Err(Error {
         code: json_text::ErrorCode::NotFound,
         place: json_text::Place::None,
     });
-    assert!(rt; refused.is_null() && refused.as_object().is_none());
+    assert!(rt; is_missing(&refused));
 }
 
-// What scalars there are.
-fn scalars<V: JsonValueTrait>(value: &V) -> (Option<bool>, Option<&str>, Option<Number>) {
-    (value.as_bool(), value.as_str(), value.as_number())
+// Whether it is this text, and no other scalar.
+fn is_text<V: JsonValueTrait>(value: &V, text: &str) -> bool {
+    value.as_str() == Some(text) && value.as_bool().is_none() && value.as_number().is_none()
+}
+
+fn is_truth<V: JsonValueTrait>(value: &V) -> bool {
+    value.as_bool() == Some(true) && value.as_str().is_none() && value.as_number().is_none()
+}
+
+fn is_seven<V: JsonValueTrait>(value: &V) -> bool {
+    let seven = Some(Number::from(7_u8));
+    value.as_number() == seven && value.as_bool().is_none() && value.as_str().is_none()
 }
 
 #[test]
 fn scalars_are_read(rt: HostRuntime) {
     let text = Value::from_static_str("a");
-    assert!(rt; scalars(&text) == (None, Some("a"), None));
-    assert!(rt; scalars(&text.view()) == (None, Some("a"), None));
-    assert!(rt; scalars(&Value::new_bool(true)) == (Some(true), None, None));
-    assert!(rt; scalars(&Some(Value::new_u64(7))) == (None, None, Some(Number::from(7_u8))));
+    assert!(rt; is_text(&text, "a"));
+    assert!(rt; is_text(&text.view(), "a"));
+    assert!(rt; is_truth(&Value::new_bool(true)));
+    assert!(rt; is_seven(&Some(Value::new_u64(7))));
 }
 
-fn integers<V: JsonValueTrait>(value: &V) -> (Option<u64>, Option<i64>) {
-    (value.as_u64(), value.as_i64())
+// Whether these are its integers.
+fn is_integer<V: JsonValueTrait>(value: &V, unsigned: Option<u64>, signed: Option<i64>) -> bool {
+    value.as_u64() == unsigned && value.as_i64() == signed
+}
+
+// Whether the questions for its integers are answered so.
+fn fits<V: JsonValueTrait>(value: &V, unsigned: bool, signed: bool) -> bool {
+    value.is_u64() == unsigned && value.is_i64() == signed
 }
 
 #[test]
 fn integers_are_read(rt: HostRuntime) {
     let big = Some(Value::new_u64(18446744073709551615));
-    assert!(rt; big.is_u64() && !big.is_i64());
-    assert_eq!(rt; integers(&big), (Some(18446744073709551615), None));
-    assert_eq!(rt; integers(&Value::new_i64(-7)), (None, Some(-7)));
-    assert_eq!(rt; integers(&Value::new_null()), (None, None));
+    assert!(rt; fits(&big, true, false));
+    assert!(rt; is_integer(&big, Some(18446744073709551615), None));
+    assert!(rt; is_integer(&Value::new_i64(-7), None, Some(-7)));
+    assert!(rt; is_integer(&Value::new_null(), None, None));
 }
 
 // Whether the literal of the number is this one.
@@ -117,14 +147,18 @@ fn is_spelled<V: JsonValueTrait>(
     }
 }
 
+// Whether the literal of a value, of its view, and of what may be missing but is this value is this one.
+fn are_spelled(alloc: Global, literal: &str) -> json_text::Result<bool> {
+    let value = value_of(alloc, literal)?;
+    let seen = is_spelled(alloc, &value, literal)? && is_spelled(alloc, &value.view(), literal)?;
+    Ok(seen && is_spelled(alloc, &Some(value), literal)?)
+}
+
 #[test]
 fn literals_are_read(rt: HostRuntime) -> Result<(), Fail> {
     let alloc = rt.alloc();
     for literal in ["12", "-7", "18446744073709551615", "1.50e3", "-0"] {
-        let value = value_of(&rt, alloc, literal)?;
-        assert!(rt; is_spelled(alloc, &value, literal)?, "{literal}");
-        assert!(rt; is_spelled(alloc, &value.view(), literal)?, "{literal}");
-        assert!(rt; is_spelled(alloc, &Some(value), literal)?, "{literal}");
+        assert!(rt; are_spelled(alloc, literal)?, "{literal}");
     }
     let none: Option<Value> = None;
     assert!(rt; none.as_raw_number(alloc)?.is_none());
@@ -144,6 +178,18 @@ fn sizes<V: JsonContainerTrait>(value: &V) -> (Option<usize>, Option<usize>) {
     (elements, members)
 }
 
+// Whether a value, and what may be missing or refused but is this value, has so many.
+fn are_sized(
+    alloc: Global,
+    json: &str,
+    want: (Option<usize>, Option<usize>),
+) -> json_text::Result<bool> {
+    let value = value_of(alloc, json)?;
+    let lent = sizes(&value) == want && sizes(&&value) == want && sizes(&Some(&value)) == want;
+    let answer: Result<Value, Error> = Ok(value);
+    Ok(lent && sizes(&answer) == want)
+}
+
 #[test]
 fn containers_are_read(rt: HostRuntime) -> Result<(), Fail> {
     let alloc = rt.alloc();
@@ -153,12 +199,7 @@ fn containers_are_read(rt: HostRuntime) -> Result<(), Fail> {
         ("null", (None, None)),
     ];
     for (json, want) in cases {
-        let value = value_of(&rt, alloc, json)?;
-        assert!(rt; sizes(&value) == want, "{json}");
-        assert!(rt; sizes(&&value) == want, "{json}");
-        assert!(rt; sizes(&Some(&value)) == want, "{json}");
-        let answer: Result<Value, Error> = Ok(value);
-        assert!(rt; sizes(&answer) == want, "{json}");
+        assert!(rt; are_sized(alloc, json, want)?, "{json}");
     }
     Ok(())
 }

@@ -1,64 +1,121 @@
 // What views show.
-use crate::fixtures::{read, shows, value_of};
-use json_doc::JsonType;
+use json_doc::{Doc, JsonType};
+use json_fixtures::{read, shows, value_of, whole};
 use json_number::Number;
-use json_value::{Pair, Text, Value, View};
+use json_value::{ObjectView, Pair, Text, Value, View};
 use std::rc::Rc;
 use std::test::Fail;
 
-#[test]
-fn views_show(rt: HostRuntime) -> Result<(), Fail> {
-    let alloc = rt.alloc();
-    let doc = read(&rt, alloc, "{\"a\":[7,\"\\n\"],\"b\":-2.50e3}")?;
-    let view = View::packed(doc.view());
-    let object = view.as_object().ok_or("no object")?;
-    assert!(rt; object.len() == 2 && !object.is_empty());
-    let (key, value) = object.get_key_value("b").ok_or("no member")?;
-    assert_eq!(rt; (key, value.literal()), ("b", Some("-2.50e3")));
-    let array = object
-        .get("a")
-        .ok_or("no value")?
-        .as_array()
-        .ok_or("no array")?;
-    let number = array.get(0).ok_or("no element")?;
-    assert!(rt; number.as_number() == Some(Number::from(7u8)) && number.literal().is_none());
-    let text = array.get(1).ok_or("no element")?;
-    assert!(rt; text.get_type() == JsonType::String && text.text() == Some("\n"));
-    Ok(())
+// The literal of the member of a key.
+fn literal_of<'a>(object: ObjectView<'a>, name: &str) -> Option<&'a str> {
+    let (key, value) = object.get_key_value(name)?;
+    if key == name { value.literal() } else { None }
+}
+
+// The element of an index of the array that is the value of a key.
+fn element_of<'a>(object: ObjectView<'a>, name: &str, index: usize) -> Option<View<'a>> {
+    object.get(name)?.as_array()?.get(index)
+}
+
+fn is_seven(view: View<'_>) -> bool {
+    view.as_number() == Some(Number::from(7u8)) && view.literal().is_none()
+}
+
+fn is_text(view: View<'_>, text: &str) -> bool {
+    view.get_type() == JsonType::String && view.text() == Some(text)
+}
+
+// The members of a whole document.
+fn members_of(doc: &Doc) -> Option<ObjectView<'_>> {
+    View::packed(doc.view()).as_object()
 }
 
 #[test]
-fn parts_are_counted(rt: HostRuntime) -> Result<(), Fail> {
-    let alloc = rt.alloc();
-    let value = value_of(&rt, alloc, "[1,null]")?;
-    let array = value.view().as_array().ok_or("no array")?;
-    assert!(rt; !array.is_empty() && array.iter().len() == 2);
-    let value = value_of(&rt, alloc, "{\"k\":true}")?;
-    let object = value.view().as_object().ok_or("no object")?;
-    let (key, truth) = object.pair(0).ok_or("no member")?;
-    assert!(rt; key == "k" && truth.as_bool() == Some(true) && object.pair(1).is_none());
-    assert!(rt; object.iter().len() == 1);
+fn views_show(rt: HostRuntime) -> Result<(), Fail> {
+    let doc = read(rt.alloc(), "{\"a\":[7,\"\\n\"],\"b\":-2.50e3}")?;
+    let object = members_of(&doc).ok_or("no object")?;
+    assert!(rt; object.len() == 2 && !object.is_empty());
+    assert!(rt; literal_of(object, "b") == Some("-2.50e3"));
+    assert!(rt; element_of(object, "a", 0).is_some_and(is_seven));
+    assert!(rt; element_of(object, "a", 1).is_some_and(|text| is_text(text, "\n")));
     Ok(())
+}
+
+// How many elements an array has, where it has some.
+fn elements(value: &Value) -> Option<usize> {
+    let array = value.view().as_array()?;
+    if array.is_empty() {
+        None
+    } else {
+        Some(array.iter().len())
+    }
+}
+
+#[test]
+fn elements_are_counted(rt: HostRuntime) -> Result<(), Fail> {
+    let value = value_of(rt.alloc(), "[1,null]")?;
+    assert!(rt; elements(&value) == Some(2));
+    Ok(())
+}
+
+// Whether the first member has this key and is true, and there is no second.
+fn is_only(object: ObjectView<'_>, name: &str) -> bool {
+    match object.pair(0) {
+        Some((key, value)) => {
+            key == name && value.as_bool() == Some(true) && object.pair(1).is_none()
+        }
+        None => false,
+    }
+}
+
+// Whether a value is an object of such a member alone.
+fn has_only(value: &Value, name: &str) -> bool {
+    match value.view().as_object() {
+        Some(object) => object.iter().len() == 1 && is_only(object, name),
+        None => false,
+    }
+}
+
+#[test]
+fn members_are_counted(rt: HostRuntime) -> Result<(), Fail> {
+    let value = value_of(rt.alloc(), "{\"k\":true}")?;
+    assert!(rt; has_only(&value, "k"));
+    Ok(())
+}
+
+// Writes true at a member.
+fn write_true(member: &mut Pair) {
+    *member.value_mut() = Value::new_bool(true);
+}
+
+fn is_true(member: &Pair, key: &str) -> bool {
+    member.key() == key && member.value().eq_bool(true)
 }
 
 #[test]
 fn members_are_seen(rt: HostRuntime) {
     let mut member = Pair::new(Text::from_static("k"), Value::new_null());
-    *member.value_mut() = Value::new_bool(true);
-    assert!(rt; member.key() == "k" && member.value().eq_bool(true));
+    write_true(&mut member);
+    assert!(rt; is_true(&member, "k"));
+}
+
+// Whether a value stands where what is seen does.
+fn stands_where(value: &Value, seen: View<'_>) -> bool {
+    match (value.place(), seen.place()) {
+        (Some((doc, at)), Some((other, seen_at))) => at == seen_at && doc.text() == other.text(),
+        _ => false,
+    }
 }
 
 #[test]
 fn a_packed_part_of_a_value_is_shared(rt: HostRuntime) -> Result<(), Fail> {
     let alloc = rt.alloc();
-    let doc = read(&rt, alloc, "[0.5,{\"k\":[\"x\",2.50]}]")?;
-    let value = Value::from_place(alloc, &doc, doc.root())?;
-    let element = value.at(1_usize).at("k").at(1_usize);
-    let (_, seen_at) = element.place().ok_or("no place")?;
+    let doc = read(alloc, "[0.5,{\"k\":[\"x\",2.50]}]")?;
+    let value = whole(alloc, &doc)?;
+    let part = value.at(1_usize).at("k").at(1_usize);
     let before = Rc::strong_count(&doc);
-    let shared = element.to_value(alloc)?;
-    let (document, at) = shared.place().ok_or("no place")?;
-    assert!(rt; document.text() == doc.text() && at == seen_at);
+    let shared = part.to_value(alloc)?;
+    assert!(rt; stands_where(&shared, part));
     assert_eq!(rt; (before, Rc::strong_count(&doc)), (2, 3));
     Ok(())
 }
@@ -66,10 +123,9 @@ fn a_packed_part_of_a_value_is_shared(rt: HostRuntime) -> Result<(), Fail> {
 #[test]
 fn a_part_of_a_document_alone_is_copied(rt: HostRuntime) -> Result<(), Fail> {
     let alloc = rt.alloc();
-    let doc = read(&rt, alloc, "[[2.50,\"x\"]]")?;
-    let element = View::packed(doc.view()).at(0_usize);
-    let copy = element.to_value(alloc)?;
-    assert!(rt; element.place().is_some() && copy.place().is_none());
+    let doc = read(alloc, "[[2.50,\"x\"]]")?;
+    let copy = View::packed(doc.view()).at(0_usize).to_value(alloc)?;
+    assert!(rt; copy.place().is_none());
     assert!(rt; shows(alloc, &copy, "[2.50,\"x\"]")?);
     assert_eq!(rt; Rc::strong_count(&doc), 1);
     Ok(())

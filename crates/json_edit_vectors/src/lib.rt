@@ -1,0 +1,16 @@
+//! Tests alone: worked examples of values that are made, edited and copied, and of places that are lent. They stand here and not
+//! in their libraries, since a library with tests is proved twice; what is read and printed stands in `json_vectors`.
+#![tactic(auto)]
+
+#[cfg(test)]
+mod edits;
+#[cfg(test)]
+mod lending;
+#[cfg(test)]
+mod making;
+#[cfg(test)]
+mod places;
+#[cfg(test)]
+mod standing;
+#[cfg(test)]
+mod writing;
