@@ -1,5 +1,5 @@
 -- Where what is seen stands in a document, and what is made of it.
-use Rattle.std.specs.Prelude.{◌≡◌, ℕ, Option, None, Some}
+use Rattle.std.specs.Prelude.{ℕ, List, Option, None, Some}
 use Rattle.std.specs.Borrow.{Bor}
 use Rattle.std.specs.declared.alloc.Global.{Global}
 use Rattle.std.specs.declared.rc.Rc.{Rc}
@@ -7,7 +7,6 @@ use Rattle.json_doc.specs.Seen.{view_doc, view_place}
 use Rattle.json_doc.specs.declared.doc.Doc.{Doc}
 use Rattle.json_value.specs.Places.{places_in}
 use Rattle.json_value.specs.Spots.{Spot, spot_in, spot_of, read_spot}
-use Rattle.json_value.specs.declared.value.Value.{Value}
 use Rattle.json_value.specs.declared.view.View.{View}
 use Rattle.json_value.specs.declared.view.ViewForm.{ViewForm}
 use Rattle.json_value.specs.declared.view.ViewForm.TheVariants as whole
@@ -35,11 +34,11 @@ form_spot_kept whole.Absent = None
 abbrev pub spot_kept : View → Option Spot
 spot_kept v = form_spot_kept v.form
 
-abbrev pub FormKeepsPlaces : ViewForm → Value → Type 0
-FormKeepsPlaces (whole.Packed p) v = Unit {0}
-FormKeepsPlaces (whole.Whole w) v = places_in v ≡ places_in w.now
-FormKeepsPlaces whole.Absent v = Unit {0}
+abbrev pub form_places_kept : ViewForm → Option (List (Option Spot))
+form_places_kept (whole.Packed p) = None
+form_places_kept (whole.Whole v) = Some (places_in v.now)
+form_places_kept whole.Absent = None
 
--- if a whole value is seen, the parts of v stand where its parts do
-abbrev pub KeepsPlaces : View → Value → Type 0
-KeepsPlaces view v = FormKeepsPlaces view.form v
+-- where the parts of a value made of what is seen stand, if a whole value is seen: where its parts do
+abbrev pub places_kept : View → Option (List (Option Spot))
+places_kept v = form_places_kept v.form

@@ -1,12 +1,13 @@
 // Copies of what views show, as values that hold no view.
-ghost use Rattle.std.specs.Prelude.{◌≡◌, None, map, IfOk, IfErr};
+ghost use Rattle.std.specs.Prelude.{◌≡◌, None, map, IfSome, IfOk, IfErr};
 ghost use Rattle.json_text.specs.Errors.{no_memory};
 ghost use Rattle.json_doc.specs.Left.{children_left, pairs_left};
 ghost use Rattle.json_doc.specs.Seen.{view_place, view_tree};
 ghost use Rattle.json_value.specs.Denotes.{tree_of, pair_of};
+ghost use Rattle.json_value.specs.Places.{places_in};
 ghost use Rattle.json_value.specs.Seen.{seen};
 ghost use Rattle.json_value.specs.Spots.{spot_of};
-ghost use Rattle.json_value.specs.Standing.{held_spot, spot_kept, KeepsPlaces};
+ghost use Rattle.json_value.specs.Standing.{held_spot, spot_kept, places_kept};
 
 use crate::container::{Container, Form};
 use crate::literal::Literal;
@@ -25,7 +26,7 @@ impl<'a> View<'a> {
     pub fn to_value(self, alloc: Global) -> Result<Value>
         ensures tree { IfOk result (λ v. tree_of v ≡ seen self.entry) }
         ensures spot { IfOk result (λ v. spot_of v ≡ spot_kept self.entry) }
-        ensures places { IfOk result (λ v. KeepsPlaces self.entry v) }
+        ensures places { IfOk result (λ v. IfSome (places_kept self.entry) (λ places. places_in v ≡ places)) }
         ensures only { IfErr result (λ e. e ≡ no_memory) }
     {
         match self.form {

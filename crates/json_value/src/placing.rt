@@ -1,5 +1,5 @@
 // Places that are made where they lack.
-ghost use Rattle.std.specs.Prelude.{◌≡◌, [], ◌∷◌, ◌++◌, length, map, IfOk, IfErr, OnErr, Some, Ok, false};
+ghost use Rattle.std.specs.Prelude.{◌≡◌, [], ◌∷◌, ◌++◌, length, map, IfOk, IfErr, OnErr, Ok, false};
 ghost use Rattle.std.specs.Borrow.{LendsSoOk, sem};
 ghost use Rattle.json_grammar.specs.Tree.{Tree, Pairs, list_pairs};
 ghost use Rattle.json_doc.specs.Readings.{type_of};

@@ -1,11 +1,14 @@
 // Views of values.
-ghost use Rattle.std.specs.Prelude.{◌≡◌, option_map, IfSome};
+ghost use Rattle.std.specs.Prelude.{◌≡◌, None, Some, option_map, IfSome};
 ghost use Rattle.json_grammar.specs.Tree.{num};
 ghost use Rattle.json_number.specs.Numbers.{value_of, text_of_number};
 ghost use Rattle.json_doc.specs.Readings.{type_of, bool_of, integer_of, literal_of, string_of};
-ghost use Rattle.json_doc.specs.Seen.{view_tree};
+ghost use Rattle.json_doc.specs.Seen.{view_doc, view_place, view_tree};
 ghost use Rattle.json_value.specs.Denotes.{tree_of};
+ghost use Rattle.json_value.specs.Places.{places_in};
 ghost use Rattle.json_value.specs.Seen.{seen, elements_seen, members_seen, list_of, pairs_of};
+ghost use Rattle.json_value.specs.Spots.{spot_in, spot_of};
+ghost use Rattle.json_value.specs.Standing.{spot_seen, spot_kept, places_kept};
 
 use crate::array_view::ArrayView;
 use crate::object_view::ObjectView;
@@ -42,7 +45,10 @@ impl Value {
     /// The whole value.
     #[inline]
     pub fn view(&self) -> View<'_>
-        ensures { seen result ≡ tree_of self.now }
+        ensures tree { seen result ≡ tree_of self.now }
+        ensures spot { spot_seen result ≡ spot_of self.now }
+        ensures kept { spot_kept result ≡ spot_of self.now }
+        ensures places { places_kept result ≡ Some (places_in self.now) }
     {
         View {
             form: ViewForm::Whole(self),
@@ -54,7 +60,9 @@ impl<'a> View<'a> {
     /// A place of a document.
     #[inline]
     pub fn packed(view: DocView<'a>) -> View<'a>
-        ensures { seen result ≡ view_tree view.entry }
+        ensures tree { seen result ≡ view_tree view.entry }
+        ensures spot { spot_seen result ≡ Some (spot_in (view_doc view.entry) (view_place view.entry)) }
+        ensures kept { spot_kept result ≡ None }
     {
         View {
             form: ViewForm::Packed(PackedView::of_document(view)),

@@ -8,7 +8,7 @@ pub returns-then-eq : goal.returns-then-eq
 returns-then-eq c =
     let ps = map pair_of c.args.pairs.now in let i = c.loop-pair.pair-index in let p = c.pair-item.result in
     let e = item_there pair_of _ c.args.pairs.now i p refl c.loop-pair-test.true c.pair-item.is in
-    sym (c.loop-pair.invariant ∙ first_there _ ps i _ (key_of_item ps i p _ e c.as_str.ensures) (sym c.eq.ensures ∙ c.if-eq.true) ∙ e ∙ sym (ap₂ (λ a b. Some (a, b)) c.as_str-then-eq.ensures c.view.ensures))
+    sym (c.loop-pair.invariant ∙ first_there _ ps i _ (key_of_item ps i p _ e c.as_str.ensures) (sym c.eq.ensures ∙ c.if-eq.true) ∙ e ∙ sym (ap₂ (λ a b. Some (a, b)) c.as_str-then-eq.ensures c.view.ensures.tree))
 
 pub loop-pair-preserved : goal.loop-pair-preserved
 loop-pair-preserved c =

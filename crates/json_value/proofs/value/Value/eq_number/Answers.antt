@@ -12,5 +12,5 @@ pub returns : goal.returns
 returns c =
     c.eq.ensures
     ∙ option_on value_of int_eq c.as_number.result (Some c.args.number)
-    ∙ ap (λ o. option_eq int_eq o (Some (value_of c.args.number))) (c.as_number.ensures.value ∙ ap integer_of c.view.ensures)
+    ∙ ap (λ o. option_eq int_eq o (Some (value_of c.args.number))) (c.as_number.ensures.value ∙ ap integer_of c.view.ensures.tree)
     ∙ sym (integer_same (tree_of c.args.self.now) c.args.number (value_proper c.args.self.now))
