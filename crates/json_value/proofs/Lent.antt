@@ -1,6 +1,7 @@
 -- What a write through a lent part makes of the tree around it, and what stands there before.
 use Rattle.std.proofs.Common.{◌≡◌, ℕ, zero, suc, cond, Bool, true, false, ◌<◌, ◌≤◌, List, [], ◌∷◌, ◌++◌, Vec, Global, length, get_or, set, take, map, Ok, Err, Some, None, refl, sym, ap, ◌∙◌, subst, arith, bytes_eq, Result, MutBor, IfOk, IfErr}
 use Rattle.std.specs.Prelude.{Option, IfSome, slice_get, option_map}
+use Rattle.std.proofs.Math.Seq.{get_or-append_seam}
 use Rattle.std.proofs.lemmas.List.{length-map, length_push, map_push, set_at}
 use Rattle.std.proofs.lemmas.Option.{none-some, same_Some}
 use Rattle.json_grammar.specs.Tree.{Tree, null, boolean, num, text, list, pairs, Trees, Pairs, no_pairs, pair_and, list_trees, list_pairs, pairs_list}
@@ -239,22 +240,20 @@ refused_element i t (Err e) h = λ u. h (λ _. Ok u)
 
 -- ---- an element that is appended
 
-get_or-last : (vs : List Value) (v x : Value) → get_or (vs ++ v ∷ []) (length vs) x ≡ v
-get_or-last [] v x = refl
-get_or-last (u ∷ vs) v x = get_or-last vs v x
+-- the last of a list that was pushed, read and written
+module _ {T : Type 0} (vs us : List T) (v : T) (i : ℕ) (made : us ≡ vs ++ v ∷ []) (end : i ≡ length vs) where
+  pub last_set : (w : T) → set us i w ≡ vs ++ w ∷ []
+  last_set w = ap (λ (xs : List T). set xs i w) made ∙ set_at vs v [] w i (sym end)
 
-module _ (t : Tree) (vs us : List Value) (v : Value) (i : ℕ) (is : t ≡ list (list_trees (map tree_of vs))) (made : us ≡ vs ++ v ∷ []) (end : i ≡ length vs) where
-  last_set : (w : Value) → set us i w ≡ vs ++ w ∷ []
-  last_set w = ap (λ (xs : List Value). set xs i w) made ∙ set_at vs v [] w i (sym end)
+  pub last_read : (x : T) → x ≡ get_or us i x → x ≡ v
+  last_read x read = read ∙ ap (λ (xs : List T). get_or xs i x) made ∙ ap (λ (j : ℕ). get_or (vs ++ v ∷ []) j x) end ∙ get_or-append_seam vs v [] x
 
-  pub pushed_put : (w : Value) (n : Tree) → n ≡ list (list_trees (map tree_of (set us i w))) → on_list (λ ts. Ok (pushed (tree_of w) ts)) t ≡ Ok n
-  pushed_put w n e =
-      ap (on_list (λ ts. Ok (pushed (tree_of w) ts))) is
-      ∙ ap (λ (ts : Trees). Ok (list ts)) (element_pushed vs w (tree_of w) refl ∙ ap (λ (xs : List Value). list_trees (map tree_of xs)) (sym (last_set w)))
-      ∙ sym (ap Ok e)
-
-  pub pushed_value : (x : Value) → x ≡ get_or us i x → x ≡ v
-  pushed_value x read = read ∙ ap (λ (xs : List Value). get_or xs i x) made ∙ ap (λ (j : ℕ). get_or (vs ++ v ∷ []) j x) end ∙ get_or-last vs v x
+pub pushed_put : (t : Tree) (vs us : List Value) (v : Value) (i : ℕ) → t ≡ list (list_trees (map tree_of vs)) → us ≡ vs ++ v ∷ [] → i ≡ length vs
+    → (w : Value) (n : Tree) → n ≡ list (list_trees (map tree_of (set us i w))) → on_list (λ ts. Ok (pushed (tree_of w) ts)) t ≡ Ok n
+pushed_put t vs us v i is made end w n e =
+    ap (on_list (λ ts. Ok (pushed (tree_of w) ts))) is
+    ∙ ap (λ (ts : Trees). Ok (list ts)) (element_pushed vs w (tree_of w) refl ∙ ap (λ (xs : List Value). list_trees (map tree_of xs)) (sym (last_set vs us v i made end w)))
+    ∙ sym (ap Ok e)
 
 -- ---- an object that lacks the key was no null
 

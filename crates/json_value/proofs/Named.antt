@@ -27,11 +27,11 @@ never_ok p = absurd (subst T (sym p) tt)
 -- what each value that a result holds tells, a result tells that holds one
 pub on_ok : {A B C : Type 0} (r : Result A B) {P : A → Type 0} → IsOk r → ((x : A) → P x → C) → IfOk r P → C
 on_ok (Ok x) ok h p = h x p
-on_ok (Err e) ok h p = absurd (subst T (sym ok) tt)
+on_ok (Err e) ok h p = never_ok ok
 
 pub ok_place : {X E : Type 0} (r : Result (MutBor X) E) → IsOk r → IsLent (name_of_ok r)
 ok_place (Ok x) p = tt
-ok_place (Err e) p = absurd (subst T (sym p) tt)
+ok_place (Err e) p = never_ok p
 
 pub no_place_on : {X E : Type 0} (r : Result (MutBor X) E) (A : Type 0) → UnlessLent (name_of_ok r) A → OnErr r A
 no_place_on (Ok x) A p = tt

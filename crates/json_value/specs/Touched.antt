@@ -104,9 +104,13 @@ Touches p e = Along p (ChangeTouches e)
 
 -- ---- through a lent place
 
+-- x was there, and w is there now
+abbrev pub Became : {T : Type 0} → (x w before after : T) → Type 0
+Became x w before after = (before ≡ x) × (after ≡ w)
+
 -- w came to where the steps lead, in the place of x
 abbrev pub Exchanges : List Step → (x w old new : Value) → Type 0
-Exchanges p x w = Along p (λ before after. (before ≡ x) × (after ≡ w))
+Exchanges p x w = Along p (Became x w)
 
 -- w came behind the other elements
 abbrev pub Adds : (w old new : Value) → Type 0
@@ -130,5 +134,5 @@ SeatsValue k w = Seats k (λ before after. after ≡ w) w
 
 -- w came to where the step leads, in the place of x, or with a member of its own; null has no other members
 abbrev pub ExchangesOrSeats : Step → (x w old new : Value) → Type 0
-ExchangesOrSeats (key_step k) x w old new = (old ≡ Null) ⊎ Seats k (λ before after. (before ≡ x) × (after ≡ w)) w old new
+ExchangesOrSeats (key_step k) x w old new = (old ≡ Null) ⊎ Seats k (Became x w) w old new
 ExchangesOrSeats (index_step i) x w old new = Exchanges (index_step i ∷ []) x w old new

@@ -4,11 +4,11 @@ use Rattle.json_grammar.specs.Tree.{list, list_trees}
 use Rattle.json_text.specs.Errors.{not_found}
 use Rattle.json_model.specs.Edit.{at_path, index_step}
 use Rattle.json_value.specs.Denotes.{tree_of}
-use Rattle.json_value.specs.Touched.{ArrayTouched}
+use Rattle.json_value.specs.Touched.{ArrayTouched, Became}
 use Rattle.json_value.specs.declared.value.Value.{Value}
 use Rattle.json_value.proofs.AppliedTrees.{refused_as}
 use Rattle.json_value.proofs.Lent.{element_there, element_put, element_past}
-use Rattle.json_value.proofs.Touching.{Written, element_exchanged}
+use Rattle.json_value.proofs.Touching.{element_exchanged}
 use Rattle.json_value.proofs.child.element_of.Goals as goal
 
 pub returns-in-Some : goal.returns-in-Some
@@ -19,7 +19,7 @@ returns-in-Some g c =
     let i = c.args.index in
     let v = c.in-Some.value.now in
     let low = c.in-Some.ensures.item.3.0 in
-    let after : (w : Vec Value Global) → (tree_of (g.S.Slot.held (c.list.follows.lender w)) ≡ list (list_trees (map tree_of w.items))) × ArrayTouched (Written lent.items w.items) old (g.S.Slot.held (c.list.follows.lender w)) =
+    let after : (w : Vec Value Global) → (tree_of (g.S.Slot.held (c.list.follows.lender w)) ≡ list (list_trees (map tree_of w.items))) × ArrayTouched (Became lent.items w.items) old (g.S.Slot.held (c.list.follows.lender w)) =
     λ w. (rw c.in_ok-list.was at (c.list.follows.holds w)) refl
     in (
       (

@@ -5,12 +5,12 @@ use Rattle.json_text.specs.Errors.{not_found}
 use Rattle.json_model.specs.Edit.{at_path, key_step}
 use Rattle.json_value.specs.Denotes.{tree_of, pair_of}
 use Rattle.json_value.specs.Rows.{keyed_so}
-use Rattle.json_value.specs.Touched.{ObjectTouched}
+use Rattle.json_value.specs.Touched.{ObjectTouched, Became}
 use Rattle.json_value.specs.declared.value.Value.{Value}
 use Rattle.json_value.specs.declared.pair.Keyed.{Keyed}
 use Rattle.json_value.proofs.AppliedTrees.{first_moved, none_moved, refused_as}
 use Rattle.json_value.proofs.Lent.{member_there, member_put, member_missed}
-use Rattle.json_value.proofs.Touching.{Written, member_exchanged, value_exchanged}
+use Rattle.json_value.proofs.Touching.{member_exchanged}
 use Rattle.json_value.proofs.child.member_of.Goals as goal
 
 pub returns-in-Some : goal.returns-in-Some
@@ -24,14 +24,14 @@ returns-in-Some g c =
     let p = c.index_mut-pair.result.now in
     let read = c.index_mut-pair.ensures.value in
     let first = first_moved k k c.as_slice.result.now lent.items i refl c.as_slice.ensures.value c.in-Some.ensures.first in
-    let after : (w : Vec (Keyed Value) Global) → (tree_of (g.S.Slot.held (c.pairs.follows.lender w)) ≡ pairs (list_pairs (map pair_of w.items))) × ObjectTouched (Written lent.items w.items) old (g.S.Slot.held (c.pairs.follows.lender w)) =
+    let after : (w : Vec (Keyed Value) Global) → (tree_of (g.S.Slot.held (c.pairs.follows.lender w)) ≡ pairs (list_pairs (map pair_of w.items))) × ObjectTouched (Became lent.items w.items) old (g.S.Slot.held (c.pairs.follows.lender w)) =
     λ w. (rw c.in_ok-pairs.was at (c.pairs.follows.holds w)) refl
     in (
       (
         refl,
         (λ w ok. (
           member_put t k lent.items is i p read first w _ (after (with_item lent i (keyed_so p.key w))).0,
-          value_exchanged k p.value c.value_mut.result.now w old _ c.value_mut.ensures.value (member_exchanged k lent.items i p w old _ read first (after (with_item lent i (keyed_so p.key w))).1),
+          member_exchanged k lent.items i p c.value_mut.result.now w old _ read first c.value_mut.ensures.value (after (with_item lent i (keyed_so p.key w))).1,
         )),
         tt,
       ),

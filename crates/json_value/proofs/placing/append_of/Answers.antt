@@ -3,11 +3,11 @@ use Rattle.std.specs.Vec.{with_item}
 use Rattle.std.proofs.lemmas.Result.{err_from_is_err_and}
 use Rattle.json_grammar.specs.Tree.{list, list_trees}
 use Rattle.json_value.specs.Denotes.{tree_of}
-use Rattle.json_value.specs.Touched.{ArrayTouched}
+use Rattle.json_value.specs.Touched.{ArrayTouched, Became}
 use Rattle.json_value.specs.declared.value.Value.{Value}
-use Rattle.json_value.proofs.Lent.{list_memory, pushed_put, pushed_value}
+use Rattle.json_value.proofs.Lent.{list_memory, pushed_put, last_read}
 use Rattle.json_value.proofs.Named.{never_ok}
-use Rattle.json_value.proofs.Touching.{Written, element_added}
+use Rattle.json_value.proofs.Touching.{element_added}
 use Rattle.json_value.proofs.placing.append_of.Goals as goal
 
 pub returns-in_err-list : goal.returns-in_err-list
@@ -27,7 +27,7 @@ returns g c =
     let is = c.in_ok-list.ensures.value in
     let made = c.in_ok-last.ensures.items in
     let end = c.in_ok-last.ensures.index in
-    let after : (w : Vec Value Global) → (tree_of (g.S.Slot.held (c.list.follows.lender w)) ≡ list (list_trees (map tree_of w.items))) × ArrayTouched (Written lent.items w.items) old (g.S.Slot.held (c.list.follows.lender w)) =
+    let after : (w : Vec Value Global) → (tree_of (g.S.Slot.held (c.list.follows.lender w)) ≡ list (list_trees (map tree_of w.items))) × ArrayTouched (Became lent.items w.items) old (g.S.Slot.held (c.list.follows.lender w)) =
     λ w. (rw c.in_ok-list.was at (c.list.follows.holds w)) refl
     in (
       (
@@ -38,5 +38,5 @@ returns g c =
         )),
         tt,
       ),
-      record { writes_back = tt; value = pushed_value t lent.items new.items c.args.val i is made end v c.index_mut.ensures.value; only = tt },
+      record { writes_back = tt; value = last_read lent.items new.items c.args.val i made end v c.index_mut.ensures.value; only = tt },
     )

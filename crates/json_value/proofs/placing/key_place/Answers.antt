@@ -3,11 +3,11 @@ use Rattle.std.specs.Vec.{with_item}
 use Rattle.json_grammar.specs.Tree.{pairs, list_pairs}
 use Rattle.json_value.specs.Denotes.{tree_of, pair_of}
 use Rattle.json_value.specs.Rows.{keyed_so}
-use Rattle.json_value.specs.Touched.{ObjectTouched}
+use Rattle.json_value.specs.Touched.{ObjectTouched, Became}
 use Rattle.json_value.specs.declared.value.Value.{Value}
 use Rattle.json_value.specs.declared.pair.Keyed.{Keyed}
 use Rattle.json_value.proofs.Lent.{seated_put}
-use Rattle.json_value.proofs.Touching.{Written, seated_written}
+use Rattle.json_value.proofs.Touching.{seated_written}
 use Rattle.json_value.proofs.placing.key_place.Goals as goal
 
 pub returns : goal.returns
@@ -20,7 +20,7 @@ returns g c =
     let p = c.index_mut-pair.result.now in
     let read = c.index_mut-pair.ensures.value in
     let first = c.in_ok-i.ensures.first in
-    let after : (w : Vec (Keyed Value) Global) → (tree_of (g.S.Slot.held (c.pairs.follows.lender w)) ≡ pairs (list_pairs (map pair_of w.items))) × ObjectTouched (Written lent.items w.items) old (g.S.Slot.held (c.pairs.follows.lender w)) =
+    let after : (w : Vec (Keyed Value) Global) → (tree_of (g.S.Slot.held (c.pairs.follows.lender w)) ≡ pairs (list_pairs (map pair_of w.items))) × ObjectTouched (Became lent.items w.items) old (g.S.Slot.held (c.pairs.follows.lender w)) =
     λ w. (rw c.in_ok-pairs.was at (c.pairs.follows.holds w)) refl
     in (
       (

@@ -7,12 +7,12 @@ use Rattle.json_model.specs.Edit.{key_step}
 use Rattle.json_value.specs.Denotes.{tree_of, pair_of}
 use Rattle.json_value.specs.Lending.{opened_with, put_or_insert}
 use Rattle.json_value.specs.Rows.{keyed_so}
-use Rattle.json_value.specs.Touched.{ObjectTouched}
+use Rattle.json_value.specs.Touched.{ObjectTouched, Became}
 use Rattle.json_value.specs.declared.value.Value.{Value, Null}
 use Rattle.json_value.specs.declared.pair.Keyed.{Keyed}
 use Rattle.json_value.proofs.Lent.{seated_put, seated_value, opened_put, opened_found, opened_kept}
 use Rattle.json_value.proofs.AppliedTrees.{refused_as}
-use Rattle.json_value.proofs.Touching.{Written, seated_or_null}
+use Rattle.json_value.proofs.Touching.{seated_or_null}
 use Rattle.json_value.proofs.placing.member_or_null.Goals as goal
 
 pub returns : goal.returns
@@ -29,7 +29,7 @@ returns g c =
     let read = c.index_mut-pair.ensures.value in
     let first = c.in_ok-i.ensures.first in
     let x = c.value_mut.result.now in
-    let after : (w : Vec (Keyed Value) Global) → (tree_of (g.S.Slot.held (c.pairs_with.follows.lender w)) ≡ pairs (list_pairs (map pair_of w.items))) × ((old ≡ Null) ⊎ ObjectTouched (Written lent.items w.items) old (g.S.Slot.held (c.pairs_with.follows.lender w))) =
+    let after : (w : Vec (Keyed Value) Global) → (tree_of (g.S.Slot.held (c.pairs_with.follows.lender w)) ≡ pairs (list_pairs (map pair_of w.items))) × ((old ≡ Null) ⊎ ObjectTouched (Became lent.items w.items) old (g.S.Slot.held (c.pairs_with.follows.lender w))) =
     λ w. (rw c.in_ok-pairs.was at (c.pairs_with.follows.holds w)) refl
     in (
       (

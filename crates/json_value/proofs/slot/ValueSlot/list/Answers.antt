@@ -1,8 +1,9 @@
 use Rattle.std.proofs.Common.{refl}
 use Rattle.json_value.specs.Rows.{owned}
+use Rattle.json_value.specs.Touched.{Became}
 use Rattle.json_value.proofs.Views.{array_tree}
 use Rattle.json_value.proofs.AppliedTrees.{array_before}
-use Rattle.json_value.proofs.Touching.{Written, array_touched}
+use Rattle.json_value.proofs.Touching.{array_touched}
 use Rattle.json_value.proofs.slot.ValueSlot.list.Goals as goal
 
 pub returns-in_ok-list-in-Some : goal.returns-in_ok-list-in-Some
@@ -12,6 +13,6 @@ returns-in_ok-list-in-Some c =
     let list = c.in_ok-list-in-Some.list.now in
     let was = c.in-Some.ensures.value in
     let told = c.in_ok-list-in-Some.ensures in (
-      (refl, (λ w ok. (array_tree (owned w), array_touched (Written list.items w.items) self array list w was told.list told.children (refl, refl))), tt),
+      (refl, (λ w ok. (array_tree (owned w), array_touched (Became list.items w.items) self array list w was told.list told.children (refl, refl))), tt),
       record { writes_back = tt; value = array_before self array list was told.list; refused = tt },
     )

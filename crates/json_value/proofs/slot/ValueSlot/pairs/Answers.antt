@@ -1,8 +1,9 @@
 use Rattle.std.proofs.Common.{refl}
 use Rattle.json_value.specs.Rows.{owned}
+use Rattle.json_value.specs.Touched.{Became}
 use Rattle.json_value.proofs.Views.{object_tree}
 use Rattle.json_value.proofs.AppliedTrees.{object_before}
-use Rattle.json_value.proofs.Touching.{Written, object_touched}
+use Rattle.json_value.proofs.Touching.{object_touched}
 use Rattle.json_value.proofs.slot.ValueSlot.pairs.Goals as goal
 
 pub returns-in_ok-pairs-in-Some : goal.returns-in_ok-pairs-in-Some
@@ -12,6 +13,6 @@ returns-in_ok-pairs-in-Some c =
     let pairs = c.in_ok-pairs-in-Some.pairs.now in
     let was = c.in-Some.ensures.value in
     let told = c.in_ok-pairs-in-Some.ensures in (
-      (refl, (λ w ok. (object_tree (owned w), object_touched (Written pairs.items w.items) self object pairs w was told.pairs told.children (refl, refl))), tt),
+      (refl, (λ w ok. (object_tree (owned w), object_touched (Became pairs.items w.items) self object pairs w was told.pairs told.children (refl, refl))), tt),
       record { writes_back = tt; value = object_before self object pairs was told.pairs; refused = tt },
     )

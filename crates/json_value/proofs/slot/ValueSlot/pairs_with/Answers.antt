@@ -4,10 +4,11 @@ use Rattle.json_model.specs.Edit.{on_pairs}
 use Rattle.json_value.specs.Denotes.{tree_of}
 use Rattle.json_value.specs.Lending.{opened}
 use Rattle.json_value.specs.Rows.{owned}
+use Rattle.json_value.specs.Touched.{Became}
 use Rattle.json_value.proofs.Views.{object_tree}
 use Rattle.json_value.proofs.AppliedTrees.{object_before, refused_as}
 use Rattle.json_value.proofs.Lent.{unopened}
-use Rattle.json_value.proofs.Touching.{Written, object_touched, opened_touched}
+use Rattle.json_value.proofs.Touching.{object_touched, opened_touched}
 use Rattle.json_value.proofs.slot.ValueSlot.pairs_with.Goals as goal
 
 pub returns-in_ok-pairs-in-Some : goal.returns-in_ok-pairs-in-Some
@@ -22,7 +23,7 @@ returns-in_ok-pairs-in-Some c =
         refl,
         (λ w ok. (
           object_tree (owned w),
-          opened_touched (Written pairs.items w.items) self filled _ c.in_ok-open_with.ensures.made (object_touched (Written pairs.items w.items) filled object pairs w was told.pairs told.children (refl, refl)),
+          opened_touched (Became pairs.items w.items) self filled _ c.in_ok-open_with.ensures.made (object_touched (Became pairs.items w.items) filled object pairs w was told.pairs told.children (refl, refl)),
         )),
         tt,
       ),
