@@ -2,7 +2,8 @@
 ghost use Rattle.std.specs.Prelude.{◌≡◌, IfOk, IfErr, OnOk, OnErr, Ok, Some};
 ghost use Rattle.std.specs.Borrow.{LendsSoOk, sem};
 ghost use Rattle.std.specs.Fn.{FnOnceReturnsAtMut};
-ghost use Rattle.json_model.specs.Edit.{set_at, edited_once};
+ghost use Rattle.json_grammar.specs.Tree.{Tree};
+ghost use Rattle.json_model.specs.Edit.{Changed, set_at, edited_once, at_path};
 ghost use Rattle.json_value.specs.Denotes.{tree_of};
 ghost use Rattle.json_value.specs.Edits.{steps_of, RefusesChange};
 ghost use Rattle.json_value.specs.Lending.{Puts, Stands};
@@ -72,6 +73,7 @@ pub fn update<V: Places, F: FnOnce(&mut Value)>(
     requires { F.IsAlwaysCallable change }
     ensures ok { OnOk result ((x : Value) × (y : Value) × (tree_at (steps_of path.now) (tree_of (V.held target.old)) ≡ Some (tree_of x)) × (FnOnceReturnsAtMut F.FnOnce change x tt y) × Puts (steps_of path.now) x y (V.held target.old) (V.held target.new)) }
     ensures kept { OnErr result (tree_of (V.held target.new) ≡ tree_of (V.held target.old)) }
+    ensures refused { IfErr result (λ e. (f : Tree → Changed Tree) → RefusesChange (at_path (steps_of path.now) f (tree_of (V.held target.old))) e.code e.place) }
 {
     let place = target.place_mut(alloc, path)?;
     change(place);
