@@ -1,5 +1,5 @@
 // Places of values, lent.
-use crate::writing::write_null;
+use crate::writing::write_number;
 use json_doc::JsonType;
 use json_fixtures::{becomes, key, value_of};
 use json_text::ErrorCode;
@@ -15,7 +15,7 @@ fn element(alloc: Global, name: &'static str, index: usize) -> json_text::Result
     Ok(path)
 }
 
-// Writes null at an element of the member of a key; answers whether it is there.
+// Writes 1 at an element of the member of a key; answers whether it is there.
 fn write_element(
     value: &mut Value,
     alloc: Global,
@@ -23,10 +23,10 @@ fn write_element(
     index: usize,
 ) -> json_text::Result<bool> {
     let path = element(alloc, name, index)?;
-    Ok(write_null(value.reach(alloc, path.steps())?))
+    Ok(write_number(value.reach(alloc, path.steps())?, 1))
 }
 
-// Writes null at the second element of the member `a`, and finds no third.
+// Writes 1 at the second element of the member `a`, and finds no third.
 fn write_second(value: &mut Value, alloc: Global) -> json_text::Result<bool> {
     Ok(write_element(value, alloc, "a", 1)? && !write_element(value, alloc, "a", 2)?)
 }
@@ -34,25 +34,27 @@ fn write_second(value: &mut Value, alloc: Global) -> json_text::Result<bool> {
 #[test]
 fn a_write_changes_its_place_and_no_other(rt: HostRuntime) -> Result<(), Fail> {
     let json = "{\"a\":[\"k\",\"l\"],\"b\":[\"m\"]}";
-    let then = "{\"a\":[\"k\",null],\"b\":[\"m\"]}";
+    let then = "{\"a\":[\"k\",1],\"b\":[\"m\"]}";
     assert!(rt; becomes(rt.alloc(), json, write_second, then)?);
     Ok(())
 }
 
-// Writes null at the member of a key; answers whether it is there.
+// Writes 2 at the member of a key; answers whether it is there.
 fn write_member(value: &mut Value, alloc: Global, name: &str) -> json_text::Result<bool> {
-    Ok(write_null(value.step_mut(alloc, name)?))
+    Ok(write_number(value.step_mut(alloc, name)?, 2))
 }
 
-// Writes null at the member `k`, and finds no member `m`.
+// Writes 2 at the member `k`, and finds no member `m`.
 fn write_only(value: &mut Value, alloc: Global) -> json_text::Result<bool> {
     Ok(write_member(value, alloc, "k")? && !write_member(value, alloc, "m")?)
 }
 
 #[test]
 fn a_member_is_written(rt: HostRuntime) -> Result<(), Fail> {
-    let (json, then) = ("{\"k\":1,\"l\":2}", "{\"k\":null,\"l\":2}");
-    assert!(rt; becomes(rt.alloc(), json, write_only, then)?);
+    let alloc = rt.alloc();
+    assert!(rt; becomes(alloc, "{\"k\":1}", write_only, "{\"k\":2}")?);
+    let (json, then) = ("{\"k\":1,\"l\":1}", "{\"k\":2,\"l\":1}");
+    assert!(rt; becomes(alloc, json, write_only, then)?);
     Ok(())
 }
 
@@ -70,6 +72,32 @@ fn put_together(value: &mut Value, alloc: Global) -> json_text::Result<bool> {
 #[test]
 fn what_is_put_in_is_lent(rt: HostRuntime) -> Result<(), Fail> {
     assert!(rt; becomes(rt.alloc(), "{}", put_together, "{\"a\":[\"l\"]}")?);
+    Ok(())
+}
+
+// Appends 2 to an array; answers whether it is one, and lends the number.
+fn append_two(value: &mut Value, alloc: Global) -> json_text::Result<bool> {
+    if value.view().get_type() != JsonType::Array {
+        return Ok(false);
+    }
+    let place = value.append_value(alloc, Value::new_u64(2))?;
+    Ok(place.eq_u64(2))
+}
+
+// Puts 1 at the key `k` of an object; answers whether it is one, and lends the number.
+fn insert_one(value: &mut Value, alloc: Global) -> json_text::Result<bool> {
+    if value.view().get_type() != JsonType::Object {
+        return Ok(false);
+    }
+    let place = value.insert(alloc, "k", Value::new_u64(1))?;
+    Ok(place.eq_u64(1))
+}
+
+#[test]
+fn a_number_is_put_in(rt: HostRuntime) -> Result<(), Fail> {
+    let alloc = rt.alloc();
+    assert!(rt; becomes(alloc, "[1]", append_two, "[1,2]")?);
+    assert!(rt; becomes(alloc, "{}", insert_one, "{\"k\":1}")?);
     Ok(())
 }
 

@@ -1,5 +1,5 @@
 // Places that are lent through the trait, to be changed.
-use crate::writing::write_null;
+use crate::writing::write_number;
 use json_access::JsonValueMutTrait;
 use json_fixtures::{becomes, key, value_of};
 use json_value::{Index, PointerNode, Value};
@@ -45,16 +45,16 @@ fn containers_are_lent(rt: HostRuntime) -> Result<(), Fail> {
     Ok(())
 }
 
-// Writes null at the place of a path; answers whether there is one.
+// Writes 1 at the place of a path; answers whether there is one.
 fn write_at<V: JsonValueMutTrait>(
     value: &mut V,
     alloc: Global,
     path: &[PointerNode],
 ) -> json_text::Result<bool> {
-    Ok(write_null(value.pointer_mut(alloc, path)?))
+    Ok(write_number(value.pointer_mut(alloc, path)?, 1))
 }
 
-// Writes null at the first element, and finds no place at another key.
+// Writes 1 at the first element, and finds no place at another key.
 fn write_first(value: &mut Value, alloc: Global) -> json_text::Result<bool> {
     let first = [key("x"), key("y"), PointerNode::Index(0)];
     Ok(write_at(value, alloc, &first)? && !write_at(value, alloc, &[key("a")])?)
@@ -62,28 +62,28 @@ fn write_first(value: &mut Value, alloc: Global) -> json_text::Result<bool> {
 
 #[test]
 fn an_element_of_a_path_is_written(rt: HostRuntime) -> Result<(), Fail> {
-    let then = "{\"x\":{\"y\":[null,\"zz\"]}}";
+    let then = "{\"x\":{\"y\":[1,\"zz\"]}}";
     assert!(rt; becomes(rt.alloc(), NESTED, write_first, then)?);
     Ok(())
 }
 
-// Writes null at a child; answers whether there is one.
+// Writes 2 at a child; answers whether there is one.
 fn write_child<V: JsonValueMutTrait, I: Index>(
     value: &mut V,
     alloc: Global,
     step: I,
 ) -> json_text::Result<bool> {
-    Ok(write_null(value.get_mut(alloc, step)?))
+    Ok(write_number(value.get_mut(alloc, step)?, 2))
 }
 
-// Writes null at the member `k`, and finds no place at an index.
+// Writes 2 at the member `k`, and finds no place at an index.
 fn write_member(value: &mut Value, alloc: Global) -> json_text::Result<bool> {
     Ok(write_child(value, alloc, "k")? && !write_child(value, alloc, 1_usize)?)
 }
 
 #[test]
 fn a_child_is_written(rt: HostRuntime) -> Result<(), Fail> {
-    assert!(rt; becomes(rt.alloc(), "{\"k\":1}", write_member, "{\"k\":null}")?);
+    assert!(rt; becomes(rt.alloc(), "{\"k\":1}", write_member, "{\"k\":2}")?);
     Ok(())
 }
 
@@ -98,8 +98,8 @@ fn append_true<V: JsonValueMutTrait>(value: &mut V, alloc: Global) -> json_text:
     }
 }
 
-// Appends null.
-fn append_null(value: &mut Value, alloc: Global) -> json_text::Result<bool> {
+// Appends true, and writes 2 over it.
+fn append_two(value: &mut Value, alloc: Global) -> json_text::Result<bool> {
     Ok(append_true(value, alloc)? && write_child(value, alloc, 0_usize)?)
 }
 
@@ -107,6 +107,6 @@ fn append_null(value: &mut Value, alloc: Global) -> json_text::Result<bool> {
 fn what_is_appended_is_written(rt: HostRuntime) -> Result<(), Fail> {
     let alloc = rt.alloc();
     assert!(rt; becomes(alloc, "[]", append_true, "[true]")?);
-    assert!(rt; becomes(alloc, "[]", append_null, "[null]")?);
+    assert!(rt; becomes(alloc, "[]", append_two, "[2]")?);
     Ok(())
 }

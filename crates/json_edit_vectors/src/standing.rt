@@ -1,5 +1,5 @@
 // What stands beside a place that is written stays where it stood.
-use crate::writing::write_null;
+use crate::writing::write_number;
 use json_doc::{Doc, JsonType};
 use json_fixtures::{changed, read, shows};
 use json_value::{Array, Index, PointerNode, Value, put};
@@ -69,12 +69,12 @@ fn keeps<F: FnOnce(&mut Value, Global) -> json_text::Result<bool>, I: Index>(
 }
 
 fn reach_first(value: &mut Value, alloc: Global) -> json_text::Result<bool> {
-    Ok(write_null(value.reach(alloc, &[PointerNode::Index(0)])?))
+    Ok(write_number(value.reach(alloc, &[PointerNode::Index(0)])?, 1))
 }
 
 #[test]
 fn an_element_beside_a_place_that_is_reached_stays_a_place(rt: HostRuntime) -> Result<(), Fail> {
-    let then = "[null,[\"x\"],2]";
+    let then = "[1,[\"x\"],2]";
     assert!(rt; keeps(rt.alloc(), LIST, reach_first, 1_usize, 3, then)?);
     Ok(())
 }
@@ -92,12 +92,12 @@ fn an_element_beside_one_that_is_put_stays_a_place(rt: HostRuntime) -> Result<()
 }
 
 fn step_to_first(value: &mut Value, alloc: Global) -> json_text::Result<bool> {
-    Ok(write_null(value.step_mut(alloc, 0_usize)?))
+    Ok(write_number(value.step_mut(alloc, 0_usize)?, 1))
 }
 
 #[test]
 fn an_element_beside_a_step_that_is_written_stays_a_place(rt: HostRuntime) -> Result<(), Fail> {
-    let then = "[null,[\"x\"],2]";
+    let then = "[1,[\"x\"],2]";
     assert!(rt; keeps(rt.alloc(), LIST, step_to_first, 1_usize, 3, then)?);
     Ok(())
 }

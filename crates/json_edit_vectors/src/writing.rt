@@ -1,11 +1,11 @@
 // What is written at places that are lent.
 use json_value::Value;
 
-// Writes null at a place; answers whether there is one.
-pub(crate) fn write_null(place: Option<&mut Value>) -> bool {
+// Writes a number at a place; answers whether there is one.
+pub(crate) fn write_number(place: Option<&mut Value>, number: u64) -> bool {
     match place {
         Some(place) => {
-            *place = Value::new_null();
+            *place = Value::new_u64(number);
             true
         }
         None => false,
