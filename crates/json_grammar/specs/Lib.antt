@@ -7,6 +7,7 @@ pub mod Proper
 pub mod Fault
 pub mod Allows
 pub mod Given
+pub mod Needs
 pub mod Sizes
 pub mod Laws
 pub mod ReaderLaws

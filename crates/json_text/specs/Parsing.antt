@@ -2,6 +2,7 @@
 use Rattle.std.specs.Prelude.{◌≡◌, ℕ, ◌+◌, ◌-◌, ◌<◌, ◌≤◌, List, [], ◌∷◌, ◌++◌, length, get_or, take, drop, false, Option, Some, IfSome}
 use Rattle.json_grammar.specs.declared.Kind.{Kind}
 use Rattle.json_grammar.specs.declared.Spot.{Spot}
+use Rattle.json_grammar.specs.declared.Spot.TheVariants as spot
 use Rattle.json_grammar.specs.Tree.{Tree, depth, Token, tokens}
 use Rattle.json_grammar.specs.Grammar.{is_text}
 use Rattle.json_grammar.specs.Given.{LastEnds}
@@ -9,7 +10,9 @@ use Rattle.json_text.specs.declared.error.Error.{Error}
 use Rattle.json_text.specs.declared.event.Event.{Event}
 use Rattle.json_text.specs.declared.event.Event.TheVariants as event
 use Rattle.json_text.specs.Events.{Means, raw_size, EndsToken}
-use Rattle.json_text.specs.Faults.{FaultFrom}
+use Rattle.json_text.specs.Faults.{IsFault, FaultFrom}
+use Rattle.json_text.specs.Due.{NextNeeds}
+use Rattle.json_text.specs.Positions.{place_at}
 use Rattle.json_text.specs.Standing.{Stood}
 
 -- the whole text and where reading began in it; the most levels of a tree; the place behind what was taken, counted from the
@@ -39,6 +42,10 @@ taken s = s.index - s.start
 abbrev pub HasGiven : ParserState → List Token → Type 0
 HasGiven s ts = Stood s.limit (input s) (taken s) s.open_kinds s.spot ts
 
+-- a value was read, and nothing is open
+abbrev pub IsWhole : ParserState → Type 0
+IsWhole s = (s.spot ≡ spot.Done) × (length s.open_kinds ≡ 0)
+
 -- what a parser reads stays
 pub record SameInput (old new : ParserState) : Type 0 where
   pub text : new.text ≡ old.text
@@ -67,6 +74,13 @@ pub record Refuses (old : ParserState) (e : Error) (new : ParserState) : Type 0 
   pub kept : new ≡ record old { failure = Some e }
   pub fault : FaultFrom old.limit old.start old.text e.code e.place
   pub again : IfSome old.failure (λ f. e ≡ f)
+
+-- the fault is told at the event that needs the byte at its offset, and at no event before that
+pub record IsDue (old : ParserState) (e : Error) : Type 0 where
+  pub offset : ℕ
+  pub place : e.place ≡ place_at old.text (old.start + offset)
+  pub fault : IsFault old.limit (input old) e.code offset
+  pub needs : NextNeeds (input old) (taken old) e.code offset
 
 -- the events so far begin the tokens of each text that begins so; where the last is a number, of each in which it goes no further
 abbrev pub EventsBegin : ParserState → Type 0

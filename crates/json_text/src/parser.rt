@@ -3,8 +3,10 @@ ghost use Rattle.std.specs.Prelude.{◌≡◌, ◌<◌, ◌≤◌, ◌↔◌, Li
 ghost use Rattle.json_grammar.specs.declared.Spot.TheVariants as Spot;
 ghost use Rattle.json_grammar.specs.Grammar.{IsWhitespace, ws};
 ghost use Rattle.json_grammar.specs.Given.{piece};
-ghost use Rattle.json_text.specs.Faults.{IsFault};
-ghost use Rattle.json_text.specs.Parsing.{input, HasGiven, SameInput, Goes, IsTight, Refuses, EventsBegin};
+ghost use Rattle.json_text.specs.Faults.{IsFault, IsInValue};
+ghost use Rattle.json_text.specs.Due.{NextNeeds};
+ghost use Rattle.json_text.specs.Parsing.{input, taken, HasGiven, SameInput, IsWhole, Goes, IsTight};
+ghost use Rattle.json_text.specs.Parsing.{Refuses, IsDue, EventsBegin};
 
 use crate::error::{Error, ErrorCode, Result};
 use crate::event::Event;
@@ -112,6 +114,8 @@ impl<'a> Parser<'a> {
         ensures ok { IfOk result (λ e. Goes self.old e self.new) }
         ensures tight { IfOk result (λ e. IsTight self.old e self.new) }
         ensures err { IfErr result (λ f. IsFault self.old.limit (input self.old) f.code f.offset) }
+        ensures needs { IfErr result (λ f. NextNeeds (input self.old) (taken self.old) f.code f.offset) }
+        ensures inside { IfErr result (λ f. ¬ (IsWhole self.old) → IsInValue f.code) }
         ensures kept { OnErr result (self.new ≡ self.old) }
     {
         let bytes = self.rest.as_bytes();
@@ -144,7 +148,10 @@ impl<'a> Parser<'a> {
     fn refuse(&mut self, fault: Fault)
         requires new { self.old.failure ≡ None }
         requires fault { IsFault self.old.limit (input self.old) fault.code fault.offset }
-        ensures { IfSome self.new.failure (λ e. Refuses self.old e self.new) × IsSome self.new.failure }
+        requires needs { NextNeeds (input self.old) (taken self.old) fault.code fault.offset }
+        ensures kept { IfSome self.new.failure (λ e. Refuses self.old e self.new) × IsSome self.new.failure }
+        ensures due { IfSome self.new.failure (λ e. IsDue self.old e) }
+        ensures code { IfSome self.new.failure (λ e. e.code ≡ fault.code) }
     {
         self.failure = Some(Error {
             code: fault.code,
@@ -176,6 +183,8 @@ impl<'a> Parser<'a> {
             (λ e. (self.old.failure ≡ None) × (self.new.failure ≡ None) × Goes self.old e self.new) }
         ensures tight { IfOk result (λ e. IsTight self.old e self.new) }
         ensures err { IfErr result (λ e. Refuses self.old e self.new) }
+        ensures needs { IfErr result (λ e. self.old.failure ≡ None → IsDue self.old e) }
+        ensures inside { IfErr result (λ e. self.old.failure ≡ None → ¬ (IsWhole self.old) → IsInValue e.code) }
         ensures begins { EventsBegin self.new }
     {
         if self.failure.is_some() {

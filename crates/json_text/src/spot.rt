@@ -3,11 +3,14 @@ ghost use Rattle.std.specs.Prelude.{◌≡◌, ◌≢◌, ℕ, ◌+◌, ◌<◌,
 ghost use Rattle.json_grammar.specs.declared.Kind.{Kind};
 ghost use Rattle.json_grammar.specs.declared.Spot.TheVariants as Spot;
 ghost use Rattle.json_grammar.specs.Tree.{Token};
-ghost use Rattle.json_grammar.specs.Grammar.{IsWhitespace};
+ghost use Rattle.json_grammar.specs.Grammar.{IsWhitespace, ws};
+ghost use Rattle.json_grammar.specs.Given.{piece};
+ghost use Rattle.json_grammar.specs.Needs.{IsGap};
 ghost use Rattle.json_grammar.specs.Place.{after_comma as spec_after_comma, closing as spec_closing};
 ghost use Rattle.json_text.specs.Stack.{top};
 ghost use Rattle.json_text.specs.Runs.{ByteAt};
-ghost use Rattle.json_text.specs.Faults.{IsFault};
+ghost use Rattle.json_text.specs.Faults.{IsFault, IsInValue};
+ghost use Rattle.json_text.specs.Due.{NextNeeds};
 ghost use Rattle.json_text.specs.Standing.{Stood};
 ghost use Rattle.json_text.specs.Misplaced.{misplaced as spec_misplaced};
 
@@ -40,6 +43,7 @@ fn settle(bytes: &[u8], from: usize, spot: Spot) -> Stand
     requires { from ≤ length bytes.now }
     ensures spot { result.spot ≡ spot }
     ensures within { (from ≤ result.at) × (result.at ≤ length bytes.now) }
+    ensures space { ws (piece bytes.now from result.at) }
     ensures stop { result.at < length bytes.now → ¬ (IsWhitespace (get_or bytes.now result.at 0)) }
     ensures stood { (limit : ℕ) (c : List Kind) (ts : List Token)
         → Stood limit bytes.now from c spot ts → Stood limit bytes.now result.at c spot ts }
@@ -70,8 +74,12 @@ pub fn ready(bytes: &[u8], index: usize, spot: Spot, kinds: &Kinds) -> Result<St
         (λ r. (r.spot ≢ Spot.Colon) × (r.spot ≡ Spot.Done → top kinds.now ≢ None → ¬ (ByteAt bytes.now r.at 44))) }
     ensures ok { (limit : ℕ) (ts : List Token) → Stood limit bytes.now index kinds.now spot ts
         → IfOk result (λ r. Stood limit bytes.now r.at kinds.now r.spot ts) }
+    ensures gap { IfOk result (λ r. IsGap (piece bytes.now index r.at)) }
+    ensures whole { IfOk result (λ r. r.spot ≡ Spot.Done → spot ≡ Spot.Done) }
     ensures err { (limit : ℕ) (ts : List Token) → Stood limit bytes.now index kinds.now spot ts
         → IfErr result (λ f. IsFault limit bytes.now f.code f.offset) }
+    ensures needs { IfErr result (λ f. NextNeeds bytes.now index f.code f.offset) }
+    ensures inside { IfErr result (λ f. IsInValue f.code) }
 {
     let here = settle(bytes, index, spot);
     match spot {

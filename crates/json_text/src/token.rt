@@ -9,7 +9,8 @@ ghost use Rattle.json_grammar.specs.Tree.{Token};
 ghost use Rattle.json_grammar.specs.Place.{TakesValue, TakesKey, bracket as spec_bracket, opened as spec_opened};
 ghost use Rattle.json_text.specs.Runs.{ByteAt};
 ghost use Rattle.json_text.specs.Numbers.{BeginsNumber};
-ghost use Rattle.json_text.specs.Faults.{IsFault};
+ghost use Rattle.json_text.specs.Faults.{IsFault, IsInValue};
+ghost use Rattle.json_text.specs.Due.{TokenNeeds};
 ghost use Rattle.json_text.specs.Standing.{Stood};
 ghost use Rattle.json_text.specs.Events.{From, Tight};
 ghost use Rattle.json_text.specs.Begins.{begin_of as spec_begin_of};
@@ -129,6 +130,8 @@ fn number<'a>(text: &'a str, at: usize) -> Result<Read<'a>, Fault>
     ensures err { (limit : ℕ) (c : List Kind) (w : Spot) (ts : List Token) → TakesValue w
         → Stood limit text.now at c w ts
         → IfErr result (λ f. IsFault limit text.now f.code f.offset) }
+    ensures needs { IfErr result (λ f. TokenNeeds text.now at f.code f.offset) }
+    ensures inside { IfErr result (λ f. IsInValue f.code) }
 {
     let bytes = text.as_bytes();
     match number_end(bytes, at) {
@@ -152,6 +155,8 @@ fn literal<'a>(text: &'a str, at: usize, word: &[u8], event: Event<'a>) -> Resul
     ensures err { (limit : ℕ) (c : List Kind) (w : Spot) (ts : List Token) → TakesValue w
         → Stood limit text.now at c w ts
         → IfErr result (λ f. IsFault limit text.now f.code f.offset) }
+    ensures needs { IfErr result (λ f. TokenNeeds text.now at f.code f.offset) }
+    ensures inside { IfErr result (λ f. IsInValue f.code) }
 {
     match word_end(text.as_bytes(), at, word) {
         Ok(end) => Ok(Read {
@@ -173,6 +178,8 @@ fn string<'a>(text: &'a str, at: usize) -> Result<Read<'a>, Fault>
     ensures err { (limit : ℕ) (c : List Kind) (w : Spot) (ts : List Token) → TakesValue w
         → Stood limit text.now at c w ts
         → IfErr result (λ f. IsFault limit text.now f.code f.offset) }
+    ensures needs { IfErr result (λ f. TokenNeeds text.now at f.code f.offset) }
+    ensures inside { IfErr result (λ f. IsInValue f.code) }
 {
     match string_at(text, at) {
         Ok(quote) => Ok(Read {
@@ -230,6 +237,8 @@ fn open<'a>(
     ensures tight { IfOk result (λ r. Tight text.now at r.event r.end) }
     ensures err { (w : Spot) (ts : List Token) → TakesValue w → Stood limit text.now at kinds.old w ts
         → IfErr result (λ f. IsFault limit text.now f.code f.offset) }
+    ensures needs { IfErr result (λ f. TokenNeeds text.now at f.code f.offset) }
+    ensures inside { IfErr result (λ f. IsInValue f.code) }
     ensures kept { OnErr result (kinds.new ≡ kinds.old) }
 {
     if kinds.len() >= limit {
@@ -266,6 +275,8 @@ fn value<'a>(text: &'a str, at: usize, limit: usize, kinds: &mut Kinds) -> Resul
     ensures err { (w : Spot) (ts : List Token) → TakesValue w → NoEnd text.now at kinds.old w
         → Stood limit text.now at kinds.old w ts
         → IfErr result (λ f. IsFault limit text.now f.code f.offset) }
+    ensures needs { IfErr result (λ f. TokenNeeds text.now at f.code f.offset) }
+    ensures inside { IfErr result (λ f. IsInValue f.code) }
     ensures kept { OnErr result (kinds.new ≡ kinds.old) }
 {
     match begin_of(byte_at(text, at)) {
@@ -311,6 +322,8 @@ fn key<'a>(text: &'a str, at: usize, spot: Spot) -> Result<Read<'a>, Fault>
     ensures err { (limit : ℕ) (c : List Kind) (ts : List Token) → NoEnd text.now at c spot
         → Stood limit text.now at c spot ts
         → IfErr result (λ f. IsFault limit text.now f.code f.offset) }
+    ensures needs { IfErr result (λ f. TokenNeeds text.now at f.code f.offset) }
+    ensures inside { IfErr result (λ f. IsInValue f.code) }
 {
     let byte = byte_at(text, at);
     if byte != b'"' {
@@ -358,6 +371,8 @@ fn first<'a>(text: &'a str, at: usize, limit: usize, kinds: &mut Kinds) -> Resul
     ensures tight { IfOk result (λ r. Tight text.now at r.event r.end) }
     ensures err { (ts : List Token) → Stood limit text.now at kinds.old Spot.First ts
         → IfErr result (λ f. IsFault limit text.now f.code f.offset) }
+    ensures needs { IfErr result (λ f. TokenNeeds text.now at f.code f.offset) }
+    ensures inside { IfErr result (λ f. IsInValue f.code) }
     ensures kept { OnErr result (kinds.new ≡ kinds.old) }
 {
     if byte_at(text, at) == b']' {
@@ -378,6 +393,8 @@ fn key_or_end<'a>(text: &'a str, at: usize, kinds: &mut Kinds) -> Result<Read<'a
     ensures tight { IfOk result (λ r. Tight text.now at r.event r.end) }
     ensures err { (limit : ℕ) (ts : List Token) → Stood limit text.now at kinds.old Spot.KeyOrEnd ts
         → IfErr result (λ f. IsFault limit text.now f.code f.offset) }
+    ensures needs { IfErr result (λ f. TokenNeeds text.now at f.code f.offset) }
+    ensures inside { IfErr result (λ f. IsInValue f.code) }
     ensures kept { OnErr result (kinds.new ≡ kinds.old) }
 {
     if byte_at(text, at) == b'}' {
@@ -398,6 +415,8 @@ fn behind_value<'a>(text: &'a str, at: usize, kinds: &mut Kinds) -> Result<Read<
     ensures tight { IfOk result (λ r. Tight text.now at r.event r.end) }
     ensures err { (limit : ℕ) (ts : List Token) → Stood limit text.now at kinds.old Spot.Done ts
         → IfErr result (λ f. IsFault limit text.now f.code f.offset) }
+    ensures needs { IfErr result (λ f. TokenNeeds text.now at f.code f.offset) }
+    ensures inside { IfErr result (λ f. top kinds.old ≢ None → IsInValue f.code) }
     ensures kept { OnErr result (kinds.new ≡ kinds.old) }
 {
     match kinds.top() {
@@ -438,6 +457,8 @@ pub fn take_event<'a>(
     ensures tight { IfOk result (λ r. Tight text.now at r.event r.end) }
     ensures err { (ts : List Token) → Stood limit text.now at kinds.old spot ts
         → IfErr result (λ f. IsFault limit text.now f.code f.offset) }
+    ensures needs { IfErr result (λ f. TokenNeeds text.now at f.code f.offset) }
+    ensures inside { IfErr result (λ f. (spot ≡ Spot.Done → top kinds.old ≢ None) → IsInValue f.code) }
     ensures kept { OnErr result (kinds.new ≡ kinds.old) }
 {
     match spot {

@@ -1,0 +1,38 @@
+-- Which token of a text needs the byte at an offset. A reader that hands out tokens one after another is to refuse a byte at the token that needs it,
+-- and not before: then between what was taken and that byte stand a gap and the beginning of one token, and nothing else.
+use Rattle.std.specs.Prelude.{◌≡◌, ◌≢◌, ◌⊎◌, ℕ, ◌≤◌, List, [], ◌∷◌, ◌++◌, Bool}
+use Rattle.json_grammar.specs.Grammar.{ws, number, string}
+use Rattle.json_grammar.specs.Fault.{is_word}
+use Rattle.json_grammar.specs.Given.{piece}
+
+-- whitespace, with at most one comma or colon before, in or behind it (RFC 8259, section 2)
+pub record IsGap (g : List ℕ) : Type 0 where
+  pub before : List ℕ
+  pub mark : List ℕ
+  pub behind : List ℕ
+  pub row : g ≡ before ++ (mark ++ behind)
+  pub space_before : ws before
+  pub is_mark : (mark ≡ []) ⊎ ((mark ≡ 44 ∷ []) ⊎ (mark ≡ 58 ∷ []))
+  pub space_behind : ws behind
+
+-- r begins a literal name or a string and is not the whole of it, or begins a number and is none (sections 3, 6 and 7)
+pub record BeginsToken (lossy : Bool) (r : List ℕ) : Type 0 where
+  pub rest : List ℕ
+  pub begun : r ≢ []
+  pub unfinished : rest ≢ []
+  pub token : is_word (r ++ rest) ⊎ ((number (r ++ rest) × ¬ (number r)) ⊎ ((s : List ℕ) × string lossy s (r ++ rest)))
+
+-- an integer part that no digit may follow (section 6)
+abbrev pub IsLeadingZero : List ℕ → Type 0
+IsLeadingZero r = (r ≡ 48 ∷ []) ⊎ (r ≡ 45 ∷ 48 ∷ [])
+
+-- what may stand of a token before the byte that it needs: nothing, or its beginning; or, where a digit is refused behind it, a leading zero
+abbrev pub IsBegun : Bool → Type 0 → List ℕ → Type 0
+IsBegun lossy zero r = (r ≡ []) ⊎ (BeginsToken lossy r ⊎ (zero × IsLeadingZero r))
+
+-- behind the first i bytes of b comes the token that needs the byte at k: a gap stands up to some offset, and from there up to k what is begun of it
+pub record NeedsByte (lossy : Bool) (zero : Type 0) (b : List ℕ) (i k : ℕ) : Type 0 where
+  pub at : ℕ
+  pub order : (i ≤ at) × (at ≤ k)
+  pub gap : IsGap (piece b i at)
+  pub begun : IsBegun lossy zero (piece b at k)

@@ -1,0 +1,142 @@
+-- At each refusal, what stands between what was taken and the byte that is refused.
+use Rattle.std.proofs.Common.{◌≡◌, ◌≢◌, ℕ, zero, suc, ◌+◌, ◌-◌, ◌<◌, ◌≤◌, List, [], ◌∷◌, ◌++◌, length, get_or, take, drop, false, ◌⊎◌, inl, inr, refl, sym, ap, ◌∙◌, subst, arith, append_assoc, append-nil, length-take}
+use Rattle.std.proofs.lemmas.List.{take-append-drop}
+use Rattle.json_grammar.specs.Grammar.{ws, IsDigit, number, string}
+use Rattle.json_grammar.specs.Fault.{is_word}
+use Rattle.json_grammar.specs.Given.{piece}
+use Rattle.json_grammar.specs.Needs.{IsGap, BeginsToken, IsBegun, NeedsByte}
+use Rattle.json_grammar.specs.NumberStates.{at_start, after_zero, number_step, number_run, is_whole_number}
+use Rattle.json_grammar.proofs.Atoms.{atoms_append, atoms_one, atoms_chars}
+use Rattle.json_grammar.proofs.Moves.{piece_none, take_on}
+use Rattle.json_grammar.proofs.NumberRuns.{run_on, number_ends}
+use Rattle.json_grammar.proofs.NumberScan.{number_by_state}
+use Rattle.json_text.specs.declared.error.ErrorCode.{ErrorCode}
+use Rattle.json_text.specs.declared.error.ErrorCode.TheVariants as code
+use Rattle.json_text.specs.Due.{TokenNeeds, NextNeeds}
+use Rattle.json_text.specs.Literals.{Refused, WordStops}
+use Rattle.json_text.specs.Numbers.{IsUnfinished, GoesNoFurther, StopsAt}
+use Rattle.json_text.specs.Runs.{ByteAt}
+use Rattle.json_text.specs.Escapes.{EscapeStops}
+use Rattle.json_text.specs.Spelled.{StringStops}
+use Rattle.json_text.proofs.Pieces.{piece_append, piece_single}
+use Rattle.json_text.proofs.StringFaults.{Inside, plain_inside, escape_inside, cons_some}
+use Rattle.json_text.proofs.TokenFaults.{zero_after, begun, zero_read, ended_whole, unfinished_alone}
+
+-- ---- gaps
+
+pub gap_space : (g : List ℕ) → ws g → IsGap g
+gap_space g h = record { before = g; mark = []; behind = []; row = sym (append-nil g); space_before = h; is_mark = inl refl; space_behind = tt }
+
+-- whitespace from i up to j, one byte there, and whitespace behind it up to k
+gap_mark : (b : List ℕ) (i j k x : ℕ) → i ≤ j → j + 1 ≤ k → ws (piece b i j) → ByteAt b j x → ws (piece b (j + 1) k) → (x ≡ 44) ⊎ (x ≡ 58) → IsGap (piece b i k)
+gap_mark b i j k x h l s q r m =
+    record {
+      before = piece b i j;
+      mark = x ∷ [];
+      behind = piece b (j + 1) k;
+      row = piece_append b i j k h (omega arith) ∙ ap (λ y. piece b i j ++ y) (piece_append b j (j + 1) k (omega arith) l ∙ ap (λ y. y ++ piece b (j + 1) k) (piece_single b j x q.0 q.1));
+      space_before = s;
+      is_mark = by m;
+      space_behind = r;
+    }
+  where
+    by : (x ≡ 44) ⊎ (x ≡ 58) → (x ∷ [] ≡ []) ⊎ ((x ∷ [] ≡ 44 ∷ []) ⊎ (x ∷ [] ≡ 58 ∷ []))
+    by (inl e) = inr (inl (ap (λ y. y ∷ []) e))
+    by (inr e) = inr (inr (ap (λ y. y ∷ []) e))
+
+pub gap_comma : (b : List ℕ) (i j k : ℕ) → i ≤ j → j + 1 ≤ k → ws (piece b i j) → ByteAt b j 44 → ws (piece b (j + 1) k) → IsGap (piece b i k)
+gap_comma b i j k h l s q r = gap_mark b i j k 44 h l s q r (inl refl)
+
+pub gap_colon : (b : List ℕ) (i j k : ℕ) → i ≤ j → j + 1 ≤ k → ws (piece b i j) → ByteAt b j 58 → ws (piece b (j + 1) k) → IsGap (piece b i k)
+gap_colon b i j k h l s q r = gap_mark b i j k 58 h l s q r (inr refl)
+
+-- ---- tokens
+
+-- a byte with which no token begins
+pub needs_first : (b : List ℕ) (k : ℕ) (c : ErrorCode) → TokenNeeds b k c k
+needs_first b k c = record { order = omega arith; begun = inl (piece_none b k) }
+
+pub needs_behind : (b : List ℕ) (i j k : ℕ) (c : ErrorCode) → i ≤ j → IsGap (piece b i j) → TokenNeeds b j c k → NextNeeds b i c k
+needs_behind b i j k c h g t = record { at = j; order = (h, t.order); gap = g; begun = t.begun }
+
+pub needs_word : (word b : List ℕ) (at k : ℕ) (c : ErrorCode) → is_word word → WordStops b at word c k → TokenNeeds b at c k
+needs_word word b at k c i s = record { order = let p = s.place in omega arith; begun = by s.count refl }
+  where
+    whole : take s.count word ++ drop s.count word ≡ word
+    whole = take-append-drop s.count word
+
+    left : drop s.count word ≢ []
+    left e = let n = s.short in absurd (omega (arith, length-take s.count word, ap length (sym whole ∙ ap (λ y. take s.count word ++ y) e ∙ append-nil (take s.count word))))
+
+    by : (n : ℕ) → n ≡ s.count → IsBegun false (c ≡ code.InvalidNumber) (piece b at k)
+    by zero e = inl (s.bytes ∙ ap (λ n. take n word) (sym e))
+    by (suc n) e =
+        inr (inl
+        (subst (BeginsToken false) (sym s.bytes)
+        (record { rest = drop s.count word; begun = λ f. let m = s.short in absurd (omega (arith, length-take s.count word, ap length f)); unfinished = left; token = inl (subst is_word (sym whole) i) })))
+
+pub needs_number : (b : List ℕ) (at k : ℕ) (c : ErrorCode) → StopsAt b at k → Refused b code.InvalidNumber c k → TokenNeeds b at c k
+needs_number b at k c st r = record { order = st.at.order; begun = by st.why }
+  where
+    refused : k < length b → Refused b code.InvalidNumber c k → c ≡ code.InvalidNumber
+    refused l (inl (m, e)) = e
+    refused l (inr (m, e)) = absurd (omega arith)
+
+    by : (IsUnfinished st.state × GoesNoFurther b k st.state) ⊎ ((st.state ≡ after_zero) × (k < length b) × IsDigit (get_or b k 0)) → IsBegun false (c ≡ code.InvalidNumber) (piece b at k)
+    by (inl (u, g)) =
+        let p = piece b at k in
+        inr (inl
+        (record {
+          rest = 48 ∷ [];
+          begun = begun p st.state st.at.leads u;
+          unfinished = cons_some;
+          token = inr (inl (
+            number_by_state (p ++ 48 ∷ []) (ap is_whole_number (run_on at_start p (48 ∷ []) ∙ ap (λ y. number_step y 48) st.at.leads) ∙ zero_after st.state u),
+            λ n. unfinished_alone st.state u (ap is_whole_number (sym st.at.leads) ∙ ended_whole _ (number_ends p n)),
+          ));
+        }))
+    by (inr (e, l, d)) = inr (inr (refused l r, zero_read (piece b at k) (st.at.leads ∙ e)))
+
+pub needs_string : (b : List ℕ) (at k : ℕ) (c : ErrorCode) → ByteAt b at 34 → StringStops b (at + 1) c k → TokenNeeds b at c k
+needs_string b at k c q st = by st.why
+  where
+    cancel : (p x y : List ℕ) → p ++ x ≡ p ++ y → x ≡ y
+    cancel [] x y e = e
+    cancel (z ∷ p) x y e = cancel p x y (cc)
+
+    some : (z : List ℕ) → z ++ 34 ∷ [] ≢ []
+    some [] f = cons_some f
+    some (x ∷ z) f = cons_some f
+
+    inside : (e : List ℕ) → at ≤ k → Inside b at k e → TokenNeeds b at c k
+    inside e l i =
+        let s = atoms_chars false (atoms_append false i.atoms (atoms_one false i.goes_on)) in
+        let p : piece b at k ≡ 34 ∷ (i.m ++ e) = cancel (take at b) (piece b at k) (34 ∷ (i.m ++ e)) (sym (take_on b at k l) ∙ i.row) in
+        record {
+          order = l;
+          begun =
+              inr (inl
+              (record {
+                rest = i.rest ++ 34 ∷ [];
+                begun = λ f. cons_some (sym p ∙ f);
+                unfinished = some i.rest;
+                token = inr (inr (s.0, (i.m ++ (e ++ i.rest), ap (λ y. y ++ (i.rest ++ 34 ∷ [])) p ∙ ap (λ y. 34 ∷ y) (simp append_assoc), s.1)));
+              }));
+        }
+
+    plain_at : k ≡ st.to → TokenNeeds b at c k
+    plain_at e =
+        let o = st.whole.order in
+        inside [] (omega arith) (subst (λ y. Inside b at y []) (sym e) (plain_inside b at st.to st.escaped q st.whole))
+
+    by : ((k ≡ st.to) × (k ≡ length b) × (c ≡ code.EofWhileParsing)) ⊎ (((k ≡ st.to) × (k < length b) × (get_or b k 0 < 32) × (c ≡ code.ControlCharacter)) ⊎ (ByteAt b st.to 92 × EscapeStops b (st.to + 1) c k)) → TokenNeeds b at c k
+    by (inl f) = plain_at f.0
+    by (inr (inl f)) = plain_at f.0
+    by (inr (inr (f, x))) =
+        let o = st.whole.order in let l = x.order in
+        inside (92 ∷ piece b (st.to + 1) k) (omega arith) (escape_inside b at st.to k st.escaped x.state q st.whole f x.order x.leads x.unfinished)
+
+-- ---- the same told of what is left of a text
+
+pub needs_left : (b : List ℕ) (start i k : ℕ) (c : ErrorCode) → NextNeeds b i c k → NextNeeds b (start + i - start) c k
+needs_left b start i k c h = let e : start + i - start ≡ i = omega arith in subst (λ y. NextNeeds b y c k) (sym e) h
