@@ -1,11 +1,11 @@
 -- At each refusal, what stands between what was taken and the byte that is refused.
 use Rattle.std.proofs.Common.{◌≡◌, ◌≢◌, ℕ, zero, suc, ◌+◌, ◌-◌, ◌<◌, ◌≤◌, List, [], ◌∷◌, ◌++◌, length, get_or, take, drop, false, ◌⊎◌, inl, inr, refl, sym, ap, ◌∙◌, subst, arith, append_assoc, append-nil, length-take}
-use Rattle.std.proofs.lemmas.List.{take-append-drop}
-use Rattle.json_grammar.specs.Grammar.{ws, IsDigit, number, string}
+use Rattle.std.proofs.lemmas.List.{take-append-drop, append_cancel_left}
+use Rattle.json_grammar.specs.Grammar.{ws, IsDigit}
 use Rattle.json_grammar.specs.Fault.{is_word}
 use Rattle.json_grammar.specs.Given.{piece}
-use Rattle.json_grammar.specs.Needs.{IsGap, BeginsToken, IsBegun, NeedsByte}
-use Rattle.json_grammar.specs.NumberStates.{at_start, after_zero, number_step, number_run, is_whole_number}
+use Rattle.json_grammar.specs.Needs.{IsGap, BeginsToken, IsBegun}
+use Rattle.json_grammar.specs.NumberStates.{at_start, after_zero, number_step, is_whole_number}
 use Rattle.json_grammar.proofs.Atoms.{atoms_append, atoms_one, atoms_chars}
 use Rattle.json_grammar.proofs.Moves.{piece_none, take_on}
 use Rattle.json_grammar.proofs.NumberRuns.{run_on, number_ends}
@@ -100,10 +100,6 @@ needs_number b at k c st r = record { order = st.at.order; begun = by st.why }
 pub needs_string : (b : List ℕ) (at k : ℕ) (c : ErrorCode) → ByteAt b at 34 → StringStops b (at + 1) c k → TokenNeeds b at c k
 needs_string b at k c q st = by st.why
   where
-    cancel : (p x y : List ℕ) → p ++ x ≡ p ++ y → x ≡ y
-    cancel [] x y e = e
-    cancel (z ∷ p) x y e = cancel p x y (cc)
-
     some : (z : List ℕ) → z ++ 34 ∷ [] ≢ []
     some [] f = cons_some f
     some (x ∷ z) f = cons_some f
@@ -111,7 +107,7 @@ needs_string b at k c q st = by st.why
     inside : (e : List ℕ) → at ≤ k → Inside b at k e → TokenNeeds b at c k
     inside e l i =
         let s = atoms_chars false (atoms_append false i.atoms (atoms_one false i.goes_on)) in
-        let p : piece b at k ≡ 34 ∷ (i.m ++ e) = cancel (take at b) (piece b at k) (34 ∷ (i.m ++ e)) (sym (take_on b at k l) ∙ i.row) in
+        let p : piece b at k ≡ 34 ∷ (i.m ++ e) = append_cancel_left (take at b) (piece b at k) (34 ∷ (i.m ++ e)) (sym (take_on b at k l) ∙ i.row) in
         record {
           order = l;
           begun =

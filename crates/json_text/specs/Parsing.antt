@@ -5,11 +5,12 @@ use Rattle.json_grammar.specs.declared.Spot.{Spot}
 use Rattle.json_grammar.specs.declared.Spot.TheVariants as spot
 use Rattle.json_grammar.specs.Tree.{Tree, depth, Token, tokens}
 use Rattle.json_grammar.specs.Grammar.{is_text}
-use Rattle.json_grammar.specs.Given.{LastEnds}
+use Rattle.json_grammar.specs.Given.{piece, LastEnds}
+use Rattle.json_grammar.specs.Needs.{IsGap}
 use Rattle.json_text.specs.declared.error.Error.{Error}
 use Rattle.json_text.specs.declared.event.Event.{Event}
 use Rattle.json_text.specs.declared.event.Event.TheVariants as event
-use Rattle.json_text.specs.Events.{Means, raw_size, EndsToken}
+use Rattle.json_text.specs.Events.{Means, raw_size, token_bytes, EndsToken}
 use Rattle.json_text.specs.Faults.{IsFault, FaultFrom}
 use Rattle.json_text.specs.Due.{NextNeeds}
 use Rattle.json_text.specs.Positions.{place_at}
@@ -57,17 +58,29 @@ abbrev pub Goes : ParserState → Event → ParserState → Type 0
 Goes old event.End new = (new ≡ old) × ((ts : List Token) → HasGiven old ts → (t : Tree) × is_text false t (input old) × (ts ≡ tokens t) × (depth t ≤ old.limit))
 Goes old e new = (ts : List Token) → HasGiven old ts → (x : Token) × Means e x × HasGiven new (ts ++ x ∷ [])
 
--- the parser stands right behind the event's token: neither whitespace nor a comma or a colon was taken behind it
+-- behind what was taken before stand a gap and then the event's token, byte for byte, and the parser stands right behind that:
+-- neither whitespace nor a comma or a colon was taken behind it
 pub record TakesToken (old : ParserState) (e : Event) (new : ParserState) : Type 0 where
   pub forward : old.index < new.index
   pub room : old.index + raw_size e ≤ new.index
   pub within : new.index ≤ length new.text
   pub last : EndsToken (get_or new.text (new.index - 1) 0)
+  pub begins : ℕ
+  pub order : (old.index ≤ begins) × (begins < new.index)
+  pub gap : IsGap (piece new.text old.index begins)
+  pub bytes : piece new.text begins new.index ≡ token_bytes e
 
 -- so at each event but the end
 abbrev pub IsTight : ParserState → Event → ParserState → Type 0
 IsTight old event.End new = Unit {0}
 IsTight old e new = TakesToken old e new
+
+-- what the event lends is what stands right before the parser's place: a number, or what stands between the quotes of a string or a name
+abbrev pub IsLent : Event → ParserState → Type 0
+IsLent (event.Number l) s = l.now ≡ piece s.text (s.index - length l.now) s.index
+IsLent (event.Str v) s = v.raw.now ≡ piece s.text (s.index - 1 - length v.raw.now) (s.index - 1)
+IsLent (event.Key v) s = v.raw.now ≡ piece s.text (s.index - 1 - length v.raw.now) (s.index - 1)
+IsLent _ s = Unit {0}
 
 -- the fault of the input, which is kept and comes again
 pub record Refuses (old : ParserState) (e : Error) (new : ParserState) : Type 0 where

@@ -5,7 +5,7 @@ ghost use Rattle.json_grammar.specs.Grammar.{IsWhitespace, ws};
 ghost use Rattle.json_grammar.specs.Given.{piece};
 ghost use Rattle.json_text.specs.Faults.{IsFault, IsInValue};
 ghost use Rattle.json_text.specs.Due.{NextNeeds};
-ghost use Rattle.json_text.specs.Parsing.{input, taken, HasGiven, SameInput, IsWhole, Goes, IsTight};
+ghost use Rattle.json_text.specs.Parsing.{input, taken, HasGiven, SameInput, IsWhole, Goes, IsTight, IsLent};
 ghost use Rattle.json_text.specs.Parsing.{Refuses, IsDue, EventsBegin};
 
 use crate::error::{Error, ErrorCode, Result};
@@ -182,6 +182,7 @@ impl<'a> Parser<'a> {
         ensures ok { IfOk result
             (λ e. (self.old.failure ≡ None) × (self.new.failure ≡ None) × Goes self.old e self.new) }
         ensures tight { IfOk result (λ e. IsTight self.old e self.new) }
+        ensures between { IfOk result (λ e. IsLent e self.new) }
         ensures err { IfErr result (λ e. Refuses self.old e self.new) }
         ensures needs { IfErr result (λ e. self.old.failure ≡ None → IsDue self.old e) }
         ensures inside { IfErr result (λ e. self.old.failure ≡ None → ¬ (IsWhole self.old) → IsInValue e.code) }
