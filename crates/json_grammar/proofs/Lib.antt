@@ -12,6 +12,7 @@ pub mod Completing
 pub mod Next
 pub mod Depth
 pub mod Moves
+pub mod Pieces
 pub mod Strings
 pub mod NumberRuns
 pub mod Within
@@ -31,4 +32,14 @@ pub mod Lossy
 pub mod Steps
 pub mod ExampleTexts
 pub mod ExampleFaults
+pub mod ExampleRules
 pub mod TextUtf8
+pub mod OpenKeys
+pub mod TokenSteps
+pub mod RepeatedNames
+pub mod FirstRepeated
+pub mod RepeatedInput
+pub mod RulesFault
+pub mod RulesValueFault
+pub mod RulesTable
+pub mod RulesReader

@@ -5,10 +5,15 @@ pub mod Lexeme
 pub mod Levels
 pub mod Proper
 pub mod Fault
+pub mod Repeated
+pub mod Rules
 pub mod Allows
 pub mod Given
 pub mod Sizes
 pub mod Laws
 pub mod ReaderLaws
+pub mod RulesLaws
+pub mod RulesReaderLaws
 pub mod NumberStates
 pub mod Examples
+pub mod RulesExamples
