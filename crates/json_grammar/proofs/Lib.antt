@@ -28,6 +28,7 @@ pub mod NumberScan
 pub mod PartScan
 pub mod SomeFault
 pub mod SomeValueFault
+pub mod Numeric
 pub mod Lossy
 pub mod Steps
 pub mod ExampleTexts
