@@ -5,6 +5,7 @@ pub mod Edit
 pub mod Datum
 pub mod Merged
 pub mod DataLaws
+pub mod Places
 pub mod Laws
 pub mod Examples
 pub mod DataExamples

@@ -1,6 +1,8 @@
 -- Laws of numbers.
-use Rattle.std.specs.Prelude.{◌≡◌, ◌↔◌, ℕ, ◌^◌, ℤ, pos, neg_ℤ, ◌≤ℤ◌, ◌<ℤ◌, List, Some}
+use Rattle.std.specs.Prelude.{◌≡◌, ◌↔◌, ◌==◌, true, ℕ, ◌^◌, ℤ, pos, neg_ℤ, ◌≤ℤ◌, ◌<ℤ◌, List, Some}
+use Rattle.std.specs.Cmp.Lexicographic.{pointwise}
 use Rattle.std.specs.Fmt.{signed_decimal}
+use Rattle.std.specs.Ordering.{on}
 use Rattle.json_grammar.specs.Grammar.{number}
 use Rattle.json_number.specs.Integers.{integer_in}
 use Rattle.json_number.specs.Numbers.{value_of, text_of_number}
@@ -31,3 +33,7 @@ SameText = (x y : Number) → (value_of x ≡ value_of y) ↔ (text_of_number x 
 -- the literal of a raw number is a number
 abbrev pub LiteralIsNumber : Type 0
 LiteralIsNumber = (r : RawNumber) → number (raw_literal r)
+
+-- raw numbers are equal exactly where they have one literal
+abbrev pub EqualByLiteral : Type 0
+EqualByLiteral = (r s : RawNumber) → (on raw_literal (pointwise ◌==◌) r s ≡ true) ↔ (raw_literal r ≡ raw_literal s)

@@ -1,5 +1,5 @@
 // Laws of numbers.
-ghost use Rattle.json_number.specs.Laws.{PrintsItsLiteral, ReadsBack, ValueInRange, SameValue, SameText, LiteralIsNumber};
+ghost use Rattle.json_number.specs.Laws.{PrintsItsLiteral, ReadsBack, ValueInRange, SameValue, SameText, LiteralIsNumber, EqualByLiteral};
 
 /// An integer by value prints the literal that it was read from.
 pub fn prints_its_literal()
@@ -29,4 +29,9 @@ pub fn same_text()
 /// The literal of a raw number is a number.
 pub fn literal_is_number()
     ensures { LiteralIsNumber }
+{}
+
+/// Raw numbers are equal exactly where they have one literal.
+pub fn equal_by_literal()
+    ensures { EqualByLiteral }
 {}

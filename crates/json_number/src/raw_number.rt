@@ -1,5 +1,9 @@
 // Numbers by their literals.
-ghost use Rattle.std.specs.Prelude.{◌≡◌, ◌⊎◌, true, string_bytes, option_map, IfOk, IfErr, OnOk};
+ghost use Rattle.std.specs.Prelude.{◌≡◌, ◌⊎◌, ◌==◌, true, string_bytes, option_map, IfOk, IfErr, OnOk};
+ghost use Rattle.std.specs.Cmp.Lexicographic.{pointwise};
+ghost use Rattle.std.specs.Cmp.Rules.{comparing};
+ghost use Rattle.std.specs.Ordering.{on};
+ghost use Rattle.std.proofs.Common.{rules};
 ghost use Rattle.json_grammar.specs.Grammar.{number};
 ghost use Rattle.json_text.specs.Errors.{no_memory};
 ghost use Rattle.json_number.specs.Errors.{invalid_number};
@@ -12,7 +16,8 @@ use crate::state::is_number;
 use json_text::{Error, ErrorCode, Place, Result};
 use std::alloc::Global;
 
-/// A number as the literal that spells it (RFC 8259, section 6), of any size and precision.
+/// A number as the literal that spells it (RFC 8259, section 6), of any size and precision. Equal numbers have equal literals:
+/// `1.0` and `1.00` are two.
 ///
 /// ```
 /// use json_number::RawNumber;
@@ -20,6 +25,7 @@ use std::alloc::Global;
 /// assert_eq!(rt; price.as_str(), "1.50");
 /// assert_eq!(rt; price.to_number(), None);
 /// assert!(rt; RawNumber::new(alloc, "01").is_err());
+/// assert!(rt; price != RawNumber::new(alloc, "1.5")?);
 /// ```
 #[derive(Debug, Drop)]
 pub struct RawNumber {
@@ -82,4 +88,20 @@ impl RawNumber {
             literal: String::from_str(alloc, self.as_str())?,
         })
     }
+}
+
+impl PartialEq for RawNumber {
+    ghost use Rattle.json_number.specs.Literals.{raw_literal};
+
+    ghost eq = { on raw_literal (pointwise ◌==◌) };
+
+    ghost laws = { Prim.search (comparing, rules) };
+
+    fn eq(&self, other: &RawNumber) -> bool {
+        self.as_str() == other.as_str()
+    }
+}
+
+impl Eq for RawNumber {
+    ghost laws = { Prim.search (comparing, rules) };
 }

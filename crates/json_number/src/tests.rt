@@ -77,6 +77,8 @@ fn raw_numbers(rt: HostRuntime) -> Result<(), Fail> {
     let copy = raw.clone(rt.alloc())?;
     assert_eq!(rt; raw.as_str(), "1e5");
     assert_eq!(rt; copy.as_str(), "1e5");
+    assert!(rt; raw == copy);
+    assert!(rt; raw != RawNumber::new(rt.alloc(), "1E5")?);
     let refusal = Error {
         code: ErrorCode::InvalidNumber,
         place: Place::None,
