@@ -1,6 +1,11 @@
 //! Reads a JSON text from standard input, edits its value as the words ask, and writes the text of the edited tree to standard output.
 #![tactic(auto)]
 
+mod help;
+#[cfg(test)]
+mod tests;
+
+use crate::help::{add_hint, say, text_asked};
 use json_text::{StdSink, StdSource, Words};
 use reshape::run;
 use std::env;
@@ -26,8 +31,13 @@ fn main(rt: HostRuntime) -> ExitCode {
             return ExitCode::from(NO_MEMORY);
         }
     }
-    let mut source = StdSource::new(rt.stdin());
     let mut sink = StdSink::new(rt.stdout());
+    if let Some(text) = text_asked(&words) {
+        return ExitCode::from(say(&mut sink, text));
+    }
+    let mut source = StdSource::new(rt.stdin());
     let mut errs = StdSink::new(rt.stderr());
-    ExitCode::from(run(alloc, &words, &mut source, &mut sink, &mut errs))
+    let status = run(alloc, &words, &mut source, &mut sink, &mut errs);
+    add_hint(&mut errs, status);
+    ExitCode::from(status)
 }

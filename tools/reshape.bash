@@ -1,0 +1,19 @@
+# Completion of the words of `reshape` for bash.
+_reshape() {
+    local word=${COMP_WORDS[COMP_CWORD]} given=" ${COMP_WORDS[*]:1:COMP_CWORD-1} " words=""
+    COMPREPLY=()
+    # --indent=N comes as three words, since bash breaks words at an equals sign.
+    if [[ $word == = || ${COMP_WORDS[COMP_CWORD - 1]} == = ]]; then
+        mapfile -t COMPREPLY < <(compgen -W "0 1 2 3 4 5 6 7 8" -- "${word#=}")
+        return
+    fi
+    ((COMP_CWORD == 1)) && words="--help --version"
+    [[ $given =~ \ --(help|version)\  ]] && return
+    [[ $given =~ \ --(pretty|tabs|indent)[\ =] ]] || words+=" --pretty --indent= --tabs"
+    [[ $given =~ \ --sort-keys\  ]] || words+=" --sort-keys"
+    mapfile -t COMPREPLY < <(compgen -W "$words" -- "$word")
+    if [[ ${COMPREPLY[*]} == --indent= ]]; then
+        compopt -o nospace
+    fi
+}
+complete -F _reshape reshape
