@@ -1,9 +1,13 @@
 -- Which token of a text needs the byte at an offset. A reader that hands out tokens one after another is to refuse a byte at the token that needs it,
 -- and not before: then between what was taken and that byte stand a gap and the beginning of one token, and nothing else.
-use Rattle.std.specs.Prelude.{◌≡◌, ◌≢◌, ◌⊎◌, ℕ, ◌≤◌, List, [], ◌∷◌, ◌++◌, Bool}
+use Rattle.std.specs.Prelude.{◌≡◌, ◌≢◌, ◌⊎◌, ℕ, ◌≤◌, List, [], ◌∷◌, ◌++◌, take, Bool}
+use Rattle.json_grammar.specs.declared.Kind.{Kind}
+use Rattle.json_grammar.specs.declared.Spot.{Spot}
+use Rattle.json_grammar.specs.Tree.{Token}
 use Rattle.json_grammar.specs.Grammar.{ws, number, string}
 use Rattle.json_grammar.specs.Fault.{is_word}
-use Rattle.json_grammar.specs.Given.{piece}
+use Rattle.json_grammar.specs.Place.{reading, viable_prefix}
+use Rattle.json_grammar.specs.Given.{piece, Given}
 
 -- whitespace, with at most one comma or colon before, in or behind it (RFC 8259, section 2)
 pub record IsGap (g : List ℕ) : Type 0 where
@@ -36,3 +40,13 @@ pub record NeedsByte (lossy : Bool) (zero : Type 0) (b : List ℕ) (i k : ℕ) :
   pub order : (i ≤ at) × (at ≤ k)
   pub gap : IsGap (piece b i at)
   pub begun : IsBegun lossy zero (piece b at k)
+
+-- a gap has no token: behind one, in what begins some text, stand the tokens that stand before it
+abbrev pub GapHasNoToken : Type 0
+GapHasNoToken =
+    (lossy : Bool) (b : List ℕ) (i j : ℕ) (c : List Kind) (w : Spot) (ts : List Token)
+    → Given lossy b i c w ts
+    → i ≤ j
+    → IsGap (piece b i j)
+    → viable_prefix lossy (take j b)
+    → (c' : List Kind) × (w' : Spot) × reading lossy (take j b) c' w' ts
