@@ -27,6 +27,7 @@ pub mod ValueFaults
 pub mod NumberScan
 pub mod PartScan
 pub mod SomeFault
+pub mod Gaps
 pub mod SomeValueFault
 pub mod Numeric
 pub mod Lossy

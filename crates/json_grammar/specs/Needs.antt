@@ -1,9 +1,14 @@
--- Which token of a text needs the byte at an offset. A reader that hands out tokens one after another is to refuse a byte at the token that needs it,
--- and not before: then between what was taken and that byte stand a gap and the beginning of one token, and nothing else.
-use Rattle.std.specs.Prelude.{◌≡◌, ◌≢◌, ◌⊎◌, ℕ, ◌≤◌, List, [], ◌∷◌, ◌++◌, Bool}
+-- Which token of a text needs the byte at an offset. A reader that hands out tokens one after
+-- another is to refuse a byte at the token that needs it, and not before: then between what was taken
+-- and that byte stand a gap and the beginning of one token, and nothing else.
+use Rattle.std.specs.Prelude.{◌≡◌, ◌≢◌, ◌⊎◌, ℕ, ◌≤◌, List, [], ◌∷◌, ◌++◌, take, Bool}
+use Rattle.json_grammar.specs.declared.Kind.{Kind}
+use Rattle.json_grammar.specs.declared.Spot.{Spot}
+use Rattle.json_grammar.specs.Tree.{Token}
 use Rattle.json_grammar.specs.Grammar.{ws, number, string}
 use Rattle.json_grammar.specs.Fault.{is_word}
-use Rattle.json_grammar.specs.Given.{piece}
+use Rattle.json_grammar.specs.Place.{reading, viable_prefix}
+use Rattle.json_grammar.specs.Given.{piece, Given}
 
 -- whitespace, with at most one comma or colon before, in or behind it (RFC 8259, section 2)
 pub record IsGap (g : List ℕ) : Type 0 where
@@ -15,7 +20,8 @@ pub record IsGap (g : List ℕ) : Type 0 where
   pub is_mark : (mark ≡ []) ⊎ ((mark ≡ 44 ∷ []) ⊎ (mark ≡ 58 ∷ []))
   pub space_behind : ws behind
 
--- r begins a literal name or a string and is not the whole of it, or begins a number and is none (sections 3, 6 and 7)
+-- r begins a literal name or a string and is not the whole of it, or begins a number and is none
+-- (sections 3, 6 and 7)
 pub record BeginsToken (lossy : Bool) (r : List ℕ) : Type 0 where
   pub rest : List ℕ
   pub begun : r ≢ []
@@ -26,13 +32,25 @@ pub record BeginsToken (lossy : Bool) (r : List ℕ) : Type 0 where
 abbrev pub IsLeadingZero : List ℕ → Type 0
 IsLeadingZero r = (r ≡ 48 ∷ []) ⊎ (r ≡ 45 ∷ 48 ∷ [])
 
--- what may stand of a token before the byte that it needs: nothing, or its beginning; or, where a digit is refused behind it, a leading zero
+-- what may stand of a token before the byte that it needs: nothing, or its beginning; or a leading
+-- zero, where `zero` says that a digit may be refused behind one
 abbrev pub IsBegun : Bool → Type 0 → List ℕ → Type 0
 IsBegun lossy zero r = (r ≡ []) ⊎ (BeginsToken lossy r ⊎ (zero × IsLeadingZero r))
 
--- behind the first i bytes of b comes the token that needs the byte at k: a gap stands up to some offset, and from there up to k what is begun of it
+-- behind the first i bytes of b comes the token that needs the byte at k:
+-- a gap stands up to some offset, and from there up to k what is begun of the token
 pub record NeedsByte (lossy : Bool) (zero : Type 0) (b : List ℕ) (i k : ℕ) : Type 0 where
   pub at : ℕ
   pub order : (i ≤ at) × (at ≤ k)
   pub gap : IsGap (piece b i at)
   pub begun : IsBegun lossy zero (piece b at k)
+
+-- a gap has no token: behind one, in what begins some text, stand the tokens that stand before it
+abbrev pub GapHasNoToken : Type 0
+GapHasNoToken =
+    (lossy : Bool) (b : List ℕ) (i j : ℕ) (c : List Kind) (w : Spot) (ts : List Token)
+    → Given lossy b i c w ts
+    → i ≤ j
+    → IsGap (piece b i j)
+    → viable_prefix lossy (take j b)
+    → (c' : List Kind) × (w' : Spot) × reading lossy (take j b) c' w' ts

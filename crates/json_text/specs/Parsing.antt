@@ -58,8 +58,8 @@ abbrev pub Goes : ParserState → Event → ParserState → Type 0
 Goes old event.End new = (new ≡ old) × ((ts : List Token) → HasGiven old ts → (t : Tree) × is_text false t (input old) × (ts ≡ tokens t) × (depth t ≤ old.limit))
 Goes old e new = (ts : List Token) → HasGiven old ts → (x : Token) × Means e x × HasGiven new (ts ++ x ∷ [])
 
--- behind what was taken before stand a gap and then the event's token, byte for byte, and the parser stands right behind that:
--- neither whitespace nor a comma or a colon was taken behind it
+-- behind what was taken before stand a gap and then the event's token, byte for byte, and the parser
+-- stands right behind that: neither whitespace nor a comma or a colon was taken behind it
 pub record TakesToken (old : ParserState) (e : Event) (new : ParserState) : Type 0 where
   pub forward : old.index < new.index
   pub room : old.index + raw_size e ≤ new.index
@@ -75,7 +75,8 @@ abbrev pub IsTight : ParserState → Event → ParserState → Type 0
 IsTight old event.End new = Unit {0}
 IsTight old e new = TakesToken old e new
 
--- what the event lends is what stands right before the parser's place: a number, or what stands between the quotes of a string or a name
+-- what the event lends stands right before the parser's place: a number,
+-- or what stands between the quotes of a string or a name, the last of them right before that place
 abbrev pub IsLent : Event → ParserState → Type 0
 IsLent (event.Number l) s = l.now ≡ piece s.text (s.index - length l.now) s.index
 IsLent (event.Str v) s = v.raw.now ≡ piece s.text (s.index - 1 - length v.raw.now) (s.index - 1)

@@ -5,8 +5,8 @@ ghost use Rattle.json_grammar.specs.Grammar.{IsWhitespace, ws};
 ghost use Rattle.json_grammar.specs.Given.{piece};
 ghost use Rattle.json_text.specs.Faults.{IsFault, IsInValue};
 ghost use Rattle.json_text.specs.Due.{NextNeeds};
-ghost use Rattle.json_text.specs.Parsing.{input, taken, HasGiven, SameInput, IsWhole, Goes, IsTight, IsLent};
-ghost use Rattle.json_text.specs.Parsing.{Refuses, IsDue, EventsBegin};
+ghost use Rattle.json_text.specs.Parsing.{input, taken, HasGiven, SameInput, IsWhole, Goes, IsTight};
+ghost use Rattle.json_text.specs.Parsing.{IsLent, Refuses, IsDue, EventsBegin};
 
 use crate::error::{Error, ErrorCode, Result};
 use crate::event::Event;
@@ -149,7 +149,8 @@ impl<'a> Parser<'a> {
         requires new { self.old.failure ≡ None }
         requires fault { IsFault self.old.limit (input self.old) fault.code fault.offset }
         requires needs { NextNeeds (input self.old) (taken self.old) fault.code fault.offset }
-        ensures kept { IfSome self.new.failure (λ e. Refuses self.old e self.new) × IsSome self.new.failure }
+        ensures some { IsSome self.new.failure }
+        ensures kept { IfSome self.new.failure (λ e. Refuses self.old e self.new) }
         ensures due { IfSome self.new.failure (λ e. IsDue self.old e) }
         ensures code { IfSome self.new.failure (λ e. e.code ≡ fault.code) }
     {
@@ -175,7 +176,7 @@ impl<'a> Parser<'a> {
     ///
     /// A refusal has one of the codes from `EofWhileParsing` to `RecursionLimitExceeded`, at the place behind the
     /// longest prefix with which some text begins; or, of the last code, at the bracket that opens a level too many.
-    /// It comes again at each later call.
+    /// It comes at the event that needs the byte at that place, and at none before, and again at each later call.
     #[inline(always)]
     pub fn next(&mut self) -> Result<Event<'a>>
         ensures same { SameInput self.old self.new }

@@ -1,0 +1,55 @@
+-- Before the token that needs a refused byte stand the tokens that were told.
+use Rattle.std.proofs.Common.{◌≡◌, ℕ, List, [], ◌∷◌, ◌++◌, length, take, false, sym, ap, ◌∙◌, subst, arith, append_assoc, take_all}
+use Rattle.std.proofs.Math.Seq.{take-append_seam}
+use Rattle.json_grammar.specs.declared.Kind.{Kind}
+use Rattle.json_grammar.specs.declared.Spot.{Spot}
+use Rattle.json_grammar.specs.Tree.{Tree, Token}
+use Rattle.json_grammar.specs.Grammar.{ws, is_text}
+use Rattle.json_grammar.specs.Place.{reading, viable_prefix}
+use Rattle.json_grammar.specs.Fault.{FaultCode}
+use Rattle.json_grammar.specs.Given.{piece}
+use Rattle.json_grammar.specs.Needs.{IsGap}
+use Rattle.json_grammar.proofs.Faults.{shorter_viable}
+use Rattle.json_grammar.proofs.Gaps.{gap_has_no_token}
+use Rattle.json_grammar.proofs.Lists.{ws-append}
+use Rattle.json_grammar.proofs.Moves.{take_on}
+use Rattle.json_grammar.proofs.OneFault.{Told, deep, short, other, told}
+use Rattle.json_text.specs.declared.error.Error.{Error}
+use Rattle.json_text.specs.declared.error.ErrorCode.{ErrorCode}
+use Rattle.json_text.specs.Faults.{IsFault}
+use Rattle.json_text.specs.Parsing.{ParserState, input, taken, HasGiven, IsDue}
+use Rattle.json_text.proofs.OneFaultAt.{stands}
+use Rattle.json_text.proofs.Pieces.{piece_append}
+
+front : (b p r : List ℕ) (k : ℕ) → b ≡ p ++ r → length p ≡ k → p ≡ take k b
+front b p r k e l = sym (ap (take k) e ∙ ap (λ n. take n (p ++ r)) (sym l) ∙ take-append_seam p r)
+
+-- what stands before a refused byte begins some text
+told_viable : {limit k : ℕ} {b : List ℕ} {code : FaultCode} → Told false (viable_prefix false) ((t : Tree) × is_text false t b) limit b k code → viable_prefix false (take k b)
+told_viable {k = k} {b = b} (deep (p, x, r, e, l, v, o, m)) = subst (viable_prefix false) (front b p (x ∷ r) k e l) (shorter_viable false p (x ∷ []) v)
+told_viable {k = k} {b = b} (short (e, v, o, m)) = subst (viable_prefix false) (sym (ap (λ n. take n b) e ∙ take_all (length b) b (omega arith))) v
+told_viable {k = k} {b = b} (other r) = subst (viable_prefix false) (front b r.p (r.x ∷ r.long.rest) k r.long.bytes r.offset) r.long.is_viable
+
+fault_viable : (limit : ℕ) (b : List ℕ) (c : ErrorCode) (k : ℕ) → IsFault limit b c k → viable_prefix false (take k b)
+fault_viable limit b c k h = let s = stands limit b c k h in told_viable (told false (viable_prefix false) ((t : Tree) × is_text false t b) limit b s.row k s.holds)
+
+-- whitespace before a gap
+gap_behind : (z g : List ℕ) → ws z → IsGap g → IsGap (z ++ g)
+gap_behind z g h i = record {
+  before = z ++ i.before;
+  mark = i.mark;
+  behind = i.behind;
+  row = ap (λ y. z ++ y) i.row ∙ sym (append_assoc z i.before (i.mark ++ i.behind));
+  space_before = ws-append z i.before h i.space_before;
+  is_mark = i.is_mark;
+  space_behind = i.space_behind;
+}
+
+pub due_behind_tokens : (old : ParserState) (e : Error) (ts : List Token) (due : IsDue old e) → HasGiven old ts → (c : List Kind) × (w : Spot) × reading false (take due.needs.at (input old)) c w ts
+due_behind_tokens old e ts due h =
+    let b = input old in let i = taken old in let n = due.needs in
+    let o = n.order in let l = h.order in
+    let v = fault_viable old.limit b e.code due.offset due.fault in
+    gap_has_no_token false b h.base n.at old.open_kinds old.spot ts h.given (omega arith)
+    (subst IsGap (sym (piece_append b h.base i n.at h.order o.0)) (gap_behind (piece b h.base i) (piece b i n.at) h.space n.gap))
+    (shorter_viable false (take n.at b) (piece b n.at due.offset) (subst (viable_prefix false) (take_on b n.at due.offset o.1) v))
