@@ -65,7 +65,7 @@ index_passes i no_trees c e here = absurd (none-some c here)
 index_passes zero (tree_and t ts) c e here = refl
 index_passes (suc i) (tree_and t ts) c e here = ap (within (λ us. tree_and t us)) (index_passes i ts c e here)
 
-passes : (s : Step) (t c : Tree) (e : Refusal) → child s t ≡ Some c → at_path (s ∷ []) (λ _. Err e) t ≡ Err e
+pub passes : (s : Step) (t c : Tree) (e : Refusal) → child s t ≡ Some c → at_path (s ∷ []) (λ _. Err e) t ≡ Err e
 passes (key_step k) (pairs ps) c e here = ap (within pairs) (key_passes k ps c e here)
 passes (key_step k) null c e here = absurd (none-some c here)
 passes (key_step k) (boolean b) c e here = absurd (none-some c here)

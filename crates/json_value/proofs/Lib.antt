@@ -31,3 +31,5 @@ pub mod LentPaths
 pub mod Settling
 pub mod Loneness
 pub mod Opened
+pub mod FirstWrites
+pub mod WhereStepsLead

@@ -15,6 +15,8 @@ pub mod Steps
 pub mod Parts
 pub mod Left
 pub mod Merged
+pub mod Made
 pub mod Standing
 pub mod Touched
 pub mod Lending
+pub mod Laws

@@ -6,7 +6,8 @@ use Rattle.json_model.specs.Edit.{Step, key_step, index_step, has_key}
 use Rattle.json_value.specs.Denotes.{tree_of, pair_of, text_bytes, list_in, pairs_in}
 use Rattle.json_value.specs.FirstMember.{IsFirstOf}
 use Rattle.json_value.specs.Rows.{owned}
-use Rattle.json_value.specs.Spots.{Spot, spot_of, spot_of_text}
+use Rattle.json_value.specs.Places.{Stand, stand_of}
+use Rattle.json_value.specs.Spots.{spot_of_text}
 use Rattle.json_value.specs.Written.{FirstElements, FirstMembers, value_in, with_value}
 use Rattle.json_value.specs.declared.container.Container.{Container}
 use Rattle.json_value.specs.declared.pair.Keyed.{Keyed}
@@ -64,17 +65,17 @@ pub record Appended (k : List ℕ) (Is : Keyed Value → Type 0) (items now : Li
   pub more : now ≡ items ++ member ∷ []
   pub is : Is member
 
--- a member whose key stands where this one does, and whose value stands there
-abbrev pub StandsSo : Text → Option Spot → Keyed Value → Type 0
-StandsSo k s m = (spot_of_text m.key ≡ spot_of_text k) × (spot_of m.value ≡ s)
+-- a member whose key stands where this one does, and whose value and its parts stand so
+abbrev pub StandsSo : Text → Stand → Keyed Value → Type 0
+StandsSo k s m = (spot_of_text m.key ≡ spot_of_text k) × (stand_of m.value ≡ s)
 
--- a value that stands there came to the first member of the key, or with a member of its own
-abbrev pub Inserts : Text → Option Spot → List (Keyed Value) → List (Keyed Value) → Type 0
-Inserts k s items now = AtMember (text_bytes k) (λ before after. spot_of after ≡ s) items now ⊎ Appended (text_bytes k) (StandsSo k s) items now
+-- a value that stands so came to the first member of the key, or with a member of its own
+abbrev pub Inserts : Text → Stand → List (Keyed Value) → List (Keyed Value) → Type 0
+Inserts k s items now = AtMember (text_bytes k) (λ before after. stand_of after ≡ s) items now ⊎ Appended (text_bytes k) (StandsSo k s) items now
 
--- a value that stands there came behind the others
-abbrev pub Pushes : Option Spot → List Value → List Value → Type 0
-Pushes s items now = (v : Value) × (spot_of v ≡ s) × (now ≡ items ++ v ∷ [])
+-- a value that stands so came behind the others
+abbrev pub Pushes : Stand → List Value → List Value → Type 0
+Pushes s items now = (v : Value) × (stand_of v ≡ s) × (now ≡ items ++ v ∷ [])
 
 -- the members but those of the key
 abbrev pub unkeyed : List ℕ → List (Keyed Value) → List (Keyed Value)
@@ -87,9 +88,9 @@ RemovalTouches (Index i) old new = ArrayTouched (λ items now. now ≡ remove it
 
 -- what the edit leaves of the value at its place
 abbrev pub ChangeTouches : Edit → Value → Value → Type 0
-ChangeTouches (Set p v) old new = spot_of new ≡ spot_of v
-ChangeTouches (Insert p k v) old new = ObjectTouched (Inserts k (spot_of v)) old new
-ChangeTouches (Push p v) old new = ArrayTouched (Pushes (spot_of v)) old new
+ChangeTouches (Set p v) old new = stand_of new ≡ stand_of v
+ChangeTouches (Insert p k v) old new = ObjectTouched (Inserts k (stand_of v)) old new
+ChangeTouches (Push p v) old new = ArrayTouched (Pushes (stand_of v)) old new
 ChangeTouches (Remove p s) old new = RemovalTouches s old new
 
 -- the value to which the steps lead was changed so

@@ -8,7 +8,7 @@ ghost use Rattle.json_value.specs.Denotes.{tree_of, text_bytes, pair_of};
 ghost use Rattle.json_value.specs.Edits.{step_of, steps_of, path_of, edit_of, change_of, RefusesChange};
 ghost use Rattle.json_value.specs.FirstMember.{IsFirstOf};
 ghost use Rattle.json_value.specs.Rows.{value_row, array_row, object_row};
-ghost use Rattle.json_value.specs.Spots.{spot_of};
+ghost use Rattle.json_value.specs.Places.{stand_of};
 ghost use Rattle.json_value.specs.Touched.{ArrayTouched, ObjectTouched, AtElement, AtMember, Inserts, Pushes, RemovalTouches, ChangeTouches, Touches, unkeyed};
 ghost use Rattle.json_value.specs.declared.value.Value.{Array as ArrayValue, Object as ObjectValue};
 
@@ -55,7 +55,7 @@ fn insert_pair(pairs: &mut Vec<Pair>, alloc: Global, key: &Text, value: Value) -
     ensures ok { OnOk result (inserted (text_bytes key.now) (tree_of value) (list_pairs (map pair_of pairs.old.items)) ≡ list_pairs (map pair_of pairs.new.items)) }
     ensures kept { OnErr result (map pair_of pairs.new.items ≡ map pair_of pairs.old.items) }
     ensures only { IfErr result (λ e. e ≡ no_memory) }
-    ensures children { OnOk result (Inserts key.now (spot_of value) pairs.old.items pairs.new.items) }
+    ensures children { OnOk result (Inserts key.now (stand_of value) pairs.old.items pairs.new.items) }
 {
     match find_key(pairs.as_slice(), key.as_str()) {
         Some(i) => {
@@ -114,7 +114,7 @@ impl Value {
         ensures ok { OnOk result (on_pairs (λ ps. Ok (inserted (text_bytes key.now) (tree_of value.now) ps)) (tree_of self.old) ≡ Ok (tree_of self.new)) }
         ensures kept { OnErr result (tree_of self.new ≡ tree_of self.old) }
         ensures refused { IfErr result (λ e. RefusesChange (on_pairs (λ ps. Ok (inserted (text_bytes key.now) (tree_of value.now) ps)) (tree_of self.old)) e.code e.place) }
-        ensures children { OnOk result (ObjectTouched (Inserts key.now (spot_of value.now)) self.old self.new) }
+        ensures children { OnOk result (ObjectTouched (Inserts key.now (stand_of value.now)) self.old self.new) }
     {
         match self.object_mut() {
             Some(object) => {
@@ -130,7 +130,7 @@ impl Value {
         ensures ok { OnOk result (on_list (λ ts. Ok (pushed (tree_of value.now) ts)) (tree_of self.old) ≡ Ok (tree_of self.new)) }
         ensures kept { OnErr result (tree_of self.new ≡ tree_of self.old) }
         ensures refused { IfErr result (λ e. RefusesChange (on_list (λ ts. Ok (pushed (tree_of value.now) ts)) (tree_of self.old)) e.code e.place) }
-        ensures children { OnOk result (ArrayTouched (Pushes (spot_of value.now)) self.old self.new) }
+        ensures children { OnOk result (ArrayTouched (Pushes (stand_of value.now)) self.old self.new) }
     {
         match self.array_mut() {
             Some(array) => {

@@ -1,14 +1,16 @@
 // Arrays.
-ghost use Rattle.std.specs.Prelude.{◌≡◌, ◌↔◌, [], map, IfOk, IfErr, OnOk, OnErr, IfSome, IsNone, IsOk};
+ghost use Rattle.std.specs.Prelude.{◌≡◌, ◌≤◌, ◌↔◌, [], map, IfOk, IfErr, OnOk, OnErr, IfSome, IsNone, IsOk};
 ghost use Rattle.std.specs.Borrow.{LendsIfOk, sem};
 ghost use Rattle.json_grammar.specs.Tree.{list, list_trees};
 ghost use Rattle.json_doc.specs.Readings.{elements};
 ghost use Rattle.json_text.specs.Errors.{no_memory};
 ghost use Rattle.json_value.specs.Denotes.{tree_of, list_in};
 ghost use Rattle.json_value.specs.Said.{place_tree};
-ghost use Rattle.json_value.specs.Rows.{array_row, value_row, vec_row, owned, owned_items, IsOwned};
+ghost use Rattle.json_value.specs.Rows.{array_row, value_row, vec_row, owned, owned_items, owned_items_of, IsOwned, OwnsList};
+ghost use Rattle.json_value.specs.Room.{spare_in};
 ghost use Rattle.json_value.specs.Spots.{IsPlace, FirstList, PlaceElements};
 ghost use Rattle.json_value.specs.Written.{FirstElements};
+ghost use Rattle.json_value.specs.declared.value.Value.{Array as ArrayValue};
 
 use crate::container::{Container, Form};
 use crate::place::Place;
@@ -43,14 +45,27 @@ impl Container<Value> {
 
     /// The array as a value.
     pub fn into_value(self) -> Value
-        ensures { tree_of result ≡ list (list_trees (list_in self)) }
+        ensures tree { tree_of result ≡ list (list_trees (list_in self)) }
+        ensures value { result ≡ ArrayValue self }
     {
         Value::Array(self)
+    }
+
+    /// How many more elements it takes before it asks for memory: none where nothing was put in yet, and of a place of a document.
+    /// Takes no memory.
+    pub fn spare(&self) -> usize
+        ensures { result ≡ spare_in self.now }
+    {
+        match &self.form {
+            Form::Owned(list) => list.capacity() - list.len(),
+            Form::Empty | Form::Packed(_) => 0,
+        }
     }
 
     /// The owned list; none exactly for a place of a document.
     pub fn list(&self) -> Option<&[Value]>
         ensures list { IfSome result (λ v. map tree_of v.now ≡ list_in self.now) }
+        ensures items { IfSome result (λ v. v.now ≡ owned_items_of self.now) }
         ensures none { IsNone result ↔ IsPlace self.now }
     {
         match &self.form {
@@ -66,6 +81,8 @@ impl Container<Value> {
         ensures same { OnOk result (list_in self.new ≡ list_in self.old) }
         ensures children { OnOk result (FirstList self.old.form (owned_items self.new.form)) }
         ensures err { OnErr result (self.new ≡ self.old) }
+        ensures as_it_was { OwnsList self.old → self.new ≡ self.old }
+        ensures room { OnOk result (spare_in self.old ≤ spare_in self.new) }
         ensures only { IfErr result (λ e. e ≡ no_memory) }
         ensures free { (IsPlace self.old → ⊥) → IsOk result }
     {
@@ -87,6 +104,8 @@ impl Container<Value> {
         ensures* writes_back { sem 𝓛 (LendsIfOk array_row (vec_row value_row) self.entry result owned self.old) }
         ensures list { IfOk result (λ v. map tree_of v.now.items ≡ list_in self.old) }
         ensures children { IfOk result (λ v. FirstElements self.old v.now.items) }
+        ensures as_it_was { IfOk result (λ v. OwnsList self.old → owned v.now ≡ self.old) }
+        ensures room { IfOk result (λ v. spare_in self.old ≤ spare_in (owned v.now)) }
         ensures only { IfErr result (λ e. e ≡ no_memory) }
         ensures free { (IsPlace self.old → ⊥) → IsOk result }
     {

@@ -1,11 +1,14 @@
 // Values of their own.
-ghost use Rattle.std.specs.Prelude.{◌≡◌, map, IfOk, IfErr};
+ghost use Rattle.std.specs.Prelude.{◌≡◌, [], ◌∷◌, None, map, IfOk, IfErr};
 ghost use Rattle.std.specs.Fmt.{decimal, signed_decimal};
 ghost use Rattle.json_grammar.specs.Tree.{null, boolean, num, text, list, pairs, no_trees, no_pairs, list_trees};
 ghost use Rattle.json_text.specs.Errors.{no_memory};
 ghost use Rattle.json_number.specs.Literals.{raw_literal};
 ghost use Rattle.json_number.specs.Numbers.{text_of_number};
 ghost use Rattle.json_value.specs.Denotes.{tree_of};
+ghost use Rattle.json_value.specs.Places.{places_in};
+ghost use Rattle.json_value.specs.Rows.{owned};
+ghost use Rattle.json_value.specs.declared.value.Value.{Array as ArrayValue};
 
 use crate::container::{Container, Form};
 use crate::literal::Literal;
@@ -60,7 +63,8 @@ impl Value {
 
     /// The number: by value where it is an integer of `u64` or `i64`, else as its literal. Takes no memory.
     pub fn from_raw_number(number: RawNumber) -> Value
-        ensures { tree_of result ≡ num (raw_literal number) }
+        ensures tree { tree_of result ≡ num (raw_literal number) }
+        ensures places { places_in result ≡ None ∷ [] }
     {
         match number.to_number() {
             Some(integer) => Value::Number(integer),
@@ -84,14 +88,16 @@ impl Value {
 
     /// The static string. Takes no memory.
     pub fn from_static_str(s: &'static str) -> Value
-        ensures { tree_of result ≡ text s.now }
+        ensures tree { tree_of result ≡ text s.now }
+        ensures places { places_in result ≡ None ∷ [] }
     {
         Value::Text(Text::from_static(s))
     }
 
     /// The array of these elements. Takes no memory.
     pub fn from_vec(items: Vec<Value>) -> Value
-        ensures { tree_of result ≡ list (list_trees (map tree_of items.items)) }
+        ensures tree { tree_of result ≡ list (list_trees (map tree_of items.items)) }
+        ensures value { result ≡ ArrayValue (owned items) }
     {
         Value::Array(Container {
             form: Form::Owned(items),
@@ -101,6 +107,7 @@ impl Value {
     /// A string of these characters, of its own. `NoMemory`.
     pub fn copy_str(alloc: Global, s: &str) -> Result<Value>
         ensures tree { IfOk result (λ v. tree_of v ≡ text s.now) }
+        ensures places { IfOk result (λ v. places_in v ≡ None ∷ []) }
         ensures only { IfErr result (λ e. e ≡ no_memory) }
     {
         let copied = Text::copy(alloc, s)?;

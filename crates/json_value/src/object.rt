@@ -1,14 +1,16 @@
 // Objects.
-ghost use Rattle.std.specs.Prelude.{◌≡◌, ◌↔◌, [], map, IfOk, IfErr, OnOk, OnErr, IfSome, IsNone, IsOk};
+ghost use Rattle.std.specs.Prelude.{◌≡◌, ◌≤◌, ◌↔◌, [], map, IfOk, IfErr, OnOk, OnErr, IfSome, IsNone, IsOk};
 ghost use Rattle.std.specs.Borrow.{LendsIfOk, sem};
 ghost use Rattle.json_grammar.specs.Tree.{pairs, list_pairs};
 ghost use Rattle.json_text.specs.Errors.{no_memory};
 ghost use Rattle.json_value.specs.Denotes.{tree_of, pair_of, pairs_in};
 ghost use Rattle.json_value.specs.Said.{place_tree};
 ghost use Rattle.json_value.specs.Readings.{members};
-ghost use Rattle.json_value.specs.Rows.{object_row, pair_row, vec_row, owned, owned_items, IsOwned};
+ghost use Rattle.json_value.specs.Rows.{object_row, pair_row, vec_row, owned, owned_items, owned_items_of, IsOwned, OwnsList};
+ghost use Rattle.json_value.specs.Room.{spare_in};
 ghost use Rattle.json_value.specs.Spots.{IsPlace, FirstPairs, PlaceMembers};
 ghost use Rattle.json_value.specs.Written.{FirstMembers};
+ghost use Rattle.json_value.specs.declared.value.Value.{Object as ObjectValue};
 
 use crate::container::{Container, Form};
 use crate::pair::Keyed;
@@ -49,14 +51,27 @@ impl Container<Keyed<Value>> {
 
     /// The object as a value.
     pub fn into_value(self) -> Value
-        ensures { tree_of result ≡ pairs (list_pairs (pairs_in self)) }
+        ensures tree { tree_of result ≡ pairs (list_pairs (pairs_in self)) }
+        ensures value { result ≡ ObjectValue self }
     {
         Value::Object(self)
+    }
+
+    /// How many more members it takes before it asks for memory: none where nothing was put in yet, and of a place of a document.
+    /// Takes no memory.
+    pub fn spare(&self) -> usize
+        ensures { result ≡ spare_in self.now }
+    {
+        match &self.form {
+            Form::Owned(list) => list.capacity() - list.len(),
+            Form::Empty | Form::Packed(_) => 0,
+        }
     }
 
     /// The owned members; none exactly for a place of a document.
     pub fn pairs(&self) -> Option<&[Pair]>
         ensures pairs { IfSome result (λ v. map pair_of v.now ≡ pairs_in self.now) }
+        ensures items { IfSome result (λ v. v.now ≡ owned_items_of self.now) }
         ensures none { IsNone result ↔ IsPlace self.now }
     {
         match &self.form {
@@ -72,6 +87,8 @@ impl Container<Keyed<Value>> {
         ensures same { OnOk result (pairs_in self.new ≡ pairs_in self.old) }
         ensures children { OnOk result (FirstPairs self.old.form (owned_items self.new.form)) }
         ensures err { OnErr result (self.new ≡ self.old) }
+        ensures as_it_was { OwnsList self.old → self.new ≡ self.old }
+        ensures room { OnOk result (spare_in self.old ≤ spare_in self.new) }
         ensures only { IfErr result (λ e. e ≡ no_memory) }
         ensures free { (IsPlace self.old → ⊥) → IsOk result }
     {
@@ -93,6 +110,8 @@ impl Container<Keyed<Value>> {
         ensures* writes_back { sem 𝓛 (LendsIfOk object_row (vec_row pair_row) self.entry result owned self.old) }
         ensures pairs { IfOk result (λ v. map pair_of v.now.items ≡ pairs_in self.old) }
         ensures children { IfOk result (λ v. FirstMembers self.old v.now.items) }
+        ensures as_it_was { IfOk result (λ v. OwnsList self.old → owned v.now ≡ self.old) }
+        ensures room { IfOk result (λ v. spare_in self.old ≤ spare_in (owned v.now)) }
         ensures only { IfErr result (λ e. e ≡ no_memory) }
         ensures free { (IsPlace self.old → ⊥) → IsOk result }
     {

@@ -2,7 +2,7 @@
 ghost use Rattle.std.specs.Prelude.{◌≡◌};
 ghost use Rattle.std.specs.Borrow.{Lends, sem};
 ghost use Rattle.json_value.specs.Denotes.{tree_of, text_bytes, pair_of};
-ghost use Rattle.json_value.specs.Rows.{pair_row, value_row};
+ghost use Rattle.json_value.specs.Rows.{pair_row, value_row, keyed_so};
 ghost use Rattle.json_value.specs.Written.{with_value, value_in};
 
 use crate::text::Text;
@@ -27,7 +27,8 @@ pub struct Keyed<T> {
 impl Keyed<Value> {
     /// A member of this key and this value.
     pub fn new(key: Text, value: Value) -> Pair
-        ensures { pair_of result ≡ (text_bytes key, tree_of value) }
+        ensures pair { pair_of result ≡ (text_bytes key, tree_of value) }
+        ensures member { result ≡ keyed_so key value }
     {
         Keyed { key, value }
     }
@@ -41,7 +42,8 @@ impl Keyed<Value> {
 
     /// The value.
     pub fn value(&self) -> &Value
-        ensures { tree_of result.now ≡ (pair_of self.now).1 }
+        ensures tree { tree_of result.now ≡ (pair_of self.now).1 }
+        ensures value { result.now ≡ value_in self.now }
     {
         &self.value
     }

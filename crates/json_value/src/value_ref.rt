@@ -1,8 +1,9 @@
 // What a value is, with what is in it behind references.
-ghost use Rattle.std.specs.Prelude.{◌≡◌, option_map};
+ghost use Rattle.std.specs.Prelude.{◌≡◌, option_map, IfSome};
 ghost use Rattle.json_value.specs.Denotes.{tree_of, list_in, pairs_in};
 ghost use Rattle.json_value.specs.Parts.{ref_tree};
 ghost use Rattle.json_value.specs.Seen.{list_of, pairs_of};
+ghost use Rattle.json_value.specs.declared.value.Value.{Array as ArrayValue, Object as ObjectValue};
 
 use crate::value::{Array, Object, Value};
 use json_number::Number;
@@ -49,7 +50,8 @@ impl Value {
 
     /// The array; none exactly for another kind.
     pub fn into_array(self) -> Option<Array>
-        ensures { option_map list_in result ≡ list_of (tree_of self) }
+        ensures list { option_map list_in result ≡ list_of (tree_of self) }
+        ensures array { IfSome result (λ a. self ≡ ArrayValue a) }
     {
         match self {
             Value::Array(array) => Some(array),
@@ -59,7 +61,8 @@ impl Value {
 
     /// The object; none exactly for another kind.
     pub fn into_object(self) -> Option<Object>
-        ensures { option_map pairs_in result ≡ pairs_of (tree_of self) }
+        ensures pairs { option_map pairs_in result ≡ pairs_of (tree_of self) }
+        ensures object { IfSome result (λ o. self ≡ ObjectValue o) }
     {
         match self {
             Value::Object(object) => Some(object),

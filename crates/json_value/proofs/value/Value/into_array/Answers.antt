@@ -4,5 +4,5 @@ use Rattle.json_value.proofs.Trees.{list_again}
 use Rattle.json_value.proofs.WholeTrees.{array_in}
 use Rattle.json_value.proofs.value.Value.into_array.Goals as goal
 
-pub returns-in-Array : goal.returns-in-Array
-returns-in-Array c = ap (λ ts. Some ts) (sym (list_again _)) ∙ ap list_of (sym (array_in _ c.in-Array.array c.in-Array.is))
+pub returns-in-Array-clause-list : goal.returns-in-Array-clause-list
+returns-in-Array-clause-list c = ap (λ ts. Some ts) (sym (list_again _)) ∙ ap list_of (sym (array_in _ c.in-Array.array c.in-Array.is))

@@ -4,5 +4,5 @@ use Rattle.json_value.proofs.Trees.{pairs_again}
 use Rattle.json_value.proofs.WholeTrees.{object_in}
 use Rattle.json_value.proofs.value.Value.into_object.Goals as goal
 
-pub returns-in-Object : goal.returns-in-Object
-returns-in-Object c = ap (λ ps. Some ps) (sym (pairs_again _)) ∙ ap pairs_of (sym (object_in _ c.in-Object.object c.in-Object.is))
+pub returns-in-Object-clause-pairs : goal.returns-in-Object-clause-pairs
+returns-in-Object-clause-pairs c = ap (λ ps. Some ps) (sym (pairs_again _)) ∙ ap pairs_of (sym (object_in _ c.in-Object.object c.in-Object.is))

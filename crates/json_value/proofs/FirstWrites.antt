@@ -1,0 +1,163 @@
+-- What a first write makes, and where containers stand.
+use Rattle.std.proofs.Common.{◌≡◌, ◌<◌, ℕ, List, [], ◌∷◌, map, length, Bool, true, false, Option, Some, None, Vec, Global, refl, sym, ap, ◌∙◌, subst, arith}
+use Rattle.std.specs.Prelude.{◌==◌, cond, option_and_then, slice_get, slice_index_or, IfSome, IsSome}
+use Rattle.std.proofs.lemmas.List.Folds.{flat_map-map}
+use Rattle.std.proofs.lemmas.Option.{none-some, same_Some}
+use Rattle.json_grammar.specs.Tree.{Tree, null, boolean, num, text, list, pairs}
+use Rattle.json_doc.specs.Kinds.{type_number}
+use Rattle.json_doc.specs.Places.{child_of, key_of}
+use Rattle.json_doc.specs.Readings.{elements, type_of}
+use Rattle.json_doc.specs.declared.cell.Cell.TheVariants as cell
+use Rattle.json_doc.specs.declared.json_type.JsonType.{JsonType}
+use Rattle.json_doc.specs.declared.json_type.JsonType.TheVariants as kind
+use Rattle.json_value.specs.Denotes.{tree_of, pair_of, form_list, form_pairs}
+use Rattle.json_value.specs.Laws.{FirstElementsAreRead, FirstMembersAreRead, FirstElementsStay, FirstMembersStay, PackedArrayStands, PackedObjectStands, ArrayStandsAsPlace, ObjectStandsAsPlace, PlacesOfElements, PlacesOfMembers}
+use Rattle.json_value.specs.Places.{places_in, member_places}
+use Rattle.json_value.specs.Readings.{members}
+use Rattle.json_value.specs.Rows.{owned_items, IsOwned}
+use Rattle.json_value.specs.Said.{place_tree}
+use Rattle.json_value.specs.Spots.{Spot, spot_in, spot_tree, spot_of, spot_of_text, kind_spot, form_spot, kept_spot, IsPacked, FirstList, FirstPairs}
+use Rattle.json_value.specs.declared.container.Container.{Container}
+use Rattle.json_value.specs.declared.container.Form.{Form}
+use Rattle.json_value.specs.declared.container.Form.TheVariants.{Empty, Owned, Packed}
+use Rattle.json_value.specs.declared.pair.Keyed.{Keyed}
+use Rattle.json_value.specs.declared.value.Value.{Value}
+use Rattle.json_value.proofs.PlacesKept.{array_of_form, object_of_form}
+use Rattle.json_value.proofs.Views.{array_spot, object_spot}
+
+-- ---- by the place alone
+
+-- where a value that is read from a place stands
+abbrev spot_read : Spot → Option Spot
+spot_read s = kept_spot (spot_tree s) s
+
+-- the place of the child i, and that of the key of the pair i
+abbrev child_spot : Spot → ℕ → Spot
+child_spot s i = record { cells = s.cells; bytes = s.bytes; at = child_of (slice_index_or s.cells s.at cell.Null) i }
+
+abbrev key_spot : Spot → ℕ → Spot
+key_spot s i = record { cells = s.cells; bytes = s.bytes; at = key_of (slice_index_or s.cells s.at cell.Null) i }
+
+-- there is no other place of the kind
+kind_there : (k : JsonType) (x s : Spot) → kind_spot k x ≡ Some s → x ≡ s
+kind_there k x s e = by (type_number (type_of (spot_tree x)) == type_number k) e
+  where
+    by : (b : Bool) → cond b (Some x) None ≡ Some s → x ≡ s
+    by true is = same_Some x s is
+    by false is = absurd (none-some s is)
+
+-- ---- read from their places
+
+elements_read : (f : Form Value) (items : List Value) (s : Spot) → FirstList f items → option_and_then (kind_spot kind.Array) (form_spot f) ≡ Some s → (i : ℕ) → IfSome (slice_get items i) (λ v. spot_of v ≡ spot_read (child_spot s i))
+elements_read Empty items s h e i = absurd (none-some s e)
+elements_read (Owned v) items s h e i = absurd (none-some s e)
+elements_read (Packed p) items s h e i = subst (λ (x : Spot). IfSome (slice_get items i) (λ v. spot_of v ≡ spot_read (child_spot x i))) (kind_there kind.Array (spot_in p.doc.value p.at) s e) (h i)
+
+pub elements_are_read : FirstElementsAreRead
+elements_are_read a items d at h e i = elements_read a.form items (spot_in d at) h (sym (array_spot a) ∙ e) i
+
+members_read : (f : Form (Keyed Value)) (items : List (Keyed Value)) (s : Spot) → FirstPairs f items → option_and_then (kind_spot kind.Object) (form_spot f) ≡ Some s
+    → (i : ℕ) → IfSome (slice_get items i) (λ m. (spot_of_text m.key ≡ Some (key_spot s i)) × (spot_of m.value ≡ spot_read (child_spot s i)))
+members_read Empty items s h e i = absurd (none-some s e)
+members_read (Owned v) items s h e i = absurd (none-some s e)
+members_read (Packed p) items s h e i =
+    subst (λ (x : Spot). IfSome (slice_get items i) (λ m. (spot_of_text m.key ≡ Some (key_spot x i)) × (spot_of m.value ≡ spot_read (child_spot x i)))) (kind_there kind.Object (spot_in p.doc.value p.at) s e) (h i)
+
+pub members_are_read : FirstMembersAreRead
+members_are_read o items d at h e i = members_read o.form items (spot_in d at) h (sym (object_spot o) ∙ e) i
+
+-- ---- as they were
+
+none_seen : {X Y : Type 0} (f : X → Y) (xs : List X) → map f xs ≡ [] → xs ≡ []
+none_seen f [] e = refl
+none_seen f (x ∷ xs) e = cc
+
+-- what stands nowhere as an array has no elements
+no_elements : (t : Tree) (x : Spot) → cond (type_number (type_of t) == type_number kind.Array) (Some x) None ≡ None → elements t ≡ []
+no_elements (list ts) x e = absurd (none-some x (sym e))
+no_elements null x e = refl
+no_elements (boolean b) x e = refl
+no_elements (num l) x e = refl
+no_elements (text s) x e = refl
+no_elements (pairs ps) x e = refl
+
+no_members : (t : Tree) (x : Spot) → cond (type_number (type_of t) == type_number kind.Object) (Some x) None ≡ None → members t ≡ []
+no_members (pairs ps) x e = absurd (none-some x (sym e))
+no_members null x e = refl
+no_members (boolean b) x e = refl
+no_members (num l) x e = refl
+no_members (text s) x e = refl
+no_members (list ts) x e = refl
+
+elements_kept : (f : Form Value) (items : List Value) → FirstList f items → map tree_of items ≡ form_list f → option_and_then (kind_spot kind.Array) (form_spot f) ≡ None → items ≡ owned_items f
+elements_kept Empty items h same e = h
+elements_kept (Owned v) items h same e = h
+elements_kept (Packed p) items h same e = none_seen tree_of items (same ∙ no_elements (place_tree p) (spot_in p.doc.value p.at) e)
+
+pub elements_stay : FirstElementsStay
+elements_stay a items h same e = elements_kept a.form items h same (sym (array_spot a) ∙ e)
+
+members_kept : (f : Form (Keyed Value)) (items : List (Keyed Value)) → FirstPairs f items → map pair_of items ≡ form_pairs f → option_and_then (kind_spot kind.Object) (form_spot f) ≡ None → items ≡ owned_items f
+members_kept Empty items h same e = h
+members_kept (Owned v) items h same e = h
+members_kept (Packed p) items h same e = none_seen pair_of items (same ∙ no_members (place_tree p) (spot_in p.doc.value p.at) e)
+
+pub members_stay : FirstMembersStay
+members_stay o items h same e = members_kept o.form items h same (sym (object_spot o) ∙ e)
+
+-- ---- where containers stand
+
+elements_stand : (t : Tree) (x : Spot) → 0 < length (elements t) → IsSome (cond (type_number (type_of t) == type_number kind.Array) (Some x) None)
+elements_stand (list ts) x h = refl
+elements_stand null x h = absurd (omega arith)
+elements_stand (boolean b) x h = absurd (omega arith)
+elements_stand (num l) x h = absurd (omega arith)
+elements_stand (text s) x h = absurd (omega arith)
+elements_stand (pairs ps) x h = absurd (omega arith)
+
+members_stand : (t : Tree) (x : Spot) → 0 < length (members t) → IsSome (cond (type_number (type_of t) == type_number kind.Object) (Some x) None)
+members_stand (pairs ps) x h = refl
+members_stand null x h = absurd (omega arith)
+members_stand (boolean b) x h = absurd (omega arith)
+members_stand (num l) x h = absurd (omega arith)
+members_stand (text s) x h = absurd (omega arith)
+members_stand (list ts) x h = absurd (omega arith)
+
+array_form_stands : (f : Form Value) → IsPacked f → 0 < length (form_list f) → IsSome (option_and_then (kind_spot kind.Array) (form_spot f))
+array_form_stands Empty is h = absurd is
+array_form_stands (Owned v) is h = absurd is
+array_form_stands (Packed p) is h = elements_stand (place_tree p) (spot_in p.doc.value p.at) h
+
+pub packed_array_stands : PackedArrayStands
+packed_array_stands a is h = subst IsSome (sym (array_spot a)) (array_form_stands a.form is h)
+
+object_form_stands : (f : Form (Keyed Value)) → IsPacked f → 0 < length (form_pairs f) → IsSome (option_and_then (kind_spot kind.Object) (form_spot f))
+object_form_stands Empty is h = absurd is
+object_form_stands (Owned v) is h = absurd is
+object_form_stands (Packed p) is h = members_stand (place_tree p) (spot_in p.doc.value p.at) h
+
+pub packed_object_stands : PackedObjectStands
+packed_object_stands o is h = subst IsSome (sym (object_spot o)) (object_form_stands o.form is h)
+
+-- what stands somewhere is a place
+stands_packed : {T : Type 0} (k : JsonType) (f : Form T) → IsSome (option_and_then (kind_spot k) (form_spot f)) → IsPacked f
+stands_packed k Empty h = cc
+stands_packed k (Owned v) h = cc
+stands_packed k (Packed p) h = tt
+
+pub array_stands_as_place : ArrayStandsAsPlace
+array_stands_as_place a h = stands_packed kind.Array a.form (subst IsSome (array_spot a) h)
+
+pub object_stands_as_place : ObjectStandsAsPlace
+object_stands_as_place o h = stands_packed kind.Object o.form (subst IsSome (object_spot o) h)
+
+pub owned_is_no_place : {T : Type 0} (f : Form T) → IsOwned f → IsPacked f → ⊥
+owned_is_no_place Empty own place = own
+owned_is_no_place (Owned v) own place = place
+owned_is_no_place (Packed p) own place = own
+
+pub places_of_elements : PlacesOfElements
+places_of_elements v = array_of_form (Owned v) ∙ flat_map-map (λ (places : List (Option Spot)). places) places_in v.items
+
+pub places_of_members : PlacesOfMembers
+places_of_members v = object_of_form (Owned v) ∙ flat_map-map (λ (places : List (Option Spot)). places) member_places v.items
