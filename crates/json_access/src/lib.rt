@@ -1,5 +1,18 @@
-//! What can be read of anything that stands for a JSON value (RFC 8259, section 3): a value, a view, or what may be missing;
-//! and the places of a value, lent to be changed.
+//! The traits by which anything that stands for a JSON value (RFC 8259, section 3) is read and written: a value, a view, or what may be
+//! missing or refused, which counts as null.
+//!
+//! ```
+//! use json_access::{JsonValueMutTrait, JsonValueTrait};
+//! use json_value::Value;
+//! let mut value = Value::new_object();
+//! value.insert(alloc, "age", Value::new_u64(36))?;
+//! assert_eq!(rt; value.get("age").as_u64(), Some(36));
+//! assert!(rt; value.get("name").is_null());
+//! if let Some(age) = value.get_mut(alloc, "age")? {
+//!     *age = Value::new_u64(37);
+//! }
+//! assert_eq!(rt; value.get("age").as_u64(), Some(37));
+//! ```
 #![tactic(auto)]
 
 mod container_trait;

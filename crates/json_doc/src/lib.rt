@@ -1,4 +1,14 @@
-//! Packed documents of JSON (RFC 8259): a builder that takes the events of a text, and views.
+//! Packed documents of JSON (RFC 8259): a text is read once into an array of cells, and views read them without a copy.
+//!
+//! ```
+//! use json_doc::{JsonType, read_document};
+//! let doc = read_document(alloc, "{\"name\": \"Ada\", \"born\": [1815, 12.10]}")?;
+//! let root = doc.view();
+//! assert!(rt; root.get_type() == JsonType::Object);
+//! assert_eq!(rt; root.key(0), Some("name"));
+//! let born = root.pair_value(1).ok_or("there are two members")?;
+//! assert_eq!(rt; (born.len(), born.element(1).and_then(|view| view.literal())), (2, Some("12.10")));
+//! ```
 #![tactic(auto)]
 
 mod cell;

@@ -1,4 +1,11 @@
 //! What tests of values read, and how they look at it. No clause says what is made here: tests compare it with what they expect.
+//!
+//! ```
+//! use json_fixtures::becomes;
+//! use json_value::Value;
+//! let done = becomes(alloc, "[1]", |value, alloc| value.append_value(alloc, Value::new_null()).map(|_| true), "[1,null]")?;
+//! assert!(rt; done);
+//! ```
 #![tactic(auto)]
 
 use json_doc::{Doc, read_document};

@@ -1,4 +1,13 @@
-//! Numbers of JSON (RFC 8259, section 6): integers by value, and raw literals.
+//! Numbers of JSON (RFC 8259, section 6), never rounded: integers of 64 bits by value, and every other number by its literal.
+//!
+//! ```
+//! use json_number::{JsonNumberTrait, RawNumber, integer_of};
+//! let born = integer_of("1815").ok_or("1815 is an integer")?;
+//! assert_eq!(rt; born.as_u64(), Some(1815));
+//! assert!(rt; integer_of("12.10").is_none());
+//! let price = RawNumber::new(alloc, "12.10")?;
+//! assert_eq!(rt; price.as_str(), "12.10");
+//! ```
 #![tactic(auto)]
 
 mod integer;

@@ -13,13 +13,10 @@ use json_text::Result;
 /// What comes next of a value's parts. The contracts of [`Events`] say by it which call may come; no call answers it.
 ///
 /// ```
-/// use json_print::{CompactFormatter, Formatter, Turn};
-/// use json_text::VecSink;
-/// let mut sink = VecSink::new(alloc);
-/// if let Turn::Element(first) = Turn::Element(false) {
-///     CompactFormatter.begin_array_value(&mut sink, first)?;
-/// }
-/// assert_eq!(rt; sink.as_slice(), b",".as_slice());
+/// use json_print::Turn;
+/// // behind the beginning of an array the first element may come, or the end
+/// let turn = Turn::Element(true);
+/// assert!(rt; matches!(turn, Turn::Element(first) if first));
 /// ```
 #[derive(Clone, Copy, Debug)]
 pub enum Turn {
@@ -68,47 +65,58 @@ pub trait Events {
     /// The error that was answered.
     ghost failed: { Self → Option Error };
 
+    /// Takes a null.
     fn null(&mut self) -> Result<()>
         requires { failed self.old ≡ None → MayCome (stand (state self.old)) null_token }
         ensures { Takes after stopped (state self.old) (state self.new) (failed self.old) (failed self.new) null_token result };
 
+    /// Takes a truth value.
     fn boolean(&mut self, b: bool) -> Result<()>
         requires { failed self.old ≡ None → MayCome (stand (state self.old)) (boolean_token b) }
         ensures { Takes after stopped (state self.old) (state self.new) (failed self.old) (failed self.new) (boolean_token b) result };
 
+    /// Takes an integer, as its decimal text.
     fn int(&mut self, n: i128) -> Result<()>
         requires { failed self.old ≡ None → MayCome (stand (state self.old)) (num_token (signed_decimal n)) }
         ensures { Takes after stopped (state self.old) (state self.new) (failed self.old) (failed self.new) (num_token (signed_decimal n)) result };
 
+    /// Takes an integer from zero on, as its decimal text.
     fn uint(&mut self, n: u128) -> Result<()>
         requires { failed self.old ≡ None → MayCome (stand (state self.old)) (num_token (decimal n)) }
         ensures { Takes after stopped (state self.old) (state self.new) (failed self.old) (failed self.new) (num_token (decimal n)) result };
 
+    /// Takes a number by its literal (RFC 8259, section 6), which is kept as it is.
     fn raw_number(&mut self, literal: &str) -> Result<()>
         requires number { number literal.now }
         requires come { failed self.old ≡ None → MayCome (stand (state self.old)) (num_token literal.now) }
         ensures { Takes after stopped (state self.old) (state self.new) (failed self.old) (failed self.new) (num_token literal.now) result };
 
+    /// Takes a string, by its characters.
     fn text(&mut self, s: &str) -> Result<()>
         requires { failed self.old ≡ None → MayCome (stand (state self.old)) (text_token s.now) }
         ensures { Takes after stopped (state self.old) (state self.new) (failed self.old) (failed self.new) (text_token s.now) result };
 
+    /// Takes the beginning of an array. The hint is how many elements come, where that is known.
     fn begin_array(&mut self, hint: Option<usize>) -> Result<()>
         requires { failed self.old ≡ None → MayCome (stand (state self.old)) (begin array) }
         ensures { Takes after stopped (state self.old) (state self.new) (failed self.old) (failed self.new) (begin array) result };
 
+    /// Takes the end of the array that was begun last.
     fn end_array(&mut self) -> Result<()>
         requires { failed self.old ≡ None → MayCome (stand (state self.old)) (end array) }
         ensures { Takes after stopped (state self.old) (state self.new) (failed self.old) (failed self.new) (end array) result };
 
+    /// Takes the beginning of an object. The hint is how many members come, where that is known.
     fn begin_object(&mut self, hint: Option<usize>) -> Result<()>
         requires { failed self.old ≡ None → MayCome (stand (state self.old)) (begin object) }
         ensures { Takes after stopped (state self.old) (state self.new) (failed self.old) (failed self.new) (begin object) result };
 
+    /// Takes the key of the next member, by its characters. Its value comes next.
     fn key(&mut self, s: &str) -> Result<()>
         requires { failed self.old ≡ None → MayCome (stand (state self.old)) (key_token s.now) }
         ensures { Takes after stopped (state self.old) (state self.new) (failed self.old) (failed self.new) (key_token s.now) result };
 
+    /// Takes the end of the object that was begun last.
     fn end_object(&mut self) -> Result<()>
         requires { failed self.old ≡ None → MayCome (stand (state self.old)) (end object) }
         ensures { Takes after stopped (state self.old) (state self.new) (failed self.old) (failed self.new) (end object) result };

@@ -1,4 +1,17 @@
-//! How JSON is written (RFC 8259, section 10): formatters, a sink that holds bytes back, and a serializer.
+//! Writes JSON (RFC 8259, section 10) from its parts to any sink: compact, indented or sorted, through a buffer where that serves.
+//!
+//! ```
+//! use json_print::{Events, Serializer};
+//! use json_text::VecSink;
+//! let mut out = Serializer::pretty(alloc, VecSink::new(alloc)).sort_map_keys();
+//! out.begin_object(None)?;
+//! out.key("name")?;
+//! out.text("Ada")?;
+//! out.key("born")?;
+//! out.uint(1815)?;
+//! out.end_object()?;
+//! assert_eq!(rt; out.into_inner().as_slice(), b"{\n  \"born\": 1815,\n  \"name\": \"Ada\"\n}".as_slice());
+//! ```
 #![tactic(auto)]
 
 mod adding;

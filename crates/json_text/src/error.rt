@@ -58,7 +58,7 @@ pub enum ErrorCode {
     BadWords = 24,
 }
 
-/// What kind of refusal a code is. `Eof` is an input that ends too early, `Limit` one that is too long or too deep.
+/// What kind of refusal a code is.
 ///
 /// ```
 /// use json_text::{Category, Error, ErrorCode, Parser, Place};
@@ -70,12 +70,19 @@ pub enum ErrorCode {
 /// ```
 #[derive(Clone, Copy, Debug, PartialEq, Eq)]
 pub enum Category {
+    /// A read or a write failed.
     Io,
+    /// The input breaks the grammar or is not UTF-8, or the words of the command line have another form.
     Syntax,
+    /// The input ends before its value does.
     Eof,
+    /// A step of an edit meets a value of another kind.
     TypeUnmatched,
+    /// A step of an edit names a key or an index that is not there.
     NotFound,
+    /// The input has more bytes or more levels than are read.
     Limit,
+    /// Memory ran out.
     Memory,
 }
 
@@ -118,7 +125,9 @@ pub enum Place {
 /// ```
 #[derive(Clone, Copy, Debug, PartialEq, Eq)]
 pub struct Error {
+    /// What is wrong.
     pub code: ErrorCode,
+    /// Where.
     pub place: Place,
 }
 

@@ -22,17 +22,8 @@ use crate::stack::Kinds;
 use json_grammar::{Kind, Spot};
 
 /// The offset in bytes at which the next part begins, and what it may be. What may not be is refused there.
-///
-/// ```
-/// use json_text::{ErrorCode, Parser};
-/// let mut parser = Parser::new("[1 , ]");
-/// parser.next()?;
-/// parser.next()?;
-/// let error = parser.next().err().ok_or("the bracket was taken")?;
-/// assert_eq!(rt; (error.code, error.offset()), (ErrorCode::InvalidJsonValue, Some(5)));
-/// ```
 #[derive(Clone, Copy)]
-pub struct Stand {
+pub(crate) struct Stand {
     pub at: usize,
     pub spot: Spot,
 }

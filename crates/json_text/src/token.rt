@@ -30,15 +30,8 @@ use crate::string::string_end;
 use json_grammar::{Kind, Spot};
 
 /// What value a byte begins, if any (RFC 8259, section 3). By it the parser knows what to read.
-///
-/// ```
-/// use json_text::{Event, Parser};
-/// assert!(rt; matches!(Parser::new("-1").next()?, Event::Number("-1")));
-/// assert!(rt; matches!(Parser::new("{}").next()?, Event::BeginObject));
-/// assert!(rt; Parser::new("'a'").next().is_err());
-/// ```
 #[derive(Clone, Copy, PartialEq, Eq)]
-pub enum Begin {
+pub(crate) enum Begin {
     String,
     Array,
     Object,
@@ -67,19 +60,8 @@ fn begin_of(byte: u8) -> Begin
 }
 
 /// A string or a name, and the offset in bytes behind its closing quote, where the parser goes on.
-///
-/// ```
-/// use json_text::{Event, Parser};
-/// let mut parser = Parser::new("{\"key\" : 1}");
-/// parser.next()?;
-/// let name = match parser.next()? {
-///     Event::Key(span) => span.plain(),
-///     _ => None,
-/// };
-/// assert_eq!(rt; (name, parser.index()), (Some("key"), 6));
-/// ```
 #[derive(Clone, Copy)]
-pub struct Quote<'a> {
+pub(crate) struct Quote<'a> {
     pub span: Span<'a>,
     pub end: usize,
 }
@@ -104,17 +86,8 @@ fn string_at<'a>(text: &'a str, at: usize) -> Result<Quote<'a>, Fault>
 }
 
 /// One more part of a text, the offset in bytes behind it, and what may come there. The parser hands out the event.
-///
-/// ```
-/// use json_text::{ErrorCode, Event, Parser};
-/// let mut parser = Parser::new("null null");
-/// assert!(rt; matches!(parser.next()?, Event::Null));
-/// assert_eq!(rt; parser.index(), 4);
-/// let code = parser.next().map_err(|error| error.code).err();
-/// assert_eq!(rt; code, Some(ErrorCode::TrailingCharacters));
-/// ```
 #[derive(Clone, Copy)]
-pub struct Read<'a> {
+pub(crate) struct Read<'a> {
     pub event: Event<'a>,
     pub end: usize,
     pub spot: Spot,

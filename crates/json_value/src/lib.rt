@@ -1,5 +1,17 @@
-//! Values of JSON (RFC 8259, section 3) that can be edited: scalars, owned texts and containers, and places of shared
-//! packed documents. The first write to a packed container copies one level of it.
+//! Values of JSON (RFC 8259, section 3) that can be edited: scalars, owned texts and containers, and places of shared packed documents.
+//! The first write to a packed container copies one level of it.
+//!
+//! ```
+//! use json_doc::read_document;
+//! use json_value::{Edit, Path, PointerNode, Text, Value};
+//! let doc = read_document(alloc, "{\"a\": [1], \"b\": [2]}")?;
+//! let mut value = Value::from_place(alloc, &doc, doc.root())?;
+//! let mut path = Path::new(alloc);
+//! path.push(PointerNode::Key(Text::from_static("a")))?;
+//! value.apply(alloc, &Edit::Push { path, value: Value::new_bool(true) })?;
+//! let shown = value.to_string(alloc)?;
+//! assert_eq!(rt; shown.as_str(), "{\"a\":[1,true],\"b\":[2]}");
+//! ```
 #![tactic(auto)]
 
 mod applying;

@@ -1,5 +1,16 @@
-//! Reads a JSON text from a source, edits its value, and writes the text of the edited tree to a sink: what the program `reshape`
-//! does.
+//! Reads a JSON text from a source, edits its value, and writes the text of the edited tree to a sink: all that the program `reshape`
+//! does, as calls.
+//!
+//! ```
+//! use json_text::{SliceSource, VecSink, Words};
+//! use reshape::run;
+//! let mut words = Words::new(alloc);
+//! words.push("[[\"set\",[\"a\"],2]]")?;
+//! let mut source = SliceSource::new(b"{\"a\": 1, \"b\": 1.50}");
+//! let (mut sink, mut errs) = (VecSink::new(alloc), VecSink::new(alloc));
+//! assert_eq!(rt; run(alloc, &words, &mut source, &mut sink, &mut errs), 0);
+//! assert_eq!(rt; sink.as_slice(), b"{\"a\":2,\"b\":1.50}".as_slice());
+//! ```
 #![tactic(auto)]
 
 mod asked_style;

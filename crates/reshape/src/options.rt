@@ -14,18 +14,8 @@ enum Role<'a> {
 }
 
 /// What the words ask for, before the edits word is read.
-///
-/// ```
-/// use json_text::{ErrorCode, Words};
-/// use reshape::asked;
-/// let mut words = Words::new(alloc);
-/// words.push("--pretty")?;
-/// words.push("--tabs")?;
-/// let refused = asked(alloc, &words).err();
-/// assert!(rt; matches!(refused, Some(error) if error.code == ErrorCode::BadWords));
-/// ```
 #[derive(Clone, Copy)]
-pub struct Options<'a> {
+pub(crate) struct Options<'a> {
     /// The indent, where one is asked for.
     pub indent: Option<&'static str>,
     /// Whether the members of each object are sorted by their keys.

@@ -1,4 +1,7 @@
-//! Reads a JSON text from standard input, edits its value as the words ask, and writes the text of the edited tree to standard output.
+//! The program `reshape`: reads a JSON text from standard input, edits its value as the words ask, and writes the text of the edited
+//! tree to standard output. `run` of the library `reshape` does all of it; what is here hands it the words and the streams.
+//!
+//!     printf '{"a": 1}' | reshape --pretty '[["set", ["a"], 2]]'
 #![tactic(auto)]
 
 mod help;
