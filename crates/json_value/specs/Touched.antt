@@ -1,5 +1,5 @@
 -- What an edit touches, and a write through a lent place. A container on the way becomes writable, by one level; all that is beside the change stays as the first write leaves it.
-use Rattle.std.specs.Prelude.{◌≡◌, ℕ, List, [], ◌∷◌, ◌++◌, ◌⊎◌, Option, Some, None, length, map, set, remove, filter, not, bytes_eq, slice_get, false, Vec}
+use Rattle.std.specs.Prelude.{◌≡◌, ℕ, List, [], ◌∷◌, ◌++◌, ◌⊎◌, Some, None, length, map, set, remove, filter, not, bytes_eq, slice_get, false, Vec}
 use Rattle.std.specs.declared.alloc.Global.{Global}
 use Rattle.json_grammar.specs.Tree.{list_pairs}
 use Rattle.json_model.specs.Edit.{Step, key_step, index_step, has_key}
