@@ -31,3 +31,4 @@ pub mod LentPaths
 pub mod Settling
 pub mod Loneness
 pub mod Opened
+pub mod Keeping
