@@ -257,7 +257,7 @@ pushed_put t vs us v i is made end w n e =
 
 -- ---- an object that lacks the key was no null
 
-has_itself : (k : List ℕ) (ps : Pairs) → pairs (pair_and k null no_pairs) ≡ pairs ps → has_key k ps ≡ false → ⊥
+pub has_itself : (k : List ℕ) (ps : Pairs) → pairs (pair_and k null no_pairs) ≡ pairs ps → has_key k ps ≡ false → ⊥
 has_itself k ps e none =
     let is : pair_and k null no_pairs ≡ ps = cc in
     let has : has_key k ps ≡ true = ap (has_key k) (sym is) ∙ ap (λ (b : Bool). cond b true false) (self_key k) in

@@ -33,3 +33,4 @@ pub mod Loneness
 pub mod Opened
 pub mod FirstWrites
 pub mod WhereStepsLead
+pub mod Keeping

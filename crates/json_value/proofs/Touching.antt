@@ -65,22 +65,22 @@ removal_touches_index s i old new g = subst (λ (r : PointerNode). RemovalTouche
 
 -- ---- a change that is said otherwise
 
-array_as : {Changes Others : List Value → List Value → Type 0} (old new : Value) → ((items now : List Value) → Changes items now → Others items now) → ArrayTouched Changes old new → ArrayTouched Others old new
+pub array_as : {Changes Others : List Value → List Value → Type 0} (old new : Value) → ((items now : List Value) → Changes items now → Others items now) → ArrayTouched Changes old new → ArrayTouched Others old new
 array_as old new other t = record { array = t.array; first = t.first; list = t.list; was = t.was; same = t.same; unpacked = t.unpacked; is = t.is; changed = other t.first t.list.items t.changed }
 
-object_as : {Changes Others : List (Keyed Value) → List (Keyed Value) → Type 0} (old new : Value) → ((items now : List (Keyed Value)) → Changes items now → Others items now)
+pub object_as : {Changes Others : List (Keyed Value) → List (Keyed Value) → Type 0} (old new : Value) → ((items now : List (Keyed Value)) → Changes items now → Others items now)
     → ObjectTouched Changes old new → ObjectTouched Others old new
 object_as old new other t = record { object = t.object; first = t.first; list = t.list; was = t.was; same = t.same; unpacked = t.unpacked; is = t.is; changed = other t.first t.list.items t.changed }
 
-element_as : {Changes Others : Value → Value → Type 0} (i : ℕ) (items now : List Value) → ((before after : Value) → Changes before after → Others before after) → AtElement i Changes items now → AtElement i Others items now
+pub element_as : {Changes Others : Value → Value → Type 0} (i : ℕ) (items now : List Value) → ((before after : Value) → Changes before after → Others before after) → AtElement i Changes items now → AtElement i Others items now
 element_as i items now other e = record { before = e.before; after = e.after; there = e.there; exchanged = e.exchanged; changed = other e.before e.after e.changed }
 
-member_as : {Changes Others : Value → Value → Type 0} (k : List ℕ) (items now : List (Keyed Value)) → ((before after : Value) → Changes before after → Others before after)
+pub member_as : {Changes Others : Value → Value → Type 0} (k : List ℕ) (items now : List (Keyed Value)) → ((before after : Value) → Changes before after → Others before after)
     → AtMember k Changes items now → AtMember k Others items now
 member_as k items now other e = record { at = e.at; before = e.before; after = e.after; is_first = e.is_first; there = e.there; exchanged = e.exchanged; changed = other (value_in e.before) e.after e.changed }
 
 -- what is so of x and w is so where x became w
-became : {T : Type 0} (Changes : T → T → Type 0) (x w before after : T) → Changes x w → Became x w before after → Changes before after
+pub became : {T : Type 0} (Changes : T → T → Type 0) (x w before after : T) → Changes x w → Became x w before after → Changes before after
 became {T} Changes x w before after h e = subst (λ (y : T). Changes y after) (sym e.0) (subst (Changes x) (sym e.1) h)
 
 pub along_as : (p : List Step) (Changes Others : Value → Value → Type 0) → ((before after : Value) → Changes before after → Others before after) → (old new : Value) → Along p Changes old new → Along p Others old new

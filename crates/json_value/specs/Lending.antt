@@ -13,7 +13,7 @@ use Rattle.json_value.specs.Denotes.{tree_of}
 use Rattle.json_value.specs.Edits.{RefusesChange}
 use Rattle.json_value.specs.Rows.{value_row}
 use Rattle.json_value.specs.Steps.{tree_at}
-use Rattle.json_value.specs.Touched.{Exchanges}
+use Rattle.json_value.specs.Touched.{Exchanges, Same, ArrayKept, ObjectKept, KeptAlong}
 use Rattle.json_value.specs.declared.value.Value.{Value}
 use Rattle.json_value.specs.declared.path.PointerNode.{PointerNode}
 use Rattle.json_value.specs.declared.path.PointerNode.TheVariants.{Index}
@@ -70,25 +70,37 @@ abbrev pub UnlessLent : maybe.Option GName → Type 0 → Type 0
 UnlessLent maybe.none P = P
 UnlessLent (maybe.some g) P = Unit {0}
 
--- a place in s is lent under the name m. With any w written there s ends as a value n with P n w, and its tree stays where nothing is lent
-abbrev pub LendsNamed : MutBor Value → maybe.Option GName → (Value → Value → Type 0) → Fml
-LendsNamed s m P = follows_so value_row value_row s.ghost_name m (λ w n. IsLent m → P n w) (λ n. UnlessLent m (tree_of n ≡ tree_of s.now))
+-- a place in s is lent under the name m, or none is. With any w written there s ends as a value n with P n w, and where none is lent as P₀ says
+abbrev pub LendsNamed : MutBor Value → maybe.Option GName → (Value → Value → Type 0) → (Value → Type 0) → Fml
+LendsNamed s m P P₀ = follows_so value_row value_row s.ghost_name m (λ w n. IsLent m → P n w) (λ n. UnlessLent m (P₀ n))
 
 -- w is put where the steps lead from old, in the place of x: so the tree of old becomes that of new, and what is beside the way stays as the first writes leave it
 abbrev pub Puts : List Step → (x w old new : Value) → Type 0
 Puts p x w old new = (edited_once (set_at p (tree_of w)) (tree_of old) ≡ Ok (tree_of new)) × Exchanges p x w old new
 
--- the same of a result that may be none: s ends as a value n with P x w n, where x is what stood at the place at first
-abbrev pub LendsPlace : {E : Type 0} → MutBor Value → Result (Option (MutBor Value)) E → (Value → Value → Value → Type 0) → Fml
+-- nothing is put where the steps lead from old: the tree stays, and so does the value, but for the first writes on the way
+abbrev pub PutsNothing : List Step → (old new : Value) → Type 0
+PutsNothing p old new = (tree_of new ≡ tree_of old) × KeptAlong p Same old new
+
+-- nothing is appended to an array: the tree stays, and so does the value, but for its first write
+abbrev pub AddsNothing : (old new : Value) → Type 0
+AddsNothing old new = (tree_of new ≡ tree_of old) × ArrayKept Same old new
+
+-- nothing is put into an object: the tree stays, and so does the value, but for its first write
+abbrev pub SeatsNothing : (old new : Value) → Type 0
+SeatsNothing old new = (tree_of new ≡ tree_of old) × ObjectKept Same old new
+
+-- a place in s is lent, or none is, by a result: s ends as a value n with P x w n, where x is what stood at the place at first, and where none is lent as P₀ says
+abbrev pub LendsPlace : {E : Type 0} → MutBor Value → Result (Option (MutBor Value)) E → (Value → Value → Value → Type 0) → (Value → Type 0) → Fml
 LendsPlace s r P = LendsNamed s (name_of r) (λ n w. IfSome (lent r) (λ x. P x w n))
 
--- where a step leads: what is written there is put there, and nothing else changes
+-- where a step leads: what is written there is put there, and nothing else changes; nothing is put where nothing is lent
 abbrev pub LendsStep : {E : Type 0} → MutBor Value → Step → Result (MutBor Value) E → Fml
-LendsStep s step r = LendsSoOk value_row value_row s r (λ n w. IfOk r (λ v. Puts (step ∷ []) v.now w s.now n)) (λ n. tree_of n ≡ tree_of s.now)
+LendsStep s step r = LendsSoOk value_row value_row s r (λ n w. IfOk r (λ v. Puts (step ∷ []) v.now w s.now n)) (PutsNothing (step ∷ []) s.now)
 
 -- the same along a path
 abbrev pub LendsAlong : {E : Type 0} → MutBor Value → List Step → Result (MutBor Value) E → Fml
-LendsAlong s path r = LendsNamed s (name_of_ok r) (λ n w. IfOk r (λ v. Puts path v.now w s.now n))
+LendsAlong s path r = LendsNamed s (name_of_ok r) (λ n w. IfOk r (λ v. Puts path v.now w s.now n)) (PutsNothing path s.now)
 
 -- the first node of a path
 abbrev pub first_node : List PointerNode → PointerNode

@@ -1,5 +1,5 @@
 -- What an edit touches, and a write through a lent place. A container on the way becomes writable, by one level; all that is beside the change stays as the first write leaves it.
-use Rattle.std.specs.Prelude.{◌≡◌, ℕ, List, [], ◌∷◌, ◌++◌, ◌⊎◌, Option, Some, None, length, map, set, remove, filter, not, bytes_eq, slice_get, false, Vec}
+use Rattle.std.specs.Prelude.{◌≡◌, ℕ, List, [], ◌∷◌, ◌++◌, ◌⊎◌, Some, None, length, map, set, remove, filter, not, bytes_eq, slice_get, false, Vec}
 use Rattle.std.specs.declared.alloc.Global.{Global}
 use Rattle.json_grammar.specs.Tree.{list_pairs}
 use Rattle.json_model.specs.Edit.{Step, key_step, index_step, has_key}
@@ -102,6 +102,50 @@ Along (index_step i ∷ p) Changes old new = ArrayTouched (AtElement i (Along p 
 -- what the edit leaves of the value from which the steps lead to its place
 abbrev pub Touches : List Step → Edit → Value → Value → Type 0
 Touches p e = Along p (ChangeTouches e)
+
+-- ---- where a call is refused, or leads nowhere
+
+-- what was there is there
+abbrev pub Same : {T : Type 0} → (old new : T) → Type 0
+Same old new = new ≡ old
+
+-- the value is as it was, or an array that had its first write, whose elements were then kept so
+abbrev pub ArrayKept : (List Value → List Value → Type 0) → (old new : Value) → Type 0
+ArrayKept Kept old new = (new ≡ old) ⊎ ArrayTouched Kept old new
+
+-- the value is as it was, or an object that had its first write, whose members were then kept so
+abbrev pub ObjectKept : (List (Keyed Value) → List (Keyed Value) → Type 0) → (old new : Value) → Type 0
+ObjectKept Kept old new = (new ≡ old) ⊎ ObjectTouched Kept old new
+
+-- the element of the index was kept so, and the others are as they were
+abbrev pub ElementKept : ℕ → (Value → Value → Type 0) → (items now : List Value) → Type 0
+ElementKept i Kept items now = (now ≡ items) ⊎ AtElement i Kept items now
+
+-- the value of the first member of the key was kept so, and all else is as it was
+abbrev pub MemberKept : List ℕ → (Value → Value → Type 0) → (items now : List (Keyed Value)) → Type 0
+MemberKept k Kept items now = (now ≡ items) ⊎ AtMember k Kept items now
+
+-- the value is as it was, or the containers on the way had their first write; the value to which the steps lead was kept so, and nothing else changed
+abbrev pub KeptAlong : List Step → (Value → Value → Type 0) → (old new : Value) → Type 0
+KeptAlong [] Kept old new = Kept old new
+KeptAlong (key_step k ∷ p) Kept old new = ObjectKept (MemberKept k (KeptAlong p Kept)) old new
+KeptAlong (index_step i ∷ p) Kept old new = ArrayKept (ElementKept i (KeptAlong p Kept)) old new
+
+-- what a removal that is refused leaves
+abbrev pub RemovalKeeps : PointerNode → (old new : Value) → Type 0
+RemovalKeeps (Key k) old new = ObjectKept Same old new
+RemovalKeeps (Index i) old new = ArrayKept Same old new
+
+-- what the edit leaves of the value at its place, if it is refused: a container that it was to change may have had its first write
+abbrev pub ChangeKeeps : Edit → (old new : Value) → Type 0
+ChangeKeeps (Set p v) old new = new ≡ old
+ChangeKeeps (Insert p k v) old new = ObjectKept Same old new
+ChangeKeeps (Push p v) old new = ArrayKept Same old new
+ChangeKeeps (Remove p s) old new = RemovalKeeps s old new
+
+-- what the edit leaves of the value from which the steps lead to its place, if it is refused
+abbrev pub Keeps : List Step → Edit → (old new : Value) → Type 0
+Keeps p e = KeptAlong p (ChangeKeeps e)
 
 -- ---- through a lent place
 

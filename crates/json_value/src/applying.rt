@@ -9,7 +9,7 @@ ghost use Rattle.json_value.specs.Edits.{step_of, steps_of, path_of, edit_of, ch
 ghost use Rattle.json_value.specs.FirstMember.{IsFirstOf};
 ghost use Rattle.json_value.specs.Rows.{value_row, array_row, object_row};
 ghost use Rattle.json_value.specs.Places.{stand_of};
-ghost use Rattle.json_value.specs.Touched.{ArrayTouched, ObjectTouched, AtElement, AtMember, Inserts, Pushes, RemovalTouches, ChangeTouches, Touches, unkeyed};
+ghost use Rattle.json_value.specs.Touched.{ArrayTouched, ObjectTouched, AtElement, AtMember, Inserts, Pushes, RemovalTouches, ChangeTouches, Touches, unkeyed, Same, ArrayKept, ObjectKept, ElementKept, MemberKept, RemovalKeeps, ChangeKeeps, Keeps};
 ghost use Rattle.json_value.specs.declared.value.Value.{Array as ArrayValue, Object as ObjectValue};
 
 use crate::pair::Keyed;
@@ -53,7 +53,7 @@ pub(crate) fn find_key(pairs: &[Pair], key: &str) -> Option<usize>
 // Puts the value at the first member of the key, or appends such a member.
 fn insert_pair(pairs: &mut Vec<Pair>, alloc: Global, key: &Text, value: Value) -> Result<()>
     ensures ok { OnOk result (inserted (text_bytes key.now) (tree_of value) (list_pairs (map pair_of pairs.old.items)) ≡ list_pairs (map pair_of pairs.new.items)) }
-    ensures kept { OnErr result (map pair_of pairs.new.items ≡ map pair_of pairs.old.items) }
+    ensures kept { OnErr result (pairs.new.items ≡ pairs.old.items) }
     ensures only { IfErr result (λ e. e ≡ no_memory) }
     ensures children { OnOk result (Inserts key.now (stand_of value) pairs.old.items pairs.new.items) }
 {
@@ -115,6 +115,7 @@ impl Value {
         ensures kept { OnErr result (tree_of self.new ≡ tree_of self.old) }
         ensures refused { IfErr result (λ e. RefusesChange (on_pairs (λ ps. Ok (inserted (text_bytes key.now) (tree_of value.now) ps)) (tree_of self.old)) e.code e.place) }
         ensures children { OnOk result (ObjectTouched (Inserts key.now (stand_of value.now)) self.old self.new) }
+        ensures kept_along { OnErr result (ObjectKept Same self.old self.new) }
     {
         match self.object_mut() {
             Some(object) => {
@@ -131,6 +132,7 @@ impl Value {
         ensures kept { OnErr result (tree_of self.new ≡ tree_of self.old) }
         ensures refused { IfErr result (λ e. RefusesChange (on_list (λ ts. Ok (pushed (tree_of value.now) ts)) (tree_of self.old)) e.code e.place) }
         ensures children { OnOk result (ArrayTouched (Pushes (stand_of value.now)) self.old self.new) }
+        ensures kept_along { OnErr result (ArrayKept Same self.old self.new) }
     {
         match self.array_mut() {
             Some(array) => {
@@ -148,6 +150,7 @@ impl Value {
         ensures kept { OnErr result (tree_of self.new ≡ tree_of self.old) }
         ensures refused { IfErr result (λ e. RefusesChange (removed (step_of step.now) (tree_of self.old)) e.code e.place) }
         ensures children { OnOk result (RemovalTouches step.now self.old self.new) }
+        ensures kept_along { OnErr result (RemovalKeeps step.now self.old self.new) }
     {
         match step {
             PointerNode::Key(key) => match self.object_mut() {
@@ -182,6 +185,7 @@ impl Value {
         ensures kept { OnErr result (tree_of self.new ≡ tree_of self.old) }
         ensures refused { IfErr result (λ e. RefusesChange (change_of edit.now (tree_of self.old)) e.code e.place) }
         ensures children { OnOk result (ChangeTouches edit.now self.old self.new) }
+        ensures kept_along { OnErr result (ChangeKeeps edit.now self.old self.new) }
     {
         match edit {
             Edit::Set { value, .. } => {
@@ -196,12 +200,14 @@ impl Value {
 
     /// Changes the value by the edit. `NotFound` where the path leads to a place and its next step, or the step of a removal,
     /// names a key or an index that is not there; `TypeUnmatched` where a key step, an insertion or the removal of a key meets no
-    /// object, or an index step, a push or the removal of an index no array; `NoMemory`. A refusal keeps the tree.
+    /// object, or an index step, a push or the removal of an index no array; `NoMemory`. A refusal keeps the tree, and
+    /// changes nothing but that a packed container on the way may have been copied by one level.
     pub fn apply(&mut self, alloc: Global, edit: &Edit) -> Result<()>
         ensures ok { OnOk result (edited_once (edit_of edit.now) (tree_of self.old) ≡ Ok (tree_of self.new)) }
         ensures kept { OnErr result (tree_of self.new ≡ tree_of self.old) }
         ensures refused { IfErr result (λ e. RefusesChange (edited_once (edit_of edit.now) (tree_of self.old)) e.code e.place) }
         ensures children { OnOk result (Touches (path_of edit.now) edit.now self.old self.new) }
+        ensures kept_along { OnErr result (Keeps (path_of edit.now) edit.now self.old self.new) }
     {
         self.apply_at(alloc, edit.path().steps(), edit)
     }
@@ -213,6 +219,7 @@ impl Value {
         ensures kept { OnErr result (tree_of self.new ≡ tree_of self.old) }
         ensures refused { IfErr result (λ e. RefusesChange (at_path (steps_of steps.now) (change_of edit.now) (tree_of self.old)) e.code e.place) }
         ensures children { OnOk result (Touches (steps_of steps.now) edit.now self.old self.new) }
+        ensures kept_along { OnErr result (Keeps (steps_of steps.now) edit.now self.old self.new) }
     {
         match steps.split_first() {
             None => self.change(alloc, edit),
@@ -249,6 +256,7 @@ fn apply_to_pair(
     ensures kept { OnErr result (map pair_of pairs.new.items ≡ map pair_of pairs.old.items) }
     ensures refused { IfErr result (λ e. RefusesChange (at_key key.now (at_path (steps_of steps.now) (change_of edit.now)) (list_pairs (map pair_of pairs.old.items))) e.code e.place) }
     ensures children { OnOk result (AtMember key.now (Touches (steps_of steps.now) edit.now) pairs.old.items pairs.new.items) }
+    ensures kept_along { OnErr result (MemberKept key.now (Keeps (steps_of steps.now) edit.now) pairs.old.items pairs.new.items) }
 {
     match find_key(pairs.as_slice(), key) {
         Some(i) => pairs[i].value.apply_at(alloc, steps, edit),
@@ -269,6 +277,7 @@ fn apply_to_element(
     ensures kept { OnErr result (map tree_of list.new.items ≡ map tree_of list.old.items) }
     ensures refused { IfErr result (λ e. RefusesChange (at_index index (at_path (steps_of steps.now) (change_of edit.now)) (list_trees (map tree_of list.old.items))) e.code e.place) }
     ensures children { OnOk result (AtElement index (Touches (steps_of steps.now) edit.now) list.old.items list.new.items) }
+    ensures kept_along { OnErr result (ElementKept index (Keeps (steps_of steps.now) edit.now) list.old.items list.new.items) }
 {
     match list.get_mut(index) {
         Some(element) => element.apply_at(alloc, steps, edit),

@@ -5,7 +5,7 @@ ghost use Rattle.json_grammar.specs.Tree.{Tree};
 ghost use Rattle.json_model.specs.Edit.{Changed, key_step, index_step, at_path};
 ghost use Rattle.json_value.specs.Denotes.{tree_of};
 ghost use Rattle.json_value.specs.Edits.{RefusesChange};
-ghost use Rattle.json_value.specs.Lending.{Puts, Stands};
+ghost use Rattle.json_value.specs.Lending.{Puts, PutsNothing, Stands};
 ghost use Rattle.json_value.specs.Rows.{value_row};
 ghost use Rattle.json_value.specs.Steps.{child};
 
@@ -18,7 +18,9 @@ use std::alloc::Global;
 
 // The element of the index.
 pub(crate) fn element_of<S: Slot>(slot: &mut S, alloc: Global, index: usize) -> Result<&mut Value>
-    ensures* writes_back { sem 𝓛 (LendsSoOk S.row value_row slot.entry result (λ n w. IfOk result (λ v. Puts (index_step index ∷ []) v.now w (S.held slot.old) (S.held n))) (λ n. tree_of (S.held n) ≡ tree_of (S.held slot.old))) }
+    ensures* writes_back { sem 𝓛 (LendsSoOk S.row value_row slot.entry result
+        (λ n w. IfOk result (λ v. Puts (index_step index ∷ []) v.now w (S.held slot.old) (S.held n)))
+        (λ n. PutsNothing (index_step index ∷ []) (S.held slot.old) (S.held n))) }
     ensures value { IfOk result (λ v. child (index_step index) (tree_of (S.held slot.old)) ≡ Some (tree_of v.now)) }
     ensures refused { IfErr result (λ e. (f : Tree → Changed Tree) → RefusesChange (at_path (index_step index ∷ []) f (tree_of (S.held slot.old))) e.code e.place) }
 {
@@ -35,7 +37,9 @@ pub(crate) fn member_of<'s, S: Slot>(
     alloc: Global,
     key: &str,
 ) -> Result<&'s mut Value>
-    ensures* writes_back { sem 𝓛 (LendsSoOk S.row value_row slot.entry result (λ n w. IfOk result (λ v. Puts (key_step key.now ∷ []) v.now w (S.held slot.old) (S.held n))) (λ n. tree_of (S.held n) ≡ tree_of (S.held slot.old))) }
+    ensures* writes_back { sem 𝓛 (LendsSoOk S.row value_row slot.entry result
+        (λ n w. IfOk result (λ v. Puts (key_step key.now ∷ []) v.now w (S.held slot.old) (S.held n)))
+        (λ n. PutsNothing (key_step key.now ∷ []) (S.held slot.old) (S.held n))) }
     ensures value { IfOk result (λ v. child (key_step key.now) (tree_of (S.held slot.old)) ≡ Some (tree_of v.now)) }
     ensures refused { IfErr result (λ e. (f : Tree → Changed Tree) → RefusesChange (at_path (key_step key.now ∷ []) f (tree_of (S.held slot.old))) e.code e.place) }
 {
@@ -55,7 +59,9 @@ pub(crate) fn child_of<'s, S: Slot, I: Index>(
     alloc: Global,
     index: &I,
 ) -> Result<&'s mut Value>
-    ensures* writes_back { sem 𝓛 (LendsSoOk S.row value_row slot.entry result (λ n w. IfOk result (λ v. Puts (I.step index.now ∷ []) v.now w (S.held slot.old) (S.held n))) (λ n. tree_of (S.held n) ≡ tree_of (S.held slot.old))) }
+    ensures* writes_back { sem 𝓛 (LendsSoOk S.row value_row slot.entry result
+        (λ n w. IfOk result (λ v. Puts (I.step index.now ∷ []) v.now w (S.held slot.old) (S.held n)))
+        (λ n. PutsNothing (I.step index.now ∷ []) (S.held slot.old) (S.held n))) }
     ensures stands { Stands (I.step index.now ∷ []) (tree_of (S.held slot.old)) result }
 {
     if let Some(key) = index.as_key() {
@@ -73,7 +79,9 @@ pub(crate) fn step_of<S: Slot, I: Index>(
     alloc: Global,
     index: I,
 ) -> Result<&mut Value>
-    ensures* writes_back { sem 𝓛 (LendsSoOk S.row value_row slot.entry result (λ n w. IfOk result (λ v. Puts (I.step index ∷ []) v.now w (S.held slot.old) (S.held n))) (λ n. tree_of (S.held n) ≡ tree_of (S.held slot.old))) }
+    ensures* writes_back { sem 𝓛 (LendsSoOk S.row value_row slot.entry result
+        (λ n w. IfOk result (λ v. Puts (I.step index ∷ []) v.now w (S.held slot.old) (S.held n)))
+        (λ n. PutsNothing (I.step index ∷ []) (S.held slot.old) (S.held n))) }
     ensures stands { Stands (I.step index ∷ []) (tree_of (S.held slot.old)) result }
 {
     child_of(slot, alloc, &index)

@@ -8,7 +8,7 @@ ghost use Rattle.json_text.specs.Errors.{no_memory};
 ghost use Rattle.json_model.specs.Edit.{on_list, on_pairs, inserted, pushed};
 ghost use Rattle.json_value.specs.Denotes.{tree_of};
 ghost use Rattle.json_value.specs.Edits.{step_of, steps_of};
-ghost use Rattle.json_value.specs.Lending.{settled, first_node, Stands, Puts, LendsPlace, LendsAlong};
+ghost use Rattle.json_value.specs.Lending.{settled, first_node, Stands, Puts, PutsNothing, AddsNothing, SeatsNothing, LendsPlace, LendsAlong};
 ghost use Rattle.json_value.specs.Rows.{value_row};
 ghost use Rattle.json_value.specs.Steps.{child, tree_at};
 ghost use Rattle.json_value.specs.Touched.{Adds, SeatsValue};
@@ -56,7 +56,9 @@ fn first_place<'v, S: Slot>(
     path: &[PointerNode],
 ) -> Result<&'v mut Value>
     requires { 0 < length path.now }
-    ensures* writes_back { sem 𝓛 (LendsSoOk S.row value_row slot.entry result (λ n w. IfOk result (λ v. Puts (step_of (first_node path.now) ∷ []) v.now w (S.held slot.old) (S.held n))) (λ n. tree_of (S.held n) ≡ tree_of (S.held slot.old))) }
+    ensures* writes_back { sem 𝓛 (LendsSoOk S.row value_row slot.entry result
+        (λ n w. IfOk result (λ v. Puts (step_of (first_node path.now) ∷ []) v.now w (S.held slot.old) (S.held n)))
+        (λ n. PutsNothing (step_of (first_node path.now) ∷ []) (S.held slot.old) (S.held n))) }
     ensures stands { Stands (step_of (first_node path.now) ∷ []) (tree_of (S.held slot.old)) result }
 {
     child_of(slot, alloc, &path[0])
@@ -82,9 +84,11 @@ pub(crate) fn reach_in<'v>(
 
 impl Value {
     /// The place to which the steps lead; none where they lead nowhere. What is written there changes that place and no
-    /// other; a copy of one level is made of each packed container on the way. None and a refusal keep the tree. `NoMemory`.
+    /// other; a copy of one level is made of each packed container on the way, and nothing more changes on None and on a
+    /// refusal. `NoMemory`.
     pub fn reach(&mut self, alloc: Global, path: &[PointerNode]) -> Result<Option<&mut Value>>
-        ensures* writes_back { sem 𝓛 (LendsPlace self.entry result (λ x w n. Puts (steps_of path.now) x w self.old n)) }
+        ensures* writes_back { sem 𝓛 (LendsPlace self.entry result (λ x w n. Puts (steps_of path.now) x w self.old n)
+            (PutsNothing (steps_of path.now) self.old)) }
         ensures stands { IfOk result (λ o. option_map (λ x. tree_of x.now) o ≡ tree_at (steps_of path.now) (tree_of self.old)) }
         ensures only { IfErr result (λ e. e ≡ no_memory) }
     {
@@ -92,9 +96,10 @@ impl Value {
     }
 
     /// The place to which the step leads; none where it leads nowhere. What is written there changes that place and no
-    /// other; a packed container is copied by one level. None and a refusal keep the tree. `NoMemory`.
+    /// other; a packed container is copied by one level, and nothing more changes on None and on a refusal. `NoMemory`.
     pub fn step_mut<I: Index>(&mut self, alloc: Global, index: I) -> Result<Option<&mut Value>>
-        ensures* writes_back { sem 𝓛 (LendsPlace self.entry result (λ x w n. Puts (I.step index ∷ []) x w self.old n)) }
+        ensures* writes_back { sem 𝓛 (LendsPlace self.entry result (λ x w n. Puts (I.step index ∷ []) x w self.old n)
+            (PutsNothing (I.step index ∷ []) self.old)) }
         ensures stands { IfOk result (λ o. option_map (λ x. tree_of x.now) o ≡ child (I.step index) (tree_of self.old)) }
         ensures only { IfErr result (λ e. e ≡ no_memory) }
     {
@@ -102,10 +107,12 @@ impl Value {
     }
 
     /// Appends the value to the array, and lends its place. The value has to be an array; a packed one is copied by one level.
-    /// A refusal keeps the tree. `NoMemory`.
+    /// A refusal keeps the tree, and copies no more than that level. `NoMemory`.
     pub fn append_value(&mut self, alloc: Global, val: Value) -> Result<&mut Value>
         requires { type_of (tree_of self.old) ≡ JsonType.Array }
-        ensures* writes_back { sem 𝓛 (LendsSoOk value_row value_row self.entry result (λ n w. (on_list (λ ts. Ok (pushed (tree_of w) ts)) (tree_of self.old) ≡ Ok (tree_of n)) × Adds w self.old n) (λ n. tree_of n ≡ tree_of self.old)) }
+        ensures* writes_back { sem 𝓛 (LendsSoOk value_row value_row self.entry result
+            (λ n w. (on_list (λ ts. Ok (pushed (tree_of w) ts)) (tree_of self.old) ≡ Ok (tree_of n)) × Adds w self.old n)
+            (AddsNothing self.old)) }
         ensures value { IfOk result (λ v. v.now ≡ val) }
         ensures only { IfErr result (λ e. e ≡ no_memory) }
     {
@@ -113,10 +120,13 @@ impl Value {
     }
 
     /// Puts the value at the first member of the key, or appends such a member, and lends its place. The value has to be an
-    /// object; a packed one is copied by one level. A refusal keeps the tree. `NoMemory`.
+    /// object; a packed one is copied by one level. A refusal keeps the tree, and copies no more than that level. `NoMemory`.
     pub fn insert(&mut self, alloc: Global, key: &str, val: Value) -> Result<&mut Value>
         requires { type_of (tree_of self.old) ≡ JsonType.Object }
-        ensures* writes_back { sem 𝓛 (LendsSoOk value_row value_row self.entry result (λ n w. (on_pairs (λ ps. Ok (inserted key.now (tree_of w) ps)) (tree_of self.old) ≡ Ok (tree_of n)) × SeatsValue key.now w self.old n) (λ n. tree_of n ≡ tree_of self.old)) }
+        ensures* writes_back { sem 𝓛 (LendsSoOk value_row value_row self.entry result
+            (λ n w. (on_pairs (λ ps. Ok (inserted key.now (tree_of w) ps)) (tree_of self.old) ≡ Ok (tree_of n))
+            × SeatsValue key.now w self.old n)
+            (SeatsNothing self.old)) }
         ensures value { IfOk result (λ v. v.now ≡ val) }
         ensures only { IfErr result (λ e. e ≡ no_memory) }
     {

@@ -44,7 +44,7 @@ fn settle_object<'a>(r: Result<&'a mut Object>) -> Result<Option<&'a mut Object>
 impl Value {
     // The array with an owned list.
     fn array_open(&mut self, alloc: Global) -> Result<&mut Array>
-        ensures* writes_back { sem 𝓛 (LendsSoOk value_row array_row self.entry result (λ n w. (tree_of n ≡ list (list_trees (list_in w))) × (n ≡ ArrayValue w)) (λ n. tree_of n ≡ tree_of self.old)) }
+        ensures* writes_back { sem 𝓛 (LendsSoOk value_row array_row self.entry result (λ n w. (tree_of n ≡ list (list_trees (list_in w))) × (n ≡ ArrayValue w)) (λ n. n ≡ self.old)) }
         ensures opens { Opens list_in (list_of (tree_of self.old)) (ArrayOpened self.old) result }
     {
         match self.array_mut() {
@@ -58,7 +58,7 @@ impl Value {
 
     // The object with an owned list.
     fn object_open(&mut self, alloc: Global) -> Result<&mut Object>
-        ensures* writes_back { sem 𝓛 (LendsSoOk value_row object_row self.entry result (λ n w. (tree_of n ≡ pairs (list_pairs (pairs_in w))) × (n ≡ ObjectValue w)) (λ n. tree_of n ≡ tree_of self.old)) }
+        ensures* writes_back { sem 𝓛 (LendsSoOk value_row object_row self.entry result (λ n w. (tree_of n ≡ pairs (list_pairs (pairs_in w))) × (n ≡ ObjectValue w)) (λ n. n ≡ self.old)) }
         ensures opens { Opens pairs_in (pairs_of (tree_of self.old)) (ObjectOpened self.old) result }
     {
         match self.object_mut() {
@@ -71,9 +71,9 @@ impl Value {
     }
 
     /// The array, to be changed; none exactly for another kind. What is written there is the array that the value then is. A
-    /// packed array is copied by one level. None and a refusal keep the tree. `NoMemory`.
+    /// packed array is copied by one level. None and a refusal change nothing. `NoMemory`.
     pub fn as_array_mut(&mut self, alloc: Global) -> Result<Option<&mut Array>>
-        ensures* writes_back { sem 𝓛 (LendsPart value_row array_row self.entry result (λ n w. (tree_of n ≡ list (list_trees (list_in w))) × (n ≡ ArrayValue w)) (λ n. tree_of n ≡ tree_of self.old)) }
+        ensures* writes_back { sem 𝓛 (LendsPart value_row array_row self.entry result (λ n w. (tree_of n ≡ list (list_trees (list_in w))) × (n ≡ ArrayValue w)) (λ n. n ≡ self.old)) }
         ensures array { IfOk result (λ o. option_map (λ a. list_in a.now) o ≡ list_of (tree_of self.old)) }
         ensures children { IfSome (lent result) (ArrayOpened self.old) }
         ensures only { IfErr result (λ e. e ≡ no_memory) }
@@ -82,9 +82,9 @@ impl Value {
     }
 
     /// The object, to be changed; none exactly for another kind. What is written there is the object that the value then is. A
-    /// packed object is copied by one level. None and a refusal keep the tree. `NoMemory`.
+    /// packed object is copied by one level. None and a refusal change nothing. `NoMemory`.
     pub fn as_object_mut(&mut self, alloc: Global) -> Result<Option<&mut Object>>
-        ensures* writes_back { sem 𝓛 (LendsPart value_row object_row self.entry result (λ n w. (tree_of n ≡ pairs (list_pairs (pairs_in w))) × (n ≡ ObjectValue w)) (λ n. tree_of n ≡ tree_of self.old)) }
+        ensures* writes_back { sem 𝓛 (LendsPart value_row object_row self.entry result (λ n w. (tree_of n ≡ pairs (list_pairs (pairs_in w))) × (n ≡ ObjectValue w)) (λ n. n ≡ self.old)) }
         ensures object { IfOk result (λ o. option_map (λ a. pairs_in a.now) o ≡ pairs_of (tree_of self.old)) }
         ensures children { IfSome (lent result) (ObjectOpened self.old) }
         ensures only { IfErr result (λ e. e ≡ no_memory) }

@@ -6,10 +6,10 @@ ghost use Rattle.json_grammar.specs.Tree.{Tree};
 ghost use Rattle.json_model.specs.Edit.{Changed, set_at, edited_once, at_path};
 ghost use Rattle.json_value.specs.Denotes.{tree_of};
 ghost use Rattle.json_value.specs.Edits.{steps_of, RefusesChange};
-ghost use Rattle.json_value.specs.Lending.{Puts, Stands};
+ghost use Rattle.json_value.specs.Lending.{Puts, PutsNothing, Stands};
 ghost use Rattle.json_value.specs.Rows.{value_row};
 ghost use Rattle.json_value.specs.Steps.{tree_at};
-ghost use Rattle.json_value.specs.Touched.{Along};
+ghost use Rattle.json_value.specs.Touched.{Along, Same, KeptAlong};
 ghost use Rattle.json_value.specs.declared.value.Value.{Value};
 
 use crate::lending::reach_in;
@@ -35,9 +35,12 @@ pub trait Places {
 
     /// The place to which the steps lead. What is written there changes that place and no other; a copy of one level is made
     /// of each packed container on the way. `NotFound` where a step names a key or an index that is not there;
-    /// `TypeUnmatched` where a key meets no object, or an index no array; `NoMemory`. A refusal keeps the tree.
+    /// `TypeUnmatched` where a key meets no object, or an index no array; `NoMemory`. A refusal keeps the tree, and changes
+    /// nothing but that packed containers on the way may have been copied by one level.
     fn place_mut<'v>(&'v mut self, alloc: Global, path: &[PointerNode]) -> Result<&'v mut Value>
-        ensures* writes_back { sem 𝓛 (LendsSoOk Self.row value_row self.entry result (λ n w. IfOk result (λ v. Puts (steps_of path.now) v.now w (held self.old) (held n))) (λ n. tree_of (held n) ≡ tree_of (held self.old))) }
+        ensures* writes_back { sem 𝓛 (LendsSoOk Self.row value_row self.entry result
+            (λ n w. IfOk result (λ v. Puts (steps_of path.now) v.now w (held self.old) (held n)))
+            (λ n. PutsNothing (steps_of path.now) (held self.old) (held n))) }
         ensures stands { Stands (steps_of path.now) (tree_of (held self.old)) result };
 }
 
@@ -55,6 +58,7 @@ pub fn put<V: Places>(target: &mut V, alloc: Global, path: &[PointerNode], new: 
     ensures ok { OnOk result (edited_once (set_at (steps_of path.now) (tree_of new)) (tree_of (V.held target.old)) ≡ Ok (tree_of (V.held target.new))) }
     ensures children { OnOk result (Along (steps_of path.now) (λ before after. after ≡ new) (V.held target.old) (V.held target.new)) }
     ensures kept { OnErr result (tree_of (V.held target.new) ≡ tree_of (V.held target.old)) }
+    ensures kept_along { OnErr result (KeptAlong (steps_of path.now) Same (V.held target.old) (V.held target.new)) }
     ensures refused { IfErr result (λ e. RefusesChange (edited_once (set_at (steps_of path.now) (tree_of new)) (tree_of (V.held target.old))) e.code e.place) }
 {
     let place = target.place_mut(alloc, path)?;
@@ -73,6 +77,7 @@ pub fn update<V: Places, F: FnOnce(&mut Value)>(
     requires { F.IsAlwaysCallable change }
     ensures ok { OnOk result ((x : Value) × (y : Value) × (tree_at (steps_of path.now) (tree_of (V.held target.old)) ≡ Some (tree_of x)) × (FnOnceReturnsAtMut F.FnOnce change x tt y) × Puts (steps_of path.now) x y (V.held target.old) (V.held target.new)) }
     ensures kept { OnErr result (tree_of (V.held target.new) ≡ tree_of (V.held target.old)) }
+    ensures kept_along { OnErr result (KeptAlong (steps_of path.now) Same (V.held target.old) (V.held target.new)) }
     ensures refused { IfErr result (λ e. (f : Tree → Changed Tree) → RefusesChange (at_path (steps_of path.now) f (tree_of (V.held target.old))) e.code e.place) }
 {
     let place = target.place_mut(alloc, path)?;

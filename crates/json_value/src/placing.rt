@@ -9,7 +9,7 @@ ghost use Rattle.json_model.specs.Edit.{Changed, key_step, on_list, on_pairs, in
 ghost use Rattle.json_value.specs.Denotes.{tree_of, pair_of};
 ghost use Rattle.json_value.specs.Edits.{RefusesChange};
 ghost use Rattle.json_value.specs.FirstMember.{IsFirstOf};
-ghost use Rattle.json_value.specs.Lending.{put_or_insert, with_key};
+ghost use Rattle.json_value.specs.Lending.{put_or_insert, with_key, PutsNothing, AddsNothing, SeatsNothing};
 ghost use Rattle.json_value.specs.Rows.{value_row};
 ghost use Rattle.json_value.specs.Steps.{child, tree_or_null};
 ghost use Rattle.json_value.specs.Touched.{Adds, SeatedAt, SeatsValue, ExchangesOrSeats};
@@ -29,7 +29,7 @@ fn seat(pairs: &mut Vec<Pair>, alloc: Global, key: &str) -> Result<usize>
     ensures first { IfOk result (λ i. IsFirstOf key.now (map pair_of pairs.new.items) i) }
     ensures pairs { IfOk result (λ i. list_pairs (map pair_of pairs.new.items) ≡ with_key key.now (list_pairs (map pair_of pairs.old.items))) }
     ensures seated { IfOk result (λ i. SeatedAt key.now i pairs.old.items pairs.new.items) }
-    ensures kept { OnErr result (map pair_of pairs.new.items ≡ map pair_of pairs.old.items) }
+    ensures kept { OnErr result (pairs.new.items ≡ pairs.old.items) }
     ensures absent { OnErr result (has_key key.now (list_pairs (map pair_of pairs.old.items)) ≡ false) }
     ensures only { IfErr result (λ e. e ≡ no_memory) }
 {
@@ -49,7 +49,10 @@ fn seat(pairs: &mut Vec<Pair>, alloc: Global, key: &str) -> Result<usize>
 
 // The value of the first member of the key, or of a member with null that is appended.
 fn key_place<'s, S: Slot>(slot: &'s mut S, alloc: Global, key: &str) -> Result<&'s mut Value>
-    ensures* writes_back { sem 𝓛 (LendsSoOk S.row value_row slot.entry result (λ n w. (on_pairs (λ ps. Ok (inserted key.now (tree_of w) ps)) (tree_of (S.held slot.old)) ≡ Ok (tree_of (S.held n))) × SeatsValue key.now w (S.held slot.old) (S.held n)) (λ n. tree_of (S.held n) ≡ tree_of (S.held slot.old))) }
+    ensures* writes_back { sem 𝓛 (LendsSoOk S.row value_row slot.entry result
+        (λ n w. (on_pairs (λ ps. Ok (inserted key.now (tree_of w) ps)) (tree_of (S.held slot.old)) ≡ Ok (tree_of (S.held n)))
+        × SeatsValue key.now w (S.held slot.old) (S.held n))
+        (λ n. SeatsNothing (S.held slot.old) (S.held n))) }
     ensures refused { IfErr result (λ e. (f : Pairs → Changed Pairs) → RefusesChange (on_pairs f (tree_of (S.held slot.old))) e.code e.place) }
 {
     let pairs = slot.pairs(alloc)?;
@@ -66,7 +69,10 @@ pub(crate) fn insert_of<'s, S: Slot>(
     val: Value,
 ) -> Result<&'s mut Value>
     requires { type_of (tree_of (S.held slot.old)) ≡ JsonType.Object }
-    ensures* writes_back { sem 𝓛 (LendsSoOk S.row value_row slot.entry result (λ n w. (on_pairs (λ ps. Ok (inserted key.now (tree_of w) ps)) (tree_of (S.held slot.old)) ≡ Ok (tree_of (S.held n))) × SeatsValue key.now w (S.held slot.old) (S.held n)) (λ n. tree_of (S.held n) ≡ tree_of (S.held slot.old))) }
+    ensures* writes_back { sem 𝓛 (LendsSoOk S.row value_row slot.entry result
+        (λ n w. (on_pairs (λ ps. Ok (inserted key.now (tree_of w) ps)) (tree_of (S.held slot.old)) ≡ Ok (tree_of (S.held n)))
+        × SeatsValue key.now w (S.held slot.old) (S.held n))
+        (λ n. SeatsNothing (S.held slot.old) (S.held n))) }
     ensures value { IfOk result (λ v. v.now ≡ val) }
     ensures only { IfErr result (λ e. e ≡ no_memory) }
 {
@@ -90,7 +96,10 @@ fn push_last(list: &mut Vec<Value>, element: Value) -> Result<usize>
 // The element, appended.
 pub(crate) fn append_of<S: Slot>(slot: &mut S, alloc: Global, val: Value) -> Result<&mut Value>
     requires { type_of (tree_of (S.held slot.old)) ≡ JsonType.Array }
-    ensures* writes_back { sem 𝓛 (LendsSoOk S.row value_row slot.entry result (λ n w. (on_list (λ ts. Ok (pushed (tree_of w) ts)) (tree_of (S.held slot.old)) ≡ Ok (tree_of (S.held n))) × Adds w (S.held slot.old) (S.held n)) (λ n. tree_of (S.held n) ≡ tree_of (S.held slot.old))) }
+    ensures* writes_back { sem 𝓛 (LendsSoOk S.row value_row slot.entry result
+        (λ n w. (on_list (λ ts. Ok (pushed (tree_of w) ts)) (tree_of (S.held slot.old)) ≡ Ok (tree_of (S.held n)))
+        × Adds w (S.held slot.old) (S.held n))
+        (λ n. AddsNothing (S.held slot.old) (S.held n))) }
     ensures value { IfOk result (λ v. v.now ≡ val) }
     ensures only { IfErr result (λ e. e ≡ no_memory) }
 {
@@ -101,7 +110,10 @@ pub(crate) fn append_of<S: Slot>(slot: &mut S, alloc: Global, val: Value) -> Res
 
 // The same, where null counts as an empty object.
 fn member_or_null<'s, S: Slot>(slot: &'s mut S, alloc: Global, key: &str) -> Result<&'s mut Value>
-    ensures* writes_back { sem 𝓛 (LendsSoOk S.row value_row slot.entry result (λ n w. (put_or_insert (key_step key.now) (tree_of w) (tree_of (S.held slot.old)) ≡ Ok (tree_of (S.held n))) × IfOk result (λ v. ExchangesOrSeats (key_step key.now) v.now w (S.held slot.old) (S.held n))) (λ n. tree_of (S.held n) ≡ tree_of (S.held slot.old))) }
+    ensures* writes_back { sem 𝓛 (LendsSoOk S.row value_row slot.entry result
+        (λ n w. (put_or_insert (key_step key.now) (tree_of w) (tree_of (S.held slot.old)) ≡ Ok (tree_of (S.held n)))
+        × IfOk result (λ v. ExchangesOrSeats (key_step key.now) v.now w (S.held slot.old) (S.held n)))
+        (λ n. PutsNothing (key_step key.now ∷ []) (S.held slot.old) (S.held n))) }
     ensures value { IfOk result (λ v. tree_of v.now ≡ tree_or_null (child (key_step key.now) (tree_of (S.held slot.old)))) }
     ensures refused { IfErr result (λ e. (u : Tree) → RefusesChange (put_or_insert (key_step key.now) u (tree_of (S.held slot.old))) e.code e.place) }
 {
@@ -117,7 +129,10 @@ pub(crate) fn place_or_insert<'s, S: Slot, I: Index>(
     alloc: Global,
     index: &I,
 ) -> Result<&'s mut Value>
-    ensures* writes_back { sem 𝓛 (LendsSoOk S.row value_row slot.entry result (λ n w. (put_or_insert (I.step index.now) (tree_of w) (tree_of (S.held slot.old)) ≡ Ok (tree_of (S.held n))) × IfOk result (λ v. ExchangesOrSeats (I.step index.now) v.now w (S.held slot.old) (S.held n))) (λ n. tree_of (S.held n) ≡ tree_of (S.held slot.old))) }
+    ensures* writes_back { sem 𝓛 (LendsSoOk S.row value_row slot.entry result
+        (λ n w. (put_or_insert (I.step index.now) (tree_of w) (tree_of (S.held slot.old)) ≡ Ok (tree_of (S.held n)))
+        × IfOk result (λ v. ExchangesOrSeats (I.step index.now) v.now w (S.held slot.old) (S.held n)))
+        (λ n. PutsNothing (I.step index.now ∷ []) (S.held slot.old) (S.held n))) }
     ensures value { IfOk result (λ v. tree_of v.now ≡ tree_or_null (child (I.step index.now) (tree_of (S.held slot.old)))) }
     ensures refused { IfErr result (λ e. (u : Tree) → RefusesChange (put_or_insert (I.step index.now) u (tree_of (S.held slot.old))) e.code e.place) }
 {

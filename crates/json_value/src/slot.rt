@@ -25,19 +25,19 @@ pub(crate) trait Slot {
 
     // The elements, to be changed.
     fn list(&mut self, alloc: Global) -> Result<&mut Vec<Value>>
-        ensures* writes_back { sem 𝓛 (LendsSoOk Self.row (vec_row value_row) self.entry result (λ n w. (tree_of (held n) ≡ list (list_trees (map tree_of w.items))) × IfOk result (λ v. ArrayTouched (Became v.now.items w.items) (held self.old) (held n))) (λ n. tree_of (held n) ≡ tree_of (held self.old))) }
+        ensures* writes_back { sem 𝓛 (LendsSoOk Self.row (vec_row value_row) self.entry result (λ n w. (tree_of (held n) ≡ list (list_trees (map tree_of w.items))) × IfOk result (λ v. ArrayTouched (Became v.now.items w.items) (held self.old) (held n))) (λ n. held n ≡ held self.old)) }
         ensures value { IfOk result (λ v. tree_of (held self.old) ≡ list (list_trees (map tree_of v.now.items))) }
         ensures refused { IfErr result (λ e. (f : Trees → Changed Trees) → RefusesChange (on_list f (tree_of (held self.old))) e.code e.place) };
 
     // The members, to be changed.
     fn pairs(&mut self, alloc: Global) -> Result<&mut Vec<Pair>>
-        ensures* writes_back { sem 𝓛 (LendsSoOk Self.row (vec_row pair_row) self.entry result (λ n w. (tree_of (held n) ≡ pairs (list_pairs (map pair_of w.items))) × IfOk result (λ v. ObjectTouched (Became v.now.items w.items) (held self.old) (held n))) (λ n. tree_of (held n) ≡ tree_of (held self.old))) }
+        ensures* writes_back { sem 𝓛 (LendsSoOk Self.row (vec_row pair_row) self.entry result (λ n w. (tree_of (held n) ≡ pairs (list_pairs (map pair_of w.items))) × IfOk result (λ v. ObjectTouched (Became v.now.items w.items) (held self.old) (held n))) (λ n. held n ≡ held self.old)) }
         ensures value { IfOk result (λ v. tree_of (held self.old) ≡ pairs (list_pairs (map pair_of v.now.items))) }
         ensures refused { IfErr result (λ e. (f : Pairs → Changed Pairs) → RefusesChange (on_pairs f (tree_of (held self.old))) e.code e.place) };
 
     // The members, to be changed, where null is first made the object of this key with null.
     fn pairs_with(&mut self, alloc: Global, key: &str) -> Result<&mut Vec<Pair>>
-        ensures* writes_back { sem 𝓛 (LendsSoOk Self.row (vec_row pair_row) self.entry result (λ n w. (tree_of (held n) ≡ pairs (list_pairs (map pair_of w.items))) × IfOk result (λ v. (held self.old ≡ NullValue) ⊎ ObjectTouched (Became v.now.items w.items) (held self.old) (held n))) (λ n. tree_of (held n) ≡ tree_of (held self.old))) }
+        ensures* writes_back { sem 𝓛 (LendsSoOk Self.row (vec_row pair_row) self.entry result (λ n w. (tree_of (held n) ≡ pairs (list_pairs (map pair_of w.items))) × IfOk result (λ v. (held self.old ≡ NullValue) ⊎ ObjectTouched (Became v.now.items w.items) (held self.old) (held n))) (λ n. held n ≡ held self.old)) }
         ensures value { IfOk result (λ v. opened_with key.now (tree_of (held self.old)) ≡ pairs (list_pairs (map pair_of v.now.items))) }
         ensures refused { IfErr result (λ e. (f : Pairs → Changed Pairs) → RefusesChange (on_pairs f (opened (tree_of (held self.old)))) e.code e.place) };
 }

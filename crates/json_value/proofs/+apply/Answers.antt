@@ -1,4 +1,4 @@
-use Rattle.std.proofs.Common.{◌≡◌, ◌+◌, ◌*◌, ◌<◌, ◌≤◌, map, length, refl, ◌∙◌, arith}
+use Rattle.std.proofs.Common.{◌≡◌, ◌+◌, ◌*◌, ◌<◌, ◌≤◌, map, length, inl, inr, refl, sym, ◌∙◌, arith}
 use Rattle.std.proofs.lemmas.Result.{on_ok_weaker, on_err_weaker, IfErr-weaker}
 use Rattle.json_grammar.specs.Tree.{list_trees, list_pairs}
 use Rattle.json_text.specs.Errors.{not_found}
@@ -6,9 +6,10 @@ use Rattle.json_model.specs.Edit.{at_path, at_key, at_index, on_list, on_pairs}
 use Rattle.json_model.proofs.Members.{at_key-absent}
 use Rattle.json_value.specs.Denotes.{tree_of, pair_of}
 use Rattle.json_value.specs.Edits.{steps_of, change_of, RefusesChange}
-use Rattle.json_value.specs.Touched.{Touches, AtElement, AtMember}
-use Rattle.json_value.proofs.AppliedTrees.{first_moved, none_moved, pair_changed, pair_kept, pair_refuses, element_changed, element_kept, element_refuses, element_missed, object_changed, object_kept, object_refuses, array_changed, array_kept, array_refuses, path_key, path_index, refused_as, refuses_so}
+use Rattle.json_value.specs.Touched.{Touches, AtElement, AtMember, Keeps, ElementKept, MemberKept}
+use Rattle.json_value.proofs.AppliedTrees.{first_moved, none_moved, pair_changed, pair_kept, pair_refuses, element_changed, element_kept, element_refuses, element_missed, object_changed, object_kept, object_refuses, array_changed, array_kept, array_refuses, path_key, path_index, refused_as, refuses_so, anyway}
 use Rattle.json_value.proofs.Touching.{at_element, at_member, array_touched, object_touched, touches_key, touches_index}
+use Rattle.json_value.proofs.Keeping.{keeps_as_was, keeps_key, keeps_index}
 use Rattle.json_value.proofs.+apply.Goals as goal
 
 -- ---- an element
@@ -191,3 +192,42 @@ value::Value::apply_at-returns-in_ok-list-in-Some-array_mut-clause-children t c 
     (λ h. touches_index c.args.steps.now c.in-Some.rest.now c.in-Some.step.now i edit self _ c.in-Some.ensures.cases.0 c.in-Index.is
     (array_touched (AtElement i (Touches (steps_of c.in-Some.rest.now) edit)) self c.in-Some-array_mut.array.now lent.list.now c.apply_to_element.new.list c.in-Some-array_mut.ensures.value lent.ensures.list lent.ensures.children h))
     c.apply_to_element.ensures.children
+
+-- ---- what a refusal keeps
+
+pub applying::apply_to_element-returns-in-Some-clause-kept_along : goal.applying::apply_to_element-returns-in-Some-clause-kept_along
+applying::apply_to_element-returns-in-Some-clause-kept_along t c =
+    on_err_weaker c.apply_at.result
+    (λ h. inr (at_element (Keeps (steps_of c.args.steps.now) c.args.edit.now) c.args.list.now.items c.args.index c.in-Some.element.now c.apply_at.new.self c.in-Some.ensures.item.3.0 c.in-Some.ensures.value h))
+    c.apply_at.ensures.kept_along
+
+pub applying::apply_to_pair-returns-in-Some-clause-kept_along : goal.applying::apply_to_pair-returns-in-Some-clause-kept_along
+applying::apply_to_pair-returns-in-Some-clause-kept_along t c =
+    let k = c.args.key.now in
+    let items = c.args.pairs.now.items in
+    let first = first_moved k k c.as_slice.result.now items c.in-Some.i refl c.as_slice.ensures.value c.in-Some.ensures.first in
+    on_err_weaker c.apply_at.result
+    (λ h. inr (at_member (Keeps (steps_of c.args.steps.now) c.args.edit.now) k items c.in-Some.i c.index_mut.result.now c.apply_at.new.self c.index_mut.ensures.value first h))
+    c.apply_at.ensures.kept_along
+
+pub value::Value::apply_at-returns-in_ok-pairs-in-Some-object_mut-clause-kept_along : goal.value::Value::apply_at-returns-in_ok-pairs-in-Some-object_mut-clause-kept_along
+value::Value::apply_at-returns-in_ok-pairs-in-Some-object_mut-clause-kept_along t c =
+    let self = c.args.self.now in
+    let lent = c.in_ok-pairs-in-Some-object_mut in
+    let k = c.as_str.result.now in
+    let edit = c.args.edit.now in
+    on_err_weaker c.apply_to_pair.result
+    (λ h. keeps_key c.args.steps.now c.in-Some.rest.now c.in-Some.step.now c.in-Key.key k edit self _ c.in-Some.ensures.cases.0 c.in-Key.is c.as_str.ensures
+    (inr (object_touched (MemberKept k (Keeps (steps_of c.in-Some.rest.now) edit)) self c.in-Some-object_mut.object.now lent.pairs.now c.apply_to_pair.new.pairs c.in-Some-object_mut.ensures.value lent.ensures.pairs lent.ensures.children h)))
+    c.apply_to_pair.ensures.kept_along
+
+pub value::Value::apply_at-returns-in_ok-list-in-Some-array_mut-clause-kept_along : goal.value::Value::apply_at-returns-in_ok-list-in-Some-array_mut-clause-kept_along
+value::Value::apply_at-returns-in_ok-list-in-Some-array_mut-clause-kept_along t c =
+    let self = c.args.self.now in
+    let lent = c.in_ok-list-in-Some-array_mut in
+    let i = c.in-Index.i in
+    let edit = c.args.edit.now in
+    on_err_weaker c.apply_to_element.result
+    (λ h. keeps_index c.args.steps.now c.in-Some.rest.now c.in-Some.step.now i edit self _ c.in-Some.ensures.cases.0 c.in-Index.is
+    (inr (array_touched (ElementKept i (Keeps (steps_of c.in-Some.rest.now) edit)) self c.in-Some-array_mut.array.now lent.list.now c.apply_to_element.new.list c.in-Some-array_mut.ensures.value lent.ensures.list lent.ensures.children h)))
+    c.apply_to_element.ensures.kept_along

@@ -1,7 +1,7 @@
-use Rattle.std.proofs.Common.{◌∷◌, [], IfOk, refl, subst}
+use Rattle.std.proofs.Common.{◌∷◌, [], IfOk, OnErr, refl, subst}
 use Rattle.json_model.specs.Edit.{Step, key_step, index_step}
 use Rattle.json_value.specs.Denotes.{tree_of}
-use Rattle.json_value.specs.Lending.{Puts, Stands}
+use Rattle.json_value.specs.Lending.{Puts, PutsNothing, Stands}
 use Rattle.json_value.proofs.Lent.{is_key, is_index}
 use Rattle.json_value.proofs.Settling.{stands_one}
 use Rattle.json_value.proofs.child.child_of.Goals as goal
@@ -15,7 +15,7 @@ returns-in-Some g c =
       (
         refl,
         (λ w ok. subst (λ (s : Step). IfOk r (λ v. Puts (s ∷ []) v.now w old (g.S.Slot.held (c.member_of.follows.lender w)))) step (c.member_of.follows.holds w ok)),
-        c.member_of.follows.holds-at-none,
+        subst (λ (s : Step). OnErr r (PutsNothing (s ∷ []) old (g.S.Slot.held c.member_of.follows.lender-at-none))) step c.member_of.follows.holds-at-none,
       ),
       record {
         writes_back = tt;
@@ -32,7 +32,7 @@ returns-in-Some-as_index g c =
       (
         refl,
         (λ w ok. subst (λ (s : Step). IfOk r (λ v. Puts (s ∷ []) v.now w old (g.S.Slot.held (c.element_of.follows.lender w)))) step (c.element_of.follows.holds w ok)),
-        c.element_of.follows.holds-at-none,
+        subst (λ (s : Step). OnErr r (PutsNothing (s ∷ []) old (g.S.Slot.held c.element_of.follows.lender-at-none))) step c.element_of.follows.holds-at-none,
       ),
       record {
         writes_back = tt;

@@ -1,14 +1,17 @@
-use Rattle.std.proofs.Common.{◌≡◌, ◌≤◌, ◌∷◌, [], length, map, Vec, Global, refl, sym, ◌∙◌, arith}
+use Rattle.std.proofs.Common.{◌≡◌, ◌≤◌, ◌∷◌, [], length, map, Vec, Global, refl, arith}
 use Rattle.std.specs.Vec.{with_item}
+use Rattle.std.proofs.lemmas.Result.{err_from_is_err_and}
 use Rattle.json_grammar.specs.Tree.{list, list_trees}
 use Rattle.json_text.specs.Errors.{not_found}
-use Rattle.json_model.specs.Edit.{at_path, index_step}
+use Rattle.json_model.specs.Edit.{at_path, at_index, index_step}
 use Rattle.json_value.specs.Denotes.{tree_of}
 use Rattle.json_value.specs.Touched.{ArrayTouched, Became}
 use Rattle.json_value.specs.declared.value.Value.{Value}
 use Rattle.json_value.proofs.AppliedTrees.{refused_as}
 use Rattle.json_value.proofs.Lent.{element_there, element_put, element_past}
+use Rattle.json_value.proofs.Named.{never_ok}
 use Rattle.json_value.proofs.Touching.{element_exchanged}
+use Rattle.json_value.proofs.Keeping.{nothing_put, element_not_put}
 use Rattle.json_value.proofs.child.element_of.Goals as goal
 
 pub returns-in-Some : goal.returns-in-Some
@@ -35,10 +38,23 @@ returns-in-Some g c =
 
 pub returns-in-None : goal.returns-in-None
 returns-in-None g c =
-    let t = tree_of (g.S.Slot.held c.args.slot.now) in
+    let old = g.S.Slot.held c.args.slot.now in
     let lent = c.in_ok-list.list.now in
     let is = c.in_ok-list.ensures.value in
     let i = c.args.index in
-    let after : tree_of (g.S.Slot.held (c.list.follows.lender lent)) ≡ list (list_trees (map tree_of lent.items)) = ((rw c.in_ok-list.was at (c.list.follows.holds lent)) refl).0 in
-    let past : length lent.items ≤ i = grind (arith, c.in-None.ensures.variant, lent.ok.0) in
-    ((refl, (λ w never. search), after ∙ sym is), record { writes_back = tt; value = tt; refused = λ f. refused_as (at_path (index_step i ∷ []) f t) c.not_found.result not_found c.not_found.ensures (element_past t lent.items i is f past) })
+    let after : (tree_of (g.S.Slot.held (c.list.follows.lender lent)) ≡ list (list_trees (map tree_of lent.items))) × ArrayTouched (Became lent.items lent.items) old (g.S.Slot.held (c.list.follows.lender lent)) =
+    (rw c.in_ok-list.was at (c.list.follows.holds lent)) refl
+    in
+    let past : length lent.items ≤ i = grind (arith, c.in-None.ensures.variant, lent.ok.0) in (
+      (refl, (λ w never. search), element_not_put lent.items lent.items refl old _ after.1 i is after.0),
+      record { writes_back = tt; value = tt; refused = λ f. refused_as (at_path (index_step i ∷ []) f (tree_of old)) c.not_found.result not_found c.not_found.ensures (element_past (tree_of old) lent.items i is f past) },
+    )
+
+pub returns-in_err-list : goal.returns-in_err-list
+returns-in_err-list g c =
+    let p = err_from_is_err_and c.from_residual.result c.from_residual.ensures.1 in
+    let i = c.args.index in
+    rw (p.1, p.2) (
+      (refl, (λ w never. never_ok never), nothing_put (index_step i ∷ []) (g.S.Slot.held c.args.slot.now) _ (rw c.in_err-list.was at c.list.follows.holds-at-none)),
+      record { writes_back = tt; value = tt; refused = λ f. c.in_err-list.ensures.refused (at_index i f) },
+    )

@@ -1,8 +1,9 @@
 use Rattle.std.proofs.Common.{◌≡◌, ◌∷◌, [], map, Vec, Global, Some, refl, sym, ap, ◌∙◌}
 use Rattle.std.specs.Vec.{with_item}
+use Rattle.std.proofs.lemmas.Result.{err_from_is_err_and}
 use Rattle.json_grammar.specs.Tree.{pairs, list_pairs}
 use Rattle.json_text.specs.Errors.{not_found}
-use Rattle.json_model.specs.Edit.{at_path, key_step}
+use Rattle.json_model.specs.Edit.{at_path, at_key, key_step}
 use Rattle.json_value.specs.Denotes.{tree_of, pair_of}
 use Rattle.json_value.specs.Rows.{keyed_so}
 use Rattle.json_value.specs.Touched.{ObjectTouched, Became}
@@ -10,7 +11,9 @@ use Rattle.json_value.specs.declared.value.Value.{Value}
 use Rattle.json_value.specs.declared.pair.Keyed.{Keyed}
 use Rattle.json_value.proofs.AppliedTrees.{first_moved, none_moved, refused_as}
 use Rattle.json_value.proofs.Lent.{member_there, member_put, member_missed}
+use Rattle.json_value.proofs.Named.{never_ok}
 use Rattle.json_value.proofs.Touching.{member_exchanged}
+use Rattle.json_value.proofs.Keeping.{nothing_put, member_not_put}
 use Rattle.json_value.proofs.child.member_of.Goals as goal
 
 pub returns-in-Some : goal.returns-in-Some
@@ -40,10 +43,23 @@ returns-in-Some g c =
 
 pub returns-in-None : goal.returns-in-None
 returns-in-None g c =
-    let t = tree_of (g.S.Slot.held c.args.slot.now) in
+    let old = g.S.Slot.held c.args.slot.now in
     let k = c.args.key.now in
     let lent = c.in_ok-pairs.pairs.now in
     let is = c.in_ok-pairs.ensures.value in
     let none = none_moved k k c.as_slice.result.now lent.items refl c.as_slice.ensures.value c.in-None.ensures.none in
-    let after : tree_of (g.S.Slot.held (c.pairs.follows.lender lent)) ≡ pairs (list_pairs (map pair_of lent.items)) = ((rw c.in_ok-pairs.was at (c.pairs.follows.holds lent)) refl).0 in
-    ((refl, (λ w never. search), after ∙ sym is), (tt, λ f. refused_as (at_path (key_step k ∷ []) f t) c.not_found.result not_found c.not_found.ensures (member_missed t k lent.items is f none)))
+    let after : (tree_of (g.S.Slot.held (c.pairs.follows.lender lent)) ≡ pairs (list_pairs (map pair_of lent.items))) × ObjectTouched (Became lent.items lent.items) old (g.S.Slot.held (c.pairs.follows.lender lent)) =
+    (rw c.in_ok-pairs.was at (c.pairs.follows.holds lent)) refl
+    in (
+      (refl, (λ w never. search), member_not_put lent.items lent.items refl old _ after.1 k is after.0),
+      (tt, λ f. refused_as (at_path (key_step k ∷ []) f (tree_of old)) c.not_found.result not_found c.not_found.ensures (member_missed (tree_of old) k lent.items is f none)),
+    )
+
+pub returns-in_err-pairs : goal.returns-in_err-pairs
+returns-in_err-pairs g c =
+    let p = err_from_is_err_and c.from_residual.result c.from_residual.ensures.1 in
+    let k = c.args.key.now in
+    rw (p.1, p.2) (
+      (refl, (λ w never. never_ok never), nothing_put (key_step k ∷ []) (g.S.Slot.held c.args.slot.now) _ (rw c.in_err-pairs.was at c.pairs.follows.holds-at-none)),
+      (tt, λ f. c.in_err-pairs.ensures.refused (at_key k f)),
+    )

@@ -56,9 +56,10 @@ use Rattle.json_value.proofs.value.Value.TheLaws.{the_row_laws as value_laws}
 use Rattle.json_value.proofs.Results.{ok_val, err_val, ok_out, err_out, ok_in, err_in}
 use Rattle.json_value.proofs.Follows.{so_then, so_none, so_self}
 use Rattle.json_value.proofs.Named.{no_place, each_ok}
-use Rattle.json_value.proofs.LentPaths.{along_kept, fewer, put_end, seen_end, on_true, on_false, which}
+use Rattle.json_value.proofs.LentPaths.{fewer, put_end, seen_end, on_true, on_false, which}
 use Rattle.json_value.proofs.Settling.{one_step, stands_along, stands_first}
 use Rattle.json_value.proofs.Touching.{exchanged_here, puts_along}
+use Rattle.json_value.proofs.Keeping.{nothing_along, nothing_first}
 use Rattle.json_value.specs.contracts.lending.reach_in as f
 use Rattle.json_value.proofs.lending.+reach_in.{statement}
 use Rattle.json_value.proofs.lending.+reach_in.Code as code
@@ -142,9 +143,9 @@ module _ {M : Type 1} (𝓤 : Ura M) (𝓛 : Logic 𝓤) (𝓜 : Model 𝓤 𝓛
       Then = then_runs 𝓤 𝓛.H 𝓣.C 𝓣.Λ En (after 5 fn.body) (at_ret En Post)
 
       -- nothing was found: the refusal is handed on
-      refuses : (x : Error) → Stands (steps_of path.now) (tree_of v.now) (Err x) → Sq 𝓛 (‵ (R.own_val (Err x) (err x ∷ [])) ∷ ‵ (LendsStep v (step_of (first_node path.now)) (Err x)) ∷ ‵ (flft κ y.0.1.0) ∷ ‵ (flft κ' y.0.1.1.0) ∷ holding 𝓛 En ((8, err x) ∷ []))
+      refuses : (x : Error) → 0 < length path.now → Stands (steps_of path.now) (tree_of v.now) (Err x) → Sq 𝓛 (‵ (R.own_val (Err x) (err x ∷ [])) ∷ ‵ (LendsStep v (step_of (first_node path.now)) (Err x)) ∷ ‵ (flft κ y.0.1.0) ∷ ‵ (flft κ' y.0.1.1.0) ∷ holding 𝓛 En ((8, err x) ∷ []))
           (runs 𝓣.C 𝓣.Λ En (arm_body 1 (head (after 4 fn.body))) Then)
-      refuses x why =
+      refuses x more why =
           move ! (0 ∷ []) $ peeks ! R _ (shows 𝓛 R) (Err x) (err x ∷ []) (λ is_r. let fits = (fits_result (Err x) (err x) is_r).0 in
           use1 𝓛 (given (err x ∷ [] ≡ err x ∷ []) (‵ (refusal.own_val x (refusal_told.val x ∷ [])))) (err_out κ value refusal refusal_told 𝓛 x (err x ∷ [])) $ learn ! (λ _.
           peeks ! refusal _ (shows 𝓛 refusal) x (refusal_told.val x ∷ []) (λ is_e. let fits_e = ((refusal_laws.lawful 𝓛).typed x (refusal_told.val x ∷ []) is_e).0 in
@@ -154,7 +155,7 @@ module _ {M : Type 1} (𝓤 : Ura M) (𝓛 : Logic 𝓤) (𝓜 : Model 𝓤 𝓛
           exec ! 𝓣.C 𝓣.Λ En (after 5 fn.body) (at_ret En Post) $
           sets ! (of_opd ! (get ! refl)) refl fits $ returns ! (look_at ! 0 refl) $ free_all ! refl $
           move ! (1 ∷ 0 ∷ 2 ∷ 3 ∷ []) $
-          use1 𝓛 (‵ (LendsAlong {E = refusal.Denot} v (steps_of path.now) (Err x))) (so_none 𝓛 value value value v.ghost_name _ _ _ _ (λ w n p at. absurd at) (λ n p. p)) $
+          use1 𝓛 (‵ (LendsAlong {E = refusal.Denot} v (steps_of path.now) (Err x))) (so_none 𝓛 value value value v.ghost_name _ _ _ _ (λ w n p at. absurd at) (λ n p. nothing_first path.now v.now n more p)) $
           suffices ! _ (ends_at 𝓛 f.ended stayed (f.clauses 𝓛 𝓜.mem 𝓡.returns) y0 (err x) (Err x) (tt, (tt, (tt, tt))) (tt, (tt, (tt, tt)))) $
           nothing ! $ move ! (4 ∷ 0 ∷ []) $ join ! $ move ! (3 ∷ 0 ∷ []) $ join ! $ nothing ! $ nothing ! $ join ! $ nothing ! $ join ! $ nothing ! $ join ! $
           move ! (1 ∷ 0 ∷ 3 ∷ 2 ∷ []) $ group ! 3 $ frame ! $ says ! why $ done !)))
@@ -191,7 +192,7 @@ module _ {M : Type 1} (𝓤 : Ura M) (𝓛 : Logic 𝓤) (𝓜 : Model 𝓤 𝓛
           move ! (2 ∷ []) $ pick ! (λ ws4. split ! $ drop ! $ split ! $ move ! (1 ∷ []) $ heard ! _ (λ seen.
           move ! (3 ∷ 0 ∷ []) $ use2 𝓛 (‵ (LendsAlong v (steps_of path.now) s)) (so_then 𝓛 value value value v.ghost_name x.ghost_name _ _ (name_of_ok s) _ _ _ _
           (λ w z n p q at. each_ok s (λ y h. puts_along path.now rest.now x.now z y.now w v.now n more shorter here (p refl) h) (q at))
-          (λ z n p q. no_place s (λ k. along_kept (step_of (first_node path.now)) (tree_of v.now) (tree_of x.now) here (tree_of n) (tree_of z) (p refl).0 k) q)) $
+          (λ z n p q. no_place s (nothing_along path.now rest.now x.now z v.now n more shorter here (p refl)) q)) $
           suffices ! _ (ends_at 𝓛 f.ended stayed (f.clauses 𝓛 𝓜.mem 𝓡.returns) y0 i s (tt, (tt, (tt, tt))) (tt, (tt, (tt, tt)))) $
           nothing ! $ nothing ! $ join ! $ nothing ! $ join ! $ nothing ! $ join ! $ move ! (3 ∷ 0 ∷ 2 ∷ 1 ∷ []) $ group ! 3 $ frame ! $
           says ! (stands_along path.now rest.now (tree_of v.now) (tree_of x.now) more shorter here s seen) $ done !))))))))))
@@ -290,5 +291,5 @@ unfolding tables_of
           lands_as ! (ap only is_x) refl ((fits_result 𝓤 𝓛 𝓜 𝓡 wired y (Err x) (err_val κs.0 value refusal refusal_told x) is_r).0) $
           first ! $ switches_on ! (get_tag ! (vrt ! refl (fld ! refl (stop !))) (whole !)) $ exec ! 𝓣.C 𝓣.Λ En (arm_body 1 (head (after 4 (code.reach_in-function).body))) (Then 𝓤 𝓛 𝓜 𝓡 wired y l) $
           move ! (6 ∷ []) $ drop ! $ move ! (5 ∷ []) $ drop ! $ move ! (4 ∷ []) $ drop ! $ forget_but ! En (8 ∷ []) refl $
-          refuses 𝓤 𝓛 𝓜 𝓡 wired y l x why))
+          refuses 𝓤 𝓛 𝓜 𝓡 wired y l x more why))
     ]))))))))))))))))

@@ -1,6 +1,7 @@
 use Rattle.json_value.specs.Edits.{steps_of}
 use Rattle.std.proofs.Common.{◌≡◌, refl}
 use Rattle.json_value.specs.Touched.{Became}
+use Rattle.json_value.proofs.AppliedTrees.{anyway}
 use Rattle.json_value.proofs.Touching.{along_as}
 use Rattle.json_value.proofs.places.put.Goals as goal
 
@@ -11,3 +12,9 @@ returns-clause-children g c =
 
 pub returns-clause-ok : goal.returns-clause-ok
 returns-clause-ok g c = ((rw c.in_ok-place.was at (c.place_mut.follows.holds c.args.new)) refl).0
+
+pub returns-in_err-place-clause-kept : goal.returns-in_err-place-clause-kept
+returns-in_err-place-clause-kept g c = anyway c.from_residual.result (rw c.in_err-place.was at c.place_mut.follows.holds-at-none).0
+
+pub returns-in_err-place-clause-kept_along : goal.returns-in_err-place-clause-kept_along
+returns-in_err-place-clause-kept_along g c = anyway c.from_residual.result (rw c.in_err-place.was at c.place_mut.follows.holds-at-none).1

@@ -8,13 +8,14 @@ use Rattle.json_value.specs.declared.value.Value.{Value}
 use Rattle.json_value.proofs.Lent.{list_memory, pushed_put, last_read}
 use Rattle.json_value.proofs.Named.{never_ok}
 use Rattle.json_value.proofs.Touching.{element_added}
+use Rattle.json_value.proofs.Keeping.{nothing_added, element_not_added}
 use Rattle.json_value.proofs.placing.append_of.Goals as goal
 
 pub returns-in_err-list : goal.returns-in_err-list
 returns-in_err-list g c =
     let p = err_from_is_err_and c.from_residual.result c.from_residual.ensures.1 in
     let only = list_memory (tree_of (g.S.Slot.held c.args.slot.now)) c.in_err-list.field-0.0 c.requires c.in_err-list.ensures.refused in
-    rw (p.1, p.2) ((refl, (λ w never. never_ok never), (rw c.in_err-list.was at c.list.follows.holds-at-none)), record { writes_back = tt; value = tt; only = only })
+    rw (p.1, p.2) ((refl, (λ w never. never_ok never), nothing_added (g.S.Slot.held c.args.slot.now) _ (rw c.in_err-list.was at c.list.follows.holds-at-none)), record { writes_back = tt; value = tt; only = only })
 
 pub returns : goal.returns
 returns g c =
@@ -39,4 +40,18 @@ returns g c =
         tt,
       ),
       record { writes_back = tt; value = last_read lent.items new.items c.args.val i made end v c.index_mut.ensures.value; only = tt },
+    )
+
+pub returns-in_err-last : goal.returns-in_err-last
+returns-in_err-last g c =
+    let old = g.S.Slot.held c.args.slot.now in
+    let lent = c.in_ok-list.list.now in
+    let new = c.push_last.new.list in
+    let p = err_from_is_err_and c.from_residual-in_err-last.result c.from_residual-in_err-last.ensures.1 in
+    let after : (tree_of (g.S.Slot.held (c.list.follows.lender new)) ≡ list (list_trees (map tree_of new.items))) × ArrayTouched (Became lent.items new.items) old (g.S.Slot.held (c.list.follows.lender new)) =
+    (rw c.in_ok-list.was at (c.list.follows.holds new)) refl
+    in
+    rw (p.1, p.2) (
+      (refl, (λ w never. never_ok never), element_not_added lent.items new.items c.in_err-last.ensures.kept old _ after.1 c.in_ok-list.ensures.value after.0),
+      record { writes_back = tt; value = tt; only = c.in_err-last.ensures.only },
     )

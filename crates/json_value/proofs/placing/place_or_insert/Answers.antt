@@ -1,9 +1,9 @@
-use Rattle.std.proofs.Common.{◌≡◌, Ok, IfOk, IfErr, refl, subst}
+use Rattle.std.proofs.Common.{◌≡◌, ◌∷◌, [], Ok, IfOk, IfErr, OnErr, refl, subst}
 use Rattle.json_grammar.specs.Tree.{Tree}
 use Rattle.json_model.specs.Edit.{Step}
 use Rattle.json_value.specs.Denotes.{tree_of}
 use Rattle.json_value.specs.Edits.{RefusesChange}
-use Rattle.json_value.specs.Lending.{put_or_insert}
+use Rattle.json_value.specs.Lending.{put_or_insert, PutsNothing}
 use Rattle.json_value.specs.Steps.{child, tree_or_null}
 use Rattle.json_value.specs.Touched.{ExchangesOrSeats}
 use Rattle.json_value.proofs.Lent.{is_key, is_index, found_element, refused_element}
@@ -22,7 +22,7 @@ returns-in-Some g c =
           subst (λ (s : Step). put_or_insert s (tree_of w) t ≡ Ok (tree_of (g.S.Slot.held (c.member_or_null.follows.lender w)))) step (c.member_or_null.follows.holds w ok).0,
           subst (λ (s : Step). IfOk r (λ v. ExchangesOrSeats s v.now w old (g.S.Slot.held (c.member_or_null.follows.lender w)))) step (c.member_or_null.follows.holds w ok).1,
         )),
-        c.member_or_null.follows.holds-at-none,
+        subst (λ (s : Step). OnErr r (PutsNothing (s ∷ []) old (g.S.Slot.held c.member_or_null.follows.lender-at-none))) step c.member_or_null.follows.holds-at-none,
       ),
       record {
         writes_back = tt;
@@ -44,7 +44,7 @@ returns-in-Some-as_index g c =
           subst (λ (s : Step). put_or_insert s (tree_of w) t ≡ Ok (tree_of (g.S.Slot.held (c.element_of.follows.lender w)))) step (on_ok r ok (λ v h. h.0) (c.element_of.follows.holds w ok)),
           subst (λ (s : Step). IfOk r (λ v. ExchangesOrSeats s v.now w old (g.S.Slot.held (c.element_of.follows.lender w)))) step (each_ok r (λ v h. h.1) (c.element_of.follows.holds w ok)),
         )),
-        c.element_of.follows.holds-at-none,
+        subst (λ (s : Step). OnErr r (PutsNothing (s ∷ []) old (g.S.Slot.held c.element_of.follows.lender-at-none))) step c.element_of.follows.holds-at-none,
       ),
       record {
         writes_back = tt;

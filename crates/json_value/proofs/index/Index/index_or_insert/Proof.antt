@@ -24,7 +24,7 @@ use Rattle.json_text.specs.contracts.error.Error.{the_row as refusal}
 use Rattle.json_text.proofs.error.Error.TheLaws.{the_row_laws as refusal_laws}
 use Rattle.json_value.specs.Denotes.{tree_of}
 use Rattle.json_value.specs.Edits.{RefusesChange}
-use Rattle.json_value.specs.Lending.{put_or_insert}
+use Rattle.json_value.specs.Lending.{put_or_insert, PutsNothing}
 use Rattle.json_value.specs.Steps.{child, tree_or_null}
 use Rattle.json_value.specs.Touched.{ExchangesOrSeats}
 use Rattle.json_value.specs.contracts.value.Value.{the_row as value}
@@ -71,7 +71,7 @@ index_or_insert_spec {M} 𝓤 𝓛 𝓜 𝓡 wired I L x d dd met glue =
     let F = mut_ref_field (record { mir = named 1; lft = κs.1.0 }) value tt in
     let ref-laws = of_field F (mut_ref_laws (record { mir = named 1; lft = κs.1.0 }) value tt) refl (mut_ref_shared (record { mir = named 1; lft = κs.1.0 }) value tt (row_shared value value_laws)) in
     let R = result.the_row F.row refusal in
-    let Lent = λ (r : R.Denot). LendsSoOk value value v r (λ n w. (put_or_insert (x.step i.now) (tree_of w) (tree_of v.now) ≡ Ok (tree_of n)) × IfOk r (λ y. ExchangesOrSeats (x.step i.now) y.now w v.now n)) (λ n. tree_of n ≡ tree_of v.now) in
+    let Lent = λ (r : R.Denot). LendsSoOk value value v r (λ n w. (put_or_insert (x.step i.now) (tree_of w) (tree_of v.now) ≡ Ok (tree_of n)) × IfOk r (λ y. ExchangesOrSeats (x.step i.now) y.now w v.now n)) (PutsNothing (x.step i.now ∷ []) v.now) in
     use1 𝓛 (later (some (λ (r : R.Denot). ((‵ (flft κs.1.0 qs.1.0) ⊛ ‵ (flft κs.0 qs.0) ⊛ ‵ (flft [] full_share) ⊛ ‵ (flft κs.1.1.0 qs.1.1.0) ⊛ ‵ ftrue) ⊛ ‵ (R.own_val r (u ∷ []))) ⊛ some (λ (ws : Lasts (g.ended S J' impl.ghosts impl.dict x d dd) κs4 (v, (alloc, (i, tt)))). ‵ (lasts (g.ended S J' impl.ghosts impl.dict x d dd) κs4 (v, (alloc, (i, tt))) ws) ⊛ (‵ (Lent r) ⊛ (raw (fact 𝓤 (IfOk r (λ y. tree_of y.now ≡ tree_or_null (child (x.step i.now) (tree_of v.now))))) ⊛ raw (fact 𝓤 (IfErr r (λ e. (t : Tree) → RefusesChange (put_or_insert (x.step i.now) t (tree_of v.now)) e.code e.place))))))))) (id⊢ 𝓤 _) $
     await ! tt $ pick ! (λ r. split ! $ split ! $ split ! $ move ! (2 ∷ []) $ peeks ! R _ (shows 𝓛 R) r (u ∷ []) (λ is.
     lands_as ! refl refl ((((result_laws F.row refusal ref-laws refusal_laws).lawful 𝓛).typed r (u ∷ []) is).0) $

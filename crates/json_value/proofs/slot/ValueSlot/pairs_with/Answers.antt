@@ -9,6 +9,7 @@ use Rattle.json_value.proofs.Views.{object_tree}
 use Rattle.json_value.proofs.AppliedTrees.{object_before, refused_as}
 use Rattle.json_value.proofs.Lent.{unopened}
 use Rattle.json_value.proofs.Touching.{object_touched, opened_touched}
+use Rattle.json_value.proofs.Keeping.{unopened_same}
 use Rattle.json_value.proofs.slot.ValueSlot.pairs_with.Goals as goal
 
 pub returns-in_ok-pairs-in-Some : goal.returns-in_ok-pairs-in-Some
@@ -35,4 +36,4 @@ returns-in-None c =
     let old = tree_of c.args.self.now in
     let is = c.in_ok-open_with.ensures.ok in
     let no = unopened c.args.key.now old (λ f. ap (on_pairs f) (sym is) ∙ c.in-None.ensures.none f) in
-    ((refl, (λ w never. search), is ∙ no.0), (tt, λ f. refused_as (on_pairs f (opened old)) c.type_unmatched.result type_unmatched c.type_unmatched.ensures (no.1 f)))
+    ((refl, (λ w never. search), unopened_same c.args.self.now c.open_with.new.self c.in_ok-open_with.ensures.made c.in-None.ensures.none), (tt, λ f. refused_as (on_pairs f (opened old)) c.type_unmatched.result type_unmatched c.type_unmatched.ensures (no.1 f)))

@@ -1,9 +1,9 @@
 use Rattle.std.proofs.Common.{◌≡◌, sym, ap, ◌∙◌, subst}
-use Rattle.std.proofs.lemmas.Result.{IfErr-weaker, on_ok_weaker}
+use Rattle.std.proofs.lemmas.Result.{IfErr-weaker, on_ok_weaker, on_err_weaker}
 use Rattle.json_model.specs.Edit.{at_path, edited_once}
 use Rattle.json_value.specs.Denotes.{tree_of}
 use Rattle.json_value.specs.Edits.{steps_of, path_steps, edit_of, change_of, RefusesChange}
-use Rattle.json_value.specs.Touched.{Touches}
+use Rattle.json_value.specs.Touched.{Touches, Keeps}
 use Rattle.json_value.proofs.AppliedTrees.{edited_at, refuses_so}
 use Rattle.json_value.proofs.value.Value.apply.Goals as goal
 
@@ -23,3 +23,9 @@ returns-clause-children c =
     on_ok_weaker c.apply_at.result
     (subst (λ p. Touches p c.args.edit.now c.args.self.now c.apply_at.new.self) (c.steps.ensures ∙ c.path.ensures.steps))
     c.apply_at.ensures.children
+
+pub returns-clause-kept_along : goal.returns-clause-kept_along
+returns-clause-kept_along c =
+    on_err_weaker c.apply_at.result
+    (subst (λ p. Keeps p c.args.edit.now c.args.self.now c.apply_at.new.self) (c.steps.ensures ∙ c.path.ensures.steps))
+    c.apply_at.ensures.kept_along

@@ -57,7 +57,7 @@ as_array_mut_spec 𝓤 𝓛 𝓜 𝓡 wired =
     sets ! (addr ! (through ! refl (stop !))) refl (tt, tt) $
     calls_at ! (framed 𝓤 𝓛.H 𝓜 (tables 𝓤 𝓛.H 𝓜 𝓡 𝓡.env)) G (first-met.met 𝓤 𝓛 𝓜 𝓡 (code.calls-json_value::value::Value::array_open 𝓡.env wired)) z
     (and_then ! (get ! refl) (and_then ! (get ! refl) (no_more !))) (λ u.
-    let Lent = λ (r : R.Denot). LendsSoOk value array_row v r (λ n w. (tree_of n ≡ list (list_trees (list_in w))) × (n ≡ Array w)) (λ n. tree_of n ≡ tree_of v.now) in
+    let Lent = λ (r : R.Denot). LendsSoOk value array_row v r (λ n w. (tree_of n ≡ list (list_trees (list_in w))) × (n ≡ Array w)) (λ n. n ≡ v.now) in
     use1 𝓛 (later (some (λ (r : R.Denot). ((‵ (flft κs.0 qs.0) ⊛ ‵ ftrue) ⊛ ‵ (R.own_val r (u ∷ []))) ⊛ some (λ (ws : Lasts g.ended κs a). ‵ (lasts g.ended κs a ws) ⊛ (‵ (Lent r) ⊛ raw (fact 𝓤 (Opens list_in (list_of (tree_of v.now)) (ArrayOpened v.now) r))))))) (id⊢ 𝓤 _) $
     await ! tt $ pick ! (λ r. split ! $ split ! $ move ! (1 ∷ []) $ peeks ! R _ (shows 𝓛 R) r (u ∷ []) (λ is.
     lands_as ! refl refl ((((result_laws F.row refusal ref-laws refusal_laws).lawful 𝓛).typed r (u ∷ []) is).0) $
@@ -75,7 +75,7 @@ as_array_mut_spec 𝓤 𝓛 𝓜 𝓡 wired =
     -- [the result; the token and nothing; what settle says; what was lent]
     move ! (2 ∷ []) $ pick ! (λ ws2. split ! $ drop ! $ heard ! _ (λ same.
     move ! (2 ∷ []) $ pick ! (λ ws. split ! $ drop ! $ split ! $ move ! (1 ∷ []) $ heard ! _ (λ seen. keep ! (0 ∷ 1 ∷ 2 ∷ []) $
-    let Named = λ (m : maybe.Option GName). follows_so value array_row v.ghost_name m (λ w n. IsLent m → (tree_of n ≡ list (list_trees (list_in w))) × (n ≡ Array w)) (λ n. UnlessLent m (tree_of n ≡ tree_of v.now)) in
+    let Named = λ (m : maybe.Option GName). follows_so value array_row v.ghost_name m (λ w n. IsLent m → (tree_of n ≡ list (list_trees (list_in w))) × (n ≡ Array w)) (λ n. UnlessLent m (n ≡ v.now)) in
     use1 𝓛 (‵ (Named (name_of_ok r))) (so_weaken 𝓛 value array_row v.ghost_name (name_of_ok r) _ _ _ _ (λ w n p at. p (place_ok r at)) (λ n p. on_no_place r _ p)) $
     rewrite ! 0 (λ (m : maybe.Option GName). ‵ (Named m)) (sym (ap name_of same ∙ settled_name r)) refl $
     suffices ! _ (ends_at 𝓛 f.ended stayed c z o s (tt, (tt, tt)) (tt, (tt, tt))) $

@@ -1,11 +1,11 @@
-use Rattle.std.proofs.Common.{map, Ok, sym, ap, ◌∙◌, subst}
+use Rattle.std.proofs.Common.{map, Ok, inr, sym, ap, ◌∙◌, subst}
 use Rattle.std.proofs.lemmas.Result.{on_ok_weaker, on_err_weaker}
 use Rattle.json_grammar.specs.Tree.{list_pairs}
 use Rattle.json_model.specs.Edit.{inserted}
 use Rattle.json_value.specs.Denotes.{tree_of, text_bytes, pair_of}
 use Rattle.json_value.proofs.AppliedTrees.{object_changed, object_kept}
 use Rattle.json_value.specs.Places.{stand_of}
-use Rattle.json_value.specs.Touched.{Inserts}
+use Rattle.json_value.specs.Touched.{Inserts, Same}
 use Rattle.json_value.proofs.PlacesKept.{stands_as}
 use Rattle.json_value.proofs.Touching.{object_touched}
 use Rattle.json_value.proofs.value.Value.insert_copy.Goals as goal
@@ -23,7 +23,7 @@ returns-in_ok-pairs-in-Some-clause-ok c =
 pub returns-in_ok-pairs-in-Some-clause-kept : goal.returns-in_ok-pairs-in-Some-clause-kept
 returns-in_ok-pairs-in-Some-clause-kept c =
     on_err_weaker c.insert_pair.result
-    (object_kept c.args.self.now c.in-Some.object.now c.in_ok-pairs-in-Some.pairs.now c.in-Some.ensures.value c.in_ok-pairs-in-Some.ensures.pairs c.insert_pair.new.pairs)
+    (λ h. object_kept c.args.self.now c.in-Some.object.now c.in_ok-pairs-in-Some.pairs.now c.in-Some.ensures.value c.in_ok-pairs-in-Some.ensures.pairs c.insert_pair.new.pairs (ap (map pair_of) h))
     c.insert_pair.ensures.kept
 
 pub returns-in_ok-pairs-in-Some-clause-children : goal.returns-in_ok-pairs-in-Some-clause-children
@@ -35,3 +35,10 @@ returns-in_ok-pairs-in-Some-clause-children c =
     (λ h. object_touched (Inserts c.args.key.now (stand_of c.args.value.now)) c.args.self.now c.in-Some.object.now lent.pairs.now now c.in-Some.ensures.value lent.ensures.pairs lent.ensures.children
     (subst (λ s. Inserts c.args.key.now s items now.items) (stands_as _ _ c.in_ok-value-in-Some.ensures.spot c.in_ok-value-in-Some.ensures.places) h))
     c.insert_pair.ensures.children
+
+pub returns-in_ok-pairs-in-Some-clause-kept_along : goal.returns-in_ok-pairs-in-Some-clause-kept_along
+returns-in_ok-pairs-in-Some-clause-kept_along c =
+    let lent = c.in_ok-pairs-in-Some in
+    on_err_weaker c.insert_pair.result
+    (λ h. inr (object_touched Same c.args.self.now c.in-Some.object.now lent.pairs.now c.insert_pair.new.pairs c.in-Some.ensures.value lent.ensures.pairs lent.ensures.children h))
+    c.insert_pair.ensures.kept

@@ -11,7 +11,7 @@ returns-in_ok-make_owned-in-Some c = (
     writes_back = tt;
     opens = (
       pairs_read c.args.self.now c.in-Some.object.now c.make_owned.new.self c.in-Some.ensures.value c.in_ok-make_owned-in-Some.ensures.same,
-      record { object = c.in-Some.object.now; was = c.in-Some.ensures.value; is_owned = c.in_ok-make_owned-in-Some.ensures.ok; unpacked = c.in_ok-make_owned-in-Some.ensures.children },
+      record { object = c.in-Some.object.now; was = c.in-Some.ensures.value; is_owned = c.in_ok-make_owned-in-Some.ensures.ok; unpacked = c.in_ok-make_owned-in-Some.ensures.children; as_it_was = c.in_ok-make_owned-in-Some.ensures.as_it_was; room = c.in_ok-make_owned-in-Some.ensures.room },
     );
   },
 )

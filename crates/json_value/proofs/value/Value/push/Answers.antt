@@ -1,10 +1,10 @@
-use Rattle.std.proofs.Common.{map, Ok, sym, ap, ◌∙◌}
+use Rattle.std.proofs.Common.{map, Ok, inr, sym, ap, ◌∙◌}
 use Rattle.json_grammar.specs.Tree.{list_trees}
 use Rattle.json_model.specs.Edit.{pushed}
 use Rattle.json_value.specs.Denotes.{tree_of}
 use Rattle.json_value.proofs.AppliedTrees.{array_changed, array_kept, element_pushed, anyway}
 use Rattle.json_value.specs.Places.{stand_of}
-use Rattle.json_value.specs.Touched.{Pushes}
+use Rattle.json_value.specs.Touched.{Pushes, Same}
 use Rattle.json_value.proofs.PlacesKept.{stands_as}
 use Rattle.json_value.proofs.Touching.{array_touched}
 use Rattle.json_value.proofs.value.Value.push.Goals as goal
@@ -26,3 +26,9 @@ returns-in_ok-push-in-Some-clause-children c =
     let lent = c.in_ok-list-in-Some in
     array_touched (Pushes (stand_of c.args.value.now)) c.args.self.now c.in-Some.array.now lent.list.now c.push.new.self c.in-Some.ensures.value lent.ensures.list lent.ensures.children
     (c.in_ok-value-in-Some.value, stands_as _ _ c.in_ok-value-in-Some.ensures.spot c.in_ok-value-in-Some.ensures.places, c.in_ok-push-in-Some.ensures.items)
+
+pub returns-in_err-push-in-Some-clause-kept_along : goal.returns-in_err-push-in-Some-clause-kept_along
+returns-in_err-push-in-Some-clause-kept_along c =
+    let lent = c.in_ok-list-in-Some in
+    anyway c.from_residual-in_err-push-in-Some.result
+    (inr (array_touched Same c.args.self.now c.in-Some.array.now lent.list.now c.push.new.self c.in-Some.ensures.value lent.ensures.list lent.ensures.children c.in_err-push-in-Some.ensures.items))

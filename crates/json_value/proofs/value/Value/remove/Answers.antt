@@ -1,4 +1,4 @@
-use Rattle.std.proofs.Common.{◌≡◌, ◌<◌, ◌≤◌, map, length, cond, Ok, Err, refl, sym, ap, ◌∙◌, arith}
+use Rattle.std.proofs.Common.{◌≡◌, ◌<◌, ◌≤◌, map, length, cond, Ok, Err, inr, refl, sym, ap, ◌∙◌, arith}
 use Rattle.std.specs.Prelude.{remove}
 use Rattle.json_grammar.specs.Tree.{list_trees, list_pairs}
 use Rattle.json_text.specs.Errors.{not_found}
@@ -6,8 +6,9 @@ use Rattle.json_model.specs.Edit.{removed, without_index, without_key, not_found
 use Rattle.json_value.specs.Denotes.{tree_of, pair_of}
 use Rattle.json_value.specs.Edits.{step_of}
 use Rattle.json_value.proofs.AppliedTrees.{removal, remove_key, remove_index, object_changed, object_kept, object_missed, array_changed, array_kept, array_missed, element_removed, removal_missed, refused_as}
-use Rattle.json_value.specs.Touched.{unkeyed}
+use Rattle.json_value.specs.Touched.{unkeyed, Same}
 use Rattle.json_value.proofs.Touching.{array_touched, object_touched, removal_touches_key, removal_touches_index}
+use Rattle.json_value.proofs.Keeping.{removal_as_was, removal_keeps_key, removal_keeps_index}
 use Rattle.json_value.proofs.value.Value.remove.Goals as goal
 
 pub returns-then-remove_pairs-clause-ok : goal.returns-then-remove_pairs-clause-ok
@@ -76,3 +77,17 @@ returns-then-i-len-clause-children c =
     let i = c.in-Index.i in
     removal_touches_index c.args.step.now i self _ c.in-Index.is
     (array_touched (λ items now. now ≡ remove items i) self c.in-Some-array_mut.array.now lent.list.now c.remove.new.self c.in-Some-array_mut.ensures.value lent.ensures.list lent.ensures.children c.remove.ensures.items)
+
+pub returns-else-remove_pairs-clause-kept_along : goal.returns-else-remove_pairs-clause-kept_along
+returns-else-remove_pairs-clause-kept_along c =
+    let self = c.args.self.now in
+    let lent = c.in_ok-pairs-in-Some in
+    removal_keeps_key c.args.step.now c.in-Key.key self _ c.in-Key.is
+    (inr (object_touched Same self c.in-Some.object.now lent.pairs.now c.remove_pairs.new.pairs c.in-Some.ensures.value lent.ensures.pairs lent.ensures.children (c.remove_pairs.ensures.kept c.if-remove_pairs.false).1))
+
+pub returns-else-i-len-clause-kept_along : goal.returns-else-i-len-clause-kept_along
+returns-else-i-len-clause-kept_along c =
+    let self = c.args.self.now in
+    let lent = c.in_ok-list-in-Some-array_mut in
+    removal_keeps_index c.args.step.now c.in-Index.i self _ c.in-Index.is
+    (inr (array_touched Same self c.in-Some-array_mut.array.now lent.list.now lent.list.now c.in-Some-array_mut.ensures.value lent.ensures.list lent.ensures.children refl))
