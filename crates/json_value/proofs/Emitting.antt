@@ -1,5 +1,5 @@
 -- The tokens of a tree, given in turn.
-use Rattle.std.proofs.Common.{◌≡◌, ℕ, zero, suc, ◌+◌, ◌≤◌, List, [], ◌∷◌, ◌++◌, length, take, drop, map, Option, Some, None, Ok, Err, Result, refl, sym, ap, ap₂, subst, ◌∙◌, arith, append_assoc, append-nil, slice_get, true}
+use Rattle.std.proofs.Common.{◌≡◌, ℕ, zero, suc, ◌+◌, ◌≤◌, List, [], ◌∷◌, ◌++◌, length, take, drop, map, Option, Some, None, Ok, Err, Result, refl, sym, ap, ap₂, subst, ◌∙◌, arith, append_assoc, append-nil, slice_get, IfSome, true}
 use Rattle.json_grammar.specs.declared.Kind.TheVariants.{Array as array, Object as object}
 use Rattle.json_grammar.specs.Tree.{Tree, null, boolean, num, text, list, pairs, Trees, Pairs, trees_list, pairs_list, list_trees, list_pairs, Token, begin, end, key_token, tokens, trees_tokens, pairs_tokens}
 use Rattle.json_grammar.specs.Sizes.{nodes, trees_nodes, pairs_nodes}
@@ -17,9 +17,26 @@ use Rattle.json_value.proofs.Turns.{after_append, stand_moves, all_tokens, all_p
 -- ---- one token
 
 pub emits_one : {S : Type 0} (after : S → Token → S) (stopped : S → Token → S → Error → Type 0) (old new : S) (err err' : Option Error) (x : Token) (ts : List Token) (r : Result (Unit {0}) Error)
-    → err ≡ None → ts ≡ x ∷ [] → Takes after stopped old new err err' x r → Emits after stopped old new err' ts r
-emits_one after stopped old new err err' x ts (Ok u) fresh e h = record { all = rw e h.ok; fresh = h.fresh; stops = tt }
-emits_one after stopped old new err err' x ts (Err f) fresh e h = record { all = tt; fresh = tt; stops = record { front = []; at = x; back = []; whole = e; left = h.stopped fresh } }
+    → ts ≡ x ∷ [] → Takes after stopped old new err err' x r → Emits after stopped old new err err' ts r
+emits_one after stopped old new err err' x ts (Ok u) e h = record { all = rw e h.ok; fresh = h.fresh; failed = tt; stops = λ f. tt; again = h.again }
+emits_one after stopped old new err err' x ts (Err y) e h =
+    record { all = tt; fresh = tt; failed = h.failed; stops = λ f. record { front = []; at = x; back = []; whole = e; left = h.stopped f }; again = h.again }
+
+-- the first was refused, and it was the answer
+pub emits_none : {S : Type 0} (after : S → Token → S) (stopped : S → Token → S → Error → Type 0) (old new : S) (err err' : Option Error) (x : Token) (rest ts : List Token) (r : Result (Unit {0}) Error) (e : Error)
+    → (y : Error) × (r ≡ Err y) × (y ≡ e) → ts ≡ x ∷ rest → Takes after stopped old new err err' x (Err e) → Emits after stopped old new err err' ts r
+emits_none after stopped old new err err' x rest ts r e p w h =
+    subst (λ z. Emits after stopped old new err err' ts z) (sym (p.1 ∙ ap Err p.2))
+    (record { all = tt; fresh = tt; failed = h.failed; stops = λ f. record { front = []; at = x; back = rest; whole = w; left = h.stopped f }; again = h.again })
+
+-- a token is taken only where no error was answered
+pub was_fresh : {S : Type 0} (after : S → Token → S) (stopped : S → Token → S → Error → Type 0) (old new : S) (err err' : Option Error) (x : Token) (u : Unit {0}) → Takes after stopped old new err err' x (Ok u) → err ≡ None
+was_fresh after stopped old new None err' x u h = refl
+was_fresh after stopped old new (Some e) err' x u h = let same : Ok u ≡ Err e = h.again.0 in absurd (cc)
+
+if_none : (err : Option Error) (P : Error → Type 0) → err ≡ None → IfSome err P
+if_none None P f = tt
+if_none (Some e) P f = absurd (cc)
 
 -- ---- what stands in a container
 
@@ -144,9 +161,10 @@ stops_within after stopped first old new pre mid post ts e s w h =
       left = subst (λ z. stopped z h.at new e) (ap (λ z. after_all after z h.front) s ∙ sym (after_append after first pre h.front)) h.left;
     }
 
-pub emits_refused : {S : Type 0} (after : S → Token → S) (stopped : S → Token → S → Error → Type 0) (old new : S) (err : Option Error) (ts : List Token) (r : Result (Unit {0}) Error) (e : Error)
-    → (y : Error) × (r ≡ Err y) × (y ≡ e) → StopsAmong after stopped old new ts e → Emits after stopped old new err ts r
-emits_refused after stopped old new err ts r e p h = subst (λ x. Emits after stopped old new err ts x) (sym (p.1 ∙ ap Err p.2)) (record { all = tt; fresh = tt; stops = h })
+pub emits_refused : {S : Type 0} (after : S → Token → S) (stopped : S → Token → S → Error → Type 0) (old new : S) (err err' : Option Error) (ts : List Token) (r : Result (Unit {0}) Error) (e : Error)
+    → err ≡ None → err' ≡ Some e → (y : Error) × (r ≡ Err y) × (y ≡ e) → StopsAmong after stopped old new ts e → Emits after stopped old new err err' ts r
+emits_refused after stopped old new err err' ts r e f k p h =
+    subst (λ z. Emits after stopped old new err err' ts z) (sym (p.1 ∙ ap Err p.2)) (record { all = tt; fresh = tt; failed = k; stops = λ g. h; again = if_none err _ f })
 
 -- ---- arrays
 
@@ -252,16 +270,29 @@ object_step after first now mid new ps i k u s m n d e =
 -- ---- the end
 
 -- the last token was given, or met an error
-pub emits_last : {S : Type 0} (after : S → Token → S) (stopped : S → Token → S → Error → Type 0) (first old new : S) (err err' : Option Error) (pre : List Token) (x : Token) (ts : List Token) (r : Result (Unit {0}) Error)
-    → old ≡ after_all after first pre → err ≡ None → ts ≡ pre ++ x ∷ [] → Takes after stopped old new err err' x r → Emits after stopped first new err' ts r
-emits_last after stopped first old new err err' pre x ts (Ok u) s fresh w h =
-    record { all = h.ok ∙ ap (λ z. after z x) s ∙ sym (after_append after first pre (x ∷ [])) ∙ ap (after_all after first) (sym w); fresh = h.fresh; stops = tt }
-emits_last after stopped first old new err err' pre x ts (Err e) s fresh w h =
-    record { all = tt; fresh = tt; stops = stops_within after stopped first old new pre (x ∷ []) [] ts e s w (stops_one after stopped old new err err' x e fresh h) }
+pub emits_last : {S : Type 0} (after : S → Token → S) (stopped : S → Token → S → Error → Type 0) (first old new : S) (begun err err' : Option Error) (pre : List Token) (x : Token) (ts : List Token) (r : Result (Unit {0}) Error)
+    → begun ≡ None → old ≡ after_all after first pre → err ≡ None → ts ≡ pre ++ x ∷ [] → Takes after stopped old new err err' x r → Emits after stopped first new begun err' ts r
+emits_last after stopped first old new begun err err' pre x ts (Ok u) b s fresh w h =
+    record {
+      all = h.ok ∙ ap (λ z. after z x) s ∙ sym (after_append after first pre (x ∷ [])) ∙ ap (after_all after first) (sym w);
+      fresh = h.fresh;
+      failed = tt;
+      stops = λ f. tt;
+      again = if_none begun _ b;
+    }
+emits_last after stopped first old new begun err err' pre x ts (Err e) b s fresh w h =
+    record {
+      all = tt;
+      fresh = tt;
+      failed = h.failed;
+      stops = λ f. stops_within after stopped first old new pre (x ∷ []) [] ts e s w (stops_one after stopped old new err err' x e fresh h);
+      again = if_none begun _ b;
+    }
 
 -- the tokens of a tree are those of an equal one
-pub emits_same : {S : Type 0} (after : S → Token → S) (stopped : S → Token → S → Error → Type 0) (old new : S) (err : Option Error) (t u : Tree) (r : Result (Unit {0}) Error) → t ≡ u → Emits after stopped old new err (tokens t) r → Emits after stopped old new err (tokens u) r
-emits_same after stopped old new err t u r e h = subst (λ x. Emits after stopped old new err (tokens x) r) e h
+pub emits_same : {S : Type 0} (after : S → Token → S) (stopped : S → Token → S → Error → Type 0) (old new : S) (err err' : Option Error) (t u : Tree) (r : Result (Unit {0}) Error)
+    → t ≡ u → Emits after stopped old new err err' (tokens t) r → Emits after stopped old new err err' (tokens u) r
+emits_same after stopped old new err err' t u r e h = subst (λ x. Emits after stopped old new err err' (tokens x) r) e h
 
 -- all tokens of a tree were given from the beginning
 pub given_whole : {S : Type 0} (after : S → Token → S) (first begun now : S) (t u : Tree) → now ≡ after_all after first (tokens u) → first ≡ begun → u ≡ t → now ≡ after_all after begun (tokens t)

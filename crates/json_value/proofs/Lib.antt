@@ -11,6 +11,7 @@ pub mod Turns
 pub mod Emitting
 pub mod WholeTrees
 pub mod ProperValues
+pub mod Sights
 pub mod KeyLookups
 pub mod Iterations
 pub mod Merging

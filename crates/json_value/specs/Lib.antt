@@ -9,6 +9,8 @@ pub mod Room
 pub mod Written
 pub mod Emitting
 pub mod Seen
+pub mod Sights
+pub mod SightParts
 pub mod FirstMember
 pub mod Agreeing
 pub mod Steps

@@ -1,13 +1,13 @@
 -- The trees that views show, and what can be read of a tree at once.
 use Rattle.std.specs.Prelude.{ℕ, List, [], ◌∷◌, Option, None, Some, cond, map, bytes_eq}
-use Rattle.json_grammar.specs.Tree.{Tree, null, list, pairs, trees_list, pairs_list}
+use Rattle.json_grammar.specs.Tree.{Tree, list, pairs, trees_list, pairs_list}
 use Rattle.json_doc.specs.Seen.{view_tree}
 use Rattle.json_doc.specs.Readings.{elements}
 use Rattle.json_value.specs.Denotes.{tree_of, pair_of}
 use Rattle.json_value.specs.Readings.{members}
+use Rattle.json_value.specs.Sights.{sight_tree, form_sight, sight_of}
 use Rattle.json_value.specs.declared.view.View.{View}
 use Rattle.json_value.specs.declared.view.ViewForm.{ViewForm}
-use Rattle.json_value.specs.declared.view.ViewForm.TheVariants as whole
 use Rattle.json_value.specs.declared.array_view.ArrayView.{ArrayView}
 use Rattle.json_value.specs.declared.array_view.ArrayForm.{ArrayForm}
 use Rattle.json_value.specs.declared.array_view.ArrayForm.TheVariants as array
@@ -17,12 +17,10 @@ use Rattle.json_value.specs.declared.object_view.ObjectForm.TheVariants as objec
 
 -- the tree that is seen
 abbrev pub form_seen : ViewForm → Tree
-form_seen (whole.Packed p) = view_tree p.view
-form_seen (whole.Whole v) = tree_of v.now
-form_seen whole.Absent = null
+form_seen f = sight_tree (form_sight f)
 
 abbrev pub seen : View → Tree
-seen v = form_seen v.form
+seen v = sight_tree (sight_of v)
 
 -- the elements that are seen
 abbrev pub array_form_seen : ArrayForm → List Tree
@@ -51,6 +49,6 @@ pairs_of (pairs ps) = Some (pairs_list ps)
 pairs_of _ = None
 
 -- the first member of the key
-abbrev pub first_of : List ℕ → List (List ℕ × Tree) → Option (List ℕ × Tree)
+abbrev pub first_of : {X : Type 0} → List ℕ → List (List ℕ × X) → Option (List ℕ × X)
 first_of k [] = None
 first_of k (p ∷ ps) = cond (bytes_eq p.0 k) (Some p) (first_of k ps)

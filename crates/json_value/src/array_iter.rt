@@ -27,12 +27,14 @@ pub struct ArrayIter<'a> {
 }
 
 impl<'a> ArrayView<'a> {
-    ghost use Rattle.json_value.specs.Left.{elements_left};
+    ghost use Rattle.json_value.specs.Left.{elements_left, elements_sights_left};
+    ghost use Rattle.json_value.specs.SightParts.{elements_sights};
 
     /// The elements, in order.
     #[inline]
     pub fn iter(self) -> ArrayIter<'a>
-        ensures { elements_left result ≡ elements_seen self.entry }
+        ensures trees { elements_left result ≡ elements_seen self.entry }
+        ensures sights { elements_sights_left result ≡ elements_sights self.entry }
     {
         ArrayIter {
             view: self,
@@ -55,13 +57,12 @@ impl<'a> ArrayIter<'a> {
 }
 
 impl<'a> Iterator for ArrayIter<'a> {
-    ghost use Rattle.std.specs.Iterator.{item_count, YieldsFirstBy};
-    ghost use Rattle.json_value.specs.Left.{elements_left};
-    ghost use Rattle.json_value.specs.Seen.{seen};
+    ghost use Rattle.std.specs.Iterator.{item_count};
+    ghost use Rattle.json_value.specs.Left.{elements_left, GivesElement};
 
     type Item = View<'a>;
 
-    ghost next_gives = { YieldsFirstBy seen elements_left };
+    ghost next_gives = { GivesElement };
 
     ghost remaining = { item_count elements_left };
 

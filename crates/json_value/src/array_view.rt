@@ -1,9 +1,12 @@
 // Views of arrays.
 ghost use Rattle.std.specs.Prelude.{◌≡◌, ◌↔◌, [], length, map, option_map, slice_get, IsTrue};
 ghost use Rattle.json_doc.specs.Readings.{elements};
-ghost use Rattle.json_doc.specs.Seen.{view_tree};
+ghost use Rattle.json_doc.specs.Seen.{view_doc, view_place, view_tree};
 ghost use Rattle.json_value.specs.Denotes.{tree_of, list_in};
 ghost use Rattle.json_value.specs.Seen.{seen, elements_seen, list_of};
+ghost use Rattle.json_value.specs.SightParts.{elements_at, array_sights};
+ghost use Rattle.json_value.specs.SightParts.{elements_of, elements_sights};
+ghost use Rattle.json_value.specs.Sights.{whole_value, place_of, doc_held, sight_of};
 
 use crate::container::{Container, Form};
 use crate::packed_view::PackedView;
@@ -37,7 +40,8 @@ impl Container<Value> {
     /// The whole array.
     #[inline]
     pub fn view(&self) -> ArrayView<'_>
-        ensures { elements_seen result ≡ list_in self.now }
+        ensures trees { elements_seen result ≡ list_in self.now }
+        ensures sights { elements_sights result ≡ array_sights self.now }
     {
         let form = match &self.form {
             Form::Empty => ArrayForm::Whole(&[]),
@@ -50,7 +54,9 @@ impl Container<Value> {
 
 impl<'a> ArrayView<'a> {
     pub(crate) fn of_packed(packed: PackedView<'a>) -> Option<ArrayView<'a>>
-        ensures { option_map elements_seen result ≡ list_of (view_tree packed.entry.view) }
+        ensures trees { option_map elements_seen result ≡ list_of (view_tree packed.entry.view) }
+        ensures sights { let p = packed.entry in option_map elements_sights result
+            ≡ elements_of (place_of (view_doc p.view) (doc_held p.holder) (view_place p.view)) }
     {
         match packed.view.get_type() {
             JsonType::Array => Some(ArrayView {
@@ -61,7 +67,8 @@ impl<'a> ArrayView<'a> {
     }
 
     pub(crate) fn of_value(value: &'a Value) -> Option<ArrayView<'a>>
-        ensures { option_map elements_seen result ≡ list_of (tree_of value.now) }
+        ensures trees { option_map elements_seen result ≡ list_of (tree_of value.now) }
+        ensures sights { option_map elements_sights result ≡ elements_of (whole_value value.now) }
     {
         match value {
             Value::Array(array) => Some(array.view()),
@@ -91,7 +98,8 @@ impl<'a> ArrayView<'a> {
     /// The element `i`, counted from 0; none past the last.
     #[inline]
     pub fn get(self, i: usize) -> Option<View<'a>>
-        ensures { option_map seen result ≡ slice_get (elements_seen self.entry) i }
+        ensures tree { option_map seen result ≡ slice_get (elements_seen self.entry) i }
+        ensures sight { option_map sight_of result ≡ slice_get (elements_sights self.entry) i }
     {
         match self.form {
             ArrayForm::Packed(packed) => packed_element(packed, i),
@@ -110,7 +118,10 @@ fn packed_len(view: DocView<'_>) -> usize
 }
 
 fn packed_element(packed: PackedView<'_>, i: usize) -> Option<View<'_>>
-    ensures { option_map seen result ≡ slice_get (elements (view_tree packed.entry.view)) i }
+    ensures tree { option_map seen result ≡ slice_get (elements (view_tree packed.entry.view)) i }
+    ensures sight { let p = packed.entry in let ts = elements (view_tree p.view) in
+        option_map sight_of result
+        ≡ slice_get (elements_at (view_doc p.view) (doc_held p.holder) (view_place p.view) ts) i }
 {
     match packed.view.element(i) {
         Some(element) => Some(View {
@@ -121,7 +132,8 @@ fn packed_element(packed: PackedView<'_>, i: usize) -> Option<View<'_>>
 }
 
 fn whole_element(values: &[Value], i: usize) -> Option<View<'_>>
-    ensures { option_map seen result ≡ slice_get (map tree_of values.now) i }
+    ensures tree { option_map seen result ≡ slice_get (map tree_of values.now) i }
+    ensures sight { option_map sight_of result ≡ slice_get (map whole_value values.now) i }
 {
     if i < values.len() {
         Some(values[i].view())

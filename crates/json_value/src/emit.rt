@@ -16,12 +16,13 @@ use json_print::Events;
 use json_text::Result;
 
 impl<'a> View<'a> {
-    /// Gives the tokens of the tree that is seen to `out`, up to the first that meets an error, which is answered. The events
-    /// have met none before, and a value may come there.
+    /// Gives the tokens of the tree that is seen to `out`, up to the first that meets an error, which
+    /// is answered. Where the events had answered an error it is answered again, and nothing changes;
+    /// else a value may come there.
     pub fn emit<E: Events>(self, out: &mut E) -> Result<()>
-        requires fresh { E.failed out.old ≡ None }
-        requires turn { TakesValue (E.stand (E.state out.old)).turn }
-        ensures { Emits E.after E.stopped (E.state out.old) (E.state out.new) (E.failed out.new) (tokens (seen self.entry)) result }
+        requires { E.failed out.old ≡ None → TakesValue (E.stand (E.state out.old)).turn }
+        ensures { Emits E.after E.stopped (E.state out.old) (E.state out.new)
+            (E.failed out.old) (E.failed out.new) (tokens (seen self.entry)) result }
     {
         match self.form {
             ViewForm::Packed(packed) => emit_document(packed.view, out),
@@ -33,9 +34,9 @@ impl<'a> View<'a> {
 
 #[cycle(value)]
 fn emit_value<E: Events>(value: &Value, out: &mut E) -> Result<()>
-    requires fresh { E.failed out.old ≡ None }
-    requires turn { TakesValue (E.stand (E.state out.old)).turn }
-    ensures { Emits E.after E.stopped (E.state out.old) (E.state out.new) (E.failed out.new) (tokens (tree_of value.now)) result }
+    requires { E.failed out.old ≡ None → TakesValue (E.stand (E.state out.old)).turn }
+    ensures { Emits E.after E.stopped (E.state out.old) (E.state out.new)
+        (E.failed out.old) (E.failed out.new) (tokens (tree_of value.now)) result }
 {
     match value {
         Value::Null => out.null(),
@@ -58,9 +59,10 @@ fn emit_value<E: Events>(value: &Value, out: &mut E) -> Result<()>
 
 #[cycle(value)]
 fn emit_values<E: Events>(values: &Vec<Value>, out: &mut E) -> Result<()>
-    requires fresh { E.failed out.old ≡ None }
-    requires turn { TakesValue (E.stand (E.state out.old)).turn }
-    ensures { Emits E.after E.stopped (E.state out.old) (E.state out.new) (E.failed out.new) (tokens (list (list_trees (map tree_of values.now.items)))) result }
+    requires { E.failed out.old ≡ None → TakesValue (E.stand (E.state out.old)).turn }
+    ensures { Emits E.after E.stopped (E.state out.old) (E.state out.new)
+        (E.failed out.old) (E.failed out.new)
+        (tokens (list (list_trees (map tree_of values.now.items)))) result }
 {
     out.begin_array(Some(values.len()))?;
     for value in values {
@@ -71,9 +73,10 @@ fn emit_values<E: Events>(values: &Vec<Value>, out: &mut E) -> Result<()>
 
 #[cycle(value)]
 fn emit_pairs<E: Events>(values: &Vec<Pair>, out: &mut E) -> Result<()>
-    requires fresh { E.failed out.old ≡ None }
-    requires turn { TakesValue (E.stand (E.state out.old)).turn }
-    ensures { Emits E.after E.stopped (E.state out.old) (E.state out.new) (E.failed out.new) (tokens (pairs (list_pairs (map pair_of values.now.items)))) result }
+    requires { E.failed out.old ≡ None → TakesValue (E.stand (E.state out.old)).turn }
+    ensures { Emits E.after E.stopped (E.state out.old) (E.state out.new)
+        (E.failed out.old) (E.failed out.new)
+        (tokens (pairs (list_pairs (map pair_of values.now.items)))) result }
 {
     out.begin_object(Some(values.len()))?;
     for pair in values {

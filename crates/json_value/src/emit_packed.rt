@@ -17,9 +17,9 @@ use json_text::Result;
 // Gives the tokens of the tree that is seen to `out`, up to the first that meets an error.
 #[cycle(document)]
 pub(crate) fn emit_document<E: Events>(view: DocView<'_>, out: &mut E) -> Result<()>
-    requires fresh { E.failed out.old ≡ None }
-    requires turn { TakesValue (E.stand (E.state out.old)).turn }
-    ensures { Emits E.after E.stopped (E.state out.old) (E.state out.new) (E.failed out.new) (tokens (view_tree view.entry)) result }
+    requires { E.failed out.old ≡ None → TakesValue (E.stand (E.state out.old)).turn }
+    ensures { Emits E.after E.stopped (E.state out.old) (E.state out.new)
+        (E.failed out.old) (E.failed out.new) (tokens (view_tree view.entry)) result }
 {
     match view.node() {
         DocNode::Null => out.null(),
@@ -34,9 +34,9 @@ pub(crate) fn emit_document<E: Events>(view: DocView<'_>, out: &mut E) -> Result
 
 // Gives the token of an integer by value.
 pub(crate) fn emit_number<E: Events>(number: Number, out: &mut E) -> Result<()>
-    requires fresh { E.failed out.old ≡ None }
-    requires turn { TakesValue (E.stand (E.state out.old)).turn }
-    ensures { Emits E.after E.stopped (E.state out.old) (E.state out.new) (E.failed out.new) (tokens (num (text_of_number number))) result }
+    requires { E.failed out.old ≡ None → TakesValue (E.stand (E.state out.old)).turn }
+    ensures { Emits E.after E.stopped (E.state out.old) (E.state out.new)
+        (E.failed out.old) (E.failed out.new) (tokens (num (text_of_number number))) result }
 {
     match number.as_u64() {
         Some(n) => out.uint(n as u128),
@@ -50,9 +50,10 @@ pub(crate) fn emit_number<E: Events>(number: Number, out: &mut E) -> Result<()>
 // Gives the tokens of an array; `count` tells how many elements there are.
 #[cycle(document)]
 fn emit_children<E: Events>(children: DocChildren<'_>, count: usize, out: &mut E) -> Result<()>
-    requires fresh { E.failed out.old ≡ None }
-    requires turn { TakesValue (E.stand (E.state out.old)).turn }
-    ensures { Emits E.after E.stopped (E.state out.old) (E.state out.new) (E.failed out.new) (tokens (list (list_trees (children_left children.entry)))) result }
+    requires { E.failed out.old ≡ None → TakesValue (E.stand (E.state out.old)).turn }
+    ensures { Emits E.after E.stopped (E.state out.old) (E.state out.new)
+        (E.failed out.old) (E.failed out.new)
+        (tokens (list (list_trees (children_left children.entry)))) result }
 {
     out.begin_array(Some(count))?;
     for child in children {
@@ -64,9 +65,10 @@ fn emit_children<E: Events>(children: DocChildren<'_>, count: usize, out: &mut E
 // Gives the tokens of an object; `count` tells how many members there are.
 #[cycle(document)]
 fn emit_pairs<E: Events>(members: DocPairs<'_>, count: usize, out: &mut E) -> Result<()>
-    requires fresh { E.failed out.old ≡ None }
-    requires turn { TakesValue (E.stand (E.state out.old)).turn }
-    ensures { Emits E.after E.stopped (E.state out.old) (E.state out.new) (E.failed out.new) (tokens (pairs (list_pairs (pairs_left members.entry)))) result }
+    requires { E.failed out.old ≡ None → TakesValue (E.stand (E.state out.old)).turn }
+    ensures { Emits E.after E.stopped (E.state out.old) (E.state out.new)
+        (E.failed out.old) (E.failed out.new)
+        (tokens (pairs (list_pairs (pairs_left members.entry)))) result }
 {
     out.begin_object(Some(count))?;
     for (key, value) in members {
@@ -77,18 +79,18 @@ fn emit_pairs<E: Events>(members: DocPairs<'_>, count: usize, out: &mut E) -> Re
 }
 
 pub(crate) fn emit_no_values<E: Events>(out: &mut E) -> Result<()>
-    requires fresh { E.failed out.old ≡ None }
-    requires turn { TakesValue (E.stand (E.state out.old)).turn }
-    ensures { Emits E.after E.stopped (E.state out.old) (E.state out.new) (E.failed out.new) (tokens (list no_trees)) result }
+    requires { E.failed out.old ≡ None → TakesValue (E.stand (E.state out.old)).turn }
+    ensures { Emits E.after E.stopped (E.state out.old) (E.state out.new)
+        (E.failed out.old) (E.failed out.new) (tokens (list no_trees)) result }
 {
     out.begin_array(Some(0))?;
     out.end_array()
 }
 
 pub(crate) fn emit_no_pairs<E: Events>(out: &mut E) -> Result<()>
-    requires fresh { E.failed out.old ≡ None }
-    requires turn { TakesValue (E.stand (E.state out.old)).turn }
-    ensures { Emits E.after E.stopped (E.state out.old) (E.state out.new) (E.failed out.new) (tokens (pairs no_pairs)) result }
+    requires { E.failed out.old ≡ None → TakesValue (E.stand (E.state out.old)).turn }
+    ensures { Emits E.after E.stopped (E.state out.old) (E.state out.new)
+        (E.failed out.old) (E.failed out.new) (tokens (pairs no_pairs)) result }
 {
     out.begin_object(Some(0))?;
     out.end_object()
@@ -96,9 +98,10 @@ pub(crate) fn emit_no_pairs<E: Events>(out: &mut E) -> Result<()>
 
 // Gives the tokens of the array of the elements that are seen.
 pub(crate) fn emit_elements<E: Events>(view: DocView<'_>, out: &mut E) -> Result<()>
-    requires fresh { E.failed out.old ≡ None }
-    requires turn { TakesValue (E.stand (E.state out.old)).turn }
-    ensures { Emits E.after E.stopped (E.state out.old) (E.state out.new) (E.failed out.new) (tokens (list (list_trees (elements (view_tree view.entry))))) result }
+    requires { E.failed out.old ≡ None → TakesValue (E.stand (E.state out.old)).turn }
+    ensures { Emits E.after E.stopped (E.state out.old) (E.state out.new)
+        (E.failed out.old) (E.failed out.new)
+        (tokens (list (list_trees (elements (view_tree view.entry))))) result }
 {
     match view.node() {
         DocNode::Array(children) => emit_children(children, view.len(), out),
@@ -108,9 +111,10 @@ pub(crate) fn emit_elements<E: Events>(view: DocView<'_>, out: &mut E) -> Result
 
 // Gives the tokens of the object of the members that are seen.
 pub(crate) fn emit_members<E: Events>(view: DocView<'_>, out: &mut E) -> Result<()>
-    requires fresh { E.failed out.old ≡ None }
-    requires turn { TakesValue (E.stand (E.state out.old)).turn }
-    ensures { Emits E.after E.stopped (E.state out.old) (E.state out.new) (E.failed out.new) (tokens (pairs (list_pairs (members (view_tree view.entry))))) result }
+    requires { E.failed out.old ≡ None → TakesValue (E.stand (E.state out.old)).turn }
+    ensures { Emits E.after E.stopped (E.state out.old) (E.state out.new)
+        (E.failed out.old) (E.failed out.new)
+        (tokens (pairs (list_pairs (members (view_tree view.entry))))) result }
 {
     match view.node() {
         DocNode::Object(members) => emit_pairs(members, view.len(), out),

@@ -26,12 +26,14 @@ pub struct Iter<'a> {
 }
 
 impl<'a> ObjectView<'a> {
-    ghost use Rattle.json_value.specs.Left.{members_left};
+    ghost use Rattle.json_value.specs.Left.{members_left, members_sights_left};
+    ghost use Rattle.json_value.specs.SightParts.{members_sights};
 
     /// The members, each its key and its value, in order.
     #[inline]
     pub fn iter(self) -> Iter<'a>
-        ensures { members_left result ≡ members_seen self.entry }
+        ensures trees { members_left result ≡ members_seen self.entry }
+        ensures sights { members_sights_left result ≡ members_sights self.entry }
     {
         Iter {
             view: self,
@@ -54,12 +56,12 @@ impl<'a> Iter<'a> {
 }
 
 impl<'a> Iterator for Iter<'a> {
-    ghost use Rattle.std.specs.Iterator.{item_count, YieldsFirstBy};
-    ghost use Rattle.json_value.specs.Left.{members_left, member_seen};
+    ghost use Rattle.std.specs.Iterator.{item_count};
+    ghost use Rattle.json_value.specs.Left.{members_left, GivesMember};
 
     type Item = (&'a str, View<'a>);
 
-    ghost next_gives = { YieldsFirstBy member_seen members_left };
+    ghost next_gives = { GivesMember };
 
     ghost remaining = { item_count members_left };
 

@@ -5,6 +5,8 @@ ghost use Rattle.json_model.specs.Edit.{key_step, index_step};
 ghost use Rattle.json_value.specs.Denotes.{tree_of};
 ghost use Rattle.json_value.specs.Edits.{steps_of};
 ghost use Rattle.json_value.specs.Seen.{seen};
+ghost use Rattle.json_value.specs.SightParts.{part_of, part_at, or_nowhere};
+ghost use Rattle.json_value.specs.Sights.{nowhere, whole_value, sight_of};
 ghost use Rattle.json_value.specs.Steps.{child, tree_at, tree_or_null};
 
 use crate::index::Index;
@@ -15,7 +17,8 @@ use crate::view::{View, ViewForm};
 impl<'a> View<'a> {
     // Null, which stands nowhere.
     fn null() -> View<'a>
-        ensures { seen result ≡ null }
+        ensures tree { seen result ≡ null }
+        ensures sight { sight_of result ≡ nowhere }
     {
         View {
             form: ViewForm::Absent,
@@ -23,7 +26,9 @@ impl<'a> View<'a> {
     }
 
     fn member(self, key: &str) -> Option<View<'a>>
-        ensures { option_map seen result ≡ child (key_step key.now) (seen self.entry) }
+        ensures tree { option_map seen result ≡ child (key_step key.now) (seen self.entry) }
+        ensures sight { option_map sight_of result
+            ≡ part_of (key_step key.now) (sight_of self.entry) }
     {
         match self.as_object() {
             Some(object) => object.get(key),
@@ -32,7 +37,8 @@ impl<'a> View<'a> {
     }
 
     fn element(self, i: usize) -> Option<View<'a>>
-        ensures { option_map seen result ≡ child (index_step i) (seen self.entry) }
+        ensures tree { option_map seen result ≡ child (index_step i) (seen self.entry) }
+        ensures sight { option_map sight_of result ≡ part_of (index_step i) (sight_of self.entry) }
     {
         match self.as_array() {
             Some(array) => array.get(i),
@@ -42,7 +48,8 @@ impl<'a> View<'a> {
 
     /// The value of the first member of a key, or the element of an index; none where the step leads nowhere.
     pub fn get<I: Index>(self, index: I) -> Option<View<'a>>
-        ensures { option_map seen result ≡ child (I.step index) (seen self.entry) }
+        ensures tree { option_map seen result ≡ child (I.step index) (seen self.entry) }
+        ensures sight { option_map sight_of result ≡ part_of (I.step index) (sight_of self.entry) }
     {
         if let Some(key) = index.as_key() {
             return self.member(key);
@@ -55,7 +62,9 @@ impl<'a> View<'a> {
 
     /// What stands where the steps lead; none where one of them leads nowhere.
     pub fn pointer(self, path: &[PointerNode]) -> Option<View<'a>>
-        ensures { option_map seen result ≡ tree_at (steps_of path.now) (seen self.entry) }
+        ensures tree { option_map seen result ≡ tree_at (steps_of path.now) (seen self.entry) }
+        ensures sight { option_map sight_of result
+            ≡ part_at (steps_of path.now) (sight_of self.entry) }
     {
         let mut here = self;
         for node in path {
@@ -66,7 +75,9 @@ impl<'a> View<'a> {
 
     /// The value of the first member of a key, or the element of an index; null where the step leads nowhere.
     pub fn at<I: Index>(self, index: I) -> View<'a>
-        ensures { seen result ≡ tree_or_null (child (I.step index) (seen self.entry)) }
+        ensures tree { seen result ≡ tree_or_null (child (I.step index) (seen self.entry)) }
+        ensures sight { sight_of result
+            ≡ or_nowhere (part_of (I.step index) (sight_of self.entry)) }
     {
         match self.get(index) {
             Some(found) => found,
@@ -78,21 +89,26 @@ impl<'a> View<'a> {
 impl Value {
     /// The value of the first member of a key, or the element of an index; none where the step leads nowhere.
     pub fn get<I: Index>(&self, index: I) -> Option<View<'_>>
-        ensures { option_map seen result ≡ child (I.step index) (tree_of self.now) }
+        ensures tree { option_map seen result ≡ child (I.step index) (tree_of self.now) }
+        ensures sight { option_map sight_of result ≡ part_of (I.step index) (whole_value self.now) }
     {
         self.view().get(index)
     }
 
     /// What stands where the steps lead; none where one of them leads nowhere.
     pub fn pointer(&self, path: &[PointerNode]) -> Option<View<'_>>
-        ensures { option_map seen result ≡ tree_at (steps_of path.now) (tree_of self.now) }
+        ensures tree { option_map seen result ≡ tree_at (steps_of path.now) (tree_of self.now) }
+        ensures sight { option_map sight_of result
+            ≡ part_at (steps_of path.now) (whole_value self.now) }
     {
         self.view().pointer(path)
     }
 
     /// The value of the first member of a key, or the element of an index; null where the step leads nowhere.
     pub fn at<I: Index>(&self, index: I) -> View<'_>
-        ensures { seen result ≡ tree_or_null (child (I.step index) (tree_of self.now)) }
+        ensures tree { seen result ≡ tree_or_null (child (I.step index) (tree_of self.now)) }
+        ensures sight { sight_of result
+            ≡ or_nowhere (part_of (I.step index) (whole_value self.now)) }
     {
         self.view().at(index)
     }

@@ -1,9 +1,12 @@
 // Views of objects.
 ghost use Rattle.std.specs.Prelude.{◌≡◌, ◌↔◌, [], length, map, option_map, slice_get, IsTrue};
-ghost use Rattle.json_doc.specs.Seen.{view_tree};
+ghost use Rattle.json_doc.specs.Seen.{view_doc, view_place, view_tree};
 ghost use Rattle.json_value.specs.Denotes.{tree_of, pair_of, pairs_in};
 ghost use Rattle.json_value.specs.Readings.{members};
 ghost use Rattle.json_value.specs.Seen.{seen, members_seen, pairs_of, first_of};
+ghost use Rattle.json_value.specs.SightParts.{members_at, member_sight, object_sights};
+ghost use Rattle.json_value.specs.SightParts.{pair_sight, members_of, members_sights};
+ghost use Rattle.json_value.specs.Sights.{whole_value, place_of, doc_held, sight_of};
 
 use crate::container::{Container, Form};
 use crate::packed_view::PackedView;
@@ -37,7 +40,8 @@ impl Container<Keyed<Value>> {
     /// The whole object.
     #[inline]
     pub fn view(&self) -> ObjectView<'_>
-        ensures { members_seen result ≡ pairs_in self.now }
+        ensures trees { members_seen result ≡ pairs_in self.now }
+        ensures sights { members_sights result ≡ object_sights self.now }
     {
         let form = match &self.form {
             Form::Empty => ObjectForm::Whole(&[]),
@@ -50,7 +54,9 @@ impl Container<Keyed<Value>> {
 
 impl<'a> ObjectView<'a> {
     pub(crate) fn of_packed(packed: PackedView<'a>) -> Option<ObjectView<'a>>
-        ensures { option_map members_seen result ≡ pairs_of (view_tree packed.entry.view) }
+        ensures trees { option_map members_seen result ≡ pairs_of (view_tree packed.entry.view) }
+        ensures sights { let p = packed.entry in option_map members_sights result
+            ≡ members_of (place_of (view_doc p.view) (doc_held p.holder) (view_place p.view)) }
     {
         match packed.view.get_type() {
             JsonType::Object => Some(ObjectView {
@@ -61,7 +67,8 @@ impl<'a> ObjectView<'a> {
     }
 
     pub(crate) fn of_value(value: &'a Value) -> Option<ObjectView<'a>>
-        ensures { option_map members_seen result ≡ pairs_of (tree_of value.now) }
+        ensures trees { option_map members_seen result ≡ pairs_of (tree_of value.now) }
+        ensures sights { option_map members_sights result ≡ members_of (whole_value value.now) }
     {
         match value {
             Value::Object(object) => Some(object.view()),
@@ -91,7 +98,8 @@ impl<'a> ObjectView<'a> {
     /// The key and the value of the member `i`, counted from 0; none past the last.
     #[inline]
     pub fn pair(self, i: usize) -> Option<(&'a str, View<'a>)>
-        ensures { option_map (λ p. (p.0.now, seen p.1)) result ≡ slice_get (members_seen self.entry) i }
+        ensures tree { option_map (λ p. (p.0.now, seen p.1)) result ≡ slice_get (members_seen self.entry) i }
+        ensures sight { option_map member_sight result ≡ slice_get (members_sights self.entry) i }
     {
         match self.form {
             ObjectForm::Packed(packed) => packed_pair(packed, i),
@@ -101,7 +109,9 @@ impl<'a> ObjectView<'a> {
 
     /// The key and the value of the first member of the key; none where there is none.
     pub fn get_key_value(self, key: &str) -> Option<(&'a str, View<'a>)>
-        ensures { option_map (λ p. (p.0.now, seen p.1)) result ≡ first_of key.now (members_seen self.entry) }
+        ensures tree { option_map (λ p. (p.0.now, seen p.1)) result ≡ first_of key.now (members_seen self.entry) }
+        ensures sight { option_map member_sight result
+            ≡ first_of key.now (members_sights self.entry) }
     {
         match self.form {
             ObjectForm::Packed(packed) => packed_first(packed, key),
@@ -111,7 +121,9 @@ impl<'a> ObjectView<'a> {
 
     /// The value of the first member of the key; none where there is none.
     pub fn get(self, key: &str) -> Option<View<'a>>
-        ensures { option_map seen result ≡ option_map (λ p. p.1) (first_of key.now (members_seen self.entry)) }
+        ensures tree { option_map seen result ≡ option_map (λ p. p.1) (first_of key.now (members_seen self.entry)) }
+        ensures sight { option_map sight_of result
+            ≡ option_map (λ p. p.1) (first_of key.now (members_sights self.entry)) }
     {
         match self.get_key_value(key) {
             Some((_, value)) => Some(value),
@@ -130,7 +142,10 @@ fn packed_len(view: DocView<'_>) -> usize
 }
 
 fn packed_pair(packed: PackedView<'_>, i: usize) -> Option<(&str, View<'_>)>
-    ensures { option_map (λ p. (p.0.now, seen p.1)) result ≡ slice_get (members (view_tree packed.entry.view)) i }
+    ensures tree { option_map (λ p. (p.0.now, seen p.1)) result ≡ slice_get (members (view_tree packed.entry.view)) i }
+    ensures sight { let p = packed.entry in let ps = members (view_tree p.view) in
+        option_map member_sight result
+        ≡ slice_get (members_at (view_doc p.view) (doc_held p.holder) (view_place p.view) ps) i }
 {
     match packed.view.key(i) {
         Some(key) => match packed.view.pair_value(i) {
@@ -145,7 +160,8 @@ fn packed_pair(packed: PackedView<'_>, i: usize) -> Option<(&str, View<'_>)>
 }
 
 fn whole_pair(pairs: &[Pair], i: usize) -> Option<(&str, View<'_>)>
-    ensures { option_map (λ p. (p.0.now, seen p.1)) result ≡ slice_get (map pair_of pairs.now) i }
+    ensures tree { option_map (λ p. (p.0.now, seen p.1)) result ≡ slice_get (map pair_of pairs.now) i }
+    ensures sight { option_map member_sight result ≡ slice_get (map pair_sight pairs.now) i }
 {
     if i < pairs.len() {
         Some((pairs[i].key.as_str(), pairs[i].value.view()))
@@ -155,7 +171,11 @@ fn whole_pair(pairs: &[Pair], i: usize) -> Option<(&str, View<'_>)>
 }
 
 fn packed_first<'a>(packed: PackedView<'a>, key: &str) -> Option<(&'a str, View<'a>)>
-    ensures { option_map (λ p. (p.0.now, seen p.1)) result ≡ first_of key.now (members (view_tree packed.entry.view)) }
+    ensures tree { option_map (λ p. (p.0.now, seen p.1)) result ≡ first_of key.now (members (view_tree packed.entry.view)) }
+    ensures sight { let p = packed.entry in let ps = members (view_tree p.view) in
+        option_map member_sight result
+        ≡ first_of key.now
+        (members_at (view_doc p.view) (doc_held p.holder) (view_place p.view) ps) }
 {
     for i in 0..packed.view.len() {
         if let Some(found) = packed.view.key(i) {
@@ -168,7 +188,8 @@ fn packed_first<'a>(packed: PackedView<'a>, key: &str) -> Option<(&'a str, View<
 }
 
 fn whole_first<'a>(pairs: &'a [Pair], key: &str) -> Option<(&'a str, View<'a>)>
-    ensures { option_map (λ p. (p.0.now, seen p.1)) result ≡ first_of key.now (map pair_of pairs.now) }
+    ensures tree { option_map (λ p. (p.0.now, seen p.1)) result ≡ first_of key.now (map pair_of pairs.now) }
+    ensures sight { option_map member_sight result ≡ first_of key.now (map pair_sight pairs.now) }
 {
     for pair in pairs {
         if pair.key.as_str() == key {

@@ -1,8 +1,8 @@
 // A place of a document that is seen, and the counted reference to the document where a value holds one.
-ghost use Rattle.std.specs.Prelude.{◌≡◌, None, Some, IfSome, option_map};
+ghost use Rattle.std.specs.Prelude.{◌≡◌, None, Some, IfSome};
 ghost use Rattle.std.proofs.Props.{props};
 ghost use Rattle.json_doc.specs.Docs.{doc_tree};
-ghost use Rattle.json_doc.specs.Seen.{view_doc, view_tree};
+ghost use Rattle.json_doc.specs.Seen.{view_doc, view_place, view_tree};
 
 use crate::place::Place;
 use json_doc::{Doc, DocView};
@@ -16,6 +16,8 @@ pub(crate) struct PackedView<'a> {
 }
 
 impl<'a> PackedView<'a> {
+    ghost use Rattle.json_value.specs.Sights.{doc_held};
+
     // A place of a document alone.
     #[inline]
     pub(crate) fn of_document(view: DocView<'a>) -> PackedView<'a>
@@ -29,7 +31,9 @@ impl<'a> PackedView<'a> {
     #[inline]
     pub(crate) fn of_place(place: &'a Place) -> PackedView<'a>
         ensures tree { view_tree result.view ≡ doc_tree place.now.doc.value place.now.at }
-        ensures holder { option_map (λ d. d.now.value) result.holder ≡ Some place.now.doc.value }
+        ensures doc { view_doc result.view ≡ place.now.doc.value }
+        ensures at { view_place result.view ≡ place.now.at }
+        ensures holder { doc_held result.holder ≡ Some place.now.doc.value }
     {
         PackedView {
             view: place.view(),

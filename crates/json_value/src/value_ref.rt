@@ -1,7 +1,8 @@
 // What a value is, with what is in it behind references.
-ghost use Rattle.std.specs.Prelude.{◌≡◌, option_map, IfSome};
+ghost use Rattle.std.specs.Prelude.{◌≡◌, None, option_map, IfSome};
+ghost use Rattle.json_number.specs.Integers.{integer_in};
 ghost use Rattle.json_value.specs.Denotes.{tree_of, list_in, pairs_in};
-ghost use Rattle.json_value.specs.Parts.{ref_tree};
+ghost use Rattle.json_value.specs.Parts.{ref_tree, raw_in, IsOf};
 ghost use Rattle.json_value.specs.Seen.{list_of, pairs_of};
 ghost use Rattle.json_value.specs.declared.value.Value.{Array as ArrayValue, Object as ObjectValue};
 
@@ -35,7 +36,9 @@ pub enum ValueRef<'a> {
 impl Value {
     /// What the value is.
     pub fn as_ref(&self) -> ValueRef<'_>
-        ensures { ref_tree result ≡ tree_of self.now }
+        ensures tree { ref_tree result ≡ tree_of self.now }
+        ensures same { IsOf result self.now }
+        ensures raw { IfSome (raw_in result) (λ l. integer_in l ≡ None) }
     {
         match self {
             Value::Null => ValueRef::Null,

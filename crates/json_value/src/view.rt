@@ -7,6 +7,9 @@ ghost use Rattle.json_doc.specs.Seen.{view_doc, view_place, view_tree};
 ghost use Rattle.json_value.specs.Denotes.{tree_of};
 ghost use Rattle.json_value.specs.Places.{places_in};
 ghost use Rattle.json_value.specs.Seen.{seen, elements_seen, members_seen, list_of, pairs_of};
+ghost use Rattle.json_value.specs.SightParts.{elements_of, elements_sights};
+ghost use Rattle.json_value.specs.SightParts.{members_of, members_sights};
+ghost use Rattle.json_value.specs.Sights.{sight_of, whole_value, place_of};
 ghost use Rattle.json_value.specs.Spots.{spot_in, spot_of};
 ghost use Rattle.json_value.specs.Standing.{spot_seen, spot_kept, places_kept};
 
@@ -46,6 +49,7 @@ impl Value {
     #[inline]
     pub fn view(&self) -> View<'_>
         ensures tree { seen result ≡ tree_of self.now }
+        ensures sight { sight_of result ≡ whole_value self.now }
         ensures spot { spot_seen result ≡ spot_of self.now }
         ensures kept { spot_kept result ≡ spot_of self.now }
         ensures places { places_kept result ≡ Some (places_in self.now) }
@@ -61,6 +65,8 @@ impl<'a> View<'a> {
     #[inline]
     pub fn packed(view: DocView<'a>) -> View<'a>
         ensures tree { seen result ≡ view_tree view.entry }
+        ensures sight { sight_of result
+            ≡ place_of (view_doc view.entry) None (view_place view.entry) }
         ensures spot { spot_seen result ≡ Some (spot_in (view_doc view.entry) (view_place view.entry)) }
         ensures kept { spot_kept result ≡ None }
     {
@@ -133,7 +139,8 @@ impl<'a> View<'a> {
     /// The array; none of another kind.
     #[inline]
     pub fn as_array(self) -> Option<ArrayView<'a>>
-        ensures { option_map elements_seen result ≡ list_of (seen self.entry) }
+        ensures trees { option_map elements_seen result ≡ list_of (seen self.entry) }
+        ensures sights { option_map elements_sights result ≡ elements_of (sight_of self.entry) }
     {
         match self.form {
             ViewForm::Packed(packed) => ArrayView::of_packed(packed),
@@ -145,7 +152,8 @@ impl<'a> View<'a> {
     /// The object; none of another kind.
     #[inline]
     pub fn as_object(self) -> Option<ObjectView<'a>>
-        ensures { option_map members_seen result ≡ pairs_of (seen self.entry) }
+        ensures trees { option_map members_seen result ≡ pairs_of (seen self.entry) }
+        ensures sights { option_map members_sights result ≡ members_of (sight_of self.entry) }
     {
         match self.form {
             ViewForm::Packed(packed) => ObjectView::of_packed(packed),

@@ -26,19 +26,20 @@ use Rattle.reshape.specs.Printing.{PrintingFails, Prints, SendsText, WritesText}
 
 -- ---- the tokens of a tree, given to a serializer
 
-pub text_written : {F : Type 0} (m : Form F) (f : F) (sorts : Bool) (w new : SinkState) (first now : Out F) (failed : Option Error) (t u : Tree) (i : Option (List ℕ)) (r : Result (Unit {0}) Error)
-    → LaidOut m f i 0 false → first ≡ start f sorts w → u ≡ t → Emits (after m) (StopsAt m) first now failed (tokens u) r → Written m now new → WritesText w new (shown_as i sorts t) r
-text_written m f sorts w new first now failed t u i (Ok v) laid s e h k =
+pub text_written : {F : Type 0} (m : Form F) (f : F) (sorts : Bool) (w new : SinkState) (first now : Out F) (err failed : Option Error) (t u : Tree) (i : Option (List ℕ)) (r : Result (Unit {0}) Error)
+    → LaidOut m f i 0 false → first ≡ start f sorts w → err ≡ None → u ≡ t → Emits (after m) (StopsAt m) first now err failed (tokens u) r → Written m now new → WritesText w new (shown_as i sorts t) r
+text_written m f sorts w new first now err failed t u i (Ok v) laid s n e h k =
     let all = given_whole (after m) first (start f sorts w) now t u h.all s e in
     let c = k.calm f sorts w (tokens t) all in
     record { ok = k.whole f sorts w i t laid all; calm = c.0; prefix = tt; cause = tt; told = λ l. absurd (omega (arith, l, c.0)); same_loan = c.1 }
-text_written {F = F} m f sorts w new first now failed t u i (Err x) laid s e h k =
-    let stop = subst (λ (o : Out F). StopsAt m (after_all (after m) o h.stops.front) h.stops.at now x) s h.stops.left in
-    let c = k.caused f sorts w h.stops.front h.stops.at x stop in
+text_written {F = F} m f sorts w new first now err failed t u i (Err x) laid s n e h k =
+    let met = h.stops n in
+    let stop = subst (λ (o : Out F). StopsAt m (after_all (after m) o met.front) met.at now x) s met.left in
+    let c = k.caused f sorts w met.front met.at x stop in
     record {
       ok = tt;
       calm = tt;
-      prefix = k.stopped f sorts w i t h.stops.front h.stops.back h.stops.at x laid (ap tokens (sym e) ∙ h.stops.whole) stop;
+      prefix = k.stopped f sorts w i t met.front met.back met.at x laid (ap tokens (sym e) ∙ met.whole) stop;
       cause = c.cause;
       told = λ l. ap Err (c.told l);
       same_loan = c.same_loan;

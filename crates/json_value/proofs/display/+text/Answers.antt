@@ -9,19 +9,19 @@ use Rattle.json_value.proofs.display.+text.Goals.{show_elements-in-Some+in_ok-wr
 use Rattle.json_value.proofs.display.+text.Goals as goal
 
 pub show-show_elements-requires : goal.show-show_elements-requires
-show-show_elements-requires g t c κs within = (omega (arith, ap nodes (list_itself (seen c.args.view) _ c.in-Some.ensures)), within)
+show-show_elements-requires g t c κs within = (omega (arith, ap nodes (list_itself (seen c.args.view) _ c.in-Some.ensures.trees)), within)
 
 pub show-returns-in-Some : goal.show-returns-in-Some
-show-returns-in-Some g t c plain ok = has_written_of_eq _ _ _ _ _ (ap (shown None 0) (list_itself (seen c.args.view) _ c.in-Some.ensures)) (c.show_elements.ensures plain ok)
+show-returns-in-Some g t c plain ok = has_written_of_eq _ _ _ _ _ (ap (shown None 0) (list_itself (seen c.args.view) _ c.in-Some.ensures.trees)) (c.show_elements.ensures plain ok)
 
 pub show-show_members-requires : goal.show-show_members-requires
-show-show_members-requires g t c κs within = (omega (arith, ap nodes (pairs_itself (seen c.args.view) _ c.in-Some-as_object.ensures)), within)
+show-show_members-requires g t c κs within = (omega (arith, ap nodes (pairs_itself (seen c.args.view) _ c.in-Some-as_object.ensures.trees)), within)
 
 pub show-returns-in-Some-as_object : goal.show-returns-in-Some-as_object
-show-returns-in-Some-as_object g t c plain ok = has_written_of_eq _ _ _ _ _ (ap (shown None 0) (pairs_itself (seen c.args.view) _ c.in-Some-as_object.ensures)) (c.show_members.ensures plain ok)
+show-returns-in-Some-as_object g t c plain ok = has_written_of_eq _ _ _ _ _ (ap (shown None 0) (pairs_itself (seen c.args.view) _ c.in-Some-as_object.ensures.trees)) (c.show_members.ensures plain ok)
 
 pub show_elements-show-requires : goal.show_elements-show-requires
-show_elements-show-requires g t c κs within = (omega (arith, element_within (elements_seen c.args.array) c.elements.i (seen c.in-Some.element) (sym c.in-Some.ensures)), within)
+show_elements-show-requires g t c κs within = (omega (arith, element_within (elements_seen c.args.array) c.elements.i (seen c.in-Some.element) (sym c.in-Some.ensures.tree)), within)
 
 pub show_elements-elements-preserved : goal.show_elements-elements-preserved
 show_elements-elements-preserved g t c plain =
@@ -29,13 +29,13 @@ show_elements-elements-preserved g t c plain =
     elim c.match-get.branch [
       | show_elements-in-Some+in_ok-write_str-2+in_ok-show w ↦
           let comma = has_written_append _ _ _ _ _ _ so_far (w.in_ok-write_str-2.ensures.writes so_far.plain refl) in
-          rw w.f-is (has_written_of_eq _ _ _ _ _ (element_shown ts i w.separator.result.now (seen w.in-Some.element) w.separator.ensures (sym w.in-Some.ensures)) (has_written_append _ _ _ _ _ _ comma (w.in_ok-show.ensures comma.plain refl)))
-      | show_elements-in_default w ↦ absurd (omega (arith, past_end ts i (sym w.in_default.ensures)))
+          rw w.f-is (has_written_of_eq _ _ _ _ _ (element_shown ts i w.separator.result.now (seen w.in-Some.element) w.separator.ensures (sym w.in-Some.ensures.tree)) (has_written_append _ _ _ _ _ _ comma (w.in_ok-show.ensures comma.plain refl)))
+      | show_elements-in_default w ↦ absurd (omega (arith, past_end ts i (sym w.in_default.ensures.tree)))
     ]
 
 pub show_members-show-requires : goal.show_members-show-requires
 show_members-show-requires g t c κs within =
-    (omega (arith, member_within (members_seen c.args.object) c.members.i c.in-Some.key.now (seen c.in-Some.value) (sym c.in-Some.ensures)), within)
+    (omega (arith, member_within (members_seen c.args.object) c.members.i c.in-Some.key.now (seen c.in-Some.value) (sym c.in-Some.ensures.tree)), within)
 
 pub show_members-members-preserved : goal.show_members-members-preserved
 show_members-members-preserved g t c plain =
@@ -43,6 +43,6 @@ show_members-members-preserved g t c plain =
     elim c.match-pair.branch [
       | show_members-in-Some+in_ok-write+in_ok-show w ↦
           let key = has_written_append _ _ _ _ _ _ so_far (w.in_ok-write.ensures.writes so_far.plain refl) in
-          rw w.f-is (has_written_of_eq _ _ _ _ _ (member_shown ps i w.separator.result.now w.in-Some.key.now (seen w.in-Some.value) w.separator.ensures (sym w.in-Some.ensures)) (has_written_append _ _ _ _ _ _ key (w.in_ok-show.ensures key.plain refl)))
-      | show_members-in_default w ↦ absurd (omega (arith, past_end ps i (sym w.in_default.ensures)))
+          rw w.f-is (has_written_of_eq _ _ _ _ _ (member_shown ps i w.separator.result.now w.in-Some.key.now (seen w.in-Some.value) w.separator.ensures (sym w.in-Some.ensures.tree)) (has_written_append _ _ _ _ _ _ key (w.in_ok-show.ensures key.plain refl)))
+      | show_members-in_default w ↦ absurd (omega (arith, past_end ps i (sym w.in_default.ensures.tree)))
     ]

@@ -18,9 +18,9 @@ decreases-emit_pairs g l = 2 * pairs_nodes (list_pairs (map pair_of l.values.now
 abbrev pub invariant-emit_values-loop-value : goal.invariant-emit_values-loop-value
 invariant-emit_values-loop-value g l =
     (g.E.Events.state l.out ≡ after_all g.E.Events.after (g.E.Events.state l.fn.out) (array_front (map tree_of l.fn.values.items) l.value-index))
-    × (g.E.Events.failed l.out ≡ None)
+    × (g.E.Events.failed l.out ≡ None) × (g.E.Events.failed l.fn.out ≡ None)
 
 abbrev pub invariant-emit_pairs-loop-pair : goal.invariant-emit_pairs-loop-pair
 invariant-emit_pairs-loop-pair g l =
     (g.E.Events.state l.out ≡ after_all g.E.Events.after (g.E.Events.state l.fn.out) (object_front (map pair_of l.fn.values.items) l.pair-index))
-    × (g.E.Events.failed l.out ≡ None)
+    × (g.E.Events.failed l.out ≡ None) × (g.E.Events.failed l.fn.out ≡ None)

@@ -21,11 +21,11 @@ invariant-emit_children-loop-child g l =
     (goal.iterator-emit_children-loop-child g).can_next l.child-iterator × (goal.iterator-emit_children-loop-child g).is_finite l.child-iterator
     × (i : ℕ) × (drop i (children_left l.fn.children) ≡ children_left l.child-iterator)
     × (g.E.Events.state l.out ≡ after_all g.E.Events.after (g.E.Events.state l.fn.out) (array_front (children_left l.fn.children) i))
-    × (g.E.Events.failed l.out ≡ None)
+    × (g.E.Events.failed l.out ≡ None) × (g.E.Events.failed l.fn.out ≡ None)
 
 abbrev pub invariant-emit_pairs-loop-key : goal.invariant-emit_pairs-loop-key
 invariant-emit_pairs-loop-key g l =
     (goal.iterator-emit_pairs-loop-key g).can_next l.key-iterator × (goal.iterator-emit_pairs-loop-key g).is_finite l.key-iterator
     × (i : ℕ) × (drop i (pairs_left l.fn.members) ≡ pairs_left l.key-iterator)
     × (g.E.Events.state l.out ≡ after_all g.E.Events.after (g.E.Events.state l.fn.out) (object_front (pairs_left l.fn.members) i))
-    × (g.E.Events.failed l.out ≡ None)
+    × (g.E.Events.failed l.out ≡ None) × (g.E.Events.failed l.fn.out ≡ None)

@@ -14,14 +14,14 @@ pub are_arrays_same-returns-then-len : goal.are_arrays_same-returns-then-len
 are_arrays_same-returns-then-len t c = sym (lengths_apart _ _ (λ e. c.if-len.true (c.len-len.ensures ∙ e ∙ sym c.len.ensures)))
 
 pub are_arrays_same-are_both_same-requires : goal.are_arrays_same-are_both_same-requires
-are_arrays_same-are_both_same-requires t c = (omega (arith, element_nodes (elements_seen c.args.first) c.elements.i, ap nodes_in c.get.ensures), tt)
+are_arrays_same-are_both_same-requires t c = (omega (arith, element_nodes (elements_seen c.args.first) c.elements.i, ap nodes_in c.get.ensures.tree), tt)
 
 pub are_arrays_same-returns-then-not-are_both_same : goal.are_arrays_same-returns-then-not-are_both_same
 are_arrays_same-returns-then-not-are_both_same t c =
     let xs = elements_seen c.args.first in let ys = elements_seen c.args.second in let i = c.elements.i in
     sym (
     c.elements.invariant
-    ∙ trees_step xs ys i c.are_both_same.result (omega (arith, c.len-len.ensures, c.elements-test.true)) (sym c.len-len.ensures ∙ c.if-len.false ∙ c.len.ensures) (c.are_both_same.ensures ∙ ap₂ (option_eq same) c.get.ensures c.get-in-elements.ensures)
+    ∙ trees_step xs ys i c.are_both_same.result (omega (arith, c.len-len.ensures, c.elements-test.true)) (sym c.len-len.ensures ∙ c.if-len.false ∙ c.len.ensures) (c.are_both_same.ensures ∙ ap₂ (option_eq same) c.get.ensures.tree c.get-in-elements.ensures.tree)
     ∙ ap (λ b. b && trees_same (list_trees (drop (i + 1) xs)) (list_trees (drop (i + 1) ys))) c.if-not-are_both_same.true
     )
 
@@ -29,32 +29,32 @@ pub are_arrays_same-elements-preserved : goal.are_arrays_same-elements-preserved
 are_arrays_same-elements-preserved t c =
     let xs = elements_seen c.args.first in let ys = elements_seen c.args.second in let i = c.elements.i in
     c.elements.invariant
-    ∙ trees_step xs ys i c.are_both_same.result (omega (arith, c.len-len.ensures, c.elements-test.true)) (sym c.len-len.ensures ∙ c.if-len.false ∙ c.len.ensures) (c.are_both_same.ensures ∙ ap₂ (option_eq same) c.get.ensures c.get-in-elements.ensures)
+    ∙ trees_step xs ys i c.are_both_same.result (omega (arith, c.len-len.ensures, c.elements-test.true)) (sym c.len-len.ensures ∙ c.if-len.false ∙ c.len.ensures) (c.are_both_same.ensures ∙ ap₂ (option_eq same) c.get.ensures.tree c.get-in-elements.ensures.tree)
     ∙ ap (λ b. b && trees_same (list_trees (drop (i + 1) xs)) (list_trees (drop (i + 1) ys))) c.if-not-are_both_same.false
 
 pub are_firsts_same-are_both_same-requires : goal.are_firsts_same-are_both_same-requires
-are_firsts_same-are_both_same-requires t c = (omega (arith, member_nodes (members_seen c.args.first) c.members.i _ _ (sym c.in-Some.ensures)), tt)
+are_firsts_same-are_both_same-requires t c = (omega (arith, member_nodes (members_seen c.args.first) c.members.i _ _ (sym c.in-Some.ensures.tree)), tt)
 
 pub are_firsts_same-returns-then-not-are_both_same : goal.are_firsts_same-returns-then-not-are_both_same
 are_firsts_same-returns-then-not-are_both_same t c =
-    let ps = members_seen c.args.first in let qs = members_seen c.args.second in let i = c.members.i in let e = sym c.in-Some.ensures in
+    let ps = members_seen c.args.first in let qs = members_seen c.args.second in let i = c.members.i in let e = sym c.in-Some.ensures.tree in
     sym (all_fail (agree_at ps qs) (keys_in ps) i _ (key_of_pair ps i _ _ e)
-    (ap₂ (option_eq same) (value_first ps i _ _ e (sym c.has_before.ensures ∙ c.if-not-has_before.true)) (sym c.get.ensures) ∙ sym c.are_both_same.ensures ∙ c.if-not-are_both_same.true))
+    (ap₂ (option_eq same) (value_first ps i _ _ e (sym c.has_before.ensures ∙ c.if-not-has_before.true)) (sym c.get.ensures.tree) ∙ sym c.are_both_same.ensures ∙ c.if-not-are_both_same.true))
 
 pub are_firsts_same-members-preserved : goal.are_firsts_same-members-preserved
 are_firsts_same-members-preserved t c =
     let ps = members_seen c.args.first in let qs = members_seen c.args.second in let i = c.members.i in let h = c.members.invariant in
     elim c.match-pair.branch [
       | are_firsts_same-in-Some+else-not-has_before w ↦
-          let e = sym w.in-Some.ensures in
+          let e = sym w.in-Some.ensures.tree in
           all_more (agree_at ps qs) (keys_in ps) i _ (key_of_pair ps i _ _ e) h (
           elim w.else-not-has_before.branch [
             | are_firsts_same-else-not-has_before-via-then-not-has_before+else-not-are_both_same w' ↦
-                ap₂ (option_eq same) (value_first ps i _ _ e (sym w.has_before.ensures ∙ w'.if-not-has_before.true)) (sym w'.get.ensures) ∙ sym w'.are_both_same.ensures ∙ w'.if-not-are_both_same.false
+                ap₂ (option_eq same) (value_first ps i _ _ e (sym w.has_before.ensures ∙ w'.if-not-has_before.true)) (sym w'.get.ensures.tree) ∙ sym w'.are_both_same.ensures ∙ w'.if-not-are_both_same.false
             | are_firsts_same-else-not-has_before-via-else-not-has_before w' ↦ passed_before (agree_at ps qs) (take i (keys_in ps)) _ (sym w.has_before.ensures ∙ w'.if-not-has_before.false) h
           ]
           )
-      | are_firsts_same-in_default w ↦ ap (list_all (agree_at ps qs)) (take_more (keys_in ps) i (no_key_at ps i (sym w.in_default.ensures))) ∙ h
+      | are_firsts_same-in_default w ↦ ap (list_all (agree_at ps qs)) (take_more (keys_in ps) i (no_key_at ps i (sym w.in_default.ensures.tree))) ∙ h
     ]
 
 pub are_objects_same-returns-then-len : goal.are_objects_same-returns-then-len
@@ -79,14 +79,14 @@ are_objects_same-returns-else-are_firsts_same t c =
     )
 
 pub are_same-are_arrays_same-requires : goal.are_same-are_arrays_same-requires
-are_same-are_arrays_same-requires t c = (omega (arith, ap nodes (array_seen (seen c.args.first) _ c.in-Some.ensures)), tt)
+are_same-are_arrays_same-requires t c = (omega (arith, ap nodes (array_seen (seen c.args.first) _ c.in-Some.ensures.trees)), tt)
 
 pub are_same-are_objects_same-requires : goal.are_same-are_objects_same-requires
-are_same-are_objects_same-requires t c = (omega (arith, ap nodes (object_seen (seen c.args.first) _ c.in-Some-as_object.ensures)), tt)
+are_same-are_objects_same-requires t c = (omega (arith, ap nodes (object_seen (seen c.args.first) _ c.in-Some-as_object.ensures.trees)), tt)
 
 pub are_same-returns-in-Some-as_array : goal.are_same-returns-in-Some-as_array
-are_same-returns-in-Some-as_array t c = c.are_arrays_same.ensures ∙ sym (ap₂ same (array_seen (seen c.args.first) _ c.in-Some.ensures) (array_seen (seen c.args.second) _ c.in-Some-as_array.ensures))
+are_same-returns-in-Some-as_array t c = c.are_arrays_same.ensures ∙ sym (ap₂ same (array_seen (seen c.args.first) _ c.in-Some.ensures.trees) (array_seen (seen c.args.second) _ c.in-Some-as_array.ensures.trees))
 
 pub are_same-returns-in-Some-as_object-2 : goal.are_same-returns-in-Some-as_object-2
 are_same-returns-in-Some-as_object-2 t c =
-    c.are_objects_same.ensures ∙ sym (ap₂ same (object_seen (seen c.args.first) _ c.in-Some-as_object.ensures) (object_seen (seen c.args.second) _ c.in-Some-as_object-2.ensures))
+    c.are_objects_same.ensures ∙ sym (ap₂ same (object_seen (seen c.args.first) _ c.in-Some-as_object.ensures.trees) (object_seen (seen c.args.second) _ c.in-Some-as_object-2.ensures.trees))

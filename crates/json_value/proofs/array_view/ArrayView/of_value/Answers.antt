@@ -4,5 +4,5 @@ use Rattle.json_value.proofs.Trees.{list_again}
 use Rattle.json_value.proofs.WholeTrees.{array_in}
 use Rattle.json_value.proofs.array_view.ArrayView.of_value.Goals as goal
 
-pub returns-in-Array : goal.returns-in-Array
-returns-in-Array c = ap (λ ts. Some ts) (c.view.ensures ∙ sym (list_again _)) ∙ ap list_of (sym (array_in _ c.in-Array.array c.in-Array.is))
+pub returns-in-Array-clause-trees : goal.returns-in-Array-clause-trees
+returns-in-Array-clause-trees c = ap (λ ts. Some ts) (c.view.ensures.trees ∙ sym (list_again _)) ∙ ap list_of (sym (array_in _ c.in-Array.array c.in-Array.is))

@@ -2,5 +2,5 @@ use Rattle.std.proofs.Common.{sym}
 use Rattle.json_value.proofs.WholeTrees.{object_in}
 use Rattle.json_value.proofs.value.Value.as_ref.Goals as goal
 
-pub returns-in-Object : goal.returns-in-Object
-returns-in-Object c = sym (object_in _ c.in-Object.object c.in-Object.is)
+pub returns-in-Object-clause-tree : goal.returns-in-Object-clause-tree
+returns-in-Object-clause-tree c = sym (object_in _ c.in-Object.object c.in-Object.is)

@@ -8,4 +8,4 @@ use Rattle.json_value.proofs.value.Value.eq_slice.Goals as goal
 
 pub returns-in-Some : goal.returns-in-Some
 returns-in-Some c =
-    c.are_arrays_same.ensures ∙ sym (ap (λ t. same t (list (list_trees (map tree_of c.args.items.now)))) (array_seen (tree_of c.args.self.now) _ (c.in-Some.ensures ∙ ap list_of c.view.ensures.tree)))
+    c.are_arrays_same.ensures ∙ sym (ap (λ t. same t (list (list_trees (map tree_of c.args.items.now)))) (array_seen (tree_of c.args.self.now) _ (c.in-Some.ensures.trees ∙ ap list_of c.view.ensures.tree)))

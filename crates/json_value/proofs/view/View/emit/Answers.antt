@@ -5,4 +5,4 @@ use Rattle.json_value.proofs.Emitting.{emits_one}
 use Rattle.json_value.proofs.view.View.emit.Goals as goal
 
 pub returns-in-Absent : goal.returns-in-Absent
-returns-in-Absent g c = emits_one _ _ _ _ _ _ _ _ _ c.requires.fresh (ap (λ f. tokens (form_seen f)) c.in-Absent.is) c.null.ensures
+returns-in-Absent g c = emits_one _ _ _ _ _ _ _ _ _ (ap (λ f. tokens (form_seen f)) c.in-Absent.is) c.null.ensures

@@ -1,0 +1,117 @@
+-- What the views of parts are of: the elements and the members of what is seen, and what stands where steps lead.
+use Rattle.std.specs.Prelude.{ℕ, List, [], ◌∷◌, Option, None, Some, map, option_map, option_and_then, slice_get}
+use Rattle.std.specs.Borrow.{Bor}
+use Rattle.std.specs.List.{enumerate_from}
+use Rattle.json_grammar.specs.Tree.{Tree}
+use Rattle.json_model.specs.Edit.{Step, key_step, index_step}
+use Rattle.json_doc.specs.Docs.{doc_tree}
+use Rattle.json_doc.specs.Readings.{elements}
+use Rattle.json_doc.specs.Seen.{child_place, view_doc, view_place, view_tree}
+use Rattle.json_doc.specs.declared.doc.Doc.{Doc}
+use Rattle.json_value.specs.Denotes.{text_bytes}
+use Rattle.json_value.specs.Readings.{members}
+use Rattle.json_value.specs.Said.{place_tree}
+use Rattle.json_value.specs.Seen.{first_of, list_of, pairs_of}
+use Rattle.json_value.specs.Sights.{Sight, whole_value, place_of, nowhere, doc_held, sight_of}
+use Rattle.json_value.specs.declared.array_view.ArrayView.{ArrayView}
+use Rattle.json_value.specs.declared.array_view.ArrayForm.{ArrayForm}
+use Rattle.json_value.specs.declared.array_view.ArrayForm.TheVariants as array
+use Rattle.json_value.specs.declared.container.Container.{Container}
+use Rattle.json_value.specs.declared.container.Form.{Form}
+use Rattle.json_value.specs.declared.container.Form.TheVariants.{Empty, Owned, Packed}
+use Rattle.json_value.specs.declared.object_view.ObjectView.{ObjectView}
+use Rattle.json_value.specs.declared.object_view.ObjectForm.{ObjectForm}
+use Rattle.json_value.specs.declared.object_view.ObjectForm.TheVariants as object
+use Rattle.json_value.specs.declared.pair.Keyed.{Keyed}
+use Rattle.json_value.specs.declared.value.Value.{Value, out-Value}
+use Rattle.json_value.specs.declared.value.Value.TheOpen.{Value-F}
+use Rattle.json_value.specs.declared.view.View.{View}
+
+-- the child i of the container at a place: it stands at its place of the same document, which a value holds if one holds the container's
+abbrev pub child_sight : Doc → Option Doc → ℕ → ℕ → Sight
+child_sight d held at i = place_of d held (child_place d at i)
+
+-- so each of the elements
+abbrev pub elements_at : Doc → Option Doc → ℕ → List Tree → List Sight
+elements_at d held at ts = map (λ q. child_sight d held at q.0) (enumerate_from 0 ts)
+
+-- and each of the members, with its key
+abbrev pub members_at : Doc → Option Doc → ℕ → List (List ℕ × Tree) → List (List ℕ × Sight)
+members_at d held at ps = map (λ q. (q.1.0, child_sight d held at q.0)) (enumerate_from 0 ps)
+
+abbrev pub form_elements : Form Value → List Sight
+form_elements Empty = []
+form_elements (Owned v) = map whole_value v.items
+form_elements (Packed p) = elements_at p.doc.value (Some p.doc.value) p.at (elements (place_tree p))
+
+-- the elements of an array: of an owned list each value
+abbrev pub array_sights : Container Value → List Sight
+array_sights a = form_elements a.form
+
+-- a member of an owned list: its key, and its value
+abbrev pub pair_sight : Keyed Value → List ℕ × Sight
+pair_sight m = (text_bytes m.key, whole_value m.value)
+
+abbrev pub form_members : Form (Keyed Value) → List (List ℕ × Sight)
+form_members Empty = []
+form_members (Owned v) = map pair_sight v.items
+form_members (Packed p) = members_at p.doc.value (Some p.doc.value) p.at (members (place_tree p))
+
+-- so the members of an object
+abbrev pub object_sights : Container (Keyed Value) → List (List ℕ × Sight)
+object_sights o = form_members o.form
+
+abbrev pub level_elements : Value-F Value → Option (List Sight)
+level_elements (Value-F.Array a) = Some (array_sights a)
+level_elements _ = None
+
+abbrev pub level_members : Value-F Value → Option (List (List ℕ × Sight))
+level_members (Value-F.Object o) = Some (object_sights o)
+level_members _ = None
+
+-- the elements of the array, of no other kind
+abbrev pub elements_of : Sight → Option (List Sight)
+elements_of (whole_value v) = level_elements (out-Value v)
+elements_of (place_of d held at) = option_map (elements_at d held at) (list_of (doc_tree d at))
+elements_of nowhere = None
+
+-- the members of the object, of no other kind
+abbrev pub members_of : Sight → Option (List (List ℕ × Sight))
+members_of (whole_value v) = level_members (out-Value v)
+members_of (place_of d held at) = option_map (members_at d held at) (pairs_of (doc_tree d at))
+members_of nowhere = None
+
+-- the value of the first member of a key, or the element of an index, counted from 0
+abbrev pub part_of : Step → Sight → Option Sight
+part_of (key_step k) s = option_and_then (λ ps. option_map (λ p. p.1) (first_of k ps)) (members_of s)
+part_of (index_step i) s = option_and_then (λ ss. slice_get ss i) (elements_of s)
+
+-- what stands where the steps lead
+abbrev pub part_at : List Step → Sight → Option Sight
+part_at [] s = Some s
+part_at (x ∷ p) s = elim (part_of x s) [ None ↦ None | Some u ↦ part_at p u ]
+
+-- that, or null, which stands nowhere
+abbrev pub or_nowhere : Option Sight → Sight
+or_nowhere None = nowhere
+or_nowhere (Some s) = s
+
+abbrev pub array_form_sights : ArrayForm → List Sight
+array_form_sights (array.Packed p) = elements_at (view_doc p.view) (doc_held p.holder) (view_place p.view) (elements (view_tree p.view))
+array_form_sights (array.Whole vs) = map whole_value vs.now
+
+-- what the views of the elements are of
+abbrev pub elements_sights : ArrayView → List Sight
+elements_sights v = array_form_sights v.form
+
+abbrev pub object_form_sights : ObjectForm → List (List ℕ × Sight)
+object_form_sights (object.Packed p) = members_at (view_doc p.view) (doc_held p.holder) (view_place p.view) (members (view_tree p.view))
+object_form_sights (object.Whole ps) = map pair_sight ps.now
+
+-- what the views of the members' values are of, each behind its key
+abbrev pub members_sights : ObjectView → List (List ℕ × Sight)
+members_sights v = object_form_sights v.form
+
+-- a member, as it is given
+abbrev pub member_sight : Bor (List ℕ) × View → List ℕ × Sight
+member_sight p = (p.0.now, sight_of p.1)
