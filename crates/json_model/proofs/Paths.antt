@@ -1,12 +1,12 @@
 -- What a change at a path makes of the trees that stand there and elsewhere.
 use Rattle.std.proofs.Common.{◌≡◌, ◌≢◌, ℕ, zero, suc, List, [], ◌∷◌, ◌++◌, Bool, true, false, cond, Option, Some, None, slice_get, Result, Ok, Err, refl, sym, ap, ◌∙◌, subst, bytes_eq}
 use Rattle.std.specs.Option.{option_and_then}
-use Rattle.json_grammar.specs.Tree.{Tree, null, boolean, num, text, list, pairs, Trees, no_trees, tree_and, trees_list, Pairs, no_pairs, pair_and}
+use Rattle.json_grammar.specs.Tree.{Tree, list, pairs, Trees, no_trees, tree_and, trees_list, Pairs, no_pairs, pair_and}
 use Rattle.json_model.specs.Sort.{values_of}
-use Rattle.json_model.specs.Edit.{Step, key_step, index_step, Edit, set_at, insert_at, push_at, remove_at, Changed, Refusal, not_found, type_unmatched, within, at_key, at_index, at_path, on_pairs, on_list, inserted, pushed, removed, edited, edited_once}
-use Rattle.json_model.specs.Places.{part_of, part_at, Parts, path_of}
+use Rattle.json_model.specs.Edit.{Step, key_step, index_step, set_at, insert_at, push_at, remove_at, Changed, Refusal, not_found, type_unmatched, within, at_key, at_index, at_path, on_pairs, on_list, inserted, pushed, removed}
+use Rattle.json_model.specs.Places.{part_of, part_at}
 use Rattle.json_model.specs.Laws.{ChangesThere, NothingThere, ElseStays, ElseStaysBehindChange}
-use Rattle.json_model.proofs.Members.{same_key, values_of-inserted, other_values}
+use Rattle.json_model.proofs.Members.{values_of-inserted, other_values}
 
 same_some : {A : Type 0} {x y : A} → Some x ≡ Some y → x ≡ y
 same_some e = cc

@@ -40,4 +40,6 @@ pub use serializer::Serializer;
 pub use style::Style;
 
 #[cfg(test)]
+mod system_tests;
+#[cfg(test)]
 mod tests;

@@ -152,6 +152,50 @@ fn members_in_the_order_of_their_keys(rt: HostRuntime) -> std::result::Result<()
     Ok(())
 }
 
+// `{"a": [null, null]}`, with what is told of the lengths
+fn two_elements<E: Events>(out: &mut E, told: Option<usize>) -> Result<()>
+    requires { E.stand (E.state out.old) ≡ record { turn = at_value; opened = [] } }
+{
+    out.begin_object(told)?;
+    out.key("a")?;
+    out.begin_array(told)?;
+    out.null()?;
+    out.null()?;
+    out.end_array()?;
+    out.end_object()
+}
+
+#[test]
+fn false_lengths_change_nothing(rt: HostRuntime) -> std::result::Result<(), Fail> {
+    let alloc = rt.alloc();
+    for told in [Some(0), Some(1), Some(3), Some(usize::MAX)] {
+        let mut compact = Serializer::new(alloc, VecSink::new(alloc));
+        two_elements(&mut compact, told)?;
+        let text = compact.into_inner().into_vec();
+        assert_eq!(rt; text.as_slice(), b"{\"a\":[null,null]}".as_slice());
+        let mut pretty = Serializer::pretty(alloc, VecSink::new(alloc));
+        two_elements(&mut pretty, told)?;
+        let text = pretty.into_inner().into_vec();
+        assert_eq!(rt;
+            text.as_slice(),
+            b"{\n  \"a\": [\n    null,\n    null\n  ]\n}".as_slice()
+        );
+    }
+    Ok(())
+}
+
+#[test]
+fn lengths_of_sorted_objects_change_nothing(rt: HostRuntime) -> std::result::Result<(), Fail> {
+    let alloc = rt.alloc();
+    for told in [Some(0), Some(usize::MAX)] {
+        let mut sorted = Serializer::new(alloc, VecSink::new(alloc)).sort_map_keys();
+        two_elements(&mut sorted, told)?;
+        let text = sorted.into_inner().into_vec();
+        assert_eq!(rt; text.as_slice(), b"{\"a\":[null,null]}".as_slice());
+    }
+    Ok(())
+}
+
 #[test]
 fn an_error_stays(rt: HostRuntime) -> std::result::Result<(), Fail> {
     let alloc = rt.alloc();

@@ -68,6 +68,10 @@ some_input_fault b = elim (cases_lt most (length b)) [ inl l ↦ inr (code.TooLa
 
 -- ---- what is no fault of an input
 
+pub no_want : (b : List ℕ) (place : Place) → InputFault b code.NoMemory place → ⊥
+no_want b place (not_utf8 s u) = u
+no_want b place (no_text s u f) = f.2
+
 pub no_io : (b : List ℕ) (place : Place) → InputFault b code.Io place → ⊥
 no_io b place (not_utf8 s u) = u
 no_io b place (no_text s u f) = f.2

@@ -4,5 +4,6 @@ pub mod Spelled
 pub mod Wording
 pub mod Applying
 pub mod Documents
+pub mod ToldBytes
 pub mod Outcomes
 pub mod Printing

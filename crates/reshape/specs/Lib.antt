@@ -2,6 +2,7 @@ pub mod Input
 pub mod Words
 pub mod Printing
 pub mod Reshape
+pub mod Told
 pub mod Options
 pub mod Gathering
 pub mod Asked

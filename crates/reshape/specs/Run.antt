@@ -1,5 +1,5 @@
 -- The status of the top call, and what it tells of a refusal.
-use Rattle.std.specs.Prelude.{◌≡◌, ◌⊎◌, ℕ, List, Some, Ok, Err}
+use Rattle.std.specs.Prelude.{◌≡◌, ◌⊎◌, ℕ, List}
 use Rattle.json_text.specs.declared.error.Error.{Error}
 use Rattle.json_text.specs.declared.error.ErrorCode.{ErrorCode}
 use Rattle.json_text.specs.declared.error.ErrorCode.TheVariants.{NoMemory, Io, NotFound, TypeUnmatched, BadWords}
@@ -9,11 +9,10 @@ use Rattle.json_text.specs.Known.{Appends}
 use Rattle.json_text.specs.Outside.{SourceState, SinkState, Rose}
 use Rattle.json_text.specs.Transfer.{AppendsFront}
 use Rattle.json_text.specs.FaultText.{text_of}
-use Rattle.json_grammar.specs.Tree.{Tree}
-use Rattle.json_model.specs.Edit.{edited, Refusal, not_found, type_unmatched}
-use Rattle.reshape.specs.Input.{IsInput, InputFault}
+use Rattle.json_model.specs.Edit.{Refusal}
 use Rattle.reshape.specs.Options.{Command, Asks, IsAsked}
 use Rattle.reshape.specs.Reshape.{Reshapes, GainsFront, Refuses}
+use Rattle.reshape.specs.Told.{TellsFit, TellsFault, TellsUnfit}
 
 -- the status of a refusal
 abbrev pub status_of : ErrorCode → Place → ℕ
@@ -56,38 +55,13 @@ pub record Refused (status : ℕ) (words : List (List ℕ)) (source source' : So
   pub tells : Tells (text_of error) errs errs'
 
 -- the words ask for a command, the source tells a valid text to which its edits apply, and nothing failed
-pub record IsGood (words : List (List ℕ)) (source source' : SourceState) (sink sink' : SinkState) : Type 0 where
-  pub command : Command
-  pub asked : Asks words command
-  pub b : List ℕ
-  pub told : source.left ≡ Some b
-  pub tree : Tree
-  pub input : IsInput b tree
-  pub changed : Tree
-  pub applies : edited command.es tree ≡ Ok changed
-  pub read : ¬ (Rose source.faults source'.faults)
-  pub written : ¬ (Rose sink.faults sink'.faults)
+abbrev pub IsGood : List (List ℕ) → SourceState → SourceState → SinkState → SinkState → Type 0
+IsGood words source source' sink sink' = WithCommand words (λ c. TellsFit c.es source source' sink sink')
 
 -- the words ask for a command, the source tells bytes with this fault, and no read failed
-pub record IsBad (words : List (List ℕ)) (source source' : SourceState) (code : ErrorCode) (place : Place) : Type 0 where
-  pub asked : IsAsked words
-  pub b : List ℕ
-  pub told : source.left ≡ Some b
-  pub fault : InputFault b code place
-  pub read : ¬ (Rose source.faults source'.faults)
-
--- the code of a refusal of an edit
-abbrev pub code_of : Refusal → ErrorCode
-code_of not_found = NotFound
-code_of type_unmatched = TypeUnmatched
+abbrev pub IsBad : List (List ℕ) → SourceState → SourceState → ErrorCode → Place → Type 0
+IsBad words source source' code place = WithCommand words (λ c. TellsFault source source' code place)
 
 -- the words ask for a command, the source tells a valid text, the edit of this number is the first that does not apply to it, and no read failed
-pub record IsUnfit (words : List (List ℕ)) (source source' : SourceState) (number : ℕ) (why : Refusal) : Type 0 where
-  pub command : Command
-  pub asked : Asks words command
-  pub b : List ℕ
-  pub told : source.left ≡ Some b
-  pub tree : Tree
-  pub input : IsInput b tree
-  pub refused : edited command.es tree ≡ Err (number, why)
-  pub read : ¬ (Rose source.faults source'.faults)
+abbrev pub IsUnfit : List (List ℕ) → SourceState → SourceState → ℕ → Refusal → Type 0
+IsUnfit words source source' number why = WithCommand words (λ c. TellsUnfit c.es source source' number why)

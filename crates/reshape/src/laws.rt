@@ -1,5 +1,5 @@
-// Laws of inputs, over the definitions alone.
-ghost use Rattle.reshape.specs.Laws.{OneInputFault, ValidHasNoFault, SomeInputFault};
+// Laws of inputs and of the words, over the definitions alone.
+ghost use Rattle.reshape.specs.Laws.{OneInputFault, ValidHasNoFault, SomeInputFault, OneCommand};
 
 /// An input has one fault at most, at one place.
 pub fn one_input_fault()
@@ -14,4 +14,9 @@ pub fn valid_has_no_fault()
 /// An input is a text of some tree within the limits, or has a fault.
 pub fn some_input_fault()
     ensures { SomeInputFault }
+{}
+
+/// The words of the command line ask for one command at most: for the same edits in the same layout.
+pub fn one_command()
+    ensures { OneCommand }
 {}

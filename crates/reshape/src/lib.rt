@@ -41,6 +41,8 @@ mod option_tests;
 #[cfg(test)]
 mod readme_tests;
 #[cfg(test)]
+mod system_tests;
+#[cfg(test)]
 mod tests;
 #[cfg(test)]
 mod words_tests;

@@ -8,9 +8,9 @@ ghost use Rattle.json_text.specs.Transfer.{TakesAtMost};
 ghost use Rattle.reshape.specs.Input.{most};
 ghost use Rattle.reshape.specs.Reshape.{Reshapes};
 ghost use Rattle.json_model.specs.Edit.{Refusal};
-ghost use Rattle.json_text.specs.declared.error.Place.TheVariants.{Edit as in_edit};
 ghost use Rattle.reshape.specs.Options.{IsAsked};
-ghost use Rattle.reshape.specs.Run.{WithCommand, status_of, Tells, RunRefuses, Done, Refused, IsGood, IsBad, IsUnfit, code_of};
+ghost use Rattle.reshape.specs.Run.{WithCommand, status_of, Tells, RunRefuses, Done, Refused, IsGood, IsBad, IsUnfit};
+ghost use Rattle.reshape.specs.Told.{edit_refused};
 
 use crate::reshape;
 use crate::words::asked;
@@ -71,7 +71,7 @@ pub fn run<S: Source, K: Sink, E: Sink>(
     ensures complete { IsGood words.now (S.state source.old) (S.state source.new) (K.state sink.old) (K.state sink.new)
         → (result ≡ 0) ⊎ (result ≡ 6) }
     ensures unfit { (number : ℕ) (why : Refusal) → IsUnfit words.now (S.state source.old) (S.state source.new) number why
-        → ((result ≡ 3) × Tells (text_of (record { code = code_of why; place = in_edit number })) (E.state errs.old) (E.state errs.new)) ⊎ (result ≡ 6) }
+        → ((result ≡ 3) × Tells (text_of (edit_refused number why)) (E.state errs.old) (E.state errs.new)) ⊎ (result ≡ 6) }
     ensures words { ¬ (IsAsked words.now) → (result ≡ 2) ⊎ (result ≡ 6) }
     ensures exact { (code : ErrorCode) (place : Place) → IsBad words.now (S.state source.old) (S.state source.new) code place
         → ((result ≡ 1) × Tells (text_of (record { code = code; place = place })) (E.state errs.old) (E.state errs.new)) ⊎ (result ≡ 6) }

@@ -1,0 +1,47 @@
+-- What a source tells that tells its bytes: a text to which the edits apply, a fault, or a text to which they do not apply.
+use Rattle.std.specs.Prelude.{◌≡◌, ℕ, List, Some, Ok, Err}
+use Rattle.json_text.specs.declared.error.ErrorCode.{ErrorCode}
+use Rattle.json_text.specs.declared.error.ErrorCode.TheVariants.{NotFound, TypeUnmatched}
+use Rattle.json_text.specs.declared.error.Error.{Error}
+use Rattle.json_text.specs.declared.error.Place.{Place}
+use Rattle.json_text.specs.declared.error.Place.TheVariants.{Edit as in_edit}
+use Rattle.json_text.specs.Outside.{SourceState, SinkState, Rose}
+use Rattle.json_grammar.specs.Tree.{Tree}
+use Rattle.json_model.specs.Edit.{Edit, edited, Refusal, not_found, type_unmatched}
+use Rattle.reshape.specs.Input.{IsInput, InputFault}
+
+-- the source tells a valid text to which the edits apply, and nothing failed
+pub record TellsFit (es : List Edit) (source source' : SourceState) (sink sink' : SinkState) : Type 0 where
+  pub b : List ℕ
+  pub told : source.left ≡ Some b
+  pub tree : Tree
+  pub input : IsInput b tree
+  pub changed : Tree
+  pub applies : edited es tree ≡ Ok changed
+  pub read : ¬ (Rose source.faults source'.faults)
+  pub written : ¬ (Rose sink.faults sink'.faults)
+
+-- the source tells bytes with this fault, and no read failed
+pub record TellsFault (source source' : SourceState) (code : ErrorCode) (place : Place) : Type 0 where
+  pub b : List ℕ
+  pub told : source.left ≡ Some b
+  pub fault : InputFault b code place
+  pub read : ¬ (Rose source.faults source'.faults)
+
+-- the source tells a valid text, the edit of this number is the first that does not apply to it, and no read failed
+pub record TellsUnfit (es : List Edit) (source source' : SourceState) (number : ℕ) (why : Refusal) : Type 0 where
+  pub b : List ℕ
+  pub told : source.left ≡ Some b
+  pub tree : Tree
+  pub input : IsInput b tree
+  pub refused : edited es tree ≡ Err (number, why)
+  pub read : ¬ (Rose source.faults source'.faults)
+
+-- the code of a refusal of an edit
+abbrev pub code_of : Refusal → ErrorCode
+code_of not_found = NotFound
+code_of type_unmatched = TypeUnmatched
+
+-- the refusal of the edit of this number
+abbrev pub edit_refused : ℕ → Refusal → Error
+edit_refused number why = record { code = code_of why; place = in_edit number }
