@@ -13,7 +13,7 @@ use Rattle.json_doc.specs.declared.cell.Cell.TheVariants as cell
 use Rattle.json_doc.specs.declared.doc.Doc.{Doc}
 use Rattle.json_doc.specs.declared.view.DocView.{DocView}
 use Rattle.json_doc.specs.Seen.{view_tree}
-use Rattle.json_doc.proofs.Numeric.{number_had}
+use Rattle.json_grammar.proofs.Numeric.{number_had}
 
 AllProper : List Tree → Type 0
 AllProper [] = Unit {0}

@@ -17,7 +17,7 @@ use Rattle.json_doc.specs.CellReadings.{cell_type, cell_bool, cell_len}
 use Rattle.json_doc.specs.declared.cell.Cell.{Cell}
 use Rattle.json_doc.specs.declared.cell.Cell.TheVariants as cell
 use Rattle.json_doc.specs.declared.doc.Doc.{Doc}
-use Rattle.json_doc.proofs.Numeric.{number_had}
+use Rattle.json_grammar.proofs.Numeric.{number_had}
 use Rattle.json_doc.proofs.Shaping.{Valued}
 use Rattle.json_doc.proofs.Pieces.{length-trees, tree_where, range_below, range_cons, range_none}
 

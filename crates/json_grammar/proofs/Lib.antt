@@ -12,6 +12,7 @@ pub mod Completing
 pub mod Next
 pub mod Depth
 pub mod Moves
+pub mod Pieces
 pub mod Strings
 pub mod NumberRuns
 pub mod Within
@@ -28,8 +29,19 @@ pub mod PartScan
 pub mod SomeFault
 pub mod Gaps
 pub mod SomeValueFault
+pub mod Numeric
 pub mod Lossy
 pub mod Steps
 pub mod ExampleTexts
 pub mod ExampleFaults
+pub mod ExampleRules
 pub mod TextUtf8
+pub mod OpenKeys
+pub mod TokenSteps
+pub mod RepeatedNames
+pub mod FirstRepeated
+pub mod RepeatedInput
+pub mod RulesFault
+pub mod RulesValueFault
+pub mod RulesTable
+pub mod RulesReader

@@ -90,6 +90,8 @@ pub data FaultCode : Type 0 where
   trailing_characters : FaultCode
   -- a bracket opens more levels than are allowed
   recursion_limit_exceeded : FaultCode
+  -- a name repeats an earlier name of its object, which is told only by a reader that was asked for unique names
+  duplicate_key : FaultCode
 
 -- p is the longest prefix of b that is viable, in whichever sense, and x is the byte behind it
 pub record longest (viable : List ℕ → Type 0) (b p : List ℕ) (x : ℕ) : Type 0 where
@@ -175,6 +177,7 @@ module _ (lossy : Bool) where
   row invalid_surrogate p x = (e : List ℕ) × in_string p e × is_surrogate lossy e x
   row trailing_characters p x = place lossy p [] done × ¬ (is_bad_number p x)
   row recursion_limit_exceeded p x = ⊥
+  row duplicate_key p x = ⊥
 
   -- the fault of b at the offset k, where `viable` says which prefixes are viable, and `whole` that b lacks nothing
   abbrev pub fault_by : (List ℕ → Type 0) → Type 0 → ℕ → List ℕ → FaultCode → ℕ → Type 0

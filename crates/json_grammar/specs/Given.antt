@@ -1,10 +1,11 @@
 -- Where a reader stands in an input, and what it has told of the bytes that it took.
-use Rattle.std.specs.Prelude.{◌≡◌, ℕ, Bool, ◌-◌, ◌≤◌, List, [], ◌∷◌, ◌++◌, length, take, drop}
+use Rattle.std.specs.Prelude.{◌≡◌, ℕ, Bool, ◌-◌, ◌<◌, ◌≤◌, List, [], ◌∷◌, ◌++◌, length, take, drop}
 use Rattle.json_grammar.specs.declared.Kind.{Kind}
 use Rattle.json_grammar.specs.Tree.{Token, num_token}
 use Rattle.json_grammar.specs.declared.Spot.{Spot}
-use Rattle.json_grammar.specs.declared.Spot.TheVariants.{Done as done}
-use Rattle.json_grammar.specs.Place.{reading}
+use Rattle.json_grammar.specs.declared.Spot.TheVariants.{Colon as colon, Done as done}
+use Rattle.json_grammar.specs.Grammar.{string}
+use Rattle.json_grammar.specs.Place.{TakesKey, reading}
 use Rattle.json_grammar.specs.Lexeme.{EndsNumber}
 
 -- the bytes of b from the offset i up to j
@@ -20,3 +21,20 @@ pub record Given (lossy : Bool) (b : List ℕ) (i : ℕ) (c : List Kind) (w : Sp
   pub fits : i ≤ length b
   pub at : reading lossy (take i b) c w ts
   pub ends : LastEnds w ts (drop i b)
+
+-- each name that is whole within the first k bytes of b is within the first i bytes: a reader that took them has told it
+abbrev pub NamesTold : Bool → List ℕ → ℕ → ℕ → Type 0
+NamesTold lossy b i k =
+    (j n : ℕ) (c : List Kind) (w : Spot) (ts : List Token) (s : List ℕ)
+    → j ≤ n
+    → n ≤ k
+    → n ≤ length b
+    → reading lossy (take j b) c w ts
+    → TakesKey w
+    → string lossy s (piece b j n)
+    → n ≤ i
+
+-- no name ends behind the first i bytes of b and within the first k
+abbrev pub NoNameEnds : Bool → List ℕ → ℕ → ℕ → Type 0
+NoNameEnds lossy b i k =
+    (n : ℕ) (c : List Kind) (ts : List Token) → i < n → n ≤ k → ¬ (reading lossy (take n b) c colon ts)

@@ -5,11 +5,16 @@ pub mod Lexeme
 pub mod Levels
 pub mod Proper
 pub mod Fault
+pub mod Repeated
+pub mod Rules
 pub mod Allows
 pub mod Given
 pub mod Needs
 pub mod Sizes
 pub mod Laws
 pub mod ReaderLaws
+pub mod RulesLaws
+pub mod RulesReaderLaws
 pub mod NumberStates
 pub mod Examples
+pub mod RulesExamples

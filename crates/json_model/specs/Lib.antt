@@ -2,5 +2,9 @@ pub mod Print
 pub mod Sort
 pub mod Same
 pub mod Edit
+pub mod Datum
+pub mod Merged
+pub mod DataLaws
 pub mod Laws
 pub mod Examples
+pub mod DataExamples

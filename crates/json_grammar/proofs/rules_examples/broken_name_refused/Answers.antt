@@ -1,0 +1,5 @@
+use Rattle.json_grammar.proofs.ExampleRules as proof
+use Rattle.json_grammar.proofs.rules_examples.broken_name_refused.Goals as goal
+
+pub returns : goal.returns
+returns c = proof.broken_name_refused

@@ -1,0 +1,5 @@
+use Rattle.json_model.proofs.MergedTrees as proof
+use Rattle.json_model.proofs.data_laws.merged_is_proper.Goals as goal
+
+pub returns : goal.returns
+returns c = proof.merged_proper
