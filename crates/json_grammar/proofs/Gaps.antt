@@ -7,7 +7,7 @@ use Rattle.json_grammar.specs.Tree.{Token}
 use Rattle.json_grammar.specs.Grammar.{IsWhitespace, ws, is_text}
 use Rattle.json_grammar.specs.declared.Spot.{Spot}
 use Rattle.json_grammar.specs.declared.Spot.TheVariants.{Value as at_value, First as first, Key as key, KeyOrEnd as key_or_end, Colon as colon, Done as done}
-use Rattle.json_grammar.specs.Place.{viable_prefix, reading, read_comma, read_colon}
+use Rattle.json_grammar.specs.Place.{viable_prefix, reading, after_comma, read_comma, read_colon}
 use Rattle.json_grammar.specs.Given.{piece, LastEnds, Given}
 use Rattle.json_grammar.specs.Needs.{IsGap}
 use Rattle.json_grammar.specs.Allows.{BeginsValue, Closes, Allows}
@@ -34,8 +34,19 @@ apart x e h = omega arith
 mark_no_space : (x : ℕ) → (x ≡ 44) ⊎ (x ≡ 58) → IsWhitespace x → ⊥
 mark_no_space x e h = omega arith
 
+comma_not_done : (k : Kind) → after_comma k ≡ done → ⊥
+comma_not_done array e = cc
+comma_not_done object e = cc
+
+value_not_done : at_value ≡ done → ⊥
+value_not_done e = cc
+
+-- at some place behind a mark
+abbrev pub Behind : Bool → List ℕ → List Token → Type 0
+Behind lossy p ts = (c : List Kind) × (w : Spot) × reading lossy p c w ts × (w ≡ done → ⊥)
+
 module _ (lossy : Bool) where
-  behind_comma : {p : List ℕ} {ts : List Token} (w : Spot) (c : List Kind) (v : List ℕ) → reading lossy p c w ts → ws v → Allows w c 44 → (c' : List Kind) × (w' : Spot) × reading lossy (p ++ 44 ∷ v) c' w' ts
+  behind_comma : {p : List ℕ} {ts : List Token} (w : Spot) (c : List Kind) (v : List ℕ) → reading lossy p c w ts → ws v → Allows w c 44 → Behind lossy (p ++ 44 ∷ v) ts
   behind_comma at_value c v r s h = absurd (no_value 44 (inl refl) h)
   behind_comma first c v r s (inl h) = absurd (no_value 44 (inl refl) h)
   behind_comma first c v r s (inr h) = absurd (no_end c 44 (inl refl) h)
@@ -44,17 +55,17 @@ module _ (lossy : Bool) where
   behind_comma key_or_end c v r s (inr h) = absurd (no_end c 44 (inl refl) h)
   behind_comma colon c v r s h = absurd (apart 44 refl h)
   behind_comma done [] v r s (inl h) = absurd h
-  behind_comma done (k ∷ c) v r s (inl h) = (k ∷ c, _, read_comma k r (44 ∷ [], v, refl, refl, s))
+  behind_comma done (k ∷ c) v r s (inl h) = (k ∷ c, _, read_comma k r (44 ∷ [], v, refl, refl, s), comma_not_done k)
   behind_comma done c v r s (inr h) = absurd (no_end c 44 (inl refl) h)
 
-  behind_colon : {p : List ℕ} {ts : List Token} (w : Spot) (c : List Kind) (v : List ℕ) → reading lossy p c w ts → ws v → Allows w c 58 → (c' : List Kind) × (w' : Spot) × reading lossy (p ++ 58 ∷ v) c' w' ts
+  behind_colon : {p : List ℕ} {ts : List Token} (w : Spot) (c : List Kind) (v : List ℕ) → reading lossy p c w ts → ws v → Allows w c 58 → Behind lossy (p ++ 58 ∷ v) ts
   behind_colon at_value c v r s h = absurd (no_value 58 (inr refl) h)
   behind_colon first c v r s (inl h) = absurd (no_value 58 (inr refl) h)
   behind_colon first c v r s (inr h) = absurd (no_end c 58 (inr refl) h)
   behind_colon key c v r s h = absurd (no_quote 58 (inr refl) h)
   behind_colon key_or_end c v r s (inl h) = absurd (no_quote 58 (inr refl) h)
   behind_colon key_or_end c v r s (inr h) = absurd (no_end c 58 (inr refl) h)
-  behind_colon colon c v r s h = (c, at_value, read_colon r (58 ∷ [], v, refl, refl, s))
+  behind_colon colon c v r s h = (c, at_value, read_colon r (58 ∷ [], v, refl, refl, s), value_not_done)
   behind_colon done [] v r s (inl h) = absurd h
   behind_colon done (k ∷ c) v r s (inl h) = absurd (apart 58 h refl)
   behind_colon done c v r s (inr h) = absurd (no_end c 58 (inr refl) h)
@@ -71,8 +82,13 @@ module _ (lossy : Bool) where
     there : (x : ℕ) → piece b i j ≡ u ++ x ∷ v → (take i b ++ u) ++ x ∷ v ≡ take j b
     there x e = append_assoc (take i b) u (x ∷ v) ∙ ap (λ y. take i b ++ y) (sym e) ∙ sym (take_on b i j l)
 
-pub gap_has_no_token : (lossy : Bool) (b : List ℕ) (i j : ℕ) (c : List Kind) (w : Spot) (ts : List Token) → Given lossy b i c w ts → i ≤ j → IsGap (piece b i j) → viable_prefix lossy (take j b) → (c' : List Kind) × (w' : Spot) × reading lossy (take j b) c' w' ts
-gap_has_no_token lossy b i j c w ts g l h n = by h.is_mark
+-- behind a gap: at the same place, whitespace aside, or behind a mark
+pub data Across (lossy : Bool) (b : List ℕ) (i j : ℕ) (c : List Kind) (w : Spot) (ts : List Token) : Type 0 where
+  spaced : ws (piece b i j) → Across lossy b i j c w ts
+  marked : Behind lossy (take j b) ts → Across lossy b i j c w ts
+
+pub across : (lossy : Bool) (b : List ℕ) (i j : ℕ) (c : List Kind) (w : Spot) (ts : List Token) → Given lossy b i c w ts → i ≤ j → IsGap (piece b i j) → viable_prefix lossy (take j b) → Across lossy b i j c w ts
+across lossy b i j c w ts g l h n = by h.is_mark
   where
     u : List ℕ
     u = h.before
@@ -83,15 +99,22 @@ gap_has_no_token lossy b i j c w ts g l h n = by h.is_mark
     at : reading lossy (take i b ++ u) c w ts
     at = reading_space lossy u h.space_before g.at
 
-    marked : (x : ℕ) → h.mark ≡ x ∷ [] → piece b i j ≡ u ++ x ∷ v
-    marked x e = h.row ∙ ap (λ y. u ++ (y ++ v)) e
+    row_of : (x : ℕ) → h.mark ≡ x ∷ [] → piece b i j ≡ u ++ x ∷ v
+    row_of x e = h.row ∙ ap (λ y. u ++ (y ++ v)) e
 
-    moved : (x : ℕ) → piece b i j ≡ u ++ x ∷ v → (c' : List Kind) × (w' : Spot) × reading lossy ((take i b ++ u) ++ x ∷ v) c' w' ts → (c' : List Kind) × (w' : Spot) × reading lossy (take j b) c' w' ts
-    moved x e (c', w', r) = (c', w', subst (λ y. reading lossy y c' w' ts) (there lossy b i j c w ts g l u v h.space_before x e) r)
+    moved : (x : ℕ) → piece b i j ≡ u ++ x ∷ v → Behind lossy ((take i b ++ u) ++ x ∷ v) ts → Across lossy b i j c w ts
+    moved x e h' = marked (subst (λ y. Behind lossy y ts) (there lossy b i j c w ts g l u v h.space_before x e) h')
 
-    by : (h.mark ≡ []) ⊎ ((h.mark ≡ 44 ∷ []) ⊎ (h.mark ≡ 58 ∷ [])) → (c' : List Kind) × (w' : Spot) × reading lossy (take j b) c' w' ts
-    by (inl e) = (c, w, spaced_on lossy b i j c w ts g l (subst ws (sym (h.row ∙ ap (λ y. u ++ (y ++ v)) e)) (ws-append u v h.space_before h.space_behind)))
+    by : (h.mark ≡ []) ⊎ ((h.mark ≡ 44 ∷ []) ⊎ (h.mark ≡ 58 ∷ [])) → Across lossy b i j c w ts
+    by (inl e) = spaced (subst ws (sym (h.row ∙ ap (λ y. u ++ (y ++ v)) e)) (ws-append u v h.space_before h.space_behind))
     by (inr (inl e)) =
-        let m = marked 44 e in moved 44 m (behind_comma lossy w c v at h.space_behind (mark_allowed lossy b i j c w ts g l u v h.space_before 44 (inl refl) m n))
+        let m = row_of 44 e in moved 44 m (behind_comma lossy w c v at h.space_behind (mark_allowed lossy b i j c w ts g l u v h.space_before 44 (inl refl) m n))
     by (inr (inr e)) =
-        let m = marked 58 e in moved 58 m (behind_colon lossy w c v at h.space_behind (mark_allowed lossy b i j c w ts g l u v h.space_before 58 (inr refl) m n))
+        let m = row_of 58 e in moved 58 m (behind_colon lossy w c v at h.space_behind (mark_allowed lossy b i j c w ts g l u v h.space_before 58 (inr refl) m n))
+
+pub gap_has_no_token : (lossy : Bool) (b : List ℕ) (i j : ℕ) (c : List Kind) (w : Spot) (ts : List Token) → Given lossy b i c w ts → i ≤ j → IsGap (piece b i j) → viable_prefix lossy (take j b) → (c' : List Kind) × (w' : Spot) × reading lossy (take j b) c' w' ts
+gap_has_no_token lossy b i j c w ts g l h n = by (across lossy b i j c w ts g l h n)
+  where
+    by : Across lossy b i j c w ts → (c' : List Kind) × (w' : Spot) × reading lossy (take j b) c' w' ts
+    by (spaced s) = (c, w, spaced_on lossy b i j c w ts g l s)
+    by (marked (c', w', r, d)) = (c', w', r)

@@ -45,3 +45,4 @@ pub mod RulesFault
 pub mod RulesValueFault
 pub mod RulesTable
 pub mod RulesReader
+pub mod NeedsNames

@@ -1,5 +1,5 @@
 -- Before the token that needs a refused byte stand the tokens that were told.
-use Rattle.std.proofs.Common.{◌≡◌, ℕ, List, [], ◌∷◌, ◌++◌, length, take, false, sym, ap, ◌∙◌, subst, arith, append_assoc, take_all}
+use Rattle.std.proofs.Common.{◌≡◌, ℕ, ◌≤◌, List, [], ◌∷◌, ◌++◌, length, take, false, sym, ap, ◌∙◌, subst, arith, append_assoc, length-append, take_all}
 use Rattle.std.proofs.Math.Seq.{take-append_seam}
 use Rattle.json_grammar.specs.declared.Kind.{Kind}
 use Rattle.json_grammar.specs.declared.Spot.{Spot}
@@ -7,15 +7,17 @@ use Rattle.json_grammar.specs.Tree.{Tree, Token}
 use Rattle.json_grammar.specs.Grammar.{ws, is_text}
 use Rattle.json_grammar.specs.Place.{reading, viable_prefix}
 use Rattle.json_grammar.specs.Fault.{FaultCode}
-use Rattle.json_grammar.specs.Given.{piece}
+use Rattle.json_grammar.specs.Given.{piece, NamesTold}
 use Rattle.json_grammar.specs.Needs.{IsGap}
 use Rattle.json_grammar.proofs.Faults.{shorter_viable}
 use Rattle.json_grammar.proofs.Gaps.{gap_has_no_token}
 use Rattle.json_grammar.proofs.Lists.{ws-append}
 use Rattle.json_grammar.proofs.Moves.{take_on}
+use Rattle.json_grammar.proofs.NeedsNames.{names_before}
 use Rattle.json_grammar.proofs.OneFault.{Told, deep, short, other, told}
 use Rattle.json_text.specs.declared.error.Error.{Error}
 use Rattle.json_text.specs.declared.error.ErrorCode.{ErrorCode}
+use Rattle.json_text.specs.declared.error.ErrorCode.TheVariants as code
 use Rattle.json_text.specs.Faults.{IsFault}
 use Rattle.json_text.specs.Parsing.{ParserState, input, taken, HasGiven, IsDue}
 use Rattle.json_text.proofs.OneFaultAt.{stands}
@@ -32,6 +34,14 @@ told_viable {k = k} {b = b} (other r) = subst (viable_prefix false) (front b r.p
 
 fault_viable : (limit : ℕ) (b : List ℕ) (c : ErrorCode) (k : ℕ) → IsFault limit b c k → viable_prefix false (take k b)
 fault_viable limit b c k h = let s = stands limit b c k h in told_viable (told false (viable_prefix false) ((t : Tree) × is_text false t b) limit b s.row k s.holds)
+
+told_within : {limit k : ℕ} {b : List ℕ} {code : FaultCode} → Told false (viable_prefix false) ((t : Tree) × is_text false t b) limit b k code → k ≤ length b
+told_within (deep (p, x, r, e, l, v, o, m)) = omega (arith, l, ap length e ∙ length-append p (x ∷ r))
+told_within (short (e, v, o, m)) = omega (arith, e)
+told_within (other r) = omega (arith, r.offset, ap length r.long.bytes ∙ length-append r.p (r.x ∷ r.long.rest))
+
+fault_within : (limit : ℕ) (b : List ℕ) (c : ErrorCode) (k : ℕ) → IsFault limit b c k → k ≤ length b
+fault_within limit b c k h = let s = stands limit b c k h in told_within (told false (viable_prefix false) ((t : Tree) × is_text false t b) limit b s.row k s.holds)
 
 -- whitespace before a gap
 gap_behind : (z g : List ℕ) → ws z → IsGap g → IsGap (z ++ g)
@@ -53,3 +63,14 @@ due_behind_tokens old e ts due h =
     gap_has_no_token false b h.base n.at old.open_kinds old.spot ts h.given (omega arith)
     (subst IsGap (sym (piece_append b h.base i n.at h.order o.0)) (gap_behind (piece b h.base i) (piece b i n.at) h.space n.gap))
     (shorter_viable false (take n.at b) (piece b n.at due.offset) (subst (viable_prefix false) (take_on b n.at due.offset o.1) v))
+
+pub names_before_due : (old : ParserState) (e : Error) (ts : List Token) (due : IsDue old e) → HasGiven old ts → NamesTold false (input old) (taken old) due.offset
+names_before_due old e ts due h j n c w us s jn nk nb r t x =
+    let b = input old in let i = taken old in let d = due.needs in
+    let o = d.order in let l = h.order in
+    let v = fault_viable old.limit b e.code due.offset due.fault in
+    let g = subst IsGap (sym (piece_append b h.base i d.at h.order o.0)) (gap_behind (piece b h.base i) (piece b i d.at) h.space d.gap) in
+    let m : n ≤ h.base =
+    names_before false (e.code ≡ code.InvalidNumber) b h.base due.offset old.open_kinds old.spot ts h.given (fault_within old.limit b e.code due.offset due.fault) v (record { at = d.at; order = (omega arith, o.1); gap = g; begun = d.begun }) j n c w us s jn nk nb r t x
+    in
+    omega arith
