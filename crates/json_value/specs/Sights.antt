@@ -10,7 +10,6 @@ use Rattle.json_doc.specs.declared.doc.Doc.{Doc}
 use Rattle.json_value.specs.Denotes.{tree_of}
 use Rattle.json_value.specs.Places.{places_in}
 use Rattle.json_value.specs.Spots.{Spot, spot_in, spot_of, read_spot}
-use Rattle.json_value.specs.declared.packed_view.PackedView.{PackedView}
 use Rattle.json_value.specs.declared.value.Value.{Value}
 use Rattle.json_value.specs.declared.view.View.{View}
 use Rattle.json_value.specs.declared.view.ViewForm.{ViewForm}

@@ -1,11 +1,11 @@
-use Rattle.std.proofs.Common.{[], ◌∷◌, ◌++◌, map, sym, ap, ◌∙◌, arith, refl, append_assoc}
+use Rattle.std.proofs.Common.{[], ◌∷◌, ◌++◌, map, sym, ap, ◌∙◌, arith, append_assoc}
 use Rattle.std.proofs.lemmas.Result.{err_from_is_err_and}
 use Rattle.json_grammar.specs.declared.Kind.TheVariants.{Array as array, Object as object}
 use Rattle.json_grammar.specs.Tree.{begin, end, key_token, num_token, text_token, tokens}
 use Rattle.json_grammar.specs.Sizes.{nodes}
 use Rattle.json_value.specs.Denotes.{tree_of, pair_of}
 use Rattle.json_value.proofs.Turns.{after_append}
-use Rattle.json_value.proofs.Emitting.{emits_one, emits_none, was_fresh, emits_refused, emits_last, emits_same, stops_one, stops_within, array_tokens, array_around, array_whole, array_front, array_stand, array_step, object_tokens, object_around, object_whole, object_front, object_stand, object_step, member_stand, value_within, element_within}
+use Rattle.json_value.proofs.Emitting.{emits_one, emits_none, emits_refused, emits_last, emits_same, stops_one, stops_within, array_tokens, array_around, array_whole, array_front, array_stand, array_step, object_tokens, object_around, object_whole, object_front, object_stand, object_step, member_stand, value_within, element_within}
 use Rattle.json_value.proofs.WholeTrees.{null_in, bool_in, number_in, literal_in, text_in, array_there, object_there, item_there, items_end, key_of_item, tree_of_item}
 use Rattle.json_value.proofs.emit.+value.Goals as goal
 

@@ -1,4 +1,4 @@
-use Rattle.std.proofs.Common.{◌+◌, [], ◌∷◌, ◌++◌, sym, ap, ◌∙◌, arith, refl, append_assoc}
+use Rattle.std.proofs.Common.{◌+◌, [], ◌∷◌, ◌++◌, sym, ap, ◌∙◌, arith, append_assoc}
 use Rattle.std.proofs.lemmas.Result.{err_from_is_err_and}
 use Rattle.json_grammar.specs.declared.Kind.TheVariants.{Array as array, Object as object}
 use Rattle.json_grammar.specs.Tree.{begin, end, key_token, tokens}
@@ -6,7 +6,7 @@ use Rattle.json_grammar.specs.Sizes.{nodes}
 use Rattle.json_doc.specs.Left.{children_left, pairs_left}
 use Rattle.json_doc.specs.Seen.{view_tree}
 use Rattle.json_value.proofs.Turns.{after_append}
-use Rattle.json_value.proofs.Emitting.{emits_one, emits_none, was_fresh, emits_refused, emits_last, emits_same, stops_one, stops_within, list_seen, array_tokens, array_around, array_whole, array_front, array_stand, array_step, pairs_seen, object_tokens, object_around, object_whole, object_front, object_stand, object_step, member_stand, element_within, value_within, item_left, rest_left, nothing_behind}
+use Rattle.json_value.proofs.Emitting.{emits_one, emits_none, emits_refused, emits_last, emits_same, stops_one, stops_within, list_seen, array_tokens, array_around, array_whole, array_front, array_stand, array_step, pairs_seen, object_tokens, object_around, object_whole, object_front, object_stand, object_step, member_stand, element_within, value_within, item_left, rest_left, nothing_behind}
 use Rattle.json_value.proofs.WholeTrees.{map_there}
 use Rattle.json_value.proofs.emit_packed.+document.Goals as goal
 

@@ -1,8 +1,8 @@
-use Rattle.std.proofs.Common.{[], ◌∷◌, refl, arith}
+use Rattle.std.proofs.Common.{[], arith}
 use Rattle.std.proofs.lemmas.Result.{err_from_is_err_and}
 use Rattle.json_grammar.specs.declared.Kind.TheVariants.{Object as object}
 use Rattle.json_grammar.specs.Tree.{begin, end}
-use Rattle.json_value.proofs.Emitting.{emits_none, was_fresh, emits_refused, emits_last, stops_one, stops_within, object_tokens, object_whole, object_front}
+use Rattle.json_value.proofs.Emitting.{emits_none, was_fresh, emits_last, object_tokens, object_whole, object_front}
 use Rattle.json_value.proofs.emit_packed.emit_no_pairs.Goals as goal
 
 pub returns-in_err-begin_object : goal.returns-in_err-begin_object

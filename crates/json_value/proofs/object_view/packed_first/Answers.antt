@@ -1,4 +1,4 @@
-use Rattle.std.proofs.Common.{◌≤◌, length, Some, sym, ◌∙◌, arith}
+use Rattle.std.proofs.Common.{◌≤◌, length, sym, ◌∙◌, arith}
 use Rattle.json_doc.specs.Seen.{view_doc, view_place, view_tree}
 use Rattle.json_value.specs.Readings.{members}
 use Rattle.json_value.specs.Sights.{doc_held}

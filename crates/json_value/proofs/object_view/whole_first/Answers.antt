@@ -1,4 +1,4 @@
-use Rattle.std.proofs.Common.{Some, map, refl, sym, ap, ap₂, ◌∙◌}
+use Rattle.std.proofs.Common.{Some, map, refl, sym, ap₂, ◌∙◌}
 use Rattle.json_value.specs.Denotes.{pair_of}
 use Rattle.json_value.specs.SightParts.{pair_sight}
 use Rattle.json_value.proofs.WholeTrees.{item_there, items_end, key_of_item}
