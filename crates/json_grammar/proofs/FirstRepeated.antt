@@ -17,6 +17,7 @@ use Rattle.json_grammar.proofs.OneFault.{End, at_place, within_word, within_numb
 use Rattle.json_grammar.proofs.SomeFault.{text_place}
 
 module _ (lossy : Bool) where
+  -- no name repeats
   abbrev pub NoneIn : List ℕ → Type 0
   NoneIn p = (j : ℕ) → repeated lossy p j → ⊥
 
@@ -41,6 +42,7 @@ module _ (lossy : Bool) where
   no_name (inl g) = g
   no_name (inr g) = absurd g
 
+  -- some name repeats
   abbrev pub SomeIn : List ℕ → Type 0
   SomeIn p = (k : ℕ) × repeated lossy p k
 

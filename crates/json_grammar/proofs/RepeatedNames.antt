@@ -36,6 +36,7 @@ scalar_never (pairs ps) x h = x
 module _ (lossy : Bool) where
   -- ---- a name that repeats, and where it stands
 
+  -- in p stands, behind q, where a name may come, the string v of a name that the innermost object has already
   pub record NameAt (p : List ℕ) (k : ℕ) : Type 0 where
     pub q : List ℕ
     pub v : List ℕ

@@ -26,6 +26,7 @@ unique_of n = record { limit = n; unique = true }
 module _ (lossy : Bool) where
   -- ---- the kinds of faults
 
+  -- a repeated name, a level too many before any, or another fault where none repeats
   pub data Kinds (V : List ℕ → Type 0) (W : Type 0) (r : Rules) (b : List ℕ) (k : ℕ) : FaultCode → Type 0 where
     twice : r.unique ≡ true
         → first_repeated lossy b k

@@ -10,6 +10,7 @@ use Rattle.json_grammar.specs.Place.{TakesValue, takes_at_value, takes_first, Ta
 use Rattle.json_grammar.proofs.Moves.{reading_space}
 use Rattle.json_grammar.proofs.Completing.{read_end}
 
+-- the tree is no container
 abbrev pub IsScalar : Tree → Type 0
 IsScalar null = Unit {0}
 IsScalar (boolean b) = Unit {0}
@@ -18,6 +19,7 @@ IsScalar (text s) = Unit {0}
 IsScalar (list ts) = ⊥
 IsScalar (pairs ps) = ⊥
 
+-- the prefix stands in the open containers, the innermost first, at the spot, behind the tokens: as `reading`, by one token or some whitespace at a time
 pub data TokenSteps (lossy : Bool) : List ℕ → List Kind → Spot → List Token → Type 0 where
   at_start : TokenSteps lossy [] [] at_value []
   by_space : {p : List ℕ} {c : List Kind} {w : Spot} {ts : List Token} (z : List ℕ)
