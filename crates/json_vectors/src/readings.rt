@@ -86,10 +86,7 @@ fn what_is_missing_is_null(rt: HostRuntime) {
 
 #[test]
 fn what_was_refused_is_null(rt: HostRuntime) {
-    let refused: Result<Value, Error> = Err(Error {
-        code: json_text::ErrorCode::NotFound,
-        place: json_text::Place::None,
-    });
+    let refused: Result<Value, Error> = Err(REFUSED);
     assert!(rt; is_missing(&refused));
 }
 
@@ -114,6 +111,43 @@ fn scalars_are_read(rt: HostRuntime) {
     assert!(rt; is_text(&text.view(), "a"));
     assert!(rt; is_truth(&Value::new_bool(true)));
     assert!(rt; is_seven(&Some(Value::new_u64(7))));
+}
+
+// Whether a lent text and one that was answered are read as the text alone.
+fn text_is_read(text: Value) -> bool {
+    let lent = is_text(&&text, "a");
+    let answer: Result<Value, Error> = Ok(text);
+    lent && is_text(&answer, "a")
+}
+
+fn truth_is_read(truth: Value) -> bool {
+    let lent = is_truth(&&truth);
+    let answer: Result<Value, Error> = Ok(truth);
+    lent && is_truth(&answer)
+}
+
+fn seven_is_read(seven: Value) -> bool {
+    let lent = is_seven(&&seven);
+    let answer: Result<Value, Error> = Ok(seven);
+    lent && is_seven(&answer)
+}
+
+fn is_no_scalar<V: JsonValueTrait>(value: &V) -> bool {
+    value.as_str().is_none() && value.as_bool().is_none() && value.as_number().is_none()
+}
+
+const REFUSED: Error = Error {
+    code: json_text::ErrorCode::NotFound,
+    place: json_text::Place::None,
+};
+
+#[test]
+fn scalars_that_are_lent_or_answered_are_read(rt: HostRuntime) {
+    assert!(rt; text_is_read(Value::from_static_str("a")));
+    assert!(rt; truth_is_read(Value::new_bool(true)));
+    assert!(rt; seven_is_read(Value::new_u64(7)));
+    let refused: Result<Value, Error> = Err(REFUSED);
+    assert!(rt; is_no_scalar(&refused));
 }
 
 // Whether these are its integers.
@@ -147,11 +181,18 @@ fn is_spelled<V: JsonValueTrait>(
     }
 }
 
-// Whether the literal of a value, of its view, and of what may be missing but is this value is this one.
+// Whether the literal of a value, of its view, of the value where it is lent, and of what may be missing but is this value is
+// this one.
+fn seen_are_spelled(alloc: Global, value: &Value, literal: &str) -> json_text::Result<bool> {
+    let seen = is_spelled(alloc, value, literal)? && is_spelled(alloc, &value.view(), literal)?;
+    Ok(seen && is_spelled(alloc, &value, literal)? && is_spelled(alloc, &Some(value), literal)?)
+}
+
+// So of the value of a literal, and of what may have been refused but is this value.
 fn are_spelled(alloc: Global, literal: &str) -> json_text::Result<bool> {
-    let value = value_of(alloc, literal)?;
-    let seen = is_spelled(alloc, &value, literal)? && is_spelled(alloc, &value.view(), literal)?;
-    Ok(seen && is_spelled(alloc, &Some(value), literal)?)
+    let answer: Result<Value, Error> = value_of(alloc, literal);
+    let spelled = is_spelled(alloc, &answer, literal)?;
+    Ok(spelled && seen_are_spelled(alloc, &answer?, literal)?)
 }
 
 #[test]
@@ -162,6 +203,8 @@ fn literals_are_read(rt: HostRuntime) -> Result<(), Fail> {
     }
     let none: Option<Value> = None;
     assert!(rt; none.as_raw_number(alloc)?.is_none());
+    let refused: Result<Value, Error> = Err(REFUSED);
+    assert!(rt; refused.as_raw_number(alloc)?.is_none());
     Ok(())
 }
 
