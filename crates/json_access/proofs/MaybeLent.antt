@@ -1,6 +1,7 @@
--- The row of a place that is lent, or of none, or of a refusal.
-use Rattle.json_value.proofs.Walking.{refl, named, Laws, MutRef}
-use base.Fml.{Lft}
+-- The row of a place that is lent, or of none, or of a refusal, and what stays where none is lent.
+use Rattle.json_value.proofs.Walking.{◌≡◌, refl, ap, named, Laws, MutRef}
+use mathlib.Core.Option as maybe
+use base.Fml.{Lft, GName}
 use denote.Builtin.{One}
 use denote.Ref.{NamedLft}
 use denote.RattleType.{RattleType}
@@ -14,6 +15,9 @@ use Rattle.std.proofs.option.Option.TheLaws.{the_row_laws as option_laws}
 use Rattle.std.proofs.result.Result.TheLaws.{the_row_laws as result_laws}
 use Rattle.json_text.specs.contracts.error.Error.{the_row as refusal}
 use Rattle.json_text.proofs.error.Error.TheLaws.{the_row_laws as refusal_laws}
+use Rattle.json_value.specs.Denotes.{tree_of}
+use Rattle.json_value.specs.Lending.{UnlessLent}
+use Rattle.json_value.specs.declared.value.Value.{Value}
 
 abbrev pub maybe_lent : RattleType → Lft → RattleType
 maybe_lent T κ = result.the_row (option.the_row (MutRef (named 0) κ T)) refusal
@@ -24,3 +28,8 @@ maybe_lent_laws T κ one L =
     let F = mut_ref_field b T one in
     let ref-laws = of_field F (mut_ref_laws b T one) refl (mut_ref_shared b T one (row_shared T L)) in
     result_laws (option.the_row F.row) refusal (option_laws F.row ref-laws) refusal_laws
+
+-- a value that is as it was has the tree that it had
+pub same_tree : (m : maybe.Option GName) (old new : Value) → UnlessLent m (new ≡ old) → UnlessLent m ((tree_of new ≡ tree_of old) × (new ≡ old))
+same_tree maybe.none old new e = (ap tree_of e, e)
+same_tree (maybe.some g) old new e = tt

@@ -10,7 +10,7 @@ ghost use Rattle.json_value.specs.Lending.{lent, LendsPart};
 ghost use Rattle.json_value.specs.Rows.{value_row, array_row, object_row};
 ghost use Rattle.json_value.specs.Seen.{list_of, pairs_of};
 ghost use Rattle.json_value.specs.Steps.{child, tree_at};
-ghost use Rattle.json_value.specs.Touched.{Exchanges};
+ghost use Rattle.json_value.specs.Touched.{Exchanges, Same, KeptAlong};
 ghost use Rattle.json_value.specs.Written.{ArrayOpened, ObjectOpened};
 ghost use Rattle.json_value.specs.declared.value.Value.{Value, Array as ArrayValue, Object as ObjectValue};
 
@@ -20,8 +20,8 @@ use json_value::{Array, Index, Object, PointerNode, Value};
 use std::alloc::Global;
 
 /// What stands for a JSON value and lends the places in it to be changed. What the caller leaves at a place is put there, and
-/// nothing else of the tree changes; a copy of one level is made of each packed container on the way. None and a refusal keep
-/// the tree.
+/// nothing else of the tree changes; a copy of one level is made of each packed container on the way, and nothing more changes on
+/// None and on a refusal.
 ///
 /// ```
 /// use json_access::JsonValueMutTrait;
@@ -37,29 +37,39 @@ pub trait JsonValueMutTrait: JsonValueTrait {
     /// The value whose places are lent.
     ghost held: { Self → Value };
 
-    /// The array; none exactly for another kind. `NoMemory`.
+    /// The array; none exactly for another kind. None and a refusal change nothing. `NoMemory`.
     fn as_array_mut(&mut self, alloc: Global) -> Result<Option<&mut Array>>
-        ensures* writes_back { sem 𝓛 (LendsPart Self.row array_row self.entry result (λ n w. (Self.tree n ≡ list (list_trees (list_in w))) × (held n ≡ ArrayValue w)) (λ n. Self.tree n ≡ Self.tree self.old)) }
+        ensures* writes_back { sem 𝓛 (LendsPart Self.row array_row self.entry result
+            (λ n w. (Self.tree n ≡ list (list_trees (list_in w))) × (held n ≡ ArrayValue w))
+            (λ n. (Self.tree n ≡ Self.tree self.old) × (held n ≡ held self.old))) }
         ensures array { IfOk result (λ o. option_map (λ a. list_in a.now) o ≡ list_of (Self.tree self.old)) }
         ensures children { IfSome (lent result) (ArrayOpened (held self.old)) }
         ensures only { IfErr result (λ e. e ≡ no_memory) };
 
-    /// The object; none exactly for another kind. `NoMemory`.
+    /// The object; none exactly for another kind. None and a refusal change nothing. `NoMemory`.
     fn as_object_mut(&mut self, alloc: Global) -> Result<Option<&mut Object>>
-        ensures* writes_back { sem 𝓛 (LendsPart Self.row object_row self.entry result (λ n w. (Self.tree n ≡ pairs (list_pairs (pairs_in w))) × (held n ≡ ObjectValue w)) (λ n. Self.tree n ≡ Self.tree self.old)) }
+        ensures* writes_back { sem 𝓛 (LendsPart Self.row object_row self.entry result
+            (λ n w. (Self.tree n ≡ pairs (list_pairs (pairs_in w))) × (held n ≡ ObjectValue w))
+            (λ n. (Self.tree n ≡ Self.tree self.old) × (held n ≡ held self.old))) }
         ensures object { IfOk result (λ o. option_map (λ a. pairs_in a.now) o ≡ pairs_of (Self.tree self.old)) }
         ensures children { IfSome (lent result) (ObjectOpened (held self.old)) }
         ensures only { IfErr result (λ e. e ≡ no_memory) };
 
     /// The value of the first member of a key, or the element of an index; none where the step leads nowhere. `NoMemory`.
     fn get_mut<I: Index>(&mut self, alloc: Global, index: I) -> Result<Option<&mut Value>>
-        ensures* writes_back { sem 𝓛 (LendsPart Self.row value_row self.entry result (λ n w. IfSome (lent result) (λ x. (edited_once (set_at (I.step index ∷ []) (tree_of w)) (Self.tree self.old) ≡ Ok (Self.tree n)) × Exchanges (I.step index ∷ []) x w (held self.old) (held n))) (λ n. Self.tree n ≡ Self.tree self.old)) }
+        ensures* writes_back { sem 𝓛 (LendsPart Self.row value_row self.entry result
+            (λ n w. IfSome (lent result) (λ x. (edited_once (set_at (I.step index ∷ []) (tree_of w)) (Self.tree self.old) ≡ Ok (Self.tree n))
+            × Exchanges (I.step index ∷ []) x w (held self.old) (held n)))
+            (λ n. (Self.tree n ≡ Self.tree self.old) × KeptAlong (I.step index ∷ []) Same (held self.old) (held n))) }
         ensures stands { IfOk result (λ o. option_map (λ x. tree_of x.now) o ≡ child (I.step index) (Self.tree self.old)) }
         ensures only { IfErr result (λ e. e ≡ no_memory) };
 
     /// The place to which the steps lead; none where one of them leads nowhere. `NoMemory`.
     fn pointer_mut(&mut self, alloc: Global, path: &[PointerNode]) -> Result<Option<&mut Value>>
-        ensures* writes_back { sem 𝓛 (LendsPart Self.row value_row self.entry result (λ n w. IfSome (lent result) (λ x. (edited_once (set_at (steps_of path.now) (tree_of w)) (Self.tree self.old) ≡ Ok (Self.tree n)) × Exchanges (steps_of path.now) x w (held self.old) (held n))) (λ n. Self.tree n ≡ Self.tree self.old)) }
+        ensures* writes_back { sem 𝓛 (LendsPart Self.row value_row self.entry result
+            (λ n w. IfSome (lent result) (λ x. (edited_once (set_at (steps_of path.now) (tree_of w)) (Self.tree self.old) ≡ Ok (Self.tree n))
+            × Exchanges (steps_of path.now) x w (held self.old) (held n)))
+            (λ n. (Self.tree n ≡ Self.tree self.old) × KeptAlong (steps_of path.now) Same (held self.old) (held n))) }
         ensures stands { IfOk result (λ o. option_map (λ x. tree_of x.now) o ≡ tree_at (steps_of path.now) (Self.tree self.old)) }
         ensures only { IfErr result (λ e. e ≡ no_memory) };
 }

@@ -1,5 +1,5 @@
 -- What calls that are refused, or lead nowhere, keep.
-use Rattle.std.proofs.Common.{◌≡◌, ℕ, ◌<◌, List, [], ◌∷◌, map, length, drop, ◌⊎◌, inl, inr, Some, Ok, Err, refl, sym, ap, ◌∙◌, subst, arith}
+use Rattle.std.proofs.Common.{◌≡◌, ℕ, ◌<◌, List, [], ◌∷◌, map, length, drop, ◌⊎◌, inl, inr, Some, Ok, Err, sym, ap, ◌∙◌, subst, arith}
 use Rattle.std.specs.Prelude.{false}
 use Rattle.json_grammar.specs.Tree.{Tree, Pairs, list, pairs, list_trees, list_pairs}
 use Rattle.json_model.specs.Edit.{Step, key_step, index_step, Changed, type_unmatched, on_pairs, has_key}
@@ -8,14 +8,14 @@ use Rattle.json_value.specs.Edits.{step_of, steps_of}
 use Rattle.json_value.specs.Lending.{opened_with, first_node, Puts, PutsNothing, AddsNothing, SeatsNothing}
 use Rattle.json_value.specs.Rows.{IsOwnObject, owned}
 use Rattle.json_value.specs.Steps.{child}
-use Rattle.json_value.specs.Touched.{ArrayTouched, ObjectTouched, AtElement, AtMember, Became, Exchanges, Same, ArrayKept, ObjectKept, ElementKept, MemberKept, KeptAlong, RemovalKeeps, ChangeKeeps, Keeps}
+use Rattle.json_value.specs.Touched.{ArrayTouched, ObjectTouched, Became, Exchanges, Same, ArrayKept, ObjectKept, ElementKept, MemberKept, KeptAlong, RemovalKeeps, ChangeKeeps, Keeps}
 use Rattle.json_value.specs.declared.pair.Keyed.{Keyed}
 use Rattle.json_value.specs.declared.path.PointerNode.{PointerNode}
 use Rattle.json_value.specs.declared.path.PointerNode.TheVariants.{Key, Index}
 use Rattle.json_value.specs.declared.path.Edit.{Edit}
 use Rattle.json_value.specs.declared.path.Edit.TheVariants.{Set, Insert, Push, Remove}
 use Rattle.json_value.specs.declared.text.Text.{Text}
-use Rattle.json_value.specs.declared.value.Value.{Value, Null, Object}
+use Rattle.json_value.specs.declared.value.Value.{Value, Null}
 use Rattle.json_value.proofs.Lent.{has_itself}
 use Rattle.json_value.proofs.LentPaths.{along_kept}
 use Rattle.json_value.proofs.Touching.{array_as, object_as, element_as, member_as, became}

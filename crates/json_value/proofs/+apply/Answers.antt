@@ -1,4 +1,4 @@
-use Rattle.std.proofs.Common.{◌≡◌, ◌+◌, ◌*◌, ◌<◌, ◌≤◌, map, length, inl, inr, refl, sym, ◌∙◌, arith}
+use Rattle.std.proofs.Common.{◌≡◌, ◌+◌, ◌*◌, ◌<◌, ◌≤◌, map, length, inr, refl, ◌∙◌, arith}
 use Rattle.std.proofs.lemmas.Result.{on_ok_weaker, on_err_weaker, IfErr-weaker}
 use Rattle.json_grammar.specs.Tree.{list_trees, list_pairs}
 use Rattle.json_text.specs.Errors.{not_found}
@@ -7,9 +7,9 @@ use Rattle.json_model.proofs.Members.{at_key-absent}
 use Rattle.json_value.specs.Denotes.{tree_of, pair_of}
 use Rattle.json_value.specs.Edits.{steps_of, change_of, RefusesChange}
 use Rattle.json_value.specs.Touched.{Touches, AtElement, AtMember, Keeps, ElementKept, MemberKept}
-use Rattle.json_value.proofs.AppliedTrees.{first_moved, none_moved, pair_changed, pair_kept, pair_refuses, element_changed, element_kept, element_refuses, element_missed, object_changed, object_kept, object_refuses, array_changed, array_kept, array_refuses, path_key, path_index, refused_as, refuses_so, anyway}
+use Rattle.json_value.proofs.AppliedTrees.{first_moved, none_moved, pair_changed, pair_kept, pair_refuses, element_changed, element_kept, element_refuses, element_missed, object_changed, object_kept, object_refuses, array_changed, array_kept, array_refuses, path_key, path_index, refused_as, refuses_so}
 use Rattle.json_value.proofs.Touching.{at_element, at_member, array_touched, object_touched, touches_key, touches_index}
-use Rattle.json_value.proofs.Keeping.{keeps_as_was, keeps_key, keeps_index}
+use Rattle.json_value.proofs.Keeping.{keeps_key, keeps_index}
 use Rattle.json_value.proofs.+apply.Goals as goal
 
 -- ---- an element

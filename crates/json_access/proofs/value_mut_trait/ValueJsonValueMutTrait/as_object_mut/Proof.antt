@@ -1,4 +1,4 @@
-use Rattle.json_value.proofs.Walking.{[], ◌∷◌, refl, proved, id⊢, ftrue, named, tables, ‵, raw, ◌⊛◌, some, later, ◌$◌, ◌∵◌, !, qed, done, drop, use1, split, join, pick, await, suffices, group, enter, addr, stop, no_more, and_then, returns, alloc_all, pass_all, free_all, look_at, get, through, sets, lands_as, no, yes, move, peeks, shows, flft, mut_vals, mut_Tells, plain, nothing, calls_at, lasts, Lasts, triple_of, Stays, stay_dropped, Goes-spent_ref, Goes-dropped, ends_at, framed}
+use Rattle.json_value.proofs.Walking.{◌≡◌, MutBor, fact, [], ◌∷◌, refl, proved, id⊢, ftrue, named, tables, ‵, raw, ◌⊛◌, some, later, ◌$◌, ◌∵◌, !, qed, done, drop, use1, split, join, pick, await, suffices, group, enter, addr, stop, no_more, and_then, returns, alloc_all, pass_all, free_all, look_at, get, through, sets, lands_as, no, yes, move, peeks, shows, flft, mut_vals, mut_Tells, plain, nothing, calls_at, lasts, Lasts, triple_of, Stays, stay_dropped, Goes-spent_ref, Goes-dropped, ends_at, framed}
 use Rattle.std.specs.contracts.alloc.Global.{the_row as global}
 use Rattle.std.proofs.alloc.Global.TheLaws.{the_row_laws as global_laws, the_told as global_told}
 use Rattle.json_value.specs.contracts.value.Value.{the_row as value}
@@ -6,7 +6,21 @@ use Rattle.json_value.proofs.value.Value.TheLaws.{the_row_laws as value_laws}
 use Rattle.json_value.specs.Rows.{object_row, pair_row}
 use Rattle.json_value.proofs.container.Container.TheLaws.{the_row_laws as container_laws}
 use Rattle.json_value.proofs.pair.Keyed.TheLaws.{the_row_laws as keyed_laws}
-use Rattle.json_access.proofs.MaybeLent.{maybe_lent, maybe_lent_laws}
+use Rattle.json_access.proofs.MaybeLent.{maybe_lent, maybe_lent_laws, same_tree}
+use mathlib.Core.Option as maybe
+use base.Fml.{GName}
+use Rattle.std.specs.Prelude.{IfOk, IfErr, IfSome, option_map}
+use Rattle.std.specs.Borrow.{follows_so}
+use Rattle.json_grammar.specs.Tree.{pairs, list_pairs}
+use Rattle.json_text.specs.Errors.{no_memory}
+use Rattle.json_value.specs.Denotes.{tree_of, pairs_in}
+use Rattle.json_value.specs.Seen.{pairs_of}
+use Rattle.json_value.specs.Lending.{lent, name_of, IsLent, UnlessLent}
+use Rattle.json_value.specs.Written.{ObjectOpened}
+use Rattle.json_value.specs.declared.value.Value.{Value, Object}
+use Rattle.json_value.specs.declared.container.Container.{Container}
+use Rattle.json_value.specs.declared.pair.Keyed.{Keyed}
+use Rattle.json_value.proofs.Follows.{so_weaken}
 use Rattle.json_access.specs.contracts.value_mut_trait.ValueJsonValueMutTrait.as_object_mut as f
 use Rattle.json_access.proofs.value_mut_trait.ValueJsonValueMutTrait.as_object_mut.Statement.{statement}
 use Rattle.json_access.proofs.value_mut_trait.ValueJsonValueMutTrait.as_object_mut.Code as code
@@ -38,5 +52,9 @@ as_object_mut_spec 𝓤 𝓛 𝓜 𝓡 wired =
     returns ! (look_at ! 0 refl) $ free_all ! refl $
     -- [the result; the tokens; what is lent and said]
     move ! (2 ∷ []) $ pick ! (λ ws. split ! $ drop ! $
+    let m : maybe.Option GName = name_of r in
+    let Lent = λ (Kept : Value → Type 0). follows_so value object_row v.ghost_name m (λ w n. IsLent m → (tree_of n ≡ pairs (list_pairs (pairs_in w))) × (n ≡ Object w)) (λ n. UnlessLent m (Kept n)) in
+    use1 𝓛 (‵ (Lent (λ n. n ≡ v.now)) ⊛ (raw (fact 𝓤 (IfOk r (λ o. option_map (λ (x : MutBor (Container (Keyed Value))). pairs_in x.now) o ≡ pairs_of (tree_of v.now)))) ⊛ (raw (fact 𝓤 (IfSome (lent r) (ObjectOpened v.now))) ⊛ raw (fact 𝓤 (IfErr r (λ e. e ≡ no_memory)))))) (id⊢ 𝓤 _) $
+    split ! $ use1 𝓛 (‵ (Lent (λ n. (tree_of n ≡ tree_of v.now) × (n ≡ v.now)))) (so_weaken 𝓛 value object_row v.ghost_name m _ _ _ _ (λ w n p. p) (λ n. same_tree m v.now n)) $ join ! $
     suffices ! _ (ends_at 𝓛 f.ended stayed c z u r (tt, (tt, tt)) (tt, (tt, tt))) $
     nothing ! $ nothing ! $ join ! $ nothing ! $ join ! $ move ! (3 ∷ 0 ∷ 2 ∷ 1 ∷ []) $ group ! 3 $ done !))))))
