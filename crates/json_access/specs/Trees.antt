@@ -14,6 +14,11 @@ abbrev pub result_tree : {V E : Type 0} → (V → Tree) → Result V E → Tree
 result_tree tree (Ok v) = tree v
 result_tree tree (Err e) = null
 
+-- what the value gives, where there is one, and nothing where there is an error
+abbrev pub result_value : {V E A : Type 0} → (V → Option A) → Result V E → Option A
+result_value f (Ok v) = f v
+result_value f (Err e) = None
+
 -- the literal of the number
 abbrev pub spelling : Tree → Option (List ℕ)
 spelling (num l) = Some l

@@ -1,10 +1,12 @@
 // The containers that values are.
-ghost use Rattle.std.specs.Prelude.{◌≡◌, option_map};
+ghost use Rattle.std.specs.Prelude.{◌≡◌, Option, Some, IfSome, option_map, option_and_then};
 ghost use Rattle.json_value.specs.Denotes.{list_in, pairs_in};
 ghost use Rattle.json_value.specs.Seen.{list_of, pairs_of};
+ghost use Rattle.json_value.specs.declared.value.Value.{Value, Array as ArrayValue, Object as ObjectValue};
+ghost use Rattle.json_access.specs.Trees.{result_value};
 
 use crate::value_trait::JsonValueTrait;
-use json_value::{Array, Object, Value, ValueRef};
+use json_value::{Array, Object, Value};
 
 /// What stands for a JSON value and lends the container that the value is. What is missing and what was refused are none.
 ///
@@ -17,32 +19,41 @@ use json_value::{Array, Object, Value, ValueRef};
 /// assert!(rt; found.as_object().is_none());
 /// ```
 pub trait JsonContainerTrait: JsonValueTrait {
+    /// The value that it stands for, where there is one.
+    ghost value_there: { Self → Option Value };
+
     /// The array; none exactly for another kind.
     fn as_array(&self) -> Option<&Array>
-        ensures { option_map (λ a. list_in a.now) result ≡ list_of (Self.tree self.now) };
+        ensures list { option_map (λ a. list_in a.now) result ≡ list_of (Self.tree self.now) }
+        ensures array { IfSome result (λ a. value_there self.now ≡ Some (ArrayValue a.now)) };
 
     /// The object; none exactly for another kind.
     fn as_object(&self) -> Option<&Object>
-        ensures { option_map (λ o. pairs_in o.now) result ≡ pairs_of (Self.tree self.now) };
+        ensures pairs { option_map (λ o. pairs_in o.now) result ≡ pairs_of (Self.tree self.now) }
+        ensures object { IfSome result (λ o. value_there self.now ≡ Some (ObjectValue o.now)) };
 }
 
 impl JsonContainerTrait for Value {
+    ghost value_there = { λ v. Some v };
+
     fn as_array(&self) -> Option<&Array> {
-        match self.as_ref() {
-            ValueRef::Array(array) => Some(array),
+        match self {
+            Value::Array(array) => Some(array),
             _ => None,
         }
     }
 
     fn as_object(&self) -> Option<&Object> {
-        match self.as_ref() {
-            ValueRef::Object(object) => Some(object),
+        match self {
+            Value::Object(object) => Some(object),
             _ => None,
         }
     }
 }
 
 impl<V: JsonContainerTrait> JsonContainerTrait for &V {
+    ghost value_there = { λ v. V.value_there v.now };
+
     fn as_array(&self) -> Option<&Array> {
         (**self).as_array()
     }
@@ -53,6 +64,8 @@ impl<V: JsonContainerTrait> JsonContainerTrait for &V {
 }
 
 impl<V: JsonContainerTrait> JsonContainerTrait for Option<V> {
+    ghost value_there = { option_and_then V.value_there };
+
     fn as_array(&self) -> Option<&Array> {
         match self {
             Some(value) => value.as_array(),
@@ -69,6 +82,8 @@ impl<V: JsonContainerTrait> JsonContainerTrait for Option<V> {
 }
 
 impl<V: JsonContainerTrait, E> JsonContainerTrait for Result<V, E> {
+    ghost value_there = { result_value V.value_there };
+
     fn as_array(&self) -> Option<&Array> {
         match self {
             Ok(value) => value.as_array(),
