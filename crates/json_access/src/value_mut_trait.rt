@@ -37,7 +37,8 @@ pub trait JsonValueMutTrait: JsonValueTrait {
     /// The value whose places are lent.
     ghost held: { Self → Value };
 
-    /// The array; none exactly for another kind. None and a refusal change nothing. `NoMemory`.
+    /// The array; none exactly for another kind. None and a refusal change nothing.
+    /// `NoMemory` comes where memory runs out.
     fn as_array_mut(&mut self, alloc: Global) -> Result<Option<&mut Array>>
         ensures* writes_back { sem 𝓛 (LendsPart Self.row array_row self.entry result
             (λ n w. (Self.tree n ≡ list (list_trees (list_in w))) × (held n ≡ ArrayValue w))
@@ -46,7 +47,8 @@ pub trait JsonValueMutTrait: JsonValueTrait {
         ensures children { IfSome (lent result) (ArrayOpened (held self.old)) }
         ensures only { IfErr result (λ e. e ≡ no_memory) };
 
-    /// The object; none exactly for another kind. None and a refusal change nothing. `NoMemory`.
+    /// The object; none exactly for another kind. None and a refusal change nothing.
+    /// `NoMemory` comes where memory runs out.
     fn as_object_mut(&mut self, alloc: Global) -> Result<Option<&mut Object>>
         ensures* writes_back { sem 𝓛 (LendsPart Self.row object_row self.entry result
             (λ n w. (Self.tree n ≡ pairs (list_pairs (pairs_in w))) × (held n ≡ ObjectValue w))
@@ -55,7 +57,8 @@ pub trait JsonValueMutTrait: JsonValueTrait {
         ensures children { IfSome (lent result) (ObjectOpened (held self.old)) }
         ensures only { IfErr result (λ e. e ≡ no_memory) };
 
-    /// The value of the first member of a key, or the element of an index; none where the step leads nowhere. `NoMemory`.
+    /// The value of the first member of a key, or the element of an index; none where the step leads nowhere.
+    /// `NoMemory` comes where memory runs out.
     fn get_mut<I: Index>(&mut self, alloc: Global, index: I) -> Result<Option<&mut Value>>
         ensures* writes_back { sem 𝓛 (LendsPart Self.row value_row self.entry result
             (λ n w. IfSome (lent result) (λ x. (edited_once (set_at (I.step index ∷ []) (tree_of w)) (Self.tree self.old) ≡ Ok (Self.tree n))
@@ -64,7 +67,8 @@ pub trait JsonValueMutTrait: JsonValueTrait {
         ensures stands { IfOk result (λ o. option_map (λ x. tree_of x.now) o ≡ child (I.step index) (Self.tree self.old)) }
         ensures only { IfErr result (λ e. e ≡ no_memory) };
 
-    /// The place to which the steps lead; none where one of them leads nowhere. `NoMemory`.
+    /// The place to which the steps lead; none where one of them leads nowhere.
+    /// `NoMemory` comes where memory runs out.
     fn pointer_mut(&mut self, alloc: Global, path: &[PointerNode]) -> Result<Option<&mut Value>>
         ensures* writes_back { sem 𝓛 (LendsPart Self.row value_row self.entry result
             (λ n w. IfSome (lent result) (λ x. (edited_once (set_at (steps_of path.now) (tree_of w)) (Self.tree self.old) ≡ Ok (Self.tree n))

@@ -79,7 +79,7 @@ impl RawNumber {
         integer_of(self.as_str())
     }
 
-    /// Another number of the same literal, or `NoMemory`.
+    /// Another number of the same literal. `NoMemory` comes where memory runs out.
     pub fn clone(&self, alloc: Global) -> Result<RawNumber>
         ensures ok { IfOk result (λ r. raw_literal r ≡ raw_literal self.now) }
         ensures err { IfErr result (λ e. e ≡ no_memory) }

@@ -56,7 +56,7 @@ impl Value {
         Value::Null
     }
 
-    /// A string of these characters, of its own: nothing is parsed. `NoMemory`.
+    /// A string of these characters, of its own: nothing is parsed. `NoMemory` comes where memory runs out.
     pub fn from_str(alloc: Global, val: &str) -> Result<Value>
         ensures tree { IfOk result (λ v. tree_of v ≡ text val.now) }
         ensures places { IfOk result (λ v. places_in v ≡ None ∷ []) }
@@ -65,7 +65,7 @@ impl Value {
         Value::copy_str(alloc, val)
     }
 
-    /// A string of this character. `NoMemory`.
+    /// A string of this character. `NoMemory` comes where memory runs out.
     pub fn from_char(alloc: Global, c: char) -> Result<Value>
         ensures tree { IfOk result (λ v. tree_of v ≡ text (encode_utf8 c)) }
         ensures places { IfOk result (λ v. places_in v ≡ None ∷ []) }
@@ -78,7 +78,8 @@ impl Value {
         }))
     }
 
-    /// An array without elements, which takes `capacity` of them before it asks for memory again. `NoMemory`.
+    /// An array without elements, which takes `capacity` of them before it asks for memory again.
+    /// `NoMemory` comes where memory runs out.
     pub fn new_array_with(alloc: Global, capacity: usize) -> Result<Value>
         ensures tree { IfOk result (λ v. tree_of v ≡ list no_trees) }
         ensures room { IfOk result (λ v. capacity ≤ room_in v) }
@@ -90,7 +91,8 @@ impl Value {
         }))
     }
 
-    /// An object without members, which takes `capacity` of them before it asks for memory again. `NoMemory`.
+    /// An object without members, which takes `capacity` of them before it asks for memory again.
+    /// `NoMemory` comes where memory runs out.
     pub fn new_object_with(alloc: Global, capacity: usize) -> Result<Value>
         ensures tree { IfOk result (λ v. tree_of v ≡ object no_pairs) }
         ensures room { IfOk result (λ v. capacity ≤ room_in v) }
@@ -102,7 +104,7 @@ impl Value {
         }))
     }
 
-    /// An array of clones of the items. `NoMemory`.
+    /// An array of clones of the items. `NoMemory` comes where memory runs out.
     pub fn from_slice_of(alloc: Global, items: &[Value]) -> Result<Value>
         ensures tree { IfOk result (λ v. tree_of v ≡ list (list_trees (map tree_of items.now))) }
         ensures places { IfOk result (IsArrayOf (λ vs. map places_in vs ≡ map places_in items.now)) }
@@ -116,7 +118,7 @@ impl Value {
     }
 
     /// The object into which the pairs are put in turn, from the first on: a pair whose key is there gives the member its
-    /// value, another is appended. `NoMemory`.
+    /// value, another is appended. `NoMemory` comes where memory runs out.
     pub fn from_pairs(alloc: Global, pairs: Vec<Pair>) -> Result<Value>
         ensures tree { IfOk result (λ v. tree_of v ≡ object (inserted_all (map pair_of pairs.items) no_pairs)) }
         ensures members { IfOk result (IsObjectOf (λ ms. ms ≡ with_members pairs.items [])) }

@@ -85,7 +85,7 @@ pub(crate) fn reach_in<'v>(
 impl Value {
     /// The place to which the steps lead; none where they lead nowhere. What is written there changes that place and no
     /// other; a copy of one level is made of each packed container on the way, and nothing more changes on None and on a
-    /// refusal. `NoMemory`.
+    /// refusal. `NoMemory` comes where memory runs out.
     pub fn reach(&mut self, alloc: Global, path: &[PointerNode]) -> Result<Option<&mut Value>>
         ensures* writes_back { sem 𝓛 (LendsPlace self.entry result (λ x w n. Puts (steps_of path.now) x w self.old n)
             (PutsNothing (steps_of path.now) self.old)) }
@@ -96,7 +96,8 @@ impl Value {
     }
 
     /// The place to which the step leads; none where it leads nowhere. What is written there changes that place and no
-    /// other; a packed container is copied by one level, and nothing more changes on None and on a refusal. `NoMemory`.
+    /// other; a packed container is copied by one level, and nothing more changes on None and on a refusal.
+    /// `NoMemory` comes where memory runs out.
     pub fn step_mut<I: Index>(&mut self, alloc: Global, index: I) -> Result<Option<&mut Value>>
         ensures* writes_back { sem 𝓛 (LendsPlace self.entry result (λ x w n. Puts (I.step index ∷ []) x w self.old n)
             (PutsNothing (I.step index ∷ []) self.old)) }
@@ -107,7 +108,7 @@ impl Value {
     }
 
     /// Appends the value to the array, and lends its place. The value has to be an array; a packed one is copied by one level.
-    /// A refusal keeps the tree, and copies no more than that level. `NoMemory`.
+    /// A refusal keeps the tree, and copies no more than that level. `NoMemory` comes where memory runs out.
     pub fn append_value(&mut self, alloc: Global, val: Value) -> Result<&mut Value>
         requires { type_of (tree_of self.old) ≡ JsonType.Array }
         ensures* writes_back { sem 𝓛 (LendsSoOk value_row value_row self.entry result
@@ -120,7 +121,8 @@ impl Value {
     }
 
     /// Puts the value at the first member of the key, or appends such a member, and lends its place. The value has to be an
-    /// object; a packed one is copied by one level. A refusal keeps the tree, and copies no more than that level. `NoMemory`.
+    /// object; a packed one is copied by one level. A refusal keeps the tree, and copies no more than that level.
+    /// `NoMemory` comes where memory runs out.
     pub fn insert(&mut self, alloc: Global, key: &str, val: Value) -> Result<&mut Value>
         requires { type_of (tree_of self.old) ≡ JsonType.Object }
         ensures* writes_back { sem 𝓛 (LendsSoOk value_row value_row self.entry result

@@ -104,7 +104,7 @@ impl Value {
         })
     }
 
-    /// A string of these characters, of its own. `NoMemory`.
+    /// A string of these characters, of its own. `NoMemory` comes where memory runs out.
     pub fn copy_str(alloc: Global, s: &str) -> Result<Value>
         ensures tree { IfOk result (λ v. tree_of v ≡ text s.now) }
         ensures places { IfOk result (λ v. places_in v ≡ None ∷ []) }

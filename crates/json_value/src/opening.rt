@@ -71,7 +71,8 @@ impl Value {
     }
 
     /// The array, to be changed; none exactly for another kind. What is written there is the array that the value then is. A
-    /// packed array is copied by one level. None and a refusal change nothing. `NoMemory`.
+    /// packed array is copied by one level. None and a refusal change nothing.
+    /// `NoMemory` comes where memory runs out.
     pub fn as_array_mut(&mut self, alloc: Global) -> Result<Option<&mut Array>>
         ensures* writes_back { sem 𝓛 (LendsPart value_row array_row self.entry result (λ n w. (tree_of n ≡ list (list_trees (list_in w))) × (n ≡ ArrayValue w)) (λ n. n ≡ self.old)) }
         ensures array { IfOk result (λ o. option_map (λ a. list_in a.now) o ≡ list_of (tree_of self.old)) }
@@ -82,7 +83,8 @@ impl Value {
     }
 
     /// The object, to be changed; none exactly for another kind. What is written there is the object that the value then is. A
-    /// packed object is copied by one level. None and a refusal change nothing. `NoMemory`.
+    /// packed object is copied by one level. None and a refusal change nothing.
+    /// `NoMemory` comes where memory runs out.
     pub fn as_object_mut(&mut self, alloc: Global) -> Result<Option<&mut Object>>
         ensures* writes_back { sem 𝓛 (LendsPart value_row object_row self.entry result (λ n w. (tree_of n ≡ pairs (list_pairs (pairs_in w))) × (n ≡ ObjectValue w)) (λ n. n ≡ self.old)) }
         ensures object { IfOk result (λ o. option_map (λ a. pairs_in a.now) o ≡ pairs_of (tree_of self.old)) }

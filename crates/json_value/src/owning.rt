@@ -22,7 +22,8 @@ use std::alloc::Global;
 
 impl<'a> View<'a> {
     /// A value of the tree that is seen, which no later write to a value that is seen reaches: of a whole value a `clone`, of
-    /// a packed part of a value the value at that place of the same document, of a document alone a copy. `NoMemory`.
+    /// a packed part of a value the value at that place of the same document, of a document alone a copy.
+    /// `NoMemory` comes where memory runs out.
     pub fn to_value(self, alloc: Global) -> Result<Value>
         ensures tree { IfOk result (λ v. tree_of v ≡ seen self.entry) }
         ensures spot { IfOk result (λ v. spot_of v ≡ spot_kept self.entry) }

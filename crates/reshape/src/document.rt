@@ -15,7 +15,7 @@ use std::rc::Rc;
 const MOST: usize = 4_294_967_295;
 
 /// The document of all that the source has left. Answers `Io` where the source failed, `TooLarge` past 4,294,967,295 bytes,
-/// `InvalidUTF8` and each fault of the grammar at its place, and `NoMemory`.
+/// `InvalidUTF8` and each fault of the grammar at its place, and `NoMemory` where memory runs out.
 pub fn read<S: Source>(alloc: Global, source: &mut S) -> Result<Rc<Doc>>
     ensures read { IfOk result (λ d. Reads (S.state source.old) (S.state source.new) (doc_tree d.value (doc_root d.value))) }
     ensures refused { IfErr result (λ e. ReadingRefuses (S.state source.old) (S.state source.new) e.code e.place) }

@@ -131,7 +131,8 @@ fn read_edit(alloc: Global, doc: &Rc<Doc>, view: DocView<'_>) -> Result<Edit>
     }
 }
 
-/// The edits that the document spells: an array of them. `BadWords` where it is none, and `NoMemory`.
+/// The edits that the document spells: an array of them. `BadWords` comes where it is none, `NoMemory` where memory
+/// runs out.
 pub fn read_edits(alloc: Global, doc: &Rc<Doc>) -> Result<Edits>
     ensures ok { IfOk result (λ es. edits_in (doc_tree doc.now.value (doc_root doc.now.value)) ≡ Some (edits_of es)) }
     ensures err { IfErr result (Unread (edits_in (doc_tree doc.now.value (doc_root doc.now.value)))) }

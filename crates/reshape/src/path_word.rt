@@ -24,7 +24,8 @@ fn read_index(number: Number) -> Option<u32>
     u32::try_from(number.as_u64()?).ok()
 }
 
-/// The step that is seen: a key or an index. `BadWords` where it is neither, and `NoMemory`.
+/// The step that is seen: a key or an index. `BadWords` comes where it is neither, `NoMemory` where
+/// memory runs out.
 pub fn read_step(alloc: Global, view: DocView<'_>) -> Result<PointerNode>
     ensures ok { IfOk result (λ s. step_in (view_tree view.entry) ≡ Some (step_of s)) }
     ensures err { IfErr result (Unread (step_in (view_tree view.entry))) }
@@ -41,7 +42,8 @@ pub fn read_step(alloc: Global, view: DocView<'_>) -> Result<PointerNode>
     Err(BAD_WORDS)
 }
 
-/// The path that is seen: an array of steps. `BadWords` where it is none, and `NoMemory`.
+/// The path that is seen: an array of steps. `BadWords` comes where it is none, `NoMemory` where memory
+/// runs out.
 pub fn read_path(alloc: Global, view: DocView<'_>) -> Result<Path>
     ensures ok { IfOk result (λ p. path_in (view_tree view.entry) ≡ Some (path_steps p)) }
     ensures err { IfErr result (Unread (path_in (view_tree view.entry))) }

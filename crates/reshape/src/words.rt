@@ -61,7 +61,7 @@ fn read_edits_word(alloc: Global, word: Option<&str>) -> Result<Edits>
 /// What the words ask for. A word that begins with `--` is an option: `--pretty` asks for an indent of two spaces, `--tabs` for one
 /// of a tab, `--indent=N` for one of N spaces, which is one digit from 0 to 8, and `--sort-keys` for members in the order of their
 /// keys. Any other word is the edits word, which asks for the edits that it spells. Answers `BadWords` where an option is unknown
-/// or stands twice, where two options ask for an indent, and where there are two edits words or the one has another form; and
+/// or stands twice, where two options ask for an indent, and where there are two edits words or the one has another form, and
 /// `NoMemory`.
 pub fn asked(alloc: Global, words: &Words) -> Result<Asked>
     ensures ok { IfOk result (λ a. Asks words.now (asked_command a)) }
