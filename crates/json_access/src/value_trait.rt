@@ -49,7 +49,7 @@ pub trait JsonValueTrait {
         ensures { option_map value_of result ≡ integer_of (tree self.now) };
 
     /// The literal of the number: as it was written, or the decimal text of an integer of `u64` or `i64`; none of another kind.
-    /// `NoMemory`.
+    /// `NoMemory` comes where memory runs out.
     fn as_raw_number(&self, alloc: Global) -> json_text::Result<Option<RawNumber>>
         ensures literal { IfOk result (λ o. option_map raw_literal o ≡ spelling (tree self.now)) }
         ensures only { IfErr result (λ e. e ≡ no_memory) };

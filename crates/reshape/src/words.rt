@@ -62,7 +62,7 @@ fn read_edits_word(alloc: Global, word: Option<&str>) -> Result<Edits>
 /// of a tab, `--indent=N` for one of N spaces, which is one digit from 0 to 8, and `--sort-keys` for members in the order of their
 /// keys. Any other word is the edits word, which asks for the edits that it spells. Answers `BadWords` where an option is unknown
 /// or stands twice, where two options ask for an indent, and where there are two edits words or the one has another form, and
-/// `NoMemory`.
+/// `NoMemory` where memory runs out.
 pub fn asked(alloc: Global, words: &Words) -> Result<Asked>
     ensures ok { IfOk result (λ a. Asks words.now (asked_command a)) }
     ensures err { IfErr result (λ e. (e ≡ no_memory) ⊎ ((e ≡ bad_words) × ¬ (IsAsked words.now))) }
