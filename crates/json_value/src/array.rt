@@ -38,7 +38,8 @@ fn unpack_list(alloc: Global, place: &Place) -> Result<Vec<Value>>
 impl Container<Value> {
     /// The array without elements. Takes no memory.
     pub fn new() -> Array
-        ensures { list_in result ≡ [] }
+        ensures empty { list_in result ≡ [] }
+        ensures no_place { IsPlace result → ⊥ }
     {
         Container { form: Form::Empty }
     }

@@ -44,7 +44,8 @@ fn unpack_pairs(alloc: Global, place: &Place) -> Result<Vec<Pair>>
 impl Container<Keyed<Value>> {
     /// The object without members. Takes no memory.
     pub fn new() -> Object
-        ensures { pairs_in result ≡ [] }
+        ensures empty { pairs_in result ≡ [] }
+        ensures no_place { IsPlace result → ⊥ }
     {
         Container { form: Form::Empty }
     }
