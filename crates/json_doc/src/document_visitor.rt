@@ -119,6 +119,7 @@ impl DocumentVisitor {
     fn push(&mut self, cell: Cell)
         requires { vec_len self.old.front + vec_len self.old.done < self.old.room }
         ensures front { self.new.front.items ≡ self.old.front.items ++ cell ∷ [] }
+        ensures capacity { vec_capacity self.new.front ≡ vec_capacity self.old.front }
         ensures done { self.new.done ≡ self.old.done }
         ensures text { self.new.text ≡ self.old.text }
         ensures parent { self.new.parent ≡ self.old.parent }
@@ -274,14 +275,26 @@ fn append_text(out: &mut Vec<u8>, s: Span<'_>)
 }
 
 impl JsonVisitor for DocumentVisitor {
-    ghost use Rattle.json_doc.specs.Recorded.{visitor_state, Holds};
+    ghost use Rattle.json_grammar.specs.Tree.{Token, null_token, boolean_token, num_token, begin};
+    ghost use Rattle.json_grammar.specs.declared.Kind.TheVariants.{Array as array, Object as object};
+    ghost use Rattle.json_doc.specs.Recorded.{visitor_state, Holds, TakesNoMemory};
+    ghost use Rattle.json_doc.specs.State.{Fits, after_event, MayCome, HoldsMore};
+    ghost use Rattle.std.specs.Bool.{OnTrue};
+    ghost use Rattle.std.specs.Fmt.{signed_decimal};
+    ghost use Rattle.std.specs.Prelude.{◌<ℤ◌, pos};
 
     ghost holds = { Holds };
 
     ghost state = { visitor_state };
 
     #[inline(always)]
-    fn visit_null(&mut self) -> bool {
+    fn visit_null(&mut self) -> bool
+        requires { (visitor_state self.old).full ≡ false → MayCome (Holds self.old) null_token }
+        ensures answer { IsTrue result ↔ Fits (visitor_state self.old) 1 0 }
+        ensures state { visitor_state self.new ≡ after_event result 1 0 (visitor_state self.old) }
+        ensures held { OnTrue result (HoldsMore (Holds self.old) (Holds self.new) null_token) }
+        ensures capacity { TakesNoMemory self.old self.new }
+    {
         if !self.admit(1, 0) {
             return false;
         }
@@ -290,7 +303,15 @@ impl JsonVisitor for DocumentVisitor {
     }
 
     #[inline(always)]
-    fn visit_bool(&mut self, b: bool) -> bool {
+    fn visit_bool(&mut self, b: bool) -> bool
+        requires { (visitor_state self.old).full ≡ false
+            → MayCome (Holds self.old) (boolean_token b) }
+        ensures answer { IsTrue result ↔ Fits (visitor_state self.old) 1 0 }
+        ensures state { visitor_state self.new ≡ after_event result 1 0 (visitor_state self.old) }
+        ensures held { OnTrue result
+            (HoldsMore (Holds self.old) (Holds self.new) (boolean_token b)) }
+        ensures capacity { TakesNoMemory self.old self.new }
+    {
         if !self.admit(1, 0) {
             return false;
         }
@@ -299,7 +320,15 @@ impl JsonVisitor for DocumentVisitor {
     }
 
     #[inline(always)]
-    fn visit_u64(&mut self, n: u64) -> bool {
+    fn visit_u64(&mut self, n: u64) -> bool
+        requires { (visitor_state self.old).full ≡ false
+            → MayCome (Holds self.old) (num_token (signed_decimal (pos n))) }
+        ensures answer { IsTrue result ↔ Fits (visitor_state self.old) 1 0 }
+        ensures state { visitor_state self.new ≡ after_event result 1 0 (visitor_state self.old) }
+        ensures held { OnTrue result
+            (HoldsMore (Holds self.old) (Holds self.new) (num_token (signed_decimal (pos n)))) }
+        ensures capacity { TakesNoMemory self.old self.new }
+    {
         if !self.admit(1, 0) {
             return false;
         }
@@ -308,7 +337,16 @@ impl JsonVisitor for DocumentVisitor {
     }
 
     #[inline(always)]
-    fn visit_i64(&mut self, n: i64) -> bool {
+    fn visit_i64(&mut self, n: i64) -> bool
+        requires negative { n <ℤ pos 0 }
+        requires come { (visitor_state self.old).full ≡ false
+            → MayCome (Holds self.old) (num_token (signed_decimal n)) }
+        ensures answer { IsTrue result ↔ Fits (visitor_state self.old) 1 0 }
+        ensures state { visitor_state self.new ≡ after_event result 1 0 (visitor_state self.old) }
+        ensures held { OnTrue result
+            (HoldsMore (Holds self.old) (Holds self.new) (num_token (signed_decimal n))) }
+        ensures capacity { TakesNoMemory self.old self.new }
+    {
         if !self.admit(1, 0) {
             return false;
         }
@@ -347,7 +385,13 @@ impl JsonVisitor for DocumentVisitor {
     }
 
     #[inline(always)]
-    fn visit_array_start(&mut self) -> bool {
+    fn visit_array_start(&mut self) -> bool
+        requires { (visitor_state self.old).full ≡ false → MayCome (Holds self.old) (begin array) }
+        ensures answer { IsTrue result ↔ Fits (visitor_state self.old) 1 0 }
+        ensures state { visitor_state self.new ≡ after_event result 1 0 (visitor_state self.old) }
+        ensures held { OnTrue result (HoldsMore (Holds self.old) (Holds self.new) (begin array)) }
+        ensures capacity { TakesNoMemory self.old self.new }
+    {
         if !self.admit(1, 0) {
             return false;
         }
@@ -370,7 +414,13 @@ impl JsonVisitor for DocumentVisitor {
     }
 
     #[inline(always)]
-    fn visit_object_start(&mut self) -> bool {
+    fn visit_object_start(&mut self) -> bool
+        requires { (visitor_state self.old).full ≡ false → MayCome (Holds self.old) (begin object) }
+        ensures answer { IsTrue result ↔ Fits (visitor_state self.old) 1 0 }
+        ensures state { visitor_state self.new ≡ after_event result 1 0 (visitor_state self.old) }
+        ensures held { OnTrue result (HoldsMore (Holds self.old) (Holds self.new) (begin object)) }
+        ensures capacity { TakesNoMemory self.old self.new }
+    {
         if !self.admit(1, 0) {
             return false;
         }
