@@ -1,6 +1,7 @@
 // The builder of a document.
 ghost use Rattle.std.specs.Prelude.{◌≡◌, ◌+◌, ◌-◌, ◌/◌, ◌<◌, ◌≤◌, ◌^◌, ◌↔◌, List, ℕ, [], ◌∷◌, ◌++◌, length, take, drop, true, false, IsTrue, IfOk, IfErr, vec_len, vec_capacity, slice_index_or};
 ghost use Rattle.json_grammar.specs.Grammar.{chars};
+ghost use Rattle.json_text.specs.Spelled.{NoEscape};
 
 use crate::cell::Cell;
 use crate::doc::Doc;
@@ -157,6 +158,8 @@ impl DocumentVisitor {
             → result ≡ Cell.Str (vec_len self.old.text) (length t) }
         ensures text { (t : List ℕ) → chars false t s.entry.raw.now
             → self.new.text.items ≡ self.old.text.items ++ t }
+        ensures capacity { ¬ (NoEscape s.entry.raw.now)
+            → vec_capacity self.new.text ≡ vec_capacity self.old.text }
         ensures front { self.new.front ≡ self.old.front }
         ensures done { self.new.done ≡ self.old.done }
         ensures parent { self.new.parent ≡ self.old.parent }
@@ -267,6 +270,7 @@ fn append_text(out: &mut Vec<u8>, s: Span<'_>)
     ensures grows { vec_len out.old ≤ vec_len out.new }
     ensures len { vec_len out.new ≤ vec_len out.old + length s.entry.raw.now }
     ensures capacity { vec_capacity out.old ≤ vec_capacity out.new }
+    ensures unescaped { ¬ (NoEscape s.entry.raw.now) → vec_capacity out.new ≡ vec_capacity out.old }
 {
     match s.plain() {
         Some(text) => append_bytes(out, text.as_bytes()),
@@ -275,7 +279,7 @@ fn append_text(out: &mut Vec<u8>, s: Span<'_>)
 }
 
 impl JsonVisitor for DocumentVisitor {
-    ghost use Rattle.json_grammar.specs.Tree.{Token, null_token, boolean_token, num_token, begin};
+    ghost use Rattle.json_grammar.specs.Tree.{Token, null_token, boolean_token, num_token, text_token, key_token, begin};
     ghost use Rattle.json_grammar.specs.declared.Kind.TheVariants.{Array as array, Object as object};
     ghost use Rattle.json_doc.specs.Recorded.{visitor_state, Holds, TakesNoMemory};
     ghost use Rattle.json_doc.specs.State.{Fits, after_event, MayCome, HoldsMore};
@@ -365,7 +369,16 @@ impl JsonVisitor for DocumentVisitor {
     }
 
     #[inline(always)]
-    fn visit_str(&mut self, s: Span<'_>) -> bool {
+    fn visit_str(&mut self, s: Span<'_>) -> bool
+        requires { (visitor_state self.old).full ≡ false
+            → (t : List ℕ) × chars false t s.raw.now × MayCome (Holds self.old) (text_token t) }
+        ensures answer { IsTrue result ↔ Fits (visitor_state self.old) 1 (length s.entry.raw.now) }
+        ensures state { (t : List ℕ) → chars false t s.entry.raw.now
+            → visitor_state self.new ≡ after_event result 1 (length t) (visitor_state self.old) }
+        ensures held { OnTrue result ((t : List ℕ) → chars false t s.entry.raw.now
+            → HoldsMore (Holds self.old) (Holds self.new) (text_token t)) }
+        ensures capacity { ¬ (NoEscape s.entry.raw.now) → TakesNoMemory self.old self.new }
+    {
         if !self.admit(1, s.raw_len()) {
             return false;
         }
@@ -375,7 +388,16 @@ impl JsonVisitor for DocumentVisitor {
     }
 
     #[inline(always)]
-    fn visit_key(&mut self, s: Span<'_>) -> bool {
+    fn visit_key(&mut self, s: Span<'_>) -> bool
+        requires { (visitor_state self.old).full ≡ false
+            → (t : List ℕ) × chars false t s.raw.now × MayCome (Holds self.old) (key_token t) }
+        ensures answer { IsTrue result ↔ Fits (visitor_state self.old) 1 (length s.entry.raw.now) }
+        ensures state { (t : List ℕ) → chars false t s.entry.raw.now
+            → visitor_state self.new ≡ after_event result 1 (length t) (visitor_state self.old) }
+        ensures held { OnTrue result ((t : List ℕ) → chars false t s.entry.raw.now
+            → HoldsMore (Holds self.old) (Holds self.new) (key_token t)) }
+        ensures capacity { ¬ (NoEscape s.entry.raw.now) → TakesNoMemory self.old self.new }
+    {
         if !self.admit(1, s.raw_len()) {
             return false;
         }
