@@ -1,5 +1,5 @@
 -- What a builder of documents has recorded.
-use Rattle.std.specs.Prelude.{◌≡◌, ℕ, ◌+◌, List, length, Some}
+use Rattle.std.specs.Prelude.{◌≡◌, ℕ, ◌+◌, List, length, Some, vec_capacity}
 use Rattle.std.specs.Str.{IsUtf8}
 use Rattle.json_grammar.specs.Tree.{Token}
 use Rattle.json_grammar.specs.Sizes.{nodes_of}
@@ -30,3 +30,7 @@ Holds v ts = Held v.front.items v.done.items v.text.items v.parent ts
 -- the room stays
 abbrev pub SameRoom : DocumentVisitor → DocumentVisitor → Type 0
 SameRoom old new = (new.room ≡ old.room) × (new.text_room ≡ old.text_room)
+
+-- what each list has room for before it has to grow stays, so none grew
+abbrev pub TakesNoMemory : DocumentVisitor → DocumentVisitor → Type 0
+TakesNoMemory old new = (vec_capacity new.front ≡ vec_capacity old.front) × (vec_capacity new.done ≡ vec_capacity old.done) × (vec_capacity new.text ≡ vec_capacity old.text)

@@ -1,6 +1,7 @@
 // The builder of a document.
 ghost use Rattle.std.specs.Prelude.{◌≡◌, ◌+◌, ◌-◌, ◌/◌, ◌<◌, ◌≤◌, ◌^◌, ◌↔◌, List, ℕ, [], ◌∷◌, ◌++◌, length, take, drop, true, false, IsTrue, IfOk, IfErr, vec_len, vec_capacity, slice_index_or};
 ghost use Rattle.json_grammar.specs.Grammar.{chars};
+ghost use Rattle.json_text.specs.Spelled.{NoEscape};
 
 use crate::cell::Cell;
 use crate::doc::Doc;
@@ -119,6 +120,7 @@ impl DocumentVisitor {
     fn push(&mut self, cell: Cell)
         requires { vec_len self.old.front + vec_len self.old.done < self.old.room }
         ensures front { self.new.front.items ≡ self.old.front.items ++ cell ∷ [] }
+        ensures capacity { vec_capacity self.new.front ≡ vec_capacity self.old.front }
         ensures done { self.new.done ≡ self.old.done }
         ensures text { self.new.text ≡ self.old.text }
         ensures parent { self.new.parent ≡ self.old.parent }
@@ -156,6 +158,8 @@ impl DocumentVisitor {
             → result ≡ Cell.Str (vec_len self.old.text) (length t) }
         ensures text { (t : List ℕ) → chars false t s.entry.raw.now
             → self.new.text.items ≡ self.old.text.items ++ t }
+        ensures capacity { ¬ (NoEscape s.entry.raw.now)
+            → vec_capacity self.new.text ≡ vec_capacity self.old.text }
         ensures front { self.new.front ≡ self.old.front }
         ensures done { self.new.done ≡ self.old.done }
         ensures parent { self.new.parent ≡ self.old.parent }
@@ -266,6 +270,7 @@ fn append_text(out: &mut Vec<u8>, s: Span<'_>)
     ensures grows { vec_len out.old ≤ vec_len out.new }
     ensures len { vec_len out.new ≤ vec_len out.old + length s.entry.raw.now }
     ensures capacity { vec_capacity out.old ≤ vec_capacity out.new }
+    ensures unescaped { ¬ (NoEscape s.entry.raw.now) → vec_capacity out.new ≡ vec_capacity out.old }
 {
     match s.plain() {
         Some(text) => append_bytes(out, text.as_bytes()),
@@ -274,14 +279,26 @@ fn append_text(out: &mut Vec<u8>, s: Span<'_>)
 }
 
 impl JsonVisitor for DocumentVisitor {
-    ghost use Rattle.json_doc.specs.Recorded.{visitor_state, Holds};
+    ghost use Rattle.json_grammar.specs.Tree.{Token, null_token, boolean_token, num_token, text_token, key_token, begin};
+    ghost use Rattle.json_grammar.specs.declared.Kind.TheVariants.{Array as array, Object as object};
+    ghost use Rattle.json_doc.specs.Recorded.{visitor_state, Holds, TakesNoMemory};
+    ghost use Rattle.json_doc.specs.State.{Fits, after_event, MayCome, HoldsMore};
+    ghost use Rattle.std.specs.Bool.{OnTrue};
+    ghost use Rattle.std.specs.Fmt.{signed_decimal};
+    ghost use Rattle.std.specs.Prelude.{◌<ℤ◌, pos};
 
     ghost holds = { Holds };
 
     ghost state = { visitor_state };
 
     #[inline(always)]
-    fn visit_null(&mut self) -> bool {
+    fn visit_null(&mut self) -> bool
+        requires { (visitor_state self.old).full ≡ false → MayCome (Holds self.old) null_token }
+        ensures answer { IsTrue result ↔ Fits (visitor_state self.old) 1 0 }
+        ensures state { visitor_state self.new ≡ after_event result 1 0 (visitor_state self.old) }
+        ensures held { OnTrue result (HoldsMore (Holds self.old) (Holds self.new) null_token) }
+        ensures capacity { TakesNoMemory self.old self.new }
+    {
         if !self.admit(1, 0) {
             return false;
         }
@@ -290,7 +307,15 @@ impl JsonVisitor for DocumentVisitor {
     }
 
     #[inline(always)]
-    fn visit_bool(&mut self, b: bool) -> bool {
+    fn visit_bool(&mut self, b: bool) -> bool
+        requires { (visitor_state self.old).full ≡ false
+            → MayCome (Holds self.old) (boolean_token b) }
+        ensures answer { IsTrue result ↔ Fits (visitor_state self.old) 1 0 }
+        ensures state { visitor_state self.new ≡ after_event result 1 0 (visitor_state self.old) }
+        ensures held { OnTrue result
+            (HoldsMore (Holds self.old) (Holds self.new) (boolean_token b)) }
+        ensures capacity { TakesNoMemory self.old self.new }
+    {
         if !self.admit(1, 0) {
             return false;
         }
@@ -299,7 +324,15 @@ impl JsonVisitor for DocumentVisitor {
     }
 
     #[inline(always)]
-    fn visit_u64(&mut self, n: u64) -> bool {
+    fn visit_u64(&mut self, n: u64) -> bool
+        requires { (visitor_state self.old).full ≡ false
+            → MayCome (Holds self.old) (num_token (signed_decimal (pos n))) }
+        ensures answer { IsTrue result ↔ Fits (visitor_state self.old) 1 0 }
+        ensures state { visitor_state self.new ≡ after_event result 1 0 (visitor_state self.old) }
+        ensures held { OnTrue result
+            (HoldsMore (Holds self.old) (Holds self.new) (num_token (signed_decimal (pos n)))) }
+        ensures capacity { TakesNoMemory self.old self.new }
+    {
         if !self.admit(1, 0) {
             return false;
         }
@@ -308,7 +341,16 @@ impl JsonVisitor for DocumentVisitor {
     }
 
     #[inline(always)]
-    fn visit_i64(&mut self, n: i64) -> bool {
+    fn visit_i64(&mut self, n: i64) -> bool
+        requires negative { n <ℤ pos 0 }
+        requires come { (visitor_state self.old).full ≡ false
+            → MayCome (Holds self.old) (num_token (signed_decimal n)) }
+        ensures answer { IsTrue result ↔ Fits (visitor_state self.old) 1 0 }
+        ensures state { visitor_state self.new ≡ after_event result 1 0 (visitor_state self.old) }
+        ensures held { OnTrue result
+            (HoldsMore (Holds self.old) (Holds self.new) (num_token (signed_decimal n))) }
+        ensures capacity { TakesNoMemory self.old self.new }
+    {
         if !self.admit(1, 0) {
             return false;
         }
@@ -327,7 +369,16 @@ impl JsonVisitor for DocumentVisitor {
     }
 
     #[inline(always)]
-    fn visit_str(&mut self, s: Span<'_>) -> bool {
+    fn visit_str(&mut self, s: Span<'_>) -> bool
+        requires { (visitor_state self.old).full ≡ false
+            → (t : List ℕ) × chars false t s.raw.now × MayCome (Holds self.old) (text_token t) }
+        ensures answer { IsTrue result ↔ Fits (visitor_state self.old) 1 (length s.entry.raw.now) }
+        ensures state { (t : List ℕ) → chars false t s.entry.raw.now
+            → visitor_state self.new ≡ after_event result 1 (length t) (visitor_state self.old) }
+        ensures held { OnTrue result ((t : List ℕ) → chars false t s.entry.raw.now
+            → HoldsMore (Holds self.old) (Holds self.new) (text_token t)) }
+        ensures capacity { ¬ (NoEscape s.entry.raw.now) → TakesNoMemory self.old self.new }
+    {
         if !self.admit(1, s.raw_len()) {
             return false;
         }
@@ -337,7 +388,16 @@ impl JsonVisitor for DocumentVisitor {
     }
 
     #[inline(always)]
-    fn visit_key(&mut self, s: Span<'_>) -> bool {
+    fn visit_key(&mut self, s: Span<'_>) -> bool
+        requires { (visitor_state self.old).full ≡ false
+            → (t : List ℕ) × chars false t s.raw.now × MayCome (Holds self.old) (key_token t) }
+        ensures answer { IsTrue result ↔ Fits (visitor_state self.old) 1 (length s.entry.raw.now) }
+        ensures state { (t : List ℕ) → chars false t s.entry.raw.now
+            → visitor_state self.new ≡ after_event result 1 (length t) (visitor_state self.old) }
+        ensures held { OnTrue result ((t : List ℕ) → chars false t s.entry.raw.now
+            → HoldsMore (Holds self.old) (Holds self.new) (key_token t)) }
+        ensures capacity { ¬ (NoEscape s.entry.raw.now) → TakesNoMemory self.old self.new }
+    {
         if !self.admit(1, s.raw_len()) {
             return false;
         }
@@ -347,7 +407,13 @@ impl JsonVisitor for DocumentVisitor {
     }
 
     #[inline(always)]
-    fn visit_array_start(&mut self) -> bool {
+    fn visit_array_start(&mut self) -> bool
+        requires { (visitor_state self.old).full ≡ false → MayCome (Holds self.old) (begin array) }
+        ensures answer { IsTrue result ↔ Fits (visitor_state self.old) 1 0 }
+        ensures state { visitor_state self.new ≡ after_event result 1 0 (visitor_state self.old) }
+        ensures held { OnTrue result (HoldsMore (Holds self.old) (Holds self.new) (begin array)) }
+        ensures capacity { TakesNoMemory self.old self.new }
+    {
         if !self.admit(1, 0) {
             return false;
         }
@@ -370,7 +436,13 @@ impl JsonVisitor for DocumentVisitor {
     }
 
     #[inline(always)]
-    fn visit_object_start(&mut self) -> bool {
+    fn visit_object_start(&mut self) -> bool
+        requires { (visitor_state self.old).full ≡ false → MayCome (Holds self.old) (begin object) }
+        ensures answer { IsTrue result ↔ Fits (visitor_state self.old) 1 0 }
+        ensures state { visitor_state self.new ≡ after_event result 1 0 (visitor_state self.old) }
+        ensures held { OnTrue result (HoldsMore (Holds self.old) (Holds self.new) (begin object)) }
+        ensures capacity { TakesNoMemory self.old self.new }
+    {
         if !self.admit(1, 0) {
             return false;
         }
