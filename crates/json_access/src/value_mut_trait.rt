@@ -76,10 +76,17 @@ pub trait JsonValueMutTrait: JsonValueTrait {
             (λ n. (Self.tree n ≡ Self.tree self.old) × KeptAlong (steps_of path.now) Same (held self.old) (held n))) }
         ensures stands { IfOk result (λ o. option_map (λ x. tree_of x.now) o ≡ tree_at (steps_of path.now) (Self.tree self.old)) }
         ensures only { IfErr result (λ e. e ≡ no_memory) };
+
+    // the tree is the held value's
+    ghost denotes: { (v : Self) → Self.tree v ≡ tree_of (held v) };
 }
 
 impl JsonValueMutTrait for Value {
+    ghost use Rattle.std.proofs.Common.{refl};
+
     ghost held = { λ v. v };
+
+    ghost denotes = { λ v. refl };
 
     fn as_array_mut(&mut self, alloc: Global) -> Result<Option<&mut Array>> {
         Value::as_array_mut(self, alloc)

@@ -31,6 +31,9 @@ Holds v ts = Held v.front.items v.done.items v.text.items v.parent ts
 abbrev pub SameRoom : DocumentVisitor → DocumentVisitor → Type 0
 SameRoom old new = (new.room ≡ old.room) × (new.text_room ≡ old.text_room)
 
--- what each list has room for before it has to grow stays, so none grew
+-- none of the three lists grew: what each has room for in its memory stays
 abbrev pub TakesNoMemory : DocumentVisitor → DocumentVisitor → Type 0
-TakesNoMemory old new = (vec_capacity new.front ≡ vec_capacity old.front) × (vec_capacity new.done ≡ vec_capacity old.done) × (vec_capacity new.text ≡ vec_capacity old.text)
+TakesNoMemory old new =
+    (vec_capacity new.front ≡ vec_capacity old.front)
+    × (vec_capacity new.done ≡ vec_capacity old.done)
+    × (vec_capacity new.text ≡ vec_capacity old.text)
