@@ -1,5 +1,5 @@
 -- The members of an object with an owned list, and what a write at one of them, or behind them, leaves.
-use Rattle.std.specs.Prelude.{◌≡◌, ◌+◌, ◌-◌, ◌<◌, ℕ, Bool, List, [], ◌∷◌, ◌++◌, Option, Some, None, slice_get, Vec, filter, not, bytes_eq, cond, map, set}
+use Rattle.std.specs.Prelude.{◌≡◌, ◌+◌, ◌-◌, ◌<◌, ℕ, Bool, List, [], ◌∷◌, ◌++◌, Option, Some, None, slice_get, Vec, filter, not, bytes_eq, map, option_map, set}
 use Rattle.json_grammar.specs.Tree.{Tree, Pairs}
 use Rattle.json_model.specs.Edit.{inserted}
 use denote.Ref.{Bor, MutBor}
@@ -13,6 +13,7 @@ use Rattle.json_value.specs.Denotes.{text_bytes, pair_of}
 use Rattle.json_value.specs.FirstMember.{IsFirstOf}
 use Rattle.json_value.specs.Room.{form_spare}
 use Rattle.json_value.specs.Rows.{owned, owned_items_of}
+use Rattle.json_value.specs.Seen.{first_of}
 use Rattle.json_value.specs.Written.{value_in, with_value}
 use Rattle.json_value.specs.declared.container.Container.{Container}
 use Rattle.json_value.specs.declared.container.Form.{Form}
@@ -68,8 +69,7 @@ unkeyed k ms = filter (λ m. not (bytes_eq (text_bytes m.key) k)) ms
 
 -- the value of the first member of the key
 abbrev pub found : List ℕ → List (List ℕ × Tree) → Option Tree
-found k [] = None
-found k (p ∷ ps) = cond (bytes_eq p.0 k) (Some p.1) (found k ps)
+found k ps = option_map (λ p. p.1) (first_of k ps)
 
 -- a call of f at the key and at the value of m may give r, and leave f' and m'
 pub record CalledAtMember {F : Type 0} (g : Mut F (Bor (List ℕ) × (MutBor Value × Unit {0})) (Bool × (MutBor Value × Unit {0}))) (f : F) (m : Keyed Value) (r : Bool) (f' : F) (m' : Keyed Value) : Type 0 where

@@ -1,5 +1,5 @@
 // The calls of arrays.
-ghost use Rattle.std.specs.Prelude.{◌≡◌, ◌+◌, ◌-◌, ◌≤◌, ◌<◌, List, [], ◌∷◌, ◌++◌, length, map, take, drop, replicate, IfOk, IfErr, OnOk, OnErr, IsOk, IsNone, Some, slice_get, slice_range, option_map};
+ghost use Rattle.std.specs.Prelude.{◌≡◌, ◌+◌, ◌-◌, ◌≤◌, ◌<◌, ◌↔◌, List, [], ◌∷◌, ◌++◌, length, map, take, drop, replicate, IfOk, IfErr, OnOk, OnErr, IsOk, IsNone, IsTrue, Some, slice_get, slice_range, option_map};
 ghost use Rattle.std.specs.Option.{option_to_list};
 ghost use Rattle.std.specs.Vec.{vec_len, vec_capacity};
 ghost use Rattle.std.specs.Fn.{CalledAt, CalledAtMut};
@@ -82,6 +82,18 @@ fn take_range(list: &mut Vec<Value>, from: usize, to: usize) -> Result<Vec<Value
 pub trait ArrayCalls {
     /// The array.
     ghost held: { Self → Container Value };
+
+    /// How many elements there are.
+    fn len(&self) -> usize
+        ensures { result ≡ length (list_in (held self.now)) };
+
+    /// Whether there is none.
+    fn is_empty(&self) -> bool
+        ensures { IsTrue result ↔ (list_in (held self.now) ≡ []) };
+
+    /// How many elements there can be before memory is asked for.
+    fn capacity(&self) -> usize
+        ensures { result ≡ length (list_in (held self.now)) + spare_in (held self.now) };
 
     /// Room for at least as many more.
     fn reserve(&mut self, alloc: Global, additional: usize) -> Result<()>
@@ -244,6 +256,18 @@ pub trait ArrayCalls {
 
 impl ArrayCalls for Array {
     ghost held = { λ a. a };
+
+    fn len(&self) -> usize {
+        self.view().len()
+    }
+
+    fn is_empty(&self) -> bool {
+        self.view().is_empty()
+    }
+
+    fn capacity(&self) -> usize {
+        self.view().len() + self.spare()
+    }
 
     fn reserve(&mut self, alloc: Global, additional: usize) -> Result<()> {
         if additional <= self.spare() {

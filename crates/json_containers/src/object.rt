@@ -1,5 +1,5 @@
 // The calls of objects.
-ghost use Rattle.std.specs.Prelude.{◌≡◌, ◌+◌, ◌<◌, ◌≤◌, [], length, map, set, option_map, slice_get, Some, IfOk, IfErr, IfSome, IfNone, OnOk, OnErr, IsOk, false};
+ghost use Rattle.std.specs.Prelude.{◌≡◌, ◌+◌, ◌<◌, ◌≤◌, [], length, map, set, option_map, slice_get, Some, IfOk, IfErr, IfSome, IfNone, OnOk, OnErr, IsOk, IsTrue, ◌↔◌, false};
 ghost use Rattle.std.specs.Borrow.{LendsSoOk, RestsIfErr, sem};
 ghost use Rattle.std.specs.Vec.{vec_len, vec_capacity};
 ghost use Rattle.std.specs.List.Retain.{RetainsInTurn};
@@ -20,12 +20,16 @@ ghost use Rattle.json_containers.specs.Entry.{entry_ref, entry_object, entry_key
 ghost use Rattle.json_value.specs.Lending.{settled, LendsPart};
 ghost use Rattle.json_containers.specs.Found.{Finds};
 ghost use Rattle.json_containers.specs.Members.{own_members, found, AtMember, CalledAtMember};
+ghost use Rattle.json_value.specs.Left.{members_left, members_sights_left};
 ghost use Rattle.json_value.specs.Merged.{inserted_all};
 ghost use Rattle.json_value.specs.Rows.{OwnsList};
+ghost use Rattle.json_value.specs.Seen.{seen, first_of};
+ghost use Rattle.json_value.specs.SightParts.{member_sight, object_sights};
+ghost use Rattle.json_value.specs.Sights.{sight_of};
 
 use crate::entry::{Entry, OccupiedEntry, VacantEntry, add, take_all};
 use json_text::{Error, ErrorCode, Place, Result};
-use json_value::{Object, Pair, Text, Value};
+use json_value::{Iter, Object, Pair, Text, Value, View};
 use std::alloc::Global;
 use std::mem::replace;
 
@@ -173,6 +177,40 @@ pub trait ObjectCalls {
     /// The object.
     ghost held: { Self → Container (Keyed Value) };
 
+    /// How many members there are, repeated keys counted.
+    fn len(&self) -> usize
+        ensures { result ≡ length (pairs_in (held self.now)) };
+
+    /// Whether there is none.
+    fn is_empty(&self) -> bool
+        ensures { IsTrue result ↔ (pairs_in (held self.now) ≡ []) };
+
+    /// How many members there can be before memory is asked for.
+    fn capacity(&self) -> usize
+        ensures { result ≡ length (pairs_in (held self.now)) + spare_in (held self.now) };
+
+    /// The value of the first member of the key; none where there is none.
+    fn get(&self, key: &str) -> Option<View<'_>>
+        ensures tree { option_map seen result ≡ found key.now (pairs_in (held self.now)) }
+        ensures sight { option_map sight_of result
+            ≡ option_map (λ p. p.1) (first_of key.now (object_sights (held self.now))) };
+
+    /// Whether there is a member of the key.
+    fn contains_key(&self, key: &str) -> bool
+        ensures { result ≡ has_key key.now (list_pairs (pairs_in (held self.now))) };
+
+    /// The key and the value of the first member of the key; none where there is none.
+    fn get_key_value(&self, key: &str) -> Option<(&str, View<'_>)>
+        ensures tree { option_map (λ p. (p.0.now, seen p.1)) result
+            ≡ first_of key.now (pairs_in (held self.now)) }
+        ensures sight { option_map member_sight result
+            ≡ first_of key.now (object_sights (held self.now)) };
+
+    /// The members, each its key and its value, in order.
+    fn iter(&self) -> Iter<'_>
+        ensures trees { members_left result ≡ pairs_in (held self.now) }
+        ensures sights { members_sights_left result ≡ object_sights (held self.now) };
+
     /// The value of the first member of the key, to be changed; none exactly where the key is missing.
     fn get_mut(&mut self, alloc: Global, key: &str) -> Result<Option<&mut Value>>
         ensures* writes_back { sem 𝓛 (LendsPart Self.row value_row self.entry result (λ n w. ObjectChanged (AtMember key.now (λ before after. after ≡ w)) (held self.old) (held n)) (λ n. pairs_in (held n) ≡ pairs_in (held self.old))) }
@@ -263,6 +301,37 @@ pub trait ObjectCalls {
 
 impl ObjectCalls for Object {
     ghost held = { λ o. o };
+
+    fn len(&self) -> usize {
+        self.view().len()
+    }
+
+    fn is_empty(&self) -> bool {
+        self.view().is_empty()
+    }
+
+    fn capacity(&self) -> usize {
+        self.view().len() + self.spare()
+    }
+
+    fn get(&self, key: &str) -> Option<View<'_>> {
+        self.view().get(key)
+    }
+
+    fn contains_key(&self, key: &str) -> bool {
+        match self.view().get(key) {
+            Some(_) => true,
+            None => false,
+        }
+    }
+
+    fn get_key_value(&self, key: &str) -> Option<(&str, View<'_>)> {
+        self.view().get_key_value(key)
+    }
+
+    fn iter(&self) -> Iter<'_> {
+        self.view().iter()
+    }
 
     fn get_mut(&mut self, alloc: Global, key: &str) -> Result<Option<&mut Value>> {
         settle(value_of(self, alloc, key))
