@@ -78,7 +78,19 @@ fn take_range(list: &mut Vec<Value>, from: usize, to: usize) -> Result<Vec<Value
     }
 }
 
-/// The calls of an array that are those of a list.
+/// The calls of an array that are those of a list. The first write to a place of a document copies one
+/// level of it: each element becomes a value of its own, or a place of the same document.
+///
+/// ```
+/// use json_containers::ArrayCalls;
+/// use json_value::{Array, Value};
+/// let mut array = Array::new();
+/// array.push(alloc, Value::new_u64(7))?;
+/// array.push(alloc, Value::new_bool(true))?;
+/// array.retain(alloc, |item: &Value| item.view().as_bool().is_none())?;
+/// assert_eq!(rt; array.len(), 1);
+/// assert_eq!(rt; array.into_value().to_string(alloc)?.as_str(), "[7]");
+/// ```
 pub trait ArrayCalls {
     /// The array.
     ghost held: { Self → Container Value };
@@ -192,7 +204,7 @@ pub trait ArrayCalls {
         ensures kept { OnErr result ((list_in (held self.new) ≡ list_in (held self.old)) × (list_in other.new ≡ list_in other.old)) }
         ensures only { IfErr result (λ e. e ≡ no_memory) };
 
-    /// Copies of these, appended.
+    /// Appends copies of these.
     fn extend(&mut self, alloc: Global, items: &[Value]) -> Result<()>
         ensures ok { OnOk result (list_in (held self.new) ≡ list_in (held self.old) ++ map tree_of items.now) }
         ensures kept { OnErr result (list_in (held self.new) ≡ list_in (held self.old)) }

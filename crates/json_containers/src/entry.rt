@@ -13,7 +13,16 @@ ghost use Rattle.json_containers.specs.Members.{own_members, key_at, object_with
 use json_value::{Object, Pair, Text, Value};
 use std::mem::replace;
 
-/// The entry of a key: there, or missing.
+/// The entry of a key: there, or missing. No call of an entry takes memory.
+///
+/// ```
+/// use json_containers::ObjectCalls;
+/// use json_value::{Object, Value};
+/// let mut object = Object::new();
+/// *object.entry(alloc, "n")?.or_default() = Value::new_u64(3);
+/// let kept = object.entry(alloc, "n")?.or_insert(Value::new_u64(4)).to_string(alloc)?;
+/// assert_eq!(rt; kept.as_str(), "3");
+/// ```
 #[derive(Drop)]
 pub enum Entry<'a> {
     Occupied(OccupiedEntry<'a>),
@@ -21,6 +30,18 @@ pub enum Entry<'a> {
 }
 
 /// The entry of a key that is there, at its first member.
+///
+/// ```
+/// use json_containers::{Entry, ObjectCalls};
+/// use json_value::{Object, Value};
+/// let mut object = Object::new();
+/// object.insert(alloc, "n", Value::new_u64(3))?;
+/// let removed = match object.entry(alloc, "n")? {
+///     Entry::Occupied(entry) => Some(entry.remove()),
+///     Entry::Vacant(_entry) => None,
+/// };
+/// assert!(rt; removed.is_some() && object.is_empty());
+/// ```
 #[derive(Drop)]
 pub struct OccupiedEntry<'a> {
     pub(crate) object: &'a mut Object,
@@ -30,6 +51,17 @@ pub struct OccupiedEntry<'a> {
 }
 
 /// The entry of a key that is missing, with the key and with room for a member.
+///
+/// ```
+/// use json_containers::{Entry, ObjectCalls};
+/// use json_value::{Object, Value};
+/// let mut object = Object::new();
+/// match object.entry(alloc, "n")? {
+///     Entry::Occupied(_entry) => {}
+///     Entry::Vacant(entry) => *entry.insert(Value::new_null()) = Value::new_bool(true),
+/// }
+/// assert_eq!(rt; object.into_value().to_string(alloc)?.as_str(), "{\"n\":true}");
+/// ```
 #[derive(Drop)]
 pub struct VacantEntry<'a> {
     pub(crate) object: &'a mut Object,

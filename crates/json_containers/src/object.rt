@@ -172,7 +172,19 @@ fn keep_members<F: FnMut(&str, &mut Value) -> bool>(pairs: &mut Vec<Pair>, mut f
     pairs.truncate(kept);
 }
 
-/// The calls of an object that are those of a list of members.
+/// The calls of an object that are those of a list of members. The first of equal keys is read and set, and
+/// a removal takes out all.
+///
+/// ```
+/// use json_containers::ObjectCalls;
+/// use json_value::{Object, Value};
+/// let mut object = Object::new();
+/// object.insert(alloc, "a", Value::new_u64(1))?;
+/// object.insert(alloc, "b", Value::new_bool(true))?;
+/// assert!(rt; object.insert(alloc, "a", Value::new_u64(2))?.is_some());
+/// assert!(rt; object.remove(alloc, "b")?.is_some() && !object.contains_key("b"));
+/// assert_eq!(rt; object.into_value().to_string(alloc)?.as_str(), "{\"a\":2}");
+/// ```
 pub trait ObjectCalls {
     /// The object.
     ghost held: { Self → Container (Keyed Value) };
