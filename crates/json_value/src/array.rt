@@ -1,6 +1,6 @@
 // Arrays.
 ghost use Rattle.std.specs.Prelude.{◌≡◌, ◌≤◌, ◌↔◌, [], map, IfOk, IfErr, OnOk, OnErr, IfSome, IsNone, IsOk};
-ghost use Rattle.std.specs.Borrow.{LendsIfOk, sem};
+ghost use Rattle.std.specs.Borrow.{Lends, LendsIfOk, sem};
 ghost use Rattle.json_grammar.specs.Tree.{list, list_trees};
 ghost use Rattle.json_doc.specs.Readings.{elements};
 ghost use Rattle.json_text.specs.Errors.{no_memory};
@@ -42,6 +42,15 @@ impl Container<Value> {
         ensures no_place { IsPlace result → ⊥ }
     {
         Container { form: Form::Empty }
+    }
+
+    /// The array of this list. Takes no memory.
+    pub fn from_list(list: Vec<Value>) -> Array
+        ensures { result ≡ owned list }
+    {
+        Container {
+            form: Form::Owned(list),
+        }
     }
 
     /// The array as a value.
@@ -112,5 +121,13 @@ impl Container<Value> {
     {
         self.make_owned(alloc)?;
         Ok(self.form.owned())
+    }
+    /// The owned list, to be changed; it has to be there. Takes no memory.
+    pub fn owned_mut(&mut self) -> &mut Vec<Value>
+        requires { OwnsList self.old }
+        ensures* writes_back { sem 𝓛 (Lends array_row (vec_row value_row) self.entry result owned) }
+        ensures value { self.old ≡ owned result.now }
+    {
+        self.form.owned()
     }
 }

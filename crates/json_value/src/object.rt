@@ -1,6 +1,6 @@
 // Objects.
 ghost use Rattle.std.specs.Prelude.{◌≡◌, ◌≤◌, ◌↔◌, [], map, IfOk, IfErr, OnOk, OnErr, IfSome, IsNone, IsOk};
-ghost use Rattle.std.specs.Borrow.{LendsIfOk, sem};
+ghost use Rattle.std.specs.Borrow.{Lends, LendsIfOk, sem};
 ghost use Rattle.json_grammar.specs.Tree.{pairs, list_pairs};
 ghost use Rattle.json_text.specs.Errors.{no_memory};
 ghost use Rattle.json_value.specs.Denotes.{tree_of, pair_of, pairs_in};
@@ -48,6 +48,15 @@ impl Container<Keyed<Value>> {
         ensures no_place { IsPlace result → ⊥ }
     {
         Container { form: Form::Empty }
+    }
+
+    /// The object of this list. Takes no memory.
+    pub fn from_list(pairs: Vec<Pair>) -> Object
+        ensures { result ≡ owned pairs }
+    {
+        Container {
+            form: Form::Owned(pairs),
+        }
     }
 
     /// The object as a value.
@@ -118,5 +127,13 @@ impl Container<Keyed<Value>> {
     {
         self.make_owned(alloc)?;
         Ok(self.form.owned())
+    }
+    /// The owned list, to be changed; it has to be there. Takes no memory.
+    pub fn owned_mut(&mut self) -> &mut Vec<Pair>
+        requires { OwnsList self.old }
+        ensures* writes_back { sem 𝓛 (Lends object_row (vec_row pair_row) self.entry result owned) }
+        ensures value { self.old ≡ owned result.now }
+    {
+        self.form.owned()
     }
 }

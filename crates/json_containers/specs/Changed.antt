@@ -1,0 +1,54 @@
+-- What calls leave of an array and of an object: the members after the first write, changed in one way.
+use denote.RattleType.{RattleType}
+use denote.Array.{Array}
+use Rattle.std.specs.Prelude.{◌≡◌, ◌+◌, ◌≤◌, Bool, List, length, map, Vec}
+use Rattle.std.specs.List.{items_where_true}
+use Rattle.std.specs.declared.alloc.Global.{Global}
+use Rattle.json_value.specs.Denotes.{tree_of, pair_of, list_in, pairs_in}
+use Rattle.json_value.specs.Room.{spare_in}
+use Rattle.json_value.specs.Rows.{owned, owned_items_of}
+use Rattle.json_value.specs.Written.{FirstElements, FirstMembers}
+use Rattle.json_value.specs.declared.container.Container.{Container}
+use Rattle.json_value.specs.declared.pair.Keyed.{Keyed}
+use Rattle.json_value.specs.declared.value.Value.{Value}
+
+-- an array whose elements after its first write were changed so
+pub record ArrayChanged (Changes : List Value → List Value → Type 0) (old new : Container Value) : Type 0 where
+  pub first : List Value
+  pub list : Vec Value Global
+  pub same : map tree_of first ≡ list_in old
+  pub unpacked : FirstElements old first
+  pub is : new ≡ owned list
+  pub changed : Changes first list.items
+
+-- an object whose members after its first write were changed so
+pub record ObjectChanged (Changes : List (Keyed Value) → List (Keyed Value) → Type 0) (old new : Container (Keyed Value)) : Type 0 where
+  pub first : List (Keyed Value)
+  pub list : Vec (Keyed Value) Global
+  pub same : map pair_of first ≡ pairs_in old
+  pub unpacked : FirstMembers old first
+  pub is : new ≡ owned list
+  pub changed : Changes first list.items
+
+-- they became these
+abbrev pub ArrayBecame : (List Value → List Value) → (old new : Container Value) → Type 0
+ArrayBecame f = ArrayChanged (λ items now. now ≡ f items)
+
+abbrev pub ObjectBecame : (List (Keyed Value) → List (Keyed Value)) → (old new : Container (Keyed Value)) → Type 0
+ObjectBecame f = ObjectChanged (λ items now. now ≡ f items)
+
+-- one answer for each, and those are left of which the answer was true
+abbrev pub Keeps : {A : Type 0} → (old new : List A) → Type 0
+Keeps old new = (answers : List Bool) × (length answers ≡ length old) × (new ≡ items_where_true answers old)
+
+-- room for one is taken at most
+abbrev pub TakesOne : {T : Type 0} → (old new : Container T) → Type 0
+TakesOne old new = spare_in old ≤ spare_in new + 1
+
+-- a slice of these, lent
+abbrev pub slice_row : RattleType → RattleType
+slice_row T = Array T 0
+
+-- the elements of an owned list
+abbrev pub own_elements : Container Value → List Value
+own_elements a = owned_items_of a

@@ -1,0 +1,91 @@
+-- The members of an object with an owned list, and what a write at one of them, or behind them, leaves.
+use Rattle.std.specs.Prelude.{◌≡◌, ◌+◌, ◌-◌, ◌<◌, ℕ, Bool, List, [], ◌∷◌, ◌++◌, Option, Some, None, slice_get, Vec, filter, not, bytes_eq, map, option_map, set}
+use Rattle.json_grammar.specs.Tree.{Tree, Pairs}
+use Rattle.json_model.specs.Edit.{inserted}
+use denote.Ref.{Bor, MutBor}
+use denote.Param.Members.{Mut}
+use Rattle.std.specs.Fn.{Called}
+use Rattle.std.specs.Vec.{with_item}
+use Rattle.std.specs.declared.alloc.Global.{Global}
+use Rattle.std.proofs.Common.{arith, ◌∙◌, sym, ap}
+use Rattle.std.proofs.lemmas.List.{length-append}
+use Rattle.json_value.specs.Denotes.{text_bytes, pair_of}
+use Rattle.json_value.specs.FirstMember.{IsFirstOf}
+use Rattle.json_value.specs.Room.{form_spare}
+use Rattle.json_value.specs.Rows.{owned, owned_items_of}
+use Rattle.json_value.specs.Seen.{first_of}
+use Rattle.json_value.specs.Written.{value_in, with_value}
+use Rattle.json_value.specs.declared.container.Container.{Container}
+use Rattle.json_value.specs.declared.container.Form.{Form}
+use Rattle.json_value.specs.declared.container.Form.TheVariants.{Empty, Owned, Packed}
+use Rattle.json_value.specs.declared.pair.Keyed.{Keyed}
+use Rattle.json_value.specs.declared.value.Value.{Value}
+
+-- the members of an owned list
+abbrev pub own_members : Container (Keyed Value) → List (Keyed Value)
+own_members o = owned_items_of o
+
+abbrev pub option_key : Option (Keyed Value) → List ℕ
+option_key (Some m) = text_bytes m.key
+option_key None = []
+
+-- the key of the member at the index
+abbrev pub key_at : List (Keyed Value) → ℕ → List ℕ
+key_at ms i = option_key (slice_get ms i)
+
+-- the list with w as the value of this member at the index, if there is one
+abbrev pub with_value_of : Vec (Keyed Value) Global → ℕ → Value → Option (Keyed Value) → Vec (Keyed Value) Global
+with_value_of v i w (Some m) = with_item v i (with_value m w)
+with_value_of v i w None = v
+
+abbrev pub form_with : Form (Keyed Value) → ℕ → Value → Container (Keyed Value)
+form_with Empty i w = record { form = Empty }
+form_with (Owned v) i w = owned (with_value_of v i w (slice_get v.items i))
+form_with (Packed p) i w = record { form = Packed p }
+
+-- the object with w as the value of the member at the index
+abbrev pub object_with : Container (Keyed Value) → ℕ → Value → Container (Keyed Value)
+object_with o i w = form_with o.form i w
+
+-- a list with one member more, for which it has room
+abbrev pub one_more : (v : Vec (Keyed Value) Global) → v.len < v.cap → Keyed Value → Vec (Keyed Value) Global
+one_more v room m = record { ptr = v.ptr; len = v.len + 1; cap = v.cap; alloc = v.alloc; items = v.items ++ m ∷ []; ok = (ap (λ n. n + 1) v.ok.0 ∙ sym (length-append v.items (m ∷ [])), omega (arith, room)); small = v.small }
+
+pub room_for : (n m : ℕ) → 0 < m - n → n < m
+room_for n m h = omega (arith, h)
+
+abbrev pub form_more : (f : Form (Keyed Value)) → 0 < form_spare f → Keyed Value → Container (Keyed Value)
+form_more Empty room m = record { form = Empty }
+form_more (Owned v) room m = owned (one_more v (room_for v.len v.cap room) m)
+form_more (Packed p) room m = record { form = Packed p }
+
+-- the object with one member more, for which it has room
+abbrev pub object_more : (o : Container (Keyed Value)) → 0 < form_spare o.form → Keyed Value → Container (Keyed Value)
+object_more o room m = form_more o.form room m
+
+-- the members but those of the key
+abbrev pub unkeyed : List ℕ → List (Keyed Value) → List (Keyed Value)
+unkeyed k ms = filter (λ m. not (bytes_eq (text_bytes m.key) k)) ms
+
+-- the value of the first member of the key
+abbrev pub found : List ℕ → List (List ℕ × Tree) → Option Tree
+found k ps = option_map (λ p. p.1) (first_of k ps)
+
+-- a call of f at the key and at the value of m may give r, and leave f' and m'
+pub record CalledAtMember {F : Type 0} (g : Mut F (Bor (List ℕ) × (MutBor Value × Unit {0})) (Bool × (MutBor Value × Unit {0}))) (f : F) (m : Keyed Value) (r : Bool) (f' : F) (m' : Keyed Value) : Type 0 where
+  pub key : Bor (List ℕ)
+  pub value : MutBor Value
+  pub left : MutBor Value
+  pub shows : (key.now ≡ text_bytes m.key) × (value.now ≡ value_in m)
+  pub called : Called g f (key, (value, tt)) (r, (left, tt)) f'
+  pub leaves : m' ≡ with_value m left.now
+
+-- the value of the first member of the key was changed so, and nothing else
+pub record AtMember (k : List ℕ) (Changes : Value → Value → Type 0) (items now : List (Keyed Value)) : Type 0 where
+  pub at : ℕ
+  pub before : Keyed Value
+  pub after : Value
+  pub is_first : IsFirstOf k (map pair_of items) at
+  pub there : slice_get items at ≡ Some before
+  pub exchanged : now ≡ set items at (with_value before after)
+  pub changed : Changes (value_in before) after

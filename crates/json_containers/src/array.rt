@@ -1,0 +1,411 @@
+// The calls of arrays.
+ghost use Rattle.std.specs.Prelude.{◌≡◌, ◌+◌, ◌-◌, ◌≤◌, ◌<◌, ◌↔◌, List, [], ◌∷◌, ◌++◌, length, map, take, drop, replicate, IfOk, IfErr, OnOk, OnErr, IsOk, IsNone, IsTrue, Some, slice_get, slice_range, option_map};
+ghost use Rattle.std.specs.Option.{option_to_list};
+ghost use Rattle.std.specs.Vec.{vec_len, vec_capacity};
+ghost use Rattle.std.specs.Fn.{CalledAt, CalledAtMut};
+ghost use Rattle.std.specs.List.{insert, remove, remove_range, swap_remove, AppendsResults};
+ghost use Rattle.std.specs.List.Retain.{IsFiltered, RetainsInTurn};
+ghost use Rattle.json_text.specs.Errors.{no_memory};
+ghost use Rattle.json_value.specs.Denotes.{tree_of, list_in};
+ghost use Rattle.json_value.specs.Room.{spare_in};
+ghost use Rattle.json_value.specs.Spots.{IsPlace, spot_of};
+ghost use Rattle.json_value.specs.Written.{FirstElements};
+ghost use Rattle.json_value.specs.declared.container.Container.{Container};
+ghost use Rattle.json_value.specs.declared.value.Value.{Value};
+ghost use Rattle.json_containers.specs.IntoIter.{values_left, values_shown};
+ghost use Rattle.json_containers.specs.Changed.{ArrayChanged, ArrayBecame, own_elements, Keeps, TakesOne};
+
+use crate::into_iter::IntoIter;
+use json_text::Result;
+use json_value::{Array, Value};
+use std::alloc::Global;
+
+// Copies of these.
+fn copy_all(alloc: Global, items: &[Value]) -> Result<Vec<Value>>
+    ensures list { IfOk result (λ v. map tree_of v.items ≡ map tree_of items.now) }
+    ensures spots { IfOk result (λ v. map spot_of v.items ≡ map spot_of items.now) }
+    ensures only { IfErr result (λ e. e ≡ no_memory) }
+{
+    let mut copies = Vec::with_capacity(alloc, items.len())?;
+    for item in items {
+        copies.push(item.clone(alloc)?)?;
+    }
+    Ok(copies)
+}
+
+// So many copies of the value.
+fn copies_of(alloc: Global, value: &Value, count: usize) -> Result<Vec<Value>>
+    ensures list { IfOk result (λ v. map tree_of v.items ≡ replicate count (tree_of value.now)) }
+    ensures only { IfErr result (λ e. e ≡ no_memory) }
+{
+    let mut copies = Vec::with_capacity(alloc, count)?;
+    for _copy in 0..count {
+        copies.push(value.clone(alloc)?)?;
+    }
+    Ok(copies)
+}
+
+// Puts the elements back, for which there is room.
+fn put_back(list: &mut Vec<Value>, rest: &mut Vec<Value>)
+    requires { vec_len list.old + vec_len rest.old ≤ vec_capacity list.old }
+    ensures { list.new.items ≡ list.old.items ++ rest.old.items }
+{
+    match list.append(rest) {
+        Ok(()) => {}
+        Err(_) => unreachable!(),
+    }
+}
+
+// The elements of the range, taken out.
+fn take_range(list: &mut Vec<Value>, from: usize, to: usize) -> Result<Vec<Value>>
+    requires order { from ≤ to }
+    requires within { to ≤ vec_len list.old }
+    ensures left { OnOk result (list.new.items ≡ remove_range list.old.items from to) }
+    ensures taken { IfOk result (λ v. v.items ≡ slice_range list.old.items from to) }
+    ensures kept { OnErr result (list.new.items ≡ list.old.items) }
+    ensures only { IfErr result (λ e. e ≡ no_memory) }
+{
+    let mut rest = list.split_off(to)?;
+    match list.split_off(from) {
+        Ok(taken) => {
+            put_back(list, &mut rest);
+            Ok(taken)
+        }
+        Err(error) => {
+            put_back(list, &mut rest);
+            Err(error.into())
+        }
+    }
+}
+
+/// The calls of an array that are those of a list. The first write to a place of a document copies one
+/// level of it: each element becomes a value of its own, or a place of the same document.
+///
+/// ```
+/// use json_containers::ArrayCalls;
+/// use json_value::{Array, Value};
+/// let mut array = Array::new();
+/// array.push(alloc, Value::new_u64(7))?;
+/// array.push(alloc, Value::new_bool(true))?;
+/// array.retain(alloc, |item: &Value| item.view().as_bool().is_none())?;
+/// assert_eq!(rt; array.len(), 1);
+/// assert_eq!(rt; array.into_value().to_string(alloc)?.as_str(), "[7]");
+/// ```
+pub trait ArrayCalls {
+    /// The array.
+    ghost held: { Self → Container Value };
+
+    /// How many elements there are.
+    fn len(&self) -> usize
+        ensures { result ≡ length (list_in (held self.now)) };
+
+    /// Whether there is none.
+    fn is_empty(&self) -> bool
+        ensures { IsTrue result ↔ (list_in (held self.now) ≡ []) };
+
+    /// How many elements there can be before memory is asked for.
+    fn capacity(&self) -> usize
+        ensures { result ≡ length (list_in (held self.now)) + spare_in (held self.now) };
+
+    /// Room for at least as many more.
+    fn reserve(&mut self, alloc: Global, additional: usize) -> Result<()>
+        ensures room { OnOk result (additional ≤ spare_in (held self.new)) }
+        ensures same { list_in (held self.new) ≡ list_in (held self.old) }
+        ensures free { additional ≤ spare_in (held self.old) → IsOk result × (held self.new ≡ held self.old) }
+        ensures only { IfErr result (λ e. e ≡ no_memory) };
+
+    /// Puts the element before the one at the index.
+    fn insert(&mut self, alloc: Global, index: usize, element: Value) -> Result<()>
+        requires { index ≤ length (list_in (held self.old)) }
+        ensures ok { OnOk result (list_in (held self.new) ≡ insert (list_in (held self.old)) index (tree_of element)) }
+        ensures children { OnOk result (ArrayBecame (λ items. insert items index element) (held self.old) (held self.new)) }
+        ensures kept { OnErr result (list_in (held self.new) ≡ list_in (held self.old)) }
+        ensures only { IfErr result (λ e. e ≡ no_memory) };
+
+    /// Appends the element.
+    fn push(&mut self, alloc: Global, element: Value) -> Result<()>
+        ensures ok { OnOk result (list_in (held self.new) ≡ list_in (held self.old) ++ tree_of element ∷ []) }
+        ensures children { OnOk result (ArrayBecame (λ items. items ++ element ∷ []) (held self.old) (held self.new)) }
+        ensures kept { OnErr result (list_in (held self.new) ≡ list_in (held self.old)) }
+        ensures free { 0 < spare_in (held self.old) → IsOk result }
+        ensures room { TakesOne (held self.old) (held self.new) }
+        ensures only { IfErr result (λ e. e ≡ no_memory) };
+
+    /// Takes the element out; the others close up.
+    fn remove(&mut self, alloc: Global, index: usize) -> Result<Value>
+        requires { index < length (list_in (held self.old)) }
+        ensures ok { OnOk result (list_in (held self.new) ≡ remove (list_in (held self.old)) index) }
+        ensures children { IfOk result (λ v. ArrayChanged (λ items now. (now ≡ remove items index) × (slice_get items index ≡ Some v)) (held self.old) (held self.new)) }
+        ensures kept { OnErr result (list_in (held self.new) ≡ list_in (held self.old)) }
+        ensures free { (IsPlace (held self.old) → ⊥) → IsOk result }
+        ensures only { IfErr result (λ e. e ≡ no_memory) };
+
+    /// The array without elements, with room for so many.
+    fn with_capacity(alloc: Global, capacity: usize) -> Result<Array>
+        ensures list { IfOk result (λ a. list_in a ≡ []) }
+        ensures room { IfOk result (λ a. capacity ≤ spare_in a) }
+        ensures free { capacity ≡ 0 → IsOk result }
+        ensures only { IfErr result (λ e. e ≡ no_memory) };
+
+    /// Takes the element out; the last one takes its place.
+    fn swap_remove(&mut self, alloc: Global, index: usize) -> Result<Value>
+        requires { index < length (list_in (held self.old)) }
+        ensures ok { IfOk result (λ v. list_in (held self.new) ≡ swap_remove (list_in (held self.old)) index (tree_of v)) }
+        ensures children { IfOk result (λ v. ArrayChanged (λ items now. (now ≡ swap_remove items index v) × (slice_get items index ≡ Some v)) (held self.old) (held self.new)) }
+        ensures kept { OnErr result (list_in (held self.new) ≡ list_in (held self.old)) }
+        ensures free { (IsPlace (held self.old) → ⊥) → IsOk result }
+        ensures only { IfErr result (λ e. e ≡ no_memory) };
+
+    /// The first so many elements, or all.
+    fn truncate(&mut self, alloc: Global, len: usize) -> Result<()>
+        ensures ok { OnOk result (list_in (held self.new) ≡ take len (list_in (held self.old))) }
+        ensures children { OnOk result (ArrayBecame (take len) (held self.old) (held self.new)) }
+        ensures kept { OnErr result (list_in (held self.new) ≡ list_in (held self.old)) }
+        ensures free { (IsPlace (held self.old) → ⊥) → IsOk result }
+        ensures only { IfErr result (λ e. e ≡ no_memory) };
+
+    /// The last element, taken out; none exactly of an array without elements.
+    fn pop(&mut self, alloc: Global) -> Result<Option<Value>>
+        ensures ok { IfOk result (λ o. list_in (held self.old) ≡ list_in (held self.new) ++ option_to_list (option_map tree_of o)) }
+        ensures none { IfOk result (λ o. IsNone o → list_in (held self.old) ≡ []) }
+        ensures children { IfOk result (λ o. ArrayChanged (λ items now. items ≡ now ++ option_to_list o) (held self.old) (held self.new)) }
+        ensures kept { OnErr result (list_in (held self.new) ≡ list_in (held self.old)) }
+        ensures free { (IsPlace (held self.old) → ⊥) → IsOk result }
+        ensures only { IfErr result (λ e. e ≡ no_memory) };
+
+    /// No elements. Takes no memory.
+    fn clear(&mut self)
+        ensures { list_in (held self.new) ≡ [] };
+
+    /// The elements from the index on, taken out.
+    fn split_off(&mut self, alloc: Global, at: usize) -> Result<Array>
+        requires { at ≤ length (list_in (held self.old)) }
+        ensures ok { OnOk result (list_in (held self.new) ≡ take at (list_in (held self.old))) }
+        ensures rest { IfOk result (λ a. list_in a ≡ drop at (list_in (held self.old))) }
+        ensures children { IfOk result (λ a. ArrayChanged (λ items now. (now ≡ take at items) × (own_elements a ≡ drop at items)) (held self.old) (held self.new)) }
+        ensures kept { OnErr result (list_in (held self.new) ≡ list_in (held self.old)) }
+        ensures only { IfErr result (λ e. e ≡ no_memory) };
+
+    /// The elements of the range, taken out.
+    fn drain(&mut self, alloc: Global, from: usize, to: usize) -> Result<Array>
+        requires order { from ≤ to }
+        requires within { to ≤ length (list_in (held self.old)) }
+        ensures ok { OnOk result (list_in (held self.new) ≡ remove_range (list_in (held self.old)) from to) }
+        ensures taken { IfOk result (λ a. list_in a ≡ slice_range (list_in (held self.old)) from to) }
+        ensures children { IfOk result (λ a. ArrayChanged (λ items now. (now ≡ remove_range items from to) × (own_elements a ≡ slice_range items from to)) (held self.old) (held self.new)) }
+        ensures kept { OnErr result (list_in (held self.new) ≡ list_in (held self.old)) }
+        ensures only { IfErr result (λ e. e ≡ no_memory) };
+
+    /// The other's elements, appended; the other has none then.
+    fn append(&mut self, alloc: Global, other: &mut Array) -> Result<()>
+        ensures ok { OnOk result (list_in (held self.new) ≡ list_in (held self.old) ++ list_in other.old) }
+        ensures children { OnOk result (ArrayChanged (λ items now. (more : List Value) × FirstElements other.old more × (now ≡ items ++ more)) (held self.old) (held self.new)) }
+        ensures emptied { OnOk result (list_in other.new ≡ []) }
+        ensures kept { OnErr result ((list_in (held self.new) ≡ list_in (held self.old)) × (list_in other.new ≡ list_in other.old)) }
+        ensures only { IfErr result (λ e. e ≡ no_memory) };
+
+    /// Appends copies of these.
+    fn extend(&mut self, alloc: Global, items: &[Value]) -> Result<()>
+        ensures ok { OnOk result (list_in (held self.new) ≡ list_in (held self.old) ++ map tree_of items.now) }
+        ensures kept { OnErr result (list_in (held self.new) ≡ list_in (held self.old)) }
+        ensures only { IfErr result (λ e. e ≡ no_memory) };
+
+    /// Copies of that range, appended.
+    fn extend_from_within(&mut self, alloc: Global, from: usize, to: usize) -> Result<()>
+        requires order { from ≤ to }
+        requires within { to ≤ length (list_in (held self.old)) }
+        ensures ok { OnOk result (list_in (held self.new) ≡ list_in (held self.old) ++ slice_range (list_in (held self.old)) from to) }
+        ensures kept { OnErr result (list_in (held self.new) ≡ list_in (held self.old)) }
+        ensures only { IfErr result (λ e. e ≡ no_memory) };
+
+    /// Cut to this length, or filled up with copies of the value.
+    fn resize(&mut self, alloc: Global, new_len: usize, value: &Value) -> Result<()>
+        ensures ok { OnOk result (list_in (held self.new) ≡ take new_len (list_in (held self.old)) ++ replicate (new_len - length (list_in (held self.old))) (tree_of value.now)) }
+        ensures kept { OnErr result (list_in (held self.new) ≡ list_in (held self.old)) }
+        ensures only { IfErr result (λ e. e ≡ no_memory) };
+
+    /// Keeps the elements for which `f` is true, in order.
+    fn retain<F: FnMut(&Value) -> bool>(&mut self, alloc: Global, f: F) -> Result<()>
+        requires { F.IsAlwaysCallable f }
+        ensures ok { OnOk result (Keeps (list_in (held self.old)) (list_in (held self.new))) }
+        ensures children { OnOk result (ArrayChanged (IsFiltered (CalledAt F.FnMut) f) (held self.old) (held self.new)) }
+        ensures kept { OnErr result (list_in (held self.new) ≡ list_in (held self.old)) }
+        ensures only { IfErr result (λ e. e ≡ no_memory) };
+
+    /// The same, with what `f` writes.
+    fn retain_mut<F: FnMut(&mut Value) -> bool>(&mut self, alloc: Global, f: F) -> Result<()>
+        requires { F.IsAlwaysCallable f }
+        ensures children { OnOk result (ArrayChanged (RetainsInTurn (CalledAtMut F.FnMut) f) (held self.old) (held self.new)) }
+        ensures kept { OnErr result (list_in (held self.new) ≡ list_in (held self.old)) }
+        ensures only { IfErr result (λ e. e ≡ no_memory) };
+
+    /// Cut to this length, or filled up with what `f` answers, in order.
+    fn resize_with<F: FnMut() -> Value>(
+        &mut self,
+        alloc: Global,
+        new_len: usize,
+        f: F,
+    ) -> Result<()>
+        requires { F.IsAlwaysCallable f }
+        ensures len { OnOk result (length (list_in (held self.new)) ≡ new_len) }
+        ensures children { OnOk result (ArrayChanged (λ items now. AppendsResults F.step (take new_len items) now f) (held self.old) (held self.new)) }
+        ensures kept { OnErr result (list_in (held self.new) ≡ list_in (held self.old)) }
+        ensures only { IfErr result (λ e. e ≡ no_memory) };
+
+    /// An iterator over all elements. After a refusal the array is gone.
+    fn into_iter(self, alloc: Global) -> Result<IntoIter>
+        ensures left { IfOk result (λ it. map tree_of (values_left it) ≡ list_in (held self)) }
+        ensures shown { IfOk result (λ it. map tree_of (values_shown it) ≡ list_in (held self)) }
+        ensures free { (IsPlace (held self) → ⊥) → IsOk result }
+        ensures only { IfErr result (λ e. e ≡ no_memory) };
+
+    /// All elements, to be changed.
+    fn as_mut_slice(&mut self, alloc: Global) -> Result<&mut [Value]>
+        ensures list { IfOk result (λ s. map tree_of s.now ≡ list_in (held self.old)) }
+        ensures free { (IsPlace (held self.old) → ⊥) → IsOk result }
+        ensures only { IfErr result (λ e. e ≡ no_memory) };
+}
+
+impl ArrayCalls for Array {
+    ghost held = { λ a. a };
+
+    fn len(&self) -> usize {
+        self.view().len()
+    }
+
+    fn is_empty(&self) -> bool {
+        self.view().is_empty()
+    }
+
+    fn capacity(&self) -> usize {
+        self.view().len() + self.spare()
+    }
+
+    fn reserve(&mut self, alloc: Global, additional: usize) -> Result<()> {
+        if additional <= self.spare() {
+            return Ok(());
+        }
+        let list = self.list_mut(alloc)?;
+        list.reserve(additional)?;
+        Ok(())
+    }
+
+    fn insert(&mut self, alloc: Global, index: usize, element: Value) -> Result<()> {
+        let list = self.list_mut(alloc)?;
+        list.insert(index, element)?;
+        Ok(())
+    }
+
+    fn push(&mut self, alloc: Global, element: Value) -> Result<()> {
+        let list = self.list_mut(alloc)?;
+        list.push(element)?;
+        Ok(())
+    }
+
+    fn remove(&mut self, alloc: Global, index: usize) -> Result<Value> {
+        let list = self.list_mut(alloc)?;
+        Ok(list.remove(index))
+    }
+
+    fn with_capacity(alloc: Global, capacity: usize) -> Result<Array> {
+        let list = Vec::with_capacity(alloc, capacity)?;
+        Ok(Array::from_list(list))
+    }
+
+    fn swap_remove(&mut self, alloc: Global, index: usize) -> Result<Value> {
+        let list = self.list_mut(alloc)?;
+        Ok(list.swap_remove(index))
+    }
+
+    fn truncate(&mut self, alloc: Global, len: usize) -> Result<()> {
+        let list = self.list_mut(alloc)?;
+        list.truncate(len);
+        Ok(())
+    }
+
+    fn pop(&mut self, alloc: Global) -> Result<Option<Value>> {
+        let list = self.list_mut(alloc)?;
+        Ok(list.pop())
+    }
+
+    fn clear(&mut self) {
+        *self = Array::new();
+    }
+
+    fn split_off(&mut self, alloc: Global, at: usize) -> Result<Array> {
+        let list = self.list_mut(alloc)?;
+        let rest = list.split_off(at)?;
+        Ok(Array::from_list(rest))
+    }
+
+    fn drain(&mut self, alloc: Global, from: usize, to: usize) -> Result<Array> {
+        let list = self.list_mut(alloc)?;
+        let taken = take_range(list, from, to)?;
+        Ok(Array::from_list(taken))
+    }
+
+    fn append(&mut self, alloc: Global, other: &mut Array) -> Result<()> {
+        let more = other.list_mut(alloc)?;
+        let list = self.list_mut(alloc)?;
+        list.append(more)?;
+        Ok(())
+    }
+
+    fn extend(&mut self, alloc: Global, items: &[Value]) -> Result<()> {
+        let mut copies = copy_all(alloc, items)?;
+        let list = self.list_mut(alloc)?;
+        list.append(&mut copies)?;
+        Ok(())
+    }
+
+    fn extend_from_within(&mut self, alloc: Global, from: usize, to: usize) -> Result<()> {
+        let list = self.list_mut(alloc)?;
+        let mut copies = copy_all(alloc, &list[from..to])?;
+        list.append(&mut copies)?;
+        Ok(())
+    }
+
+    fn resize(&mut self, alloc: Global, new_len: usize, value: &Value) -> Result<()> {
+        let list = self.list_mut(alloc)?;
+        if new_len <= list.len() {
+            list.truncate(new_len);
+            return Ok(());
+        }
+        let mut copies = copies_of(alloc, value, new_len - list.len())?;
+        list.append(&mut copies)?;
+        Ok(())
+    }
+
+    fn retain<F: FnMut(&Value) -> bool>(&mut self, alloc: Global, f: F) -> Result<()> {
+        let list = self.list_mut(alloc)?;
+        list.retain(f);
+        Ok(())
+    }
+
+    fn retain_mut<F: FnMut(&mut Value) -> bool>(&mut self, alloc: Global, f: F) -> Result<()> {
+        let list = self.list_mut(alloc)?;
+        list.retain_mut(f);
+        Ok(())
+    }
+
+    fn resize_with<F: FnMut() -> Value>(
+        &mut self,
+        alloc: Global,
+        new_len: usize,
+        f: F,
+    ) -> Result<()> {
+        let list = self.list_mut(alloc)?;
+        list.resize_with(new_len, f)?;
+        Ok(())
+    }
+
+    fn into_iter(self, alloc: Global) -> Result<IntoIter> {
+        IntoIter::of(self, alloc)
+    }
+
+    fn as_mut_slice(&mut self, alloc: Global) -> Result<&mut [Value]> {
+        let list = self.list_mut(alloc)?;
+        let slice = list.as_mut_slice();
+        Ok(slice)
+    }
+}

@@ -1,0 +1,284 @@
+// The entry of a key in an object.
+ghost use Rattle.std.specs.Prelude.{◌≡◌, ◌+◌, ◌<◌, ◌++◌, ◌∷◌, [], length, map, take, option_map, slice_get, false, Some};
+ghost use Rattle.std.specs.Borrow.{Lends, sem};
+ghost use Rattle.std.specs.Vec.{vec_len, vec_capacity, SameBlock};
+ghost use Rattle.json_grammar.specs.Tree.{list_pairs};
+ghost use Rattle.json_model.specs.Edit.{has_key};
+ghost use Rattle.json_value.specs.Denotes.{pair_of, pairs_in, text_bytes};
+ghost use Rattle.json_value.specs.Room.{spare_in};
+ghost use Rattle.json_value.specs.Rows.{object_row, value_row};
+ghost use Rattle.json_value.specs.Written.{value_in};
+ghost use Rattle.json_containers.specs.Members.{own_members, key_at, object_with, unkeyed};
+
+use json_value::{Object, Pair, Text, Value};
+use std::mem::replace;
+
+/// The entry of a key: there, or missing. No call of an entry takes memory.
+///
+/// ```
+/// use json_containers::ObjectCalls;
+/// use json_value::{Object, Value};
+/// let mut object = Object::new();
+/// *object.entry(alloc, "n")?.or_default() = Value::new_u64(3);
+/// let kept = object.entry(alloc, "n")?.or_insert(Value::new_u64(4)).to_string(alloc)?;
+/// assert_eq!(rt; kept.as_str(), "3");
+/// ```
+#[derive(Drop)]
+pub enum Entry<'a> {
+    Occupied(OccupiedEntry<'a>),
+    Vacant(VacantEntry<'a>),
+}
+
+/// The entry of a key that is there, at its first member.
+///
+/// ```
+/// use json_containers::{Entry, ObjectCalls};
+/// use json_value::{Object, Value};
+/// let mut object = Object::new();
+/// object.insert(alloc, "n", Value::new_u64(3))?;
+/// let removed = match object.entry(alloc, "n")? {
+///     Entry::Occupied(entry) => Some(entry.remove()),
+///     Entry::Vacant(_entry) => None,
+/// };
+/// assert!(rt; removed.is_some() && object.is_empty());
+/// ```
+#[derive(Drop)]
+pub struct OccupiedEntry<'a> {
+    pub(crate) object: &'a mut Object,
+    pub(crate) at: usize,
+    ghost within: { at < length (own_members object.now) },
+    ghost first: { has_key (key_at (own_members object.now) at) (list_pairs (map pair_of (take at (own_members object.now)))) ≡ false },
+}
+
+/// The entry of a key that is missing, with the key and with room for a member.
+///
+/// ```
+/// use json_containers::{Entry, ObjectCalls};
+/// use json_value::{Object, Value};
+/// let mut object = Object::new();
+/// match object.entry(alloc, "n")? {
+///     Entry::Occupied(_entry) => {}
+///     Entry::Vacant(entry) => *entry.insert(Value::new_null()) = Value::new_bool(true),
+/// }
+/// assert_eq!(rt; object.into_value().to_string(alloc)?.as_str(), "{\"n\":true}");
+/// ```
+#[derive(Drop)]
+pub struct VacantEntry<'a> {
+    pub(crate) object: &'a mut Object,
+    pub(crate) key: Text,
+    ghost absent: { has_key (text_bytes key) (list_pairs (pairs_in object.now)) ≡ false },
+    ghost reserved: { 0 < spare_in object.now },
+}
+
+// The value of the member at the index.
+fn value_at(object: &mut Object, at: usize) -> &mut Value
+    requires { at < length (own_members object.old) }
+    ensures* writes_back { sem 𝓛 (Lends object_row value_row object.entry result (object_with object.old at)) }
+    ensures value { option_map value_in (slice_get (own_members object.old) at) ≡ Some result.now }
+{
+    let pairs = object.owned_mut();
+    pairs[at].value_mut()
+}
+
+// Appends the member, for which there is room.
+pub(crate) fn add(pairs: &mut Vec<Pair>, pair: Pair)
+    requires { vec_len pairs.old < vec_capacity pairs.old }
+    ensures items { pairs.new.items ≡ pairs.old.items ++ pair ∷ [] }
+    ensures len { vec_len pairs.new ≡ vec_len pairs.old + 1 }
+    ensures block { SameBlock pairs.old pairs.new }
+{
+    let at = pairs.len();
+    match pairs.insert(at, pair) {
+        Ok(()) => {}
+        Err(_) => unreachable!(),
+    }
+}
+
+// Takes out all members of the key of the one at the index. Its value.
+pub(crate) fn take_all(pairs: &mut Vec<Pair>, at: usize) -> Value
+    requires { at < vec_len pairs.old }
+    ensures value { option_map value_in (slice_get pairs.old.items at) ≡ Some result }
+    ensures left { pairs.new.items ≡ unkeyed (key_at pairs.old.items at) (pairs.old.items) }
+{
+    let mut first = pairs.remove(at);
+    pairs.retain(|pair| pair.key() != first.key());
+    first.value_mut().take()
+}
+
+impl<'a> OccupiedEntry<'a> {
+    ghost use Rattle.json_containers.specs.Entry.{Occupied, entry_key, entry_object, entry_value, entry_lends, occupied_lends, with_entry_value, IsWritten};
+    ghost use Rattle.json_value.specs.Denotes.{tree_of};
+    ghost use Rattle.json_value.specs.declared.value.Value.{Value};
+    ghost use Rattle.json_value.specs.Rows.{OwnsList};
+
+    /// The value.
+    pub fn into_mut(self) -> &'a mut Value
+        ensures* writes_back { sem 𝓛 (entry_lends (Occupied self.entry) result) }
+        ensures value { entry_value (Occupied self.entry) ≡ Some result.now }
+    {
+        let object = self.object;
+        value_at(object, self.at)
+    }
+
+    /// The value, for as long as the entry is lent.
+    pub fn get_mut(&mut self) -> &mut Value
+        ensures* writes_back { sem 𝓛 (occupied_lends self.entry result) }
+        ensures value { entry_value (Occupied self.old) ≡ Some result.now }
+        ensures written { (w : Value) → IsWritten (Occupied self.old) w (Occupied (with_entry_value self.old w)) }
+    {
+        let at = self.at;
+        value_at(self.object, at)
+    }
+
+    /// Sets the value, and answers the old one.
+    pub fn insert(&mut self, val: Value) -> Value
+        ensures old { entry_value (Occupied self.old) ≡ Some result }
+        ensures written { IsWritten (Occupied self.old) val (Occupied self.new) }
+    {
+        replace(self.get_mut(), val)
+    }
+
+    /// The key.
+    pub fn key(&self) -> &str
+        ensures { result.now ≡ entry_key (Occupied self.now) }
+    {
+        match self.object.pairs() {
+            Some(pairs) => pairs[self.at].key(),
+            None => unreachable!(),
+        }
+    }
+
+    /// The value.
+    pub fn get(&self) -> &Value
+        ensures { option_map tree_of (entry_value (Occupied self.now)) ≡ Some (tree_of result.now) }
+    {
+        match self.object.pairs() {
+            Some(pairs) => pairs[self.at].value(),
+            None => unreachable!(),
+        }
+    }
+
+    /// Takes out all members of the key. The value of the first.
+    pub fn remove(self) -> Value
+        ensures value { entry_value (Occupied self.entry) ≡ Some result }
+        ensures removed { own_members self.exit.0.now ≡ unkeyed (entry_key (Occupied self.entry)) (own_members (entry_object (Occupied self.entry))) }
+        ensures owned { OwnsList self.exit.0.now }
+    {
+        let at = self.at;
+        let pairs = self.object.owned_mut();
+        take_all(pairs, at)
+    }
+}
+
+impl<'a> VacantEntry<'a> {
+    ghost use Rattle.json_containers.specs.Entry.{Vacant, entry_key, entry_lends};
+
+    /// The key.
+    pub fn key(&self) -> &str
+        ensures { result.now ≡ entry_key (Vacant self.now) }
+    {
+        self.key.as_str()
+    }
+
+    /// The new member's value.
+    pub fn insert(self, val: Value) -> &'a mut Value
+        ensures* writes_back { sem 𝓛 (entry_lends (Vacant self.entry) result) }
+        ensures value { result.now ≡ val }
+    {
+        let VacantEntry { object, key } = self;
+        let pairs = object.owned_mut();
+        let at = pairs.len();
+        add(pairs, Pair::new(key, val));
+        pairs[at].value_mut()
+    }
+}
+
+impl<'a> Entry<'a> {
+    ghost use Rattle.std.specs.Prelude.{ℕ, List, None, unwrap_or};
+    ghost use Rattle.std.specs.Borrow.{Bor, MutBor};
+    ghost use Rattle.std.specs.Fn.{FnOnceReturnsAt};
+    ghost use Rattle.std.specs.Map.Calls.{ModifiesValue};
+    ghost use Rattle.std.specs.Option.{UnwrapsOrElse};
+    ghost use Rattle.json_value.specs.declared.value.Value.{Value};
+    ghost use Rattle.json_value.specs.declared.value.Value.{Null as NullValue};
+    ghost use Rattle.json_containers.specs.Entry.{entry_ref, entry_key, entry_value, entry_with, entry_lends};
+
+    /// The value there, or the default, appended.
+    pub fn or_insert(self, default: Value) -> &'a mut Value
+        ensures* writes_back { sem 𝓛 (entry_lends self.entry result) }
+        ensures value { result.now ≡ unwrap_or (entry_value self.entry) default }
+    {
+        match self {
+            Entry::Occupied(entry) => {
+                drop(default);
+                entry.into_mut()
+            }
+            Entry::Vacant(entry) => entry.insert(default),
+        }
+    }
+
+    /// The key.
+    pub fn key(&self) -> &str
+        ensures { result.now ≡ entry_key self.now }
+    {
+        match self {
+            Entry::Occupied(entry) => entry.key(),
+            Entry::Vacant(entry) => entry.key(),
+        }
+    }
+
+    /// The value there, or what `default` answers, appended. It is called only for a missing key.
+    pub fn or_insert_with<F: FnOnce() -> Value>(self, default: F) -> &'a mut Value
+        requires { entry_value self ≡ None → F.pre default }
+        ensures* writes_back { sem 𝓛 (entry_lends self.entry result) }
+        ensures value { UnwrapsOrElse (entry_value self.entry) (F.post default) result.now }
+    {
+        match self {
+            Entry::Occupied(entry) => entry.into_mut(),
+            Entry::Vacant(entry) => entry.insert(default()),
+        }
+    }
+
+    /// The same, with the key.
+    pub fn or_insert_with_key<F: FnOnce(&str) -> Value>(self, default: F) -> &'a mut Value
+        requires { entry_value self ≡ None → (p : Bor (List ℕ)) → p.now ≡ entry_key self → F.pre default p }
+        ensures* writes_back { sem 𝓛 (entry_lends self.entry result) }
+        ensures value { UnwrapsOrElse (entry_value self.entry) (FnOnceReturnsAt F.FnOnce default (entry_key self.entry)) result.now }
+    {
+        match self {
+            Entry::Occupied(entry) => entry.into_mut(),
+            Entry::Vacant(entry) => {
+                let value = default(entry.key());
+                entry.insert(value)
+            }
+        }
+    }
+
+    /// The entry, after `f` has run on a value that is there.
+    pub fn and_modify<F: FnOnce(&mut Value)>(self, f: F) -> Entry<'a>
+        requires { (p : MutBor Value) → entry_value self ≡ Some p.now → F.pre f p }
+        ensures same_object { (entry_ref result).ghost_name ≡ (entry_ref self.entry).ghost_name }
+        ensures same_key { entry_key result ≡ entry_key self.entry }
+        ensures same_writes { (w : Value) → entry_with result w ≡ entry_with self.entry w }
+        ensures update { ModifiesValue F.FnOnce f (entry_value self.entry) (entry_value result) }
+    {
+        match self {
+            Entry::Occupied(mut entry) => {
+                f(entry.get_mut());
+                Entry::Occupied(entry)
+            }
+            Entry::Vacant(entry) => Entry::Vacant(entry),
+        }
+    }
+
+    /// The value there, or null, appended.
+    pub fn or_default(self) -> &'a mut Value
+        ensures* writes_back { sem 𝓛 (entry_lends self.entry result) }
+        ensures value { result.now ≡ unwrap_or (entry_value self.entry) NullValue }
+    {
+        match self {
+            Entry::Occupied(entry) => entry.into_mut(),
+            Entry::Vacant(entry) => entry.insert(Value::Null),
+        }
+    }
+}

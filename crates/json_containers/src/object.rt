@@ -1,0 +1,438 @@
+// The calls of objects.
+ghost use Rattle.std.specs.Prelude.{◌≡◌, ◌+◌, ◌<◌, ◌≤◌, [], length, map, set, option_map, slice_get, Some, IfOk, IfErr, IfSome, IfNone, OnOk, OnErr, IsOk, IsTrue, ◌↔◌, false};
+ghost use Rattle.std.specs.Borrow.{LendsSoOk, RestsIfErr, sem};
+ghost use Rattle.std.specs.Vec.{vec_len, vec_capacity};
+ghost use Rattle.std.specs.List.Retain.{RetainsInTurn};
+ghost use Rattle.json_grammar.specs.Tree.{list_pairs};
+ghost use Rattle.json_model.specs.Edit.{has_key, inserted, without_key};
+ghost use Rattle.json_text.specs.Errors.{no_memory};
+ghost use Rattle.json_value.specs.Denotes.{tree_of, pair_of, pairs_in};
+ghost use Rattle.json_value.specs.FirstMember.{IsFirstOf};
+ghost use Rattle.json_value.specs.Rows.{pair_row, object_row, value_row};
+ghost use Rattle.json_value.specs.Room.{spare_in};
+ghost use Rattle.json_value.specs.Spots.{IsPlace};
+ghost use Rattle.json_value.specs.Written.{FirstMembers};
+ghost use Rattle.json_value.specs.declared.container.Container.{Container};
+ghost use Rattle.json_value.specs.declared.pair.Keyed.{Keyed};
+ghost use Rattle.json_value.specs.declared.value.Value.{Value};
+ghost use Rattle.json_containers.specs.Changed.{ObjectChanged, ObjectBecame};
+ghost use Rattle.json_containers.specs.Entry.{entry_ref, entry_object, entry_key, entry_value, entry_with};
+ghost use Rattle.json_value.specs.Lending.{settled, LendsPart};
+ghost use Rattle.json_containers.specs.Found.{Finds};
+ghost use Rattle.json_containers.specs.Members.{own_members, found, AtMember, CalledAtMember};
+ghost use Rattle.json_value.specs.Left.{members_left, members_sights_left};
+ghost use Rattle.json_value.specs.Merged.{inserted_all};
+ghost use Rattle.json_value.specs.Rows.{OwnsList};
+ghost use Rattle.json_value.specs.Seen.{seen, first_of};
+ghost use Rattle.json_value.specs.SightParts.{member_sight, object_sights};
+ghost use Rattle.json_value.specs.Sights.{sight_of};
+
+use crate::entry::{Entry, OccupiedEntry, VacantEntry, add, take_all};
+use json_text::{Error, ErrorCode, Place, Result};
+use json_value::{Iter, Object, Pair, Text, Value, View};
+use std::alloc::Global;
+use std::mem::replace;
+
+// The place of the first member of the key.
+fn find_key(pairs: &[Pair], key: &str) -> Option<usize>
+    ensures first { IfSome result (λ i. IsFirstOf key.now (map pair_of pairs.now) i) }
+    ensures none { IfNone result (has_key key.now (list_pairs (map pair_of pairs.now)) ≡ false) }
+{
+    for (i, pair) in pairs.iter().enumerate() {
+        if pair.key() == key {
+            return Some(i);
+        }
+    }
+    None
+}
+
+// Makes the list an owned one. The place of the first member of the key in it.
+fn seek(object: &mut Object, alloc: Global, key: &str) -> Result<Option<usize>>
+    ensures same { pairs_in object.new ≡ pairs_in object.old }
+    ensures owned { OnOk result (OwnsList object.new) }
+    ensures children { OnOk result (FirstMembers object.old (own_members object.new)) }
+    ensures first { IfOk result (λ o. IfSome o (λ i. IsFirstOf key.now (map pair_of (own_members object.new)) i)) }
+    ensures none { IfOk result (λ o. IfNone o (has_key key.now (list_pairs (map pair_of (own_members object.new))) ≡ false)) }
+    ensures only { IfErr result (λ e. e ≡ no_memory) }
+    ensures free { (IsPlace object.old → ⊥) → IsOk result }
+{
+    let pairs = object.pairs_mut(alloc)?;
+    Ok(find_key(pairs.as_slice(), key))
+}
+
+// Room for one member more.
+fn make_room(object: &mut Object) -> Result<()>
+    requires { OwnsList object.old }
+    ensures members { own_members object.new ≡ own_members object.old }
+    ensures owned { OwnsList object.new }
+    ensures same { pairs_in object.new ≡ pairs_in object.old }
+    ensures room { OnOk result (0 < spare_in object.new) }
+    ensures only { IfErr result (λ e. e ≡ no_memory) }
+{
+    let pairs = object.owned_mut();
+    pairs.reserve(1)?;
+    Ok(())
+}
+
+// The value of the first member of the key.
+fn value_of<'o>(object: &'o mut Object, alloc: Global, key: &str) -> Result<&'o mut Value>
+    ensures* writes_back { sem 𝓛 (LendsSoOk object_row value_row object.entry result (λ n w. ObjectChanged (AtMember key.now (λ before after. after ≡ w)) object.old n) (λ n. pairs_in n ≡ pairs_in object.old)) }
+    ensures stands { Finds ((IsPlace object.old → ⊥) → ⊥) (found key.now (pairs_in object.old)) result }
+{
+    let pairs = match object.pairs_mut(alloc) {
+        Ok(pairs) => pairs,
+        Err(error) => return Err(error),
+    };
+    match find_key(pairs.as_slice(), key) {
+        Some(at) => Ok(pairs[at].value_mut()),
+        None => Err(Error {
+            code: ErrorCode::NotFound,
+            place: Place::None,
+        }),
+    }
+}
+
+// A place, or none where there was none; only want of memory stays an error.
+fn settle<'a>(r: Result<&'a mut Value>) -> Result<Option<&'a mut Value>>
+    ensures settled { result ≡ settled r.entry }
+{
+    match r {
+        Ok(value) => Ok(Some(value)),
+        Err(error) => match error.code {
+            ErrorCode::NoMemory => Err(error),
+            _ => Ok(None),
+        },
+    }
+}
+
+// Copies of these.
+fn copy_pairs(alloc: Global, pairs: &[Pair]) -> Result<Vec<Pair>>
+    ensures pairs { IfOk result (λ v. map pair_of v.items ≡ map pair_of pairs.now) }
+    ensures only { IfErr result (λ e. e ≡ no_memory) }
+{
+    let mut copies = Vec::with_capacity(alloc, pairs.len())?;
+    for pair in pairs {
+        let key = Text::copy(alloc, pair.key())?;
+        let value = pair.value().clone(alloc)?;
+        copies.push(Pair::new(key, value))?;
+    }
+    Ok(copies)
+}
+
+// Puts the member's value at the first member of its key, or the member behind the others, for which there is room.
+fn put_pair(pairs: &mut Vec<Pair>, mut pair: Pair)
+    requires { vec_len pairs.old < vec_capacity pairs.old }
+    ensures pairs { list_pairs (map pair_of pairs.new.items) ≡ inserted (pair_of pair).0 (pair_of pair).1 (list_pairs (map pair_of pairs.old.items)) }
+    ensures len { vec_len pairs.new ≤ vec_len pairs.old + 1 }
+    ensures capacity { vec_capacity pairs.new ≡ vec_capacity pairs.old }
+{
+    match find_key(pairs.as_slice(), pair.key()) {
+        Some(at) => *pairs[at].value_mut() = pair.value_mut().take(),
+        None => add(pairs, pair),
+    }
+}
+
+// Puts these in turn, for which there is room.
+fn put_pairs(pairs: &mut Vec<Pair>, more: Vec<Pair>)
+    requires { vec_len pairs.old + vec_len more ≤ vec_capacity pairs.old }
+    ensures { list_pairs (map pair_of pairs.new.items) ≡ inserted_all (map pair_of more.items) (list_pairs (map pair_of pairs.old.items)) }
+{
+    for pair in more {
+        put_pair(pairs, pair);
+    }
+}
+
+// Calls `f` at the member.
+fn keeps_member<F: FnMut(&str, &mut Value) -> bool>(f: &mut F, pair: &mut Pair) -> bool
+    requires { F.IsAlwaysCallable f.old }
+    ensures called { CalledAtMember F.FnMut f.old pair.old result f.new pair.new }
+    ensures callable { F.IsAlwaysCallable f.new }
+{
+    let mut value = pair.value_mut().take();
+    let keeps = f(pair.key(), &mut value);
+    *pair.value_mut() = value;
+    keeps
+}
+
+// Keeps the members for which `f` is true, in order, with what it writes.
+fn keep_members<F: FnMut(&str, &mut Value) -> bool>(pairs: &mut Vec<Pair>, mut f: F)
+    requires { F.IsAlwaysCallable f }
+    ensures { RetainsInTurn (CalledAtMember F.FnMut) f pairs.old.items pairs.new.items }
+{
+    let len = pairs.len();
+    let mut kept = 0;
+    let mut at = 0;
+    while at < len {
+        if keeps_member(&mut f, &mut pairs[at]) {
+            pairs.swap(kept, at);
+            kept += 1;
+        }
+        at += 1;
+    }
+    pairs.truncate(kept);
+}
+
+/// The calls of an object that are those of a list of members. The first of equal keys is read and set, and
+/// a removal takes out all.
+///
+/// ```
+/// use json_containers::ObjectCalls;
+/// use json_value::{Object, Value};
+/// let mut object = Object::new();
+/// object.insert(alloc, "a", Value::new_u64(1))?;
+/// object.insert(alloc, "b", Value::new_bool(true))?;
+/// assert!(rt; object.insert(alloc, "a", Value::new_u64(2))?.is_some());
+/// assert!(rt; object.remove(alloc, "b")?.is_some() && !object.contains_key("b"));
+/// assert_eq!(rt; object.into_value().to_string(alloc)?.as_str(), "{\"a\":2}");
+/// ```
+pub trait ObjectCalls {
+    /// The object.
+    ghost held: { Self → Container (Keyed Value) };
+
+    /// How many members there are, repeated keys counted.
+    fn len(&self) -> usize
+        ensures { result ≡ length (pairs_in (held self.now)) };
+
+    /// Whether there is none.
+    fn is_empty(&self) -> bool
+        ensures { IsTrue result ↔ (pairs_in (held self.now) ≡ []) };
+
+    /// How many members there can be before memory is asked for.
+    fn capacity(&self) -> usize
+        ensures { result ≡ length (pairs_in (held self.now)) + spare_in (held self.now) };
+
+    /// The value of the first member of the key; none where there is none.
+    fn get(&self, key: &str) -> Option<View<'_>>
+        ensures tree { option_map seen result ≡ found key.now (pairs_in (held self.now)) }
+        ensures sight { option_map sight_of result
+            ≡ option_map (λ p. p.1) (first_of key.now (object_sights (held self.now))) };
+
+    /// Whether there is a member of the key.
+    fn contains_key(&self, key: &str) -> bool
+        ensures { result ≡ has_key key.now (list_pairs (pairs_in (held self.now))) };
+
+    /// The key and the value of the first member of the key; none where there is none.
+    fn get_key_value(&self, key: &str) -> Option<(&str, View<'_>)>
+        ensures tree { option_map (λ p. (p.0.now, seen p.1)) result
+            ≡ first_of key.now (pairs_in (held self.now)) }
+        ensures sight { option_map member_sight result
+            ≡ first_of key.now (object_sights (held self.now)) };
+
+    /// The members, each its key and its value, in order.
+    fn iter(&self) -> Iter<'_>
+        ensures trees { members_left result ≡ pairs_in (held self.now) }
+        ensures sights { members_sights_left result ≡ object_sights (held self.now) };
+
+    /// The value of the first member of the key, to be changed; none exactly where the key is missing.
+    fn get_mut(&mut self, alloc: Global, key: &str) -> Result<Option<&mut Value>>
+        ensures* writes_back { sem 𝓛 (LendsPart Self.row value_row self.entry result (λ n w. ObjectChanged (AtMember key.now (λ before after. after ≡ w)) (held self.old) (held n)) (λ n. pairs_in (held n) ≡ pairs_in (held self.old))) }
+        ensures found { IfOk result (λ o. option_map (λ x. tree_of x.now) o ≡ found key.now (pairs_in (held self.old))) }
+        ensures free { (IsPlace (held self.old) → ⊥) → IsOk result }
+        ensures only { IfErr result (λ e. e ≡ no_memory) };
+
+    /// The member at the index, to be changed.
+    fn pair_mut(&mut self, alloc: Global, i: usize) -> Result<&mut Pair>
+        requires { i < length (pairs_in (held self.old)) }
+        ensures* writes_back { sem 𝓛 (LendsSoOk Self.row pair_row self.entry result (λ n w. ObjectBecame (λ items. set items i w) (held self.old) (held n)) (λ n. pairs_in (held n) ≡ pairs_in (held self.old))) }
+        ensures pair { IfOk result (λ p. slice_get (pairs_in (held self.old)) i ≡ Some (pair_of p.now)) }
+        ensures free { (IsPlace (held self.old) → ⊥) → IsOk result }
+        ensures only { IfErr result (λ e. e ≡ no_memory) };
+
+    /// Sets the value of the first member of the key, and answers the old one; or appends such a member.
+    fn insert(&mut self, alloc: Global, key: &str, value: Value) -> Result<Option<Value>>
+        ensures ok { OnOk result (list_pairs (pairs_in (held self.new)) ≡ inserted key.now (tree_of value) (list_pairs (pairs_in (held self.old)))) }
+        ensures before { IfOk result (λ o. option_map tree_of o ≡ found key.now (pairs_in (held self.old))) }
+        ensures kept { OnErr result (pairs_in (held self.new) ≡ pairs_in (held self.old)) }
+        ensures only { IfErr result (λ e. e ≡ no_memory) };
+
+    /// Keeps the members for which `f` is true, in order, with what it writes.
+    fn retain<F: FnMut(&str, &mut Value) -> bool>(&mut self, alloc: Global, f: F) -> Result<()>
+        requires { F.IsAlwaysCallable f }
+        ensures children { OnOk result (ObjectChanged (RetainsInTurn (CalledAtMember F.FnMut) f) (held self.old) (held self.new)) }
+        ensures kept { OnErr result (pairs_in (held self.new) ≡ pairs_in (held self.old)) }
+        ensures only { IfErr result (λ e. e ≡ no_memory) };
+
+    /// The object without members, with room for so many.
+    fn with_capacity(alloc: Global, capacity: usize) -> Result<Object>
+        ensures pairs { IfOk result (λ o. pairs_in o ≡ []) }
+        ensures room { IfOk result (λ o. capacity ≤ spare_in o) }
+        ensures only { IfErr result (λ e. e ≡ no_memory) };
+
+    /// Room for at least as many more.
+    fn reserve(&mut self, alloc: Global, additional: usize) -> Result<()>
+        ensures room { OnOk result (additional ≤ spare_in (held self.new)) }
+        ensures same { pairs_in (held self.new) ≡ pairs_in (held self.old) }
+        ensures free { additional ≤ spare_in (held self.old) → IsOk result × (held self.new ≡ held self.old) }
+        ensures only { IfErr result (λ e. e ≡ no_memory) };
+
+    /// No members. Takes no memory.
+    fn clear(&mut self)
+        ensures { pairs_in (held self.new) ≡ [] };
+
+    /// Takes out all members of the key. The key, and the value of the first.
+    fn remove_entry<'k>(&mut self, alloc: Global, key: &'k str) -> Result<Option<(&'k str, Value)>>
+        ensures ok { OnOk result (list_pairs (pairs_in (held self.new)) ≡ without_key key.now (list_pairs (pairs_in (held self.old)))) }
+        ensures value { IfOk result (λ o. option_map (λ p. tree_of p.1) o ≡ found key.now (pairs_in (held self.old))) }
+        ensures key { IfOk result (λ o. IfSome o (λ p. p.0.now ≡ key.now)) }
+        ensures kept { OnErr result (pairs_in (held self.new) ≡ pairs_in (held self.old)) }
+        ensures free { (IsPlace (held self.old) → ⊥) → IsOk result }
+        ensures only { IfErr result (λ e. e ≡ no_memory) };
+
+    /// Copies of these, inserted in turn.
+    fn extend(&mut self, alloc: Global, pairs: &[Pair]) -> Result<()>
+        ensures ok { OnOk result (list_pairs (pairs_in (held self.new)) ≡ inserted_all (map pair_of pairs.now) (list_pairs (pairs_in (held self.old)))) }
+        ensures kept { OnErr result (pairs_in (held self.new) ≡ pairs_in (held self.old)) }
+        ensures only { IfErr result (λ e. e ≡ no_memory) };
+
+    /// The other's members, inserted in turn; the other has none then.
+    fn append(&mut self, alloc: Global, other: &mut Object) -> Result<()>
+        ensures ok { OnOk result (list_pairs (pairs_in (held self.new)) ≡ inserted_all (pairs_in other.old) (list_pairs (pairs_in (held self.old)))) }
+        ensures emptied { OnOk result (pairs_in other.new ≡ []) }
+        ensures kept { OnErr result ((pairs_in (held self.new) ≡ pairs_in (held self.old)) × (pairs_in other.new ≡ pairs_in other.old)) }
+        ensures only { IfErr result (λ e. e ≡ no_memory) };
+
+    /// Takes out all members of the key. The value of the first.
+    fn remove(&mut self, alloc: Global, key: &str) -> Result<Option<Value>>
+        ensures ok { OnOk result (list_pairs (pairs_in (held self.new)) ≡ without_key key.now (list_pairs (pairs_in (held self.old)))) }
+        ensures value { IfOk result (λ o. option_map tree_of o ≡ found key.now (pairs_in (held self.old))) }
+        ensures kept { OnErr result (pairs_in (held self.new) ≡ pairs_in (held self.old)) }
+        ensures free { (IsPlace (held self.old) → ⊥) → IsOk result }
+        ensures only { IfErr result (λ e. e ≡ no_memory) };
+
+    /// The entry of the key.
+    fn entry(&mut self, alloc: Global, key: &str) -> Result<Entry<'_>>
+        ensures* rests { sem 𝓛 (RestsIfErr Self.row self.entry (λ e. (entry_ref e).ghost_name) result (λ n. pairs_in (held n) ≡ pairs_in (held self.old))) }
+        ensures same_object { IfOk result (λ e. (entry_ref e).ghost_name ≡ self.entry.ghost_name) }
+        ensures unchanged { IfOk result (λ e. pairs_in (entry_object e) ≡ pairs_in (held self.old)) }
+        ensures children { IfOk result (λ e. FirstMembers (held self.old) (own_members (entry_object e))) }
+        ensures key { IfOk result (λ e. entry_key e ≡ key.now) }
+        ensures value { IfOk result (λ e. option_map tree_of (entry_value e) ≡ found key.now (pairs_in (held self.old))) }
+        ensures update { IfOk result (λ e. (w : Value) → list_pairs (pairs_in (entry_with e w)) ≡ inserted key.now (tree_of w) (list_pairs (pairs_in (held self.old)))) }
+        ensures only { IfErr result (λ e. e ≡ no_memory) };
+}
+
+impl ObjectCalls for Object {
+    ghost held = { λ o. o };
+
+    fn len(&self) -> usize {
+        self.view().len()
+    }
+
+    fn is_empty(&self) -> bool {
+        self.view().is_empty()
+    }
+
+    fn capacity(&self) -> usize {
+        self.view().len() + self.spare()
+    }
+
+    fn get(&self, key: &str) -> Option<View<'_>> {
+        self.view().get(key)
+    }
+
+    fn contains_key(&self, key: &str) -> bool {
+        match self.view().get(key) {
+            Some(_) => true,
+            None => false,
+        }
+    }
+
+    fn get_key_value(&self, key: &str) -> Option<(&str, View<'_>)> {
+        self.view().get_key_value(key)
+    }
+
+    fn iter(&self) -> Iter<'_> {
+        self.view().iter()
+    }
+
+    fn get_mut(&mut self, alloc: Global, key: &str) -> Result<Option<&mut Value>> {
+        settle(value_of(self, alloc, key))
+    }
+
+    fn pair_mut(&mut self, alloc: Global, i: usize) -> Result<&mut Pair> {
+        let pairs = self.pairs_mut(alloc)?;
+        Ok(&mut pairs[i])
+    }
+
+    fn insert(&mut self, alloc: Global, key: &str, value: Value) -> Result<Option<Value>> {
+        let pairs = self.pairs_mut(alloc)?;
+        match find_key(pairs.as_slice(), key) {
+            Some(at) => Ok(Some(replace(pairs[at].value_mut(), value))),
+            None => {
+                let key = Text::copy(alloc, key)?;
+                pairs.push(Pair::new(key, value))?;
+                Ok(None)
+            }
+        }
+    }
+
+    fn retain<F: FnMut(&str, &mut Value) -> bool>(&mut self, alloc: Global, f: F) -> Result<()> {
+        let pairs = self.pairs_mut(alloc)?;
+        keep_members(pairs, f);
+        Ok(())
+    }
+
+    fn with_capacity(alloc: Global, capacity: usize) -> Result<Object> {
+        let pairs = Vec::with_capacity(alloc, capacity)?;
+        Ok(Object::from_list(pairs))
+    }
+
+    fn reserve(&mut self, alloc: Global, additional: usize) -> Result<()> {
+        if additional <= self.spare() {
+            return Ok(());
+        }
+        let pairs = self.pairs_mut(alloc)?;
+        pairs.reserve(additional)?;
+        Ok(())
+    }
+
+    fn clear(&mut self) {
+        *self = Object::new();
+    }
+
+    fn remove_entry<'k>(
+        &mut self,
+        alloc: Global,
+        key: &'k str,
+    ) -> Result<Option<(&'k str, Value)>> {
+        match self.remove(alloc, key)? {
+            Some(value) => Ok(Some((key, value))),
+            None => Ok(None),
+        }
+    }
+
+    fn extend(&mut self, alloc: Global, pairs: &[Pair]) -> Result<()> {
+        let copies = copy_pairs(alloc, pairs)?;
+        let list = self.pairs_mut(alloc)?;
+        list.reserve(copies.len())?;
+        put_pairs(list, copies);
+        Ok(())
+    }
+
+    fn append(&mut self, alloc: Global, other: &mut Object) -> Result<()> {
+        let more = other.pairs_mut(alloc)?;
+        let pairs = self.pairs_mut(alloc)?;
+        pairs.reserve(more.len())?;
+        put_pairs(pairs, replace(more, Vec::new(alloc)));
+        Ok(())
+    }
+
+    fn remove(&mut self, alloc: Global, key: &str) -> Result<Option<Value>> {
+        let pairs = self.pairs_mut(alloc)?;
+        match find_key(pairs.as_slice(), key) {
+            Some(at) => Ok(Some(take_all(pairs, at))),
+            None => Ok(None),
+        }
+    }
+
+    fn entry(&mut self, alloc: Global, key: &str) -> Result<Entry<'_>> {
+        match seek(self, alloc, key)? {
+            Some(at) => Ok(Entry::Occupied(OccupiedEntry { object: self, at })),
+            None => {
+                let key = Text::copy(alloc, key)?;
+                make_room(self)?;
+                Ok(Entry::Vacant(VacantEntry { object: self, key }))
+            }
+        }
+    }
+}
