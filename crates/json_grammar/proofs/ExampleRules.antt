@@ -16,7 +16,7 @@ use Rattle.json_grammar.proofs.PartScan.{plain_atom}
 use Rattle.json_grammar.proofs.Lists.{head, holds_none, holds_head, holds_one}
 use Rattle.json_grammar.proofs.OneFault.{faulty_fault}
 use Rattle.json_grammar.proofs.WithinOne.{string_no_place}
-use Rattle.json_grammar.proofs.SomeFault.{text_place}
+use Rattle.json_grammar.proofs.InputSteps.{text_place}
 use Rattle.json_grammar.proofs.RepeatedNames.{repeated_more}
 use Rattle.json_grammar.proofs.FirstRepeated.{repeats_reading}
 use Rattle.json_grammar.proofs.RepeatedInput.{before_bracket}

@@ -14,7 +14,7 @@ use Rattle.json_grammar.proofs.OpenKeys.{repeat_append, repeat_one, tree_repeats
 use Rattle.json_grammar.proofs.TokenSteps.{IsScalar, TokenSteps, at_start, by_space, by_bracket, by_scalar, by_end, by_comma, by_key, by_colon, steps_reading, reading_steps}
 use Rattle.json_grammar.proofs.RepeatedNames.{scalar_never, NameAt, name_in, repeated_at, at_repeated, repeated_more, name_within, at_or_behind, repeated_tokens, name_here, Here, before_it, that_one, here}
 use Rattle.json_grammar.proofs.OneFault.{End, at_place, within_word, within_number, within_string, Stands}
-use Rattle.json_grammar.proofs.SomeFault.{text_place}
+use Rattle.json_grammar.proofs.InputSteps.{text_place}
 
 module _ (lossy : Bool) where
   -- no name repeats

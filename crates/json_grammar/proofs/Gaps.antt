@@ -14,7 +14,7 @@ use Rattle.json_grammar.specs.Allows.{BeginsValue, Closes, Allows}
 use Rattle.json_grammar.proofs.Lists.{ws-append}
 use Rattle.json_grammar.proofs.Moves.{take_on, reading_space, spaced_on}
 use Rattle.json_grammar.proofs.Next.{next_byte}
-use Rattle.json_grammar.proofs.SomeFault.{ends_space}
+use Rattle.json_grammar.proofs.InputRests.{ends_space}
 
 -- the two marks begin no value and close nothing
 no_value : (x : ℕ) → (x ≡ 44) ⊎ (x ≡ 58) → BeginsValue x → ⊥

@@ -25,7 +25,12 @@ pub mod Sizes
 pub mod OneValue
 pub mod ValueFaults
 pub mod NumberScan
+pub mod FirstBytes
+pub mod HexDigits
+pub mod EscapeParts
 pub mod PartScan
+pub mod InputRests
+pub mod InputSteps
 pub mod SomeFault
 pub mod Gaps
 pub mod SomeValueFault

@@ -5,20 +5,23 @@ use Rattle.json_grammar.specs.declared.Kind.{Kind}
 use Rattle.json_grammar.specs.declared.Kind.TheVariants.{Array as array, Object as object}
 use Rattle.json_grammar.specs.declared.Spot.{Spot}
 use Rattle.json_grammar.specs.declared.Spot.TheVariants.{Value as at_value, First as first, Key as key, KeyOrEnd as key_or_end, Colon as colon, Done as done}
-use Rattle.json_grammar.specs.Tree.{Token}
+use Rattle.json_grammar.specs.Tree.{text, Token, text_token, key_token}
 use Rattle.json_grammar.specs.Grammar.{IsWhitespace, number, string, is_text}
 use Rattle.json_grammar.specs.Fault.{is_word}
-use Rattle.json_grammar.specs.Place.{viable_prefix, reading, TakesValue, TakesKey, takes_at_value, takes_first, takes_key, takes_key_or_end}
+use Rattle.json_grammar.specs.Place.{viable_prefix, reading, read_value, TakesValue, TakesKey, takes_at_value, takes_first, takes_key, takes_key_or_end}
 use Rattle.json_grammar.specs.Given.{piece, LastEnds, Given, NamesTold, NoNameEnds}
-use Rattle.json_grammar.specs.Needs.{IsBegun, IsLeadingZero, NeedsByte}
+use Rattle.json_grammar.specs.Needs.{IsGap, IsBegun, IsLeadingZero, NeedsByte}
 use Rattle.json_grammar.specs.Allows.{Closes, Separates, Allows}
+use Rattle.std.proofs.lemmas.List.{append_cancel_left}
+use Rattle.json_grammar.proofs.Completing.{place_viable}
+use Rattle.json_grammar.proofs.Reading.{one_place}
 use Rattle.json_grammar.proofs.Faults.{shorter_viable}
 use Rattle.json_grammar.proofs.Gaps.{Across, spaced, marked, across}
 use Rattle.json_grammar.proofs.Moves.{take_on, spaced_on}
 use Rattle.json_grammar.proofs.Next.{next_byte}
 use Rattle.json_grammar.proofs.NumberScan.{number_by_state}
 use Rattle.json_grammar.proofs.Numbers.{number_begins}
-use Rattle.json_grammar.proofs.SomeFault.{ends_space}
+use Rattle.json_grammar.proofs.InputRests.{ends_space}
 use Rattle.json_grammar.proofs.RulesReader.{names_told, word_no_name, number_no_name, string_no_name}
 
 -- ---- what the first byte of a token says of the place
@@ -173,3 +176,34 @@ names_before lossy zero b i k c w ts g within v n = by n.begun
     by (inr (inr (q, z))) =
         let f = split (piece b n.at k) (zero_some (piece b n.at k) z) in
         whole f.0 f.1 [] f.2 (inr (inl (subst (λ y. number (y ++ [])) f.2 (zero_number (piece b n.at k) z))))
+
+-- ---- a name behind the gap
+
+no_text_name : (ts : List Token) (s : List ℕ) → ts ++ text_token s ∷ [] ≡ ts ++ key_token s ∷ [] → ⊥
+no_text_name ts s e = let f : text_token s ∷ [] ≡ key_token s ∷ [] = append_cancel_left ts (text_token s ∷ []) (key_token s ∷ []) e in absurd (cc)
+
+pub name_behind_gap : (lossy : Bool) (b : List ℕ) (i j n : ℕ) (c c' : List Kind) (w w' : Spot) (ts : List Token) (s : List ℕ)
+    → Given lossy b i c w ts
+    → i ≤ j
+    → j ≤ n
+    → n ≤ length b
+    → IsGap (piece b i j)
+    → string lossy s (piece b j n)
+    → reading lossy (take n b) c' w' (ts ++ key_token s ∷ [])
+    → (d : List Kind) × (v : Spot) × reading lossy (take j b) d v ts × TakesKey v
+name_behind_gap lossy b i j n c c' w w' ts s g l m within gap (q, f, h) r = by (takes_string o.1 o.0 o.3)
+  where
+    v : viable_prefix lossy (take n b)
+    v = place_viable lossy (take n b) c' w' (ts ++ key_token s ∷ []) r
+
+    a : Across lossy b i j c w ts
+    a = across lossy b i j c w ts g l gap (shorter_viable lossy (take j b) (piece b j n) (subst (viable_prefix lossy) (take_on b j n m) v))
+
+    o : (d : List Kind) × (u : Spot) × reading lossy (take j b) d u ts × Allows u d 34
+    o = allowing lossy b i j n c w ts g l m within v 34 _ f quote_no_space a
+
+    by : TakesValue o.1 ⊎ TakesKey o.1 → (d : List Kind) × (u : Spot) × reading lossy (take j b) d u ts × TakesKey u
+    by (inr t) = (o.0, o.1, o.2, t)
+    by (inl t) =
+        let as_text = read_value (text s) o.2 t (piece b j n, [], sym (append-nil (piece b j n)), (q, f, h), tt) in
+        absurd (no_text_name ts s (one_place lossy as_text (subst (λ y. reading lossy y c' w' (ts ++ key_token s ∷ [])) (take_on b j n m) r)).2)

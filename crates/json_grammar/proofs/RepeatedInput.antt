@@ -15,7 +15,8 @@ use Rattle.json_grammar.proofs.Completing.{place_viable}
 use Rattle.json_grammar.proofs.Opens.{opens_reading}
 use Rattle.json_grammar.proofs.Faults.{shorter_viable}
 use Rattle.json_grammar.proofs.OneFault.{opens_least, at_place, within_word, within_number, within_string, meant}
-use Rattle.json_grammar.proofs.SomeFault.{Outcome, some_outcome, peak_key, text_place}
+use Rattle.json_grammar.proofs.InputSteps.{Outcome, peak_key, text_place}
+use Rattle.json_grammar.proofs.SomeFault.{some_outcome}
 use Rattle.json_grammar.proofs.OneValue.{viable_split}
 use Rattle.json_grammar.proofs.Reading.{one_place, colon_not_done}
 use Rattle.json_grammar.proofs.RepeatedNames.{NameAt, name_in, repeated_at, at_repeated, repeated_more}

@@ -1,13 +1,13 @@
 -- Which token of a text needs the byte at an offset. A reader that hands out tokens one after
 -- another is to refuse a byte at the token that needs it, and not before: then between what was taken
 -- and that byte stand a gap and the beginning of one token, and nothing else.
-use Rattle.std.specs.Prelude.{◌≡◌, ◌≢◌, ◌⊎◌, ℕ, ◌≤◌, List, [], ◌∷◌, ◌++◌, take, Bool}
+use Rattle.std.specs.Prelude.{◌≡◌, ◌≢◌, ◌⊎◌, ℕ, ◌≤◌, List, [], ◌∷◌, ◌++◌, length, take, Bool}
 use Rattle.json_grammar.specs.declared.Kind.{Kind}
 use Rattle.json_grammar.specs.declared.Spot.{Spot}
-use Rattle.json_grammar.specs.Tree.{Token}
+use Rattle.json_grammar.specs.Tree.{Token, key_token}
 use Rattle.json_grammar.specs.Grammar.{ws, number, string}
 use Rattle.json_grammar.specs.Fault.{is_word}
-use Rattle.json_grammar.specs.Place.{reading, viable_prefix}
+use Rattle.json_grammar.specs.Place.{TakesKey, reading, viable_prefix}
 use Rattle.json_grammar.specs.Given.{piece, Given}
 
 -- whitespace, with at most one comma or colon before, in or behind it (RFC 8259, section 2)
@@ -54,3 +54,18 @@ GapHasNoToken =
     → IsGap (piece b i j)
     → viable_prefix lossy (take j b)
     → (c' : List Kind) × (w' : Spot) × reading lossy (take j b) c' w' ts
+
+-- where a name is the next token behind a gap, the tokens before it are all that stand before its opening
+-- quotation mark
+abbrev pub NameBehindGap : Type 0
+NameBehindGap =
+    (lossy : Bool) (b : List ℕ) (i j n : ℕ)
+    (c c' : List Kind) (w w' : Spot) (ts : List Token) (s : List ℕ)
+    → Given lossy b i c w ts
+    → i ≤ j
+    → j ≤ n
+    → n ≤ length b
+    → IsGap (piece b i j)
+    → string lossy s (piece b j n)
+    → reading lossy (take n b) c' w' (ts ++ key_token s ∷ [])
+    → (d : List Kind) × (v : Spot) × reading lossy (take j b) d v ts × TakesKey v
