@@ -1,12 +1,12 @@
 -- A text is a number exactly where the states end as a number does; how a number begins.
-use Rattle.std.proofs.Common.{◌≡◌, ◌≢◌, ℕ, List, [], ◌∷◌, length, get_or, take, ◌+◌, ◌<◌, true, false, refl, sym, ap, ◌∙◌, arith}
-use Rattle.std.proofs.lemmas.Bool.{ne_eqb, and_parts, leb-true}
-use Rattle.std.proofs.lemmas.List.{take_more}
+use Rattle.std.proofs.Common.{◌≡◌, ◌≢◌, ℕ, List, [], ◌∷◌, length, get_or, true, refl, ap, ◌∙◌}
+use Rattle.std.proofs.lemmas.Bool.{and_parts, leb-true}
 use Rattle.std.specs.Str.{all_ascii_digits}
 use Rattle.json_grammar.specs.Grammar.{IsDigit, number}
 use Rattle.json_grammar.specs.NumberStates.{at_start, after_minus, after_zero, no_number, number_step, number_run}
-use Rattle.json_grammar.proofs.NumberRuns.{run_on, number_ends, no_number_goes_on}
+use Rattle.json_grammar.proofs.NumberRuns.{number_ends, no_number_goes_on}
 use Rattle.json_grammar.proofs.NumberScan.{number_by_state, ended_whole}
+use Rattle.json_text.proofs.WholeNumbers.{zero_ends}
 use Rattle.json_number.specs.Tests.{is_number}
 
 pub number_from_test : (l : List ℕ) → is_number l ≡ true → number l
@@ -15,9 +15,6 @@ number_from_test l h = number_by_state l h
 pub test_from_number : (l : List ℕ) → number l → is_number l ≡ true
 test_from_number l n = ended_whole _ (number_ends l n)
 
-pub not_number : (l : List ℕ) → is_number l ≡ false → ¬ (number l)
-not_number l h n = let e = test_from_number l n in let f : false ≡ true = sym h ∙ e in cc
-
 -- no number begins with a plus
 pub no_plus : (l : List ℕ) → number l → get_or l 0 0 ≢ 43
 no_plus [] n e = cc
@@ -25,10 +22,6 @@ no_plus (x ∷ b) n e = no_number_goes_on [] x b (ap (number_step at_start) e) n
 
 pub digit_of : (x : ℕ) (b : List ℕ) → all_ascii_digits (x ∷ b) ≡ true → IsDigit x
 digit_of x b h = let p = and_parts _ _ h in let q = and_parts _ _ p.0 in (leb-true 48 x q.0, leb-true x 57 q.1)
-
--- no digit stands behind a leading zero
-zero_ends : (d : ℕ) → IsDigit d → number_step after_zero d ≡ no_number
-zero_ends d h = rw (ne_eqb d 46 (λ e. omega arith), ne_eqb d 101 (λ e. omega arith), ne_eqb d 69 (λ e. omega arith)) refl
 
 pub zero_alone : (b : List ℕ) → number b → all_ascii_digits b ≡ true → get_or b 0 0 ≡ 48 → length b ≡ 1
 zero_alone [] n h e = cc
@@ -45,7 +38,3 @@ zero_alone_below (x ∷ d ∷ r) n h e =
     let k = digit_of d r (and_parts _ _ h).1 in
     let s : number_step (number_step after_minus x) d ≡ no_number = ap (λ y. number_step (number_step after_minus y) d) e ∙ zero_ends d k in
     absurd (no_number_goes_on (45 ∷ x ∷ []) d r s n)
-
--- the states, one byte further
-pub run_more : (l : List ℕ) (i : ℕ) → i < length l → number_run at_start (take (i + 1) l) ≡ number_step (number_run at_start (take i l)) (get_or l i 0)
-run_more l i h = ap (number_run at_start) (take_more l i 0 h) ∙ run_on at_start (take i l) (get_or l i 0 ∷ [])

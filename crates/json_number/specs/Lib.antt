@@ -1,7 +1,6 @@
 pub mod Form
 pub mod Numbers
 pub mod Integers
-pub mod States
 pub mod Tests
 pub mod Literals
 pub mod Errors

@@ -16,7 +16,6 @@ pub mod laws;
 mod number;
 mod number_from;
 mod raw_number;
-mod state;
 #[cfg(test)]
 mod tests;
 

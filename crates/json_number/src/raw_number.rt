@@ -12,8 +12,7 @@ ghost use Rattle.json_number.specs.Tests.{is_number};
 
 use crate::integer::integer_of;
 use crate::number::Number;
-use crate::state::is_number;
-use json_text::{Error, ErrorCode, Place, Result};
+use json_text::{Error, ErrorCode, Place, Result, is_number};
 use std::alloc::Global;
 
 /// A number as the literal that spells it (RFC 8259, section 6), of any size and precision. Equal numbers have equal literals:

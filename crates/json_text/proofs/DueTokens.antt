@@ -3,24 +3,26 @@ use Rattle.std.proofs.Common.{◌≡◌, ℕ, ◌≤◌, List, [], ◌∷◌, �
 use Rattle.std.proofs.Math.Seq.{take-append_seam}
 use Rattle.json_grammar.specs.declared.Kind.{Kind}
 use Rattle.json_grammar.specs.declared.Spot.{Spot}
-use Rattle.json_grammar.specs.Tree.{Tree, Token}
-use Rattle.json_grammar.specs.Grammar.{ws, is_text}
-use Rattle.json_grammar.specs.Place.{reading, viable_prefix}
-use Rattle.json_grammar.specs.Fault.{FaultCode}
+use Rattle.json_grammar.specs.Tree.{Tree, Token, key_token}
+use Rattle.json_grammar.specs.Grammar.{ws, string, is_text}
+use Rattle.json_grammar.specs.Place.{TakesKey, reading, viable_prefix}
+use Rattle.json_grammar.specs.Fault.{FaultCode, fault}
 use Rattle.json_grammar.specs.Given.{piece, NamesTold}
 use Rattle.json_grammar.specs.Needs.{IsGap}
 use Rattle.json_grammar.proofs.Faults.{shorter_viable}
 use Rattle.json_grammar.proofs.Gaps.{gap_has_no_token}
 use Rattle.json_grammar.proofs.Lists.{ws-append}
 use Rattle.json_grammar.proofs.Moves.{take_on}
-use Rattle.json_grammar.proofs.NeedsNames.{names_before}
+use Rattle.json_grammar.proofs.NeedsNames.{names_before, name_behind_gap}
 use Rattle.json_grammar.proofs.OneFault.{Told, deep, short, other, told}
 use Rattle.json_text.specs.declared.error.Error.{Error}
 use Rattle.json_text.specs.declared.error.ErrorCode.{ErrorCode}
 use Rattle.json_text.specs.declared.error.ErrorCode.TheVariants as code
 use Rattle.json_text.specs.Faults.{IsFault}
 use Rattle.json_text.specs.Parsing.{ParserState, input, taken, HasGiven, IsDue}
+use Rattle.json_text.specs.Standing.{Stood}
 use Rattle.json_text.proofs.OneFaultAt.{stands}
+use Rattle.json_text.proofs.Stands.{stood_at}
 use Rattle.json_text.proofs.Pieces.{piece_append}
 
 front : (b p r : List ℕ) (k : ℕ) → b ≡ p ++ r → length p ≡ k → p ≡ take k b
@@ -33,7 +35,7 @@ told_viable {k = k} {b = b} (short (e, v, o, m)) = subst (viable_prefix false) (
 told_viable {k = k} {b = b} (other r) = subst (viable_prefix false) (front b r.p (r.x ∷ r.long.rest) k r.long.bytes r.offset) r.long.is_viable
 
 fault_viable : (limit : ℕ) (b : List ℕ) (c : ErrorCode) (k : ℕ) → IsFault limit b c k → viable_prefix false (take k b)
-fault_viable limit b c k h = let s = stands limit b c k h in told_viable (told false (viable_prefix false) ((t : Tree) × is_text false t b) limit b s.row k s.holds)
+fault_viable limit b c k h = let s = stands (λ row. fault false limit b row k) c h in told_viable (told false (viable_prefix false) ((t : Tree) × is_text false t b) limit b s.row k s.holds)
 
 told_within : {limit k : ℕ} {b : List ℕ} {code : FaultCode} → Told false (viable_prefix false) ((t : Tree) × is_text false t b) limit b k code → k ≤ length b
 told_within (deep (p, x, r, e, l, v, o, m)) = omega (arith, l, ap length e ∙ length-append p (x ∷ r))
@@ -41,7 +43,7 @@ told_within (short (e, v, o, m)) = omega (arith, e)
 told_within (other r) = omega (arith, r.offset, ap length r.long.bytes ∙ length-append r.p (r.x ∷ r.long.rest))
 
 fault_within : (limit : ℕ) (b : List ℕ) (c : ErrorCode) (k : ℕ) → IsFault limit b c k → k ≤ length b
-fault_within limit b c k h = let s = stands limit b c k h in told_within (told false (viable_prefix false) ((t : Tree) × is_text false t b) limit b s.row k s.holds)
+fault_within limit b c k h = let s = stands (λ row. fault false limit b row k) c h in told_within (told false (viable_prefix false) ((t : Tree) × is_text false t b) limit b s.row k s.holds)
 
 -- whitespace before a gap
 gap_behind : (z g : List ℕ) → ws z → IsGap g → IsGap (z ++ g)
@@ -63,6 +65,22 @@ due_behind_tokens old e ts due h =
     gap_has_no_token false b h.base n.at old.open_kinds old.spot ts h.given (omega arith)
     (subst IsGap (sym (piece_append b h.base i n.at h.order o.0)) (gap_behind (piece b h.base i) (piece b i n.at) h.space n.gap))
     (shorter_viable false (take n.at b) (piece b n.at due.offset) (subst (viable_prefix false) (take_on b n.at due.offset o.1) v))
+
+-- a reader that took a name stood behind the same tokens at its opening quotation mark
+pub name_told : (limit limit' : ℕ) (b : List ℕ) (i j n : ℕ) (c c' : List Kind) (w w' : Spot) (ts : List Token) (s : List ℕ)
+    → Stood limit b i c w ts
+    → i ≤ j
+    → j ≤ n
+    → n ≤ length b
+    → IsGap (piece b i j)
+    → string false s (piece b j n)
+    → Stood limit' b n c' w' (ts ++ key_token s ∷ [])
+    → (d : List Kind) × (v : Spot) × reading false (take j b) d v ts × TakesKey v
+name_told limit limit' b i j n c c' w w' ts s h l m within g str h' =
+    let o = h.order in
+    name_behind_gap false b h.base j n c c' w w' ts s h.given (omega arith) m within
+    (subst IsGap (sym (piece_append b h.base i j o l)) (gap_behind (piece b h.base i) (piece b i j) h.space g)) str
+    (stood_at limit' b n c' w' (ts ++ key_token s ∷ []) h')
 
 pub names_before_due : (old : ParserState) (e : Error) (ts : List Token) (due : IsDue old e) → HasGiven old ts → NamesTold false (input old) (taken old) due.offset
 names_before_due old e ts due h j n c w us s jn nk nb r t x =

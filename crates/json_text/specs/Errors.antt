@@ -31,7 +31,11 @@ number_of code.TrailingCharacters = 17
 number_of code.RecursionLimitExceeded = 18
 number_of code.NotFound = 19
 number_of code.TypeUnmatched = 20
+number_of code.NumberOutOfRange = 21
+number_of code.SerExpectKeyIsStrOrNum = 22
+number_of code.ExpectedNumericKey = 23
 number_of code.BadWords = 24
+number_of code.DuplicateKey = 25
 
 -- the category of a code
 abbrev pub category_of : ErrorCode → Category
@@ -42,6 +46,9 @@ category_of code.EofWhileParsing = category.Eof
 category_of code.RecursionLimitExceeded = category.Limit
 category_of code.NotFound = category.NotFound
 category_of code.TypeUnmatched = category.TypeUnmatched
+category_of code.NumberOutOfRange = category.TypeUnmatched
+category_of code.SerExpectKeyIsStrOrNum = category.TypeUnmatched
+category_of code.ExpectedNumericKey = category.TypeUnmatched
 category_of _ = category.Syntax
 
 -- the offset, the line and the column of a place in the input
@@ -80,6 +87,14 @@ not_found = record { code = code.NotFound; place = place.None }
 -- a key meets no object, or an index no array
 abbrev pub type_unmatched : Error
 type_unmatched = record { code = code.TypeUnmatched; place = place.None }
+
+-- an integer lies outside the type that is asked for
+abbrev pub out_of_range : Error
+out_of_range = record { code = code.NumberOutOfRange; place = place.None }
+
+-- a key that is written has no text
+abbrev pub key_refused : Error
+key_refused = record { code = code.SerExpectKeyIsStrOrNum; place = place.None }
 
 -- the words have another form
 abbrev pub bad_words : Error

@@ -28,7 +28,11 @@ name_of code.TrailingCharacters = codes "TrailingCharacters"
 name_of code.RecursionLimitExceeded = codes "RecursionLimitExceeded"
 name_of code.NotFound = codes "NotFound"
 name_of code.TypeUnmatched = codes "TypeUnmatched"
+name_of code.NumberOutOfRange = codes "NumberOutOfRange"
+name_of code.SerExpectKeyIsStrOrNum = codes "SerExpectKeyIsStrOrNum"
+name_of code.ExpectedNumericKey = codes "ExpectedNumericKey"
 name_of code.BadWords = codes "BadWords"
+name_of code.DuplicateKey = codes "DuplicateKey"
 
 -- the text of a place, behind a name
 abbrev pub place_text : Place → List ℕ

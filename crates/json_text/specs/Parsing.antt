@@ -6,12 +6,13 @@ use Rattle.json_grammar.specs.declared.Spot.TheVariants as spot
 use Rattle.json_grammar.specs.Tree.{Tree, depth, Token, tokens}
 use Rattle.json_grammar.specs.Grammar.{is_text}
 use Rattle.json_grammar.specs.Given.{piece, LastEnds}
+use Rattle.json_grammar.specs.Fault.{reads}
 use Rattle.json_grammar.specs.Needs.{IsGap}
 use Rattle.json_text.specs.declared.error.Error.{Error}
 use Rattle.json_text.specs.declared.event.Event.{Event}
 use Rattle.json_text.specs.declared.event.Event.TheVariants as event
 use Rattle.json_text.specs.Events.{Means, raw_size, token_bytes, EndsToken}
-use Rattle.json_text.specs.Faults.{IsFault, FaultFrom}
+use Rattle.json_text.specs.Faults.{IsFault, FaultFrom, IsInValue}
 use Rattle.json_text.specs.Due.{NextNeeds}
 use Rattle.json_text.specs.Positions.{place_at}
 use Rattle.json_text.specs.Standing.{Stood}
@@ -100,11 +101,16 @@ pub record IsDue (old : ParserState) (e : Error) : Type 0 where
 abbrev pub EventsBegin : ParserState → Type 0
 EventsBegin s = (ts : List Token) → HasGiven s ts → (t : Tree) (b : List ℕ) → is_text false t (take (taken s) (input s) ++ b) → LastEnds s.spot ts b → (m : List Token) × (tokens t ≡ ts ++ m)
 
+-- one value was read, whatever follows it, and the parser stands right behind it: a number is the longest there, and no digit follows a leading zero
+abbrev pub HasRead : ParserState → Type 0
+HasRead s = (ts : List Token) → HasGiven s ts → (t : Tree) × reads false (input s) t (taken s) × (ts ≡ tokens t) × (depth t ≤ s.limit)
+
 -- what is true of each parser, which keeps what is left of the text from the start on
 pub record IsSound (rest : List ℕ) (s : ParserState) : Type 0 where
   pub rest_is : rest ≡ input s
   pub given : (ts : List Token) × HasGiven s ts
   pub failed : IfSome s.failure (λ e. FaultFrom s.limit s.start s.text e.code e.place)
+  pub inside : ¬ (IsWhole s) → IfSome s.failure (λ e. IsInValue e.code)
   pub order : s.start ≤ s.index
   pub within : s.index ≤ length s.text
   pub most : s.limit ≤ 1024

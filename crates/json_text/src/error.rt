@@ -54,8 +54,16 @@ pub enum ErrorCode {
     NotFound = 19,
     /// A key meets no object, or an index no array.
     TypeUnmatched = 20,
+    /// An integer lies outside the type that is asked for.
+    NumberOutOfRange = 21,
+    /// What is written has a key that is neither a text nor an integer nor a boolean.
+    SerExpectKeyIsStrOrNum = 22,
+    /// The text of a key is not one number.
+    ExpectedNumericKey = 23,
     /// The words of the command line have another form.
     BadWords = 24,
+    /// A name repeats in its object, where the names of each object have to differ (section 4).
+    DuplicateKey = 25,
 }
 
 /// What kind of refusal a code is.
@@ -72,11 +80,11 @@ pub enum ErrorCode {
 pub enum Category {
     /// A read or a write failed.
     Io,
-    /// The input breaks the grammar or is not UTF-8, or the words of the command line have another form.
+    /// The input breaks the grammar, is not UTF-8 or repeats a name, or the words of the command line have another form.
     Syntax,
     /// The input ends before its value does.
     Eof,
-    /// A step of an edit meets a value of another kind.
+    /// A value, a number or a key is not of the kind that is asked for.
     TypeUnmatched,
     /// A step of an edit names a key or an index that is not there.
     NotFound,
@@ -143,7 +151,7 @@ pub struct Error {
 pub type Result<T> = std::result::Result<T, Error>;
 
 impl ErrorCode {
-    /// The number of the code, 1 to 24.
+    /// The number of the code, 1 to 25.
     pub fn number(self) -> u8
         ensures { result ≡ number_of self }
     {
@@ -168,7 +176,11 @@ impl ErrorCode {
             ErrorCode::RecursionLimitExceeded => 18,
             ErrorCode::NotFound => 19,
             ErrorCode::TypeUnmatched => 20,
+            ErrorCode::NumberOutOfRange => 21,
+            ErrorCode::SerExpectKeyIsStrOrNum => 22,
+            ErrorCode::ExpectedNumericKey => 23,
             ErrorCode::BadWords => 24,
+            ErrorCode::DuplicateKey => 25,
         }
     }
 }
@@ -191,7 +203,10 @@ impl Error {
             ErrorCode::TooLarge | ErrorCode::RecursionLimitExceeded => Category::Limit,
             ErrorCode::EofWhileParsing => Category::Eof,
             ErrorCode::NotFound => Category::NotFound,
-            ErrorCode::TypeUnmatched => Category::TypeUnmatched,
+            ErrorCode::TypeUnmatched
+            | ErrorCode::NumberOutOfRange
+            | ErrorCode::SerExpectKeyIsStrOrNum
+            | ErrorCode::ExpectedNumericKey => Category::TypeUnmatched,
             ErrorCode::InvalidUTF8
             | ErrorCode::InvalidLiteral
             | ErrorCode::InvalidNumber
@@ -205,7 +220,8 @@ impl Error {
             | ErrorCode::InvalidEscape
             | ErrorCode::InvalidSurrogate
             | ErrorCode::TrailingCharacters
-            | ErrorCode::BadWords => Category::Syntax,
+            | ErrorCode::BadWords
+            | ErrorCode::DuplicateKey => Category::Syntax,
         }
     }
 

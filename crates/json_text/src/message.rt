@@ -92,7 +92,11 @@ impl ErrorCode {
             ErrorCode::RecursionLimitExceeded => "RecursionLimitExceeded",
             ErrorCode::NotFound => "NotFound",
             ErrorCode::TypeUnmatched => "TypeUnmatched",
+            ErrorCode::NumberOutOfRange => "NumberOutOfRange",
+            ErrorCode::SerExpectKeyIsStrOrNum => "SerExpectKeyIsStrOrNum",
+            ErrorCode::ExpectedNumericKey => "ExpectedNumericKey",
             ErrorCode::BadWords => "BadWords",
+            ErrorCode::DuplicateKey => "DuplicateKey",
         }
     }
 }

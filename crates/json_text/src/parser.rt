@@ -1,19 +1,22 @@
 // The reader of a text.
-ghost use Rattle.std.specs.Prelude.{◌≡◌, ◌<◌, ◌≤◌, ◌↔◌, List, [], length, get_or, IsTrue, IsSome, Some, None, IfSome, IfOk, IfErr, OnErr};
+ghost use Rattle.std.specs.Prelude.{◌≡◌, ◌⊎◌, ◌+◌, ◌<◌, ◌≤◌, ◌↔◌, ◌==◌, List, [], length, get_or, cond, IsTrue, IsSome, Some, None, IfSome, IfOk, IfErr, OnOk, OnErr};
+ghost use Rattle.std.specs.Str.{IsCharBoundary};
 ghost use Rattle.json_grammar.specs.declared.Spot.TheVariants as Spot;
 ghost use Rattle.json_grammar.specs.Grammar.{IsWhitespace, ws};
 ghost use Rattle.json_grammar.specs.Given.{piece};
-ghost use Rattle.json_text.specs.Faults.{IsFault, IsInValue};
+ghost use Rattle.json_text.specs.Faults.{IsFault, IsInValue, ValueFaultFrom};
 ghost use Rattle.json_text.specs.Due.{NextNeeds};
 ghost use Rattle.json_text.specs.Parsing.{input, taken, HasGiven, SameInput, IsWhole, Goes, IsTight};
-ghost use Rattle.json_text.specs.Parsing.{IsLent, Refuses, IsDue, EventsBegin};
+ghost use Rattle.json_text.specs.Parsing.{IsLent, Refuses, IsDue, EventsBegin, HasRead};
+ghost use Rattle.json_text.specs.Ends.{ComesNext, NothingLeft, IsNewAt, TrailsAt, TakesEnd, LacksEnd, no_end as spec_no_end};
+ghost use Rattle.json_text.specs.Positions.{place_at};
 
 use crate::error::{Error, ErrorCode, Result};
 use crate::event::Event;
 use crate::fault::Fault;
 use crate::place::place_of;
 use crate::runs::ws_run;
-use crate::spot::ready;
+use crate::spot::{closing, ready};
 use crate::stack::Kinds;
 use crate::token::take_event;
 use json_grammar::{Kind, Spot};
@@ -69,8 +72,25 @@ fn is_whole(spot: Spot, kind: Option<Kind>) -> bool
     }
 }
 
+// Why a container of the kind does not end at a byte.
+fn no_end(kind: Kind, byte: u8) -> ErrorCode
+    ensures { result ≡ spec_no_end kind (Some byte) }
+{
+    match kind {
+        Kind::Array => ErrorCode::ExpectedArrayCommaOrEnd,
+        Kind::Object => {
+            if byte == b',' {
+                ErrorCode::TrailingComma
+            } else {
+                ErrorCode::ExpectedObjectCommaOrEnd
+            }
+        }
+    }
+}
+
 impl<'a> Parser<'a> {
-    /// Stands at the beginning, where a value must come. A value of at most 254 levels is read: `[]` has 1.
+    /// Stands at the beginning, where a value must come. A value of at most 254 levels is read, where `depth` chooses
+    /// none: `[]` has 1.
     pub fn new(text: &'a str) -> Parser<'a>
         ensures text { result.text ≡ text.now }
         ensures start { (result.start ≡ 0) × (result.index ≡ 0) }
@@ -89,6 +109,59 @@ impl<'a> Parser<'a> {
         }
     }
 
+    /// Stands at a place of the text, in bytes, where a value must come, with the limit of `new`. Nothing is said of
+    /// what stands before it. Places are told as in the whole text.
+    ///
+    /// ```
+    /// use json_text::{Event, Parser};
+    /// let mut parser = Parser::at("[1] 2.50]", 4);
+    /// assert!(rt; matches!(parser.next()?, Event::Number("2.50")));
+    /// assert!(rt; parser.done());
+    /// assert_eq!(rt; parser.index(), 8);
+    /// parser.end_seq()?;
+    /// ```
+    pub fn at(text: &'a str, index: usize) -> Parser<'a>
+        requires { IsCharBoundary text.now index }
+        ensures text { result.text ≡ text.now }
+        ensures start { (result.start ≡ index) × (result.index ≡ index) }
+        ensures limit { result.limit ≡ 254 }
+        ensures fresh { HasGiven result [] × (result.failure ≡ None) }
+    {
+        Parser::new_at(text, index, LEVELS)
+    }
+
+    /// The same with another limit.
+    fn new_at(text: &'a str, index: usize, limit: usize) -> Parser<'a>
+        requires boundary { IsCharBoundary text.now index }
+        requires most { limit ≤ 1024 }
+        ensures { IsNewAt text.now limit index result }
+    {
+        Parser {
+            text,
+            rest: &text[index..],
+            start: index,
+            at: 0,
+            limit,
+            kinds: Kinds::new(),
+            spot: Spot::Value,
+            failure: None,
+        }
+    }
+
+    /// The same parser for values of so many levels at most, which are at most 1,024. It has handed out no event and
+    /// refused nothing.
+    pub fn depth(self, depth: u32) -> Parser<'a>
+        requires most { depth ≤ 1024 }
+        requires fresh { HasGiven self [] × (self.failure ≡ None) }
+        ensures limit { result ≡ record self.entry { limit = depth } }
+        ensures fresh { HasGiven result [] × (result.failure ≡ None) }
+    {
+        Parser {
+            limit: depth as usize,
+            ..self
+        }
+    }
+
     /// The place behind what was taken, in bytes from the beginning of the text. After an event it is right behind
     /// the event's token: neither the colon behind a name nor the comma or the whitespace behind a value is taken.
     #[inline(always)]
@@ -96,6 +169,14 @@ impl<'a> Parser<'a> {
         ensures { result ≡ self.now.index }
     {
         self.start + self.at
+    }
+
+    /// How many bytes stand from where the parser began up to the end of the text, taken or not.
+    pub fn input_len(&self) -> usize
+        ensures length { result ≡ length (input self.now) }
+        ensures within { (self.now.start ≤ self.now.index) × (self.now.index ≤ length self.now.text) }
+    {
+        self.rest.len()
     }
 
     /// Whether the value is whole.
@@ -109,10 +190,12 @@ impl<'a> Parser<'a> {
     /// The next event, if nothing was refused.
     #[inline(always)]
     fn step(&mut self) -> std::result::Result<Event<'a>, Fault>
+        requires { self.old.failure ≡ None }
         ensures same { SameInput self.old self.new }
         ensures failure { self.new.failure ≡ self.old.failure }
         ensures ok { IfOk result (λ e. Goes self.old e self.new) }
         ensures tight { IfOk result (λ e. IsTight self.old e self.new) }
+        ensures whole { IfOk result (λ e. e ≡ Event.End → IsWhole self.old) }
         ensures err { IfErr result (λ f. IsFault self.old.limit (input self.old) f.code f.offset) }
         ensures needs { IfErr result (λ f. NextNeeds (input self.old) (taken self.old) f.code f.offset) }
         ensures inside { IfErr result (λ f. ¬ (IsWhole self.old) → IsInValue f.code) }
@@ -149,6 +232,7 @@ impl<'a> Parser<'a> {
         requires new { self.old.failure ≡ None }
         requires fault { IsFault self.old.limit (input self.old) fault.code fault.offset }
         requires needs { NextNeeds (input self.old) (taken self.old) fault.code fault.offset }
+        requires inside { ¬ (IsWhole self.old) → IsInValue fault.code }
         ensures some { IsSome self.new.failure }
         ensures kept { IfSome self.new.failure (λ e. Refuses self.old e self.new) }
         ensures due { IfSome self.new.failure (λ e. IsDue self.old e) }
@@ -177,6 +261,8 @@ impl<'a> Parser<'a> {
     /// A refusal has one of the codes from `EofWhileParsing` to `RecursionLimitExceeded`, at the place behind the
     /// longest prefix with which some text begins; or, of the last code, at the bracket that opens a level too many.
     /// It comes at the event that needs the byte at that place, and at none before, and again at each later call.
+    /// While the value is not whole, it is its refusal as a value, whatever would follow it; when it is whole, the
+    /// parser stands right behind it.
     #[inline(always)]
     pub fn next(&mut self) -> Result<Event<'a>>
         ensures same { SameInput self.old self.new }
@@ -186,7 +272,11 @@ impl<'a> Parser<'a> {
         ensures between { IfOk result (λ e. IsLent e self.new) }
         ensures err { IfErr result (λ e. Refuses self.old e self.new) }
         ensures needs { IfErr result (λ e. self.old.failure ≡ None → IsDue self.old e) }
-        ensures inside { IfErr result (λ e. self.old.failure ≡ None → ¬ (IsWhole self.old) → IsInValue e.code) }
+        ensures inside { IfErr result (λ e. ¬ (IsWhole self.old) → IsInValue e.code) }
+        ensures in_value { IfErr result (λ e. ¬ (IsWhole self.old)
+            → ValueFaultFrom self.old.limit self.old.start self.old.text e.code e.place) }
+        ensures whole { IfOk result (λ e. e ≡ Event.End → IsWhole self.old) }
+        ensures reads { OnOk result (¬ (IsWhole self.old) → IsWhole self.new → HasRead self.new) }
         ensures begins { EventsBegin self.new }
     {
         if self.failure.is_some() {
@@ -211,130 +301,82 @@ impl<'a> Parser<'a> {
     {
         self.at = ws_run(self.rest.as_bytes(), self.at);
     }
-}
 
-#[cfg(test)]
-mod tests {
-    use super::*;
-    use crate::error::Place;
-    use std::test::Fail;
+    /// The place in the text of the next byte that is no whitespace, or its end.
+    fn next_place(&self) -> usize
+        ensures { ComesNext self.now result }
+    {
+        ws_run(self.text.as_bytes(), self.index())
+    }
 
-    // A letter for each event.
-    fn letter(event: Event) -> u8 {
-        match event {
-            Event::Null => b'n',
-            Event::Bool(true) => b't',
-            Event::Bool(false) => b'f',
-            Event::Number(_) => b'1',
-            Event::Str(_) => b's',
-            Event::Key(_) => b'k',
-            Event::BeginArray => b'[',
-            Event::EndArray => b']',
-            Event::BeginObject => b'{',
-            Event::EndObject => b'}',
-            Event::End => b'.',
+    /// A refusal that is not kept.
+    #[cold]
+    #[inline(never)]
+    fn error_at(&self, code: ErrorCode, at: usize) -> Error
+        requires { at ≤ length self.now.text }
+        ensures { result ≡ record { code = code; place = place_at self.now.text at } }
+    {
+        Error {
+            code,
+            place: place_of(self.text.as_bytes(), at),
         }
     }
 
-    // What is refused of a text.
-    fn refusal_of(text: &str) -> Option<Error> {
-        let mut parser = Parser::new(text);
-        for _ in 0..text.len() + 1 {
-            match parser.next() {
-                Ok(Event::End) => return None,
-                Ok(_) => {}
-                Err(error) => return Some(error),
-            }
+    /// Whether only whitespace is left. `TrailingCharacters` comes exactly at the next other byte (RFC 8259, section 2).
+    /// The parser does not move.
+    pub fn end(&mut self) -> Result<()>
+        ensures ok { OnOk result (NothingLeft self.old) }
+        ensures err { IfErr result (TrailsAt self.old) }
+        ensures kept { self.new ≡ self.old }
+    {
+        let at = self.next_place();
+        if at == self.text.len() {
+            Ok(())
+        } else {
+            Err(self.error_at(ErrorCode::TrailingCharacters, at))
         }
-        None
     }
 
-    #[test]
-    fn events_in_their_order(rt: HostRuntime) -> std::result::Result<(), Fail> {
-        let text = " {\"a\\u0062\": [-0.5e+1, \"x\", true , []], \"\": false,\"c\":null}\n";
-        let mut parser = Parser::new(text);
-        for want in *b"{k[1st[]]kfkn}.." {
-            let event = parser.next()?;
-            assert_eq!(rt; letter(event), want);
-            if let Event::Key(span) = event {
-                assert_eq!(rt; span.plain().is_none(), span.raw_len() == 7);
-            }
+    /// Takes whitespace and the bracket that closes a container of the kind, and begins anew behind it.
+    fn end_of(&mut self, kind: Kind) -> Result<()>
+        ensures ok { OnOk result (TakesEnd self.old kind self.new) }
+        ensures err { IfErr result (LacksEnd self.old kind) }
+        ensures kept { OnErr result (self.new ≡ self.old) }
+    {
+        let at = self.next_place();
+        let bytes = self.text.as_bytes();
+        if at == bytes.len() {
+            return Err(self.error_at(ErrorCode::EofWhileParsing, at));
         }
-        assert!(rt; parser.done());
-        assert_eq!(rt; parser.index(), text.len() - 1);
-        parser.skip_ws();
-        assert_eq!(rt; parser.index(), text.len());
+        if bytes[at] != closing(kind) {
+            return Err(self.error_at(no_end(kind, bytes[at]), at));
+        }
+        *self = Parser::new_at(self.text, at + 1, self.limit);
         Ok(())
     }
 
-    #[test]
-    fn escapes_spelled_out(rt: HostRuntime) -> std::result::Result<(), Fail> {
-        let mut parser = Parser::new("\"\\ud83d\\ude04\\u0041\\/\\u0000\\t\"");
-        let mut bytes = Vec::with_capacity(rt.alloc(), 64)?;
-        match parser.next()? {
-            Event::Str(span) => {
-                if span.raw_len() <= 64 {
-                    span.unescape_into(&mut bytes);
-                }
-            }
-            _ => {}
-        }
-        assert_eq!(rt; bytes.as_slice(), b"\xf0\x9f\x98\x84A/\x00\t".as_slice());
-        Ok(())
+    /// Takes whitespace and `]`, where the caller reads the elements of an array by one parser each (RFC 8259,
+    /// section 5). Where only whitespace is left `EofWhileParsing` comes, else `ExpectedArrayCommaOrEnd`, both at the
+    /// next byte that is no whitespace; then the parser does not move. Behind `]` it is a new parser of the same limit.
+    pub fn end_seq(&mut self) -> Result<()>
+        requires { HasGiven self.old [] ⊎ IsWhole self.old }
+        ensures ok { OnOk result (TakesEnd self.old Kind.Array self.new) }
+        ensures err { IfErr result (LacksEnd self.old Kind.Array) }
+        ensures kept { OnErr result (self.new ≡ self.old) }
+    {
+        self.end_of(Kind::Array)
     }
 
-    #[test]
-    fn refusals_with_their_offsets(rt: HostRuntime) {
-        let table = [
-            ("\"\\ud800abc\"", ErrorCode::InvalidSurrogate, 7),
-            ("\"\\udc00\"", ErrorCode::InvalidSurrogate, 4),
-            ("\"\\ud8\"", ErrorCode::InvalidEscape, 5),
-            ("\"\\x\"", ErrorCode::InvalidEscape, 2),
-            ("\"\\u12g4\"", ErrorCode::InvalidEscape, 5),
-            ("\"\\uDBDD\\u1DD000\"", ErrorCode::InvalidSurrogate, 9),
-            ("", ErrorCode::EofWhileParsing, 0),
-            ("[[[[", ErrorCode::EofWhileParsing, 4),
-            ("[1,]", ErrorCode::InvalidJsonValue, 3),
-            ("{\"a\":1,}", ErrorCode::TrailingComma, 7),
-            ("[01]", ErrorCode::InvalidNumber, 2),
-            ("[1x", ErrorCode::ExpectedArrayCommaOrEnd, 2),
-            ("{\"a\" 1}", ErrorCode::ExpectedColon, 5),
-            ("{1}", ErrorCode::ExpectObjectKeyOrEnd, 1),
-            ("{\"a\":1 \"b\"", ErrorCode::ExpectedObjectCommaOrEnd, 7),
-            ("{} x", ErrorCode::TrailingCharacters, 3),
-            ("-", ErrorCode::EofWhileParsing, 1),
-            ("nulx", ErrorCode::InvalidLiteral, 3),
-            ("[tru]", ErrorCode::InvalidLiteral, 4),
-            ("1.]", ErrorCode::InvalidNumber, 2),
-            ("01", ErrorCode::InvalidNumber, 1),
-            ("True", ErrorCode::InvalidJsonValue, 0),
-            ("\u{feff}1", ErrorCode::InvalidJsonValue, 0),
-            ("\"\n\"", ErrorCode::ControlCharacter, 1),
-        ];
-        for (text, code, offset) in table {
-            let told = refusal_of(text).map(|error| (error.code, error.offset()));
-            assert_eq!(rt; told, Some((code, Some(offset))), "at {text}");
-        }
-        let place = Place::At {
-            offset: 19,
-            line: 4,
-            column: 7,
-        };
-        let told = refusal_of("\n{\n\"k\": \"v\",\n\"a\": [, 1]\n}").map(|error| error.place);
-        assert_eq!(rt; told, Some(place));
-    }
-
-    #[test]
-    fn levels_up_to_the_limit(rt: HostRuntime) -> std::result::Result<(), Fail> {
-        let mut text = String::new(rt.alloc());
-        for _ in 0..254 {
-            text.push('[')?;
-        }
-        let open = refusal_of(text.as_str()).map(|error| (error.code, error.offset()));
-        assert_eq!(rt; open, Some((ErrorCode::EofWhileParsing, Some(254))));
-        text.push('[')?;
-        let deep = refusal_of(text.as_str()).map(|error| (error.code, error.offset()));
-        assert_eq!(rt; deep, Some((ErrorCode::RecursionLimitExceeded, Some(254))));
-        Ok(())
+    /// Takes whitespace and `}`, where the caller reads the members of an object (RFC 8259, section 4). Where only
+    /// whitespace is left `EofWhileParsing` comes, at a comma `TrailingComma`, else `ExpectedObjectCommaOrEnd`, each at
+    /// the next byte that is no whitespace; then the parser does not move. Behind `}` it is a new parser of the same
+    /// limit.
+    pub fn end_map(&mut self) -> Result<()>
+        requires { HasGiven self.old [] ⊎ IsWhole self.old }
+        ensures ok { OnOk result (TakesEnd self.old Kind.Object self.new) }
+        ensures err { IfErr result (LacksEnd self.old Kind.Object) }
+        ensures kept { OnErr result (self.new ≡ self.old) }
+    {
+        self.end_of(Kind::Object)
     }
 }

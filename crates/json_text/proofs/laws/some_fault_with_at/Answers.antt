@@ -1,0 +1,5 @@
+use Rattle.json_text.proofs.OneFaultAt as proof
+use Rattle.json_text.proofs.laws.some_fault_with_at.Goals as goal
+
+pub returns : goal.returns
+returns c = proof.some_fault_with_at
