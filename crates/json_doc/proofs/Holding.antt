@@ -1,31 +1,30 @@
 -- What a builder holds, event by event.
-use Rattle.std.proofs.Common.{◌≡◌, Bool, ℕ, ℤ, pos, SFits, w64, ◌^◌, ◌+◌, ◌-◌, ◌*◌, ◌/◌, ◌<◌, List, [], ◌∷◌, ◌++◌, length, take, drop, get_or, Some, None, refl, sym, ap, subst, ◌∙◌, append_assoc, append-nil, arith, length-append}
-use Rattle.std.proofs.lemmas.List.{take_at, drop_at, get_or_at, length_push, length-take-le, length-drop}
+use Rattle.std.proofs.Common.{◌≡◌, Bool, ℕ, ℤ, pos, SFits, w64, ◌^◌, ◌+◌, ◌/◌, ◌<◌, List, [], ◌∷◌, ◌++◌, length, Some, None, refl, sym, ap, subst, ◌∙◌, append_assoc, append-nil, arith, length-append, length-set}
+use Rattle.std.specs.Prelude.{◌<ℤ◌, slice_set, slice_index_or}
 use Rattle.std.specs.Str.{IsUtf8}
-use Rattle.std.proofs.lemmas.Str.{IsUtf8-nil, IsUtf8-append}
-use Rattle.std.specs.Prelude.{◌<ℤ◌}
 use Rattle.std.specs.Fmt.{signed_decimal}
+use Rattle.std.proofs.lemmas.Str.{IsUtf8-nil, IsUtf8-append}
+use Rattle.std.proofs.lemmas.List.{length_push, get_or_at}
 use Rattle.json_grammar.specs.declared.Kind.TheVariants.{Array as array, Object as object}
 use Rattle.json_grammar.specs.Grammar.{number}
 use Rattle.json_grammar.specs.Tree.{Tree, null, boolean, num, text, Token, null_token, boolean_token, num_token, text_token, begin, end, key_token, tokens}
-use Rattle.json_doc.specs.Awaited.{Slot, a_value, past_value, past_token, awaits, Begins}
 use Rattle.json_grammar.specs.Sizes.{token_nodes, nodes_of}
 use Rattle.json_grammar.proofs.Sizes.{nodes_append}
 use Rattle.json_number.specs.Integers.{integer_in}
+use Rattle.json_number.proofs.Integers.{decimal_number, decimal_reads}
+use Rattle.json_doc.specs.Awaited.{Slot, a_value, past_value, past_token, awaits, Begins}
 use Rattle.json_doc.specs.ByValue.{integer_cell}
-use Rattle.json_doc.specs.Texts.{pairs_count, token_text, tokens_text}
-use Rattle.json_doc.specs.Block.{TextStands, link_to, node}
-use Rattle.json_doc.specs.Building.{Building, nothing}
-use Rattle.json_doc.specs.State.{VisitorState}
+use Rattle.json_doc.specs.CellReadings.{cell_len}
+use Rattle.json_doc.specs.OpenCells.{link_of, outer_place, outer_count}
+use Rattle.json_doc.specs.Texts.{token_text, tokens_text}
+use Rattle.json_doc.specs.Segment.{TextStands, node}
+use Rattle.json_doc.specs.Building.{Building, nothing, nowhere}
 use Rattle.json_doc.specs.Recorded.{Held}
-use Rattle.json_doc.specs.Shape.{link_of}
 use Rattle.json_doc.specs.declared.cell.Cell.{Cell}
 use Rattle.json_doc.specs.declared.cell.Cell.TheVariants as cell
 use Rattle.json_doc.proofs.Awaiting.{next_awaits, value_where}
-use Rattle.json_number.proofs.Integers.{decimal_number, decimal_reads}
 use Rattle.json_doc.proofs.Integers.{integer_text, raw_text, integer_stands, raw_stands, negative_text}
-use Rattle.json_doc.proofs.Rows.{pair_row_length}
-use Rattle.json_doc.proofs.Builds.{builds_more, builds_value, builds_key, builds_array, builds_object, within_array, within_object, ends_array, ends_object}
+use Rattle.json_doc.proofs.Builds.{builds_more, count_within, builds_value, builds_key, builds_array, builds_object, Within, within_array, within_object, ends}
 
 pub tokens_text_append : (ts us : List Token) → tokens_text (ts ++ us) ≡ tokens_text ts ++ tokens_text us
 tokens_text_append [] us = refl
@@ -37,12 +36,12 @@ more_text ts x = tokens_text_append ts (x ∷ []) ∙ ap (λ (s : List ℕ). tok
 more_nodes : (ts : List Token) (x : Token) → nodes_of (ts ++ x ∷ []) ≡ nodes_of ts + token_nodes x
 more_nodes ts x = let more = nodes_append ts (x ∷ []) in omega arith
 
-pub held_same : (front front' done done' : List Cell) (bytes bytes' : List ℕ) (p p' : ℕ) (ts : List Token) → front' ≡ front → done' ≡ done → bytes' ≡ bytes → p' ≡ p → Held front done bytes p ts → Held front' done' bytes' p' ts
-held_same front front' done done' bytes bytes' p p' ts e f g h held =
-    subst (λ (x : List Cell). Held x done' bytes' p' ts) (sym e) (subst (λ (x : List Cell). Held front x bytes' p' ts) (sym f)
-    (subst (λ (x : List ℕ). Held front done x p' ts) (sym g) (subst (λ (x : ℕ). Held front done bytes x ts) (sym h) held)))
+pub held_same : (cells cells' : List Cell) (bytes bytes' : List ℕ) (p p' n n' : ℕ) (ts : List Token) → cells' ≡ cells → bytes' ≡ bytes → p' ≡ p → n' ≡ n → Held cells bytes p n ts → Held cells' bytes' p' n' ts
+held_same cells cells' bytes bytes' p p' n n' ts e f g h held =
+    subst (λ (x : List Cell). Held x bytes' p' n' ts) (sym e) (subst (λ (x : List ℕ). Held cells x p' n' ts) (sym f)
+    (subst (λ (x : ℕ). Held cells bytes x n' ts) (sym g) (subst (λ (x : ℕ). Held cells bytes p x ts) (sym h) held)))
 
-pub held_nothing : Held [] [] [] 0 []
+pub held_nothing : Held [] [] nowhere 0 []
 held_nothing = record {
   slots = a_value ∷ [];
   awaited = refl;
@@ -52,33 +51,30 @@ held_nothing = record {
   counted = refl;
 }
 
--- one more cell in the front, made of the token x
-held_more : (front done : List Cell) (bytes extra : List ℕ) (p q : ℕ) (ts : List Token) (c : Cell) (x : Token) (v : List Slot)
-    → length front + length done ≡ nodes_of ts → bytes ≡ tokens_text ts → IsUtf8 bytes → token_nodes x ≡ 1 → token_text x ≡ extra → IsUtf8 extra
-    → awaits (ts ++ x ∷ []) ≡ Some v → Building done (bytes ++ extra) (front ++ c ∷ []) q (length done) v (ts ++ x ∷ []) → Held (front ++ c ∷ []) done (bytes ++ extra) q (ts ++ x ∷ [])
-held_more front done bytes extra p q ts c x v n t u one is_extra u' a b = record {
+-- one more cell, made of the token x
+held_more : (cells : List Cell) (bytes extra : List ℕ) (p n : ℕ) (ts : List Token) (c : Cell) (x : Token) (v : List Slot)
+    → length cells ≡ nodes_of ts → bytes ≡ tokens_text ts → IsUtf8 bytes → token_nodes x ≡ 1 → token_text x ≡ extra → IsUtf8 extra
+    → awaits (ts ++ x ∷ []) ≡ Some v → Building (bytes ++ extra) (cells ++ c ∷ []) p n v (ts ++ x ∷ []) → Held (cells ++ c ∷ []) (bytes ++ extra) p n (ts ++ x ∷ [])
+held_more cells bytes extra p n ts c x v m t u one is_extra u' a b = record {
   slots = v;
   awaited = a;
   built = b;
   texts = ap (λ (s : List ℕ). s ++ extra) t ∙ ap (λ (s : List ℕ). tokens_text ts ++ s) (sym is_extra) ∙ sym (more_text ts x);
   utf8 = IsUtf8-append bytes extra u u';
-  counted = let more = more_nodes ts x in omega (arith, length_push front c);
+  counted = let more = more_nodes ts x in omega (arith, length_push cells c);
 }
 
-grown : (done : List Cell) (bytes extra : List ℕ) (front : List Cell) (p hi : ℕ) (w : List Slot) (ts : List Token) → IsUtf8 extra → Building done bytes front p hi w ts → Building done (bytes ++ extra) front p hi w ts
-grown done bytes extra front p hi w ts u b = subst (λ (x : List Cell). Building x (bytes ++ extra) front p hi w ts) (append-nil done) (builds_more [] extra u b)
-
 -- a scalar
-held_leaf : (front done : List Cell) (bytes extra : List ℕ) (p : ℕ) (ts : List Token) (c : Cell) (t : Tree) (x : Token)
-    → IsUtf8 extra → ((w : List Slot) → past_token w x ≡ past_value w) → tokens t ≡ x ∷ [] → token_nodes x ≡ 1 → token_text x ≡ extra → ((n : ℕ) → node done (bytes ++ extra) c n n t)
-    → Held front done bytes p ts → Begins (ts ++ x ∷ []) → Held (front ++ c ∷ []) done (bytes ++ extra) p (ts ++ x ∷ [])
-held_leaf front done bytes extra p ts c t x u is_value is_token one is_extra here h b =
+held_leaf : (cells : List Cell) (bytes extra : List ℕ) (p n : ℕ) (ts : List Token) (c : Cell) (t : Tree) (x : Token)
+    → IsUtf8 extra → ((w : List Slot) → past_token w x ≡ past_value w) → tokens t ≡ x ∷ [] → token_nodes x ≡ 1 → token_text x ≡ extra → ((k : ℕ) → node (bytes ++ extra) k (c ∷ []) t)
+    → Held cells bytes p n ts → Begins (ts ++ x ∷ []) → Held (cells ++ c ∷ []) (bytes ++ extra) p (n + 1) (ts ++ x ∷ [])
+held_leaf cells bytes extra p n ts c t x u is_value is_token one is_extra here h b =
     let next = next_awaits ts x h.slots h.awaited b in
-    let built = builds_value done (bytes ++ extra) next.0 c (length done) t (grown done bytes extra front p (length done) h.slots ts u h.built) (sym (is_value h.slots) ∙ next.1) (here (length done)) in
-    held_more front done bytes extra p p ts c x next.0 h.counted h.texts h.utf8 one is_extra u next.2 (subst (λ (y : List Token). Building done (bytes ++ extra) (front ++ c ∷ []) p (length done) next.0 (ts ++ y)) is_token built)
+    let built = builds_value (bytes ++ extra) next.0 (c ∷ []) t (builds_more extra u h.built) (sym (is_value h.slots) ∙ next.1) (here (length cells)) in
+    held_more cells bytes extra p (n + 1) ts c x next.0 h.counted h.texts h.utf8 one is_extra u next.2 (subst (λ (y : List Token). Building (bytes ++ extra) (cells ++ c ∷ []) p (n + 1) next.0 (ts ++ y)) is_token built)
 
-no_bytes : (front done : List Cell) (bytes : List ℕ) (p : ℕ) (ts : List Token) → Held front done (bytes ++ []) p ts → Held front done bytes p ts
-no_bytes front done bytes p ts h = subst (λ (s : List ℕ). Held front done s p ts) (append-nil bytes) h
+no_bytes : (cells : List Cell) (bytes : List ℕ) (p n : ℕ) (ts : List Token) → Held cells (bytes ++ []) p n ts → Held cells bytes p n ts
+no_bytes cells bytes p n ts h = subst (λ (s : List ℕ). Held cells s p n ts) (append-nil bytes) h
 
 stands_last : (bytes s : List ℕ) → IsUtf8 s → TextStands (bytes ++ s) (length bytes) s
 stands_last bytes s u = (
@@ -92,156 +88,102 @@ stands_last bytes s u = (
   IsUtf8-nil,
 )
 
-pub held_null : (front done : List Cell) (bytes : List ℕ) (p : ℕ) (ts : List Token) → Held front done bytes p ts → Begins (ts ++ null_token ∷ []) → Held (front ++ cell.Null ∷ []) done bytes p (ts ++ null_token ∷ [])
-held_null front done bytes p ts h b =
-    no_bytes _ done bytes p _ (held_leaf front done bytes [] p ts cell.Null null null_token IsUtf8-nil (λ w. refl) refl refl refl (λ n. (refl, refl)) h b)
+module _ (cells : List Cell) (bytes : List ℕ) (p n : ℕ) (ts : List Token) where
+  pub held_null : Held cells bytes p n ts → Begins (ts ++ null_token ∷ []) → Held (cells ++ cell.Null ∷ []) bytes p (n + 1) (ts ++ null_token ∷ [])
+  held_null h b = no_bytes _ bytes p _ _ (held_leaf cells bytes [] p n ts cell.Null null null_token IsUtf8-nil (λ w. refl) refl refl refl (λ k. refl) h b)
 
-pub held_boolean : (front done : List Cell) (bytes : List ℕ) (p : ℕ) (ts : List Token) (v : Bool) → Held front done bytes p ts → Begins (ts ++ boolean_token v ∷ []) → Held (front ++ cell.Bool v ∷ []) done bytes p (ts ++ boolean_token v ∷ [])
-held_boolean front done bytes p ts v h b =
-    no_bytes _ done bytes p _ (held_leaf front done bytes [] p ts (cell.Bool v) (boolean v) (boolean_token v) IsUtf8-nil (λ w. refl) refl refl refl (λ n. (refl, refl)) h b)
+  pub held_boolean : (v : Bool) → Held cells bytes p n ts → Begins (ts ++ boolean_token v ∷ []) → Held (cells ++ cell.Bool v ∷ []) bytes p (n + 1) (ts ++ boolean_token v ∷ [])
+  held_boolean v h b = no_bytes _ bytes p _ _ (held_leaf cells bytes [] p n ts (cell.Bool v) (boolean v) (boolean_token v) IsUtf8-nil (λ w. refl) refl refl refl (λ k. refl) h b)
 
-held_integer : (front done : List Cell) (bytes : List ℕ) (p : ℕ) (ts : List Token) (z : ℤ) → number (signed_decimal z) → integer_in (signed_decimal z) ≡ Some z
-    → Held front done bytes p ts → Begins (ts ++ num_token (signed_decimal z) ∷ []) → Held (front ++ integer_cell z ∷ []) done bytes p (ts ++ num_token (signed_decimal z) ∷ [])
-held_integer front done bytes p ts z is e h b =
-    let l = signed_decimal z in
-    no_bytes _ done bytes p _ (held_leaf front done bytes [] p ts (integer_cell z) (num l) (num_token l) IsUtf8-nil (λ w. refl) refl refl (integer_text l z e) (λ n. (is, integer_stands (bytes ++ []) l z e refl, refl)) h b)
+  held_integer : (z : ℤ) → number (signed_decimal z) → integer_in (signed_decimal z) ≡ Some z
+      → Held cells bytes p n ts → Begins (ts ++ num_token (signed_decimal z) ∷ []) → Held (cells ++ integer_cell z ∷ []) bytes p (n + 1) (ts ++ num_token (signed_decimal z) ∷ [])
+  held_integer z is e h b =
+      let l = signed_decimal z in
+      no_bytes _ bytes p _ _ (held_leaf cells bytes [] p n ts (integer_cell z) (num l) (num_token l) IsUtf8-nil (λ w. refl) refl refl (integer_text l z e) (λ k. (is, integer_cell z, refl, integer_stands (bytes ++ []) l z e refl)) h b)
 
-pub held_unsigned : (front done : List Cell) (bytes : List ℕ) (p : ℕ) (ts : List Token) (n : ℕ) → n < 2 ^ 64 → Held front done bytes p ts → Begins (ts ++ num_token (signed_decimal (pos n)) ∷ [])
-    → Held (front ++ cell.Unsigned n ∷ []) done bytes p (ts ++ num_token (signed_decimal (pos n)) ∷ [])
-held_unsigned front done bytes p ts n k h b = held_integer front done bytes p ts (pos n) (decimal_number n k) (decimal_reads n k) h b
+  pub held_unsigned : (m : ℕ) → m < 2 ^ 64 → Held cells bytes p n ts → Begins (ts ++ num_token (signed_decimal (pos m)) ∷ [])
+      → Held (cells ++ cell.Unsigned m ∷ []) bytes p (n + 1) (ts ++ num_token (signed_decimal (pos m)) ∷ [])
+  held_unsigned m k h b = held_integer (pos m) (decimal_number m k) (decimal_reads m k) h b
 
-pub held_negative : (front done : List Cell) (bytes : List ℕ) (p : ℕ) (ts : List Token) (z : ℤ) → z <ℤ pos 0 → SFits w64 z → Held front done bytes p ts → Begins (ts ++ num_token (signed_decimal z) ∷ [])
-    → Held (front ++ cell.Negative z ∷ []) done bytes p (ts ++ num_token (signed_decimal z) ∷ [])
-held_negative front done bytes p ts z k f h b =
-    let t = negative_text z k f in
-    subst (λ (c : Cell). Held (front ++ c ∷ []) done bytes p (ts ++ num_token (signed_decimal z) ∷ [])) t.2 (held_integer front done bytes p ts z t.0 t.1 h b)
+  pub held_negative : (z : ℤ) → z <ℤ pos 0 → SFits w64 z → Held cells bytes p n ts → Begins (ts ++ num_token (signed_decimal z) ∷ [])
+      → Held (cells ++ cell.Negative z ∷ []) bytes p (n + 1) (ts ++ num_token (signed_decimal z) ∷ [])
+  held_negative z k f h b =
+      let t = negative_text z k f in
+      subst (λ (c : Cell). Held (cells ++ c ∷ []) bytes p (n + 1) (ts ++ num_token (signed_decimal z) ∷ [])) t.2 (held_integer z t.0 t.1 h b)
 
-pub held_raw : (front done : List Cell) (bytes : List ℕ) (p : ℕ) (ts : List Token) (l : List ℕ) → IsUtf8 l → number l → integer_in l ≡ None
-    → Held front done bytes p ts → Begins (ts ++ num_token l ∷ []) → Held (front ++ cell.Raw (length bytes) (length l) ∷ []) done (bytes ++ l) p (ts ++ num_token l ∷ [])
-held_raw front done bytes p ts l u is e h b =
-    let c = cell.Raw (length bytes) (length l) in
-    held_leaf front done bytes l p ts c (num l) (num_token l) u (λ w. refl) refl refl (raw_text l e) (λ n. (is, raw_stands (bytes ++ l) l c e (length bytes, refl, stands_last bytes l u), refl)) h b
+  pub held_raw : (l : List ℕ) → IsUtf8 l → number l → integer_in l ≡ None
+      → Held cells bytes p n ts → Begins (ts ++ num_token l ∷ []) → Held (cells ++ cell.Raw (length bytes) (length l) ∷ []) (bytes ++ l) p (n + 1) (ts ++ num_token l ∷ [])
+  held_raw l u is e h b =
+      let c = cell.Raw (length bytes) (length l) in
+      held_leaf cells bytes l p n ts c (num l) (num_token l) u (λ w. refl) refl refl (raw_text l e) (λ k. (is, c, refl, raw_stands (bytes ++ l) l c e (length bytes, refl, stands_last bytes l u))) h b
 
-pub held_text : (front done : List Cell) (bytes : List ℕ) (p : ℕ) (ts : List Token) (s : List ℕ) → IsUtf8 s → Held front done bytes p ts → Begins (ts ++ text_token s ∷ []) → Held (front ++ cell.Str (length bytes) (length s) ∷ []) done (bytes ++ s) p (ts ++ text_token s ∷ [])
-held_text front done bytes p ts s u h b =
-    held_leaf front done bytes s p ts (cell.Str (length bytes) (length s)) (text s) (text_token s) u (λ w. refl) refl refl refl (λ n. ((length bytes, refl, stands_last bytes s u), refl)) h b
+  pub held_text : (s : List ℕ) → IsUtf8 s → Held cells bytes p n ts → Begins (ts ++ text_token s ∷ []) → Held (cells ++ cell.Str (length bytes) (length s) ∷ []) (bytes ++ s) p (n + 1) (ts ++ text_token s ∷ [])
+  held_text s u h b =
+      let c = cell.Str (length bytes) (length s) in
+      held_leaf cells bytes s p n ts c (text s) (text_token s) u (λ w. refl) refl refl refl (λ k. (c, refl, (length bytes, refl, stands_last bytes s u))) h b
 
-pub held_key : (front done : List Cell) (bytes : List ℕ) (p : ℕ) (ts : List Token) (s : List ℕ) → IsUtf8 s → Held front done bytes p ts → Begins (ts ++ key_token s ∷ []) → Held (front ++ cell.Str (length bytes) (length s) ∷ []) done (bytes ++ s) p (ts ++ key_token s ∷ [])
-held_key front done bytes p ts s u h b =
-    let next = next_awaits ts (key_token s) h.slots h.awaited b in
-    let c = cell.Str (length bytes) (length s) in
-    let built = builds_key done (bytes ++ s) next.0 c s (grown done bytes s front p (length done) h.slots ts u h.built) next.1 (length bytes, refl, stands_last bytes s u) in
-    held_more front done bytes s p p ts c (key_token s) next.0 h.counted h.texts h.utf8 refl refl u next.2 built
+  pub held_key : (s : List ℕ) → IsUtf8 s → Held cells bytes p n ts → Begins (ts ++ key_token s ∷ []) → Held (cells ++ cell.Str (length bytes) (length s) ∷ []) (bytes ++ s) p (n + 1) (ts ++ key_token s ∷ [])
+  held_key s u h b =
+      let next = next_awaits ts (key_token s) h.slots h.awaited b in
+      let c = cell.Str (length bytes) (length s) in
+      let built = builds_key (bytes ++ s) next.0 c s (builds_more s u h.built) next.1 (length bytes, refl, stands_last bytes s u) in
+      held_more cells bytes s p (n + 1) ts c (key_token s) next.0 h.counted h.texts h.utf8 refl refl u next.2 built
 
-pub held_array : (front done : List Cell) (bytes : List ℕ) (p : ℕ) (ts : List Token) → Held front done bytes p ts → Begins (ts ++ begin array ∷ []) → Held (front ++ cell.Array p 0 ∷ []) done bytes (length front) (ts ++ begin array ∷ [])
-held_array front done bytes p ts h b =
-    let next = next_awaits ts (begin array) h.slots h.awaited b in
-    let value = value_where array h.slots next.0 next.1 in
-    let built = builds_array done (bytes ++ []) (grown done bytes [] front p (length done) h.slots ts IsUtf8-nil h.built) in
-    no_bytes _ done bytes (length front) _ (held_more front done bytes [] p (length front) ts (cell.Array p 0) (begin array) next.0 h.counted h.texts h.utf8 refl refl IsUtf8-nil next.2
-    (subst (λ (w : List Slot). Building done (bytes ++ []) (front ++ cell.Array p 0 ∷ []) (length front) (length done) w (ts ++ begin array ∷ [])) (sym value.2) built))
+  pub held_array : Held cells bytes p n ts → Begins (ts ++ begin array ∷ []) → Held (cells ++ cell.Array p n ∷ []) bytes (length cells) 0 (ts ++ begin array ∷ [])
+  held_array h b =
+      let next = next_awaits ts (begin array) h.slots h.awaited b in
+      let value = value_where array h.slots next.0 next.1 in
+      let built = builds_array (bytes ++ []) (builds_more [] IsUtf8-nil h.built) in
+      no_bytes _ bytes (length cells) _ _ (held_more cells bytes [] (length cells) 0 ts (cell.Array p n) (begin array) next.0 h.counted h.texts h.utf8 refl refl IsUtf8-nil next.2
+      (subst (λ (w : List Slot). Building (bytes ++ []) (cells ++ cell.Array p n ∷ []) (length cells) 0 w (ts ++ begin array ∷ [])) (sym value.2) built))
 
-pub held_object : (front done : List Cell) (bytes : List ℕ) (p : ℕ) (ts : List Token) → Held front done bytes p ts → Begins (ts ++ begin object ∷ []) → Held (front ++ cell.Object p 0 ∷ []) done bytes (length front) (ts ++ begin object ∷ [])
-held_object front done bytes p ts h b =
-    let next = next_awaits ts (begin object) h.slots h.awaited b in
-    let value = value_where object h.slots next.0 next.1 in
-    let built = builds_object done (bytes ++ []) (grown done bytes [] front p (length done) h.slots ts IsUtf8-nil h.built) in
-    no_bytes _ done bytes (length front) _ (held_more front done bytes [] p (length front) ts (cell.Object p 0) (begin object) next.0 h.counted h.texts h.utf8 refl refl IsUtf8-nil next.2
-    (subst (λ (w : List Slot). Building done (bytes ++ []) (front ++ cell.Object p 0 ∷ []) (length front) (length done) w (ts ++ begin object ∷ [])) (sym value.2) built))
+  pub held_object : Held cells bytes p n ts → Begins (ts ++ begin object ∷ []) → Held (cells ++ cell.Object p n ∷ []) bytes (length cells) 0 (ts ++ begin object ∷ [])
+  held_object h b =
+      let next = next_awaits ts (begin object) h.slots h.awaited b in
+      let value = value_where object h.slots next.0 next.1 in
+      let built = builds_object (bytes ++ []) (builds_more [] IsUtf8-nil h.built) in
+      no_bytes _ bytes (length cells) _ _ (held_more cells bytes [] (length cells) 0 ts (cell.Object p n) (begin object) next.0 h.counted h.texts h.utf8 refl refl IsUtf8-nil next.2
+      (subst (λ (w : List Slot). Building (bytes ++ []) (cells ++ cell.Object p n ∷ []) (length cells) 0 w (ts ++ begin object ∷ [])) (sym value.2) built))
 
 -- ---- the end of a container
-
-past_header : (outer cs : List Cell) (h : Cell) (p : ℕ) → length outer ≡ p → drop (p + 1) (outer ++ h ∷ cs) ≡ cs
-past_header outer cs h p e =
-    ap (drop (p + 1)) (sym (append_assoc outer (h ∷ []) cs)) ∙ drop_at (outer ++ h ∷ []) cs (p + 1) (length_push outer h ∙ ap (λ (n : ℕ). n + 1) e)
-
-cut_length : (outer cs : List Cell) (h : Cell) (p : ℕ) → length outer ≡ p → length (outer ++ h ∷ cs) - (p + 1) ≡ length cs
-cut_length outer cs h p e = omega (arith, length-append outer (h ∷ cs))
-
-pub open_array : (front done : List Cell) (bytes : List ℕ) (p : ℕ) (ts : List Token) → Held front done bytes p ts → Begins (ts ++ end array ∷ []) → p < length front
-open_array front done bytes p ts h b =
-    let next = next_awaits ts (end array) h.slots h.awaited b in
-    let i = (within_array next.0 h.built next.1).3 in
-    omega (arith, ap length i.is_front, length-append i.outer (cell.Array i.around 0 ∷ i.cs), i.is_place)
-
-pub open_object : (front done : List Cell) (bytes : List ℕ) (p : ℕ) (ts : List Token) → Held front done bytes p ts → Begins (ts ++ end object ∷ []) → p < length front
-open_object front done bytes p ts h b =
-    let next = next_awaits ts (end object) h.slots h.awaited b in
-    let i = (within_object next.0 h.built next.1).3 in
-    omega (arith, ap length i.is_front, length-append i.outer (cell.Object i.around 0 ∷ i.cs), i.is_place)
-
--- the same cells, fewer in the front and more in the blocks
-closed_count : (outer cs done : List Cell) (c d : Cell) → length (outer ++ d ∷ []) + length (done ++ cs) ≡ length (outer ++ c ∷ cs) + length done
-closed_count outer cs done c d = omega (arith, length_push outer d, length-append done cs, length-append outer (c ∷ cs))
 
 end_text : (bytes : List ℕ) (ts : List Token) (x : Token) → token_text x ≡ [] → bytes ≡ tokens_text ts → bytes ≡ tokens_text (ts ++ x ∷ [])
 end_text bytes ts x e h = h ∙ sym (append-nil (tokens_text ts)) ∙ ap (λ (s : List ℕ). tokens_text ts ++ s) (sym e) ∙ sym (more_text ts x)
 
-pub held_array_end : (front done : List Cell) (bytes : List ℕ) (p n : ℕ) (ts : List Token) → n ≡ length front - (p + 1) → Held front done bytes p ts → Begins (ts ++ end array ∷ [])
-    → Held (take p front ++ cell.Array (link_to (length done) n) n ∷ []) (done ++ drop (p + 1) front) bytes (link_of (get_or front p cell.Null)) (ts ++ end array ∷ [])
-held_array_end front done bytes p n ts is_n h b =
+-- a container whose cell becomes c: what that needs, and what is held behind
+pub record Ends (x : Token) (c : Cell) (cells : List Cell) (bytes : List ℕ) (p : ℕ) (ts : List Token) : Type 0 where
+  pub is_open : p < length cells
+  pub fits : outer_count cells p < length cells
+  pub held : Held (slice_set cells p c) bytes (outer_place cells p) (outer_count cells p + 1) (ts ++ x ∷ [])
+
+held_end : (x : Token) (c : Cell) (cells : List Cell) (bytes : List ℕ) (p n : ℕ) (ts : List Token) (v : List Slot) → token_text x ≡ [] → token_nodes x ≡ 0 → awaits (ts ++ x ∷ []) ≡ Some v
+    → Held cells bytes p n ts → Within x c bytes cells p v ts → Ends x c cells bytes p ts
+held_end x c cells bytes p n ts v no_text no_node a h i =
+    let header : slice_index_or cells p cell.Null ≡ i.open_cell = ap (λ (k : List Cell). slice_index_or k p cell.Null) i.is_front ∙ get_or_at i.outer i.open_cell i.cs cell.Null p i.is_place in
+    let around : outer_place cells p ≡ i.around = ap link_of header ∙ i.is_link in
+    let count : outer_count cells p ≡ i.count = ap cell_len header ∙ i.is_len in
+    let there : p < length cells = omega (arith, ap length i.is_front, length-append i.outer (i.open_cell ∷ i.cs), i.is_place) in
+    let more = more_nodes ts x in
+    record {
+      is_open = there;
+      fits = omega (arith, count_within i.built_outer, i.is_place);
+      held = record {
+        slots = v;
+        awaited = a;
+        built = subst (λ (k : ℕ). Building bytes (slice_set cells p c) (outer_place cells p) (k + 1) v (ts ++ x ∷ [])) (sym count)
+            (subst (λ (k : ℕ). Building bytes (slice_set cells p c) k (i.count + 1) v (ts ++ x ∷ [])) (sym around) (ends x c bytes cells p v ts i));
+        texts = end_text bytes ts x no_text h.texts;
+        utf8 = h.utf8;
+        counted = length-set cells p c ∙ h.counted ∙ omega arith;
+      };
+    }
+
+pub held_array_end : (cells : List Cell) (bytes : List ℕ) (p n : ℕ) (ts : List Token) → Held cells bytes p n ts → Begins (ts ++ end array ∷ []) → Ends (end array) (cell.Array (length cells) n) cells bytes p ts
+held_array_end cells bytes p n ts h b =
     let next = next_awaits ts (end array) h.slots h.awaited b in
-    let within = within_array next.0 h.built next.1 in
-    let i = within.3 in
-    let old = cell.Array i.around 0 in
-    let count : n ≡ length i.cs = is_n ∙ ap (λ (x : List Cell). length x - (p + 1)) i.is_front ∙ cut_length i.outer i.cs old p i.is_place in
-    let taken : take p front ≡ i.outer = ap (take p) i.is_front ∙ take_at i.outer (old ∷ i.cs) p i.is_place in
-    let dropped : drop (p + 1) front ≡ i.cs = ap (drop (p + 1)) i.is_front ∙ past_header i.outer i.cs old p i.is_place in
-    let link : link_of (get_or front p cell.Null) ≡ i.around = ap (λ (x : List Cell). link_of (get_or x p cell.Null)) i.is_front ∙ ap link_of (get_or_at i.outer old i.cs cell.Null p i.is_place) in
-    let header = cell.Array (link_to (length done) (length i.cs)) (length i.cs) in
-    let built = ends_array done bytes front p within.0 next.0 ts i within.2 in
-    let more = more_nodes ts (end array) in
-    let closed : Held (i.outer ++ header ∷ []) (done ++ i.cs) bytes i.around (ts ++ end array ∷ []) =
-    record {
-      slots = next.0;
-      awaited = next.2;
-      built = subst (λ (hi : ℕ). Building (done ++ i.cs) bytes (i.outer ++ header ∷ []) i.around hi next.0 (ts ++ end array ∷ [])) (sym (length-append done i.cs)) built;
-      texts = end_text bytes ts (end array) refl h.texts;
-      utf8 = h.utf8;
-      counted = closed_count i.outer i.cs done old header ∙ ap (λ (x : List Cell). length x + length done) (sym i.is_front) ∙ h.counted ∙ omega arith;
-    } in
-    held_same _ _ _ _ bytes bytes _ _ _ (ap (λ (x : List Cell). x ++ cell.Array (link_to (length done) n) n ∷ []) taken ∙ ap (λ (x : ℕ). i.outer ++ cell.Array (link_to (length done) x) x ∷ []) count)
-    (ap (λ (x : List Cell). done ++ x) dropped) refl link closed
+    held_end (end array) (cell.Array (length cells) n) cells bytes p n ts next.0 refl refl next.2 h (within_array next.0 h.built next.1)
 
-pub held_object_end : (front done : List Cell) (bytes : List ℕ) (p n : ℕ) (ts : List Token) → n ≡ (length front - (p + 1)) / 2 → Held front done bytes p ts → Begins (ts ++ end object ∷ [])
-    → Held (take p front ++ cell.Object (link_to (length done) n) n ∷ []) (done ++ drop (p + 1) front) bytes (link_of (get_or front p cell.Null)) (ts ++ end object ∷ [])
-held_object_end front done bytes p n ts is_n h b =
+pub held_object_end : (cells : List Cell) (bytes : List ℕ) (p n : ℕ) (ts : List Token) → Held cells bytes p n ts → Begins (ts ++ end object ∷ []) → Ends (end object) (cell.Object (length cells) (n / 2)) cells bytes p ts
+held_object_end cells bytes p n ts h b =
     let next = next_awaits ts (end object) h.slots h.awaited b in
-    let within = within_object next.0 h.built next.1 in
-    let i = within.3 in
-    let old = cell.Object i.around 0 in
-    let pairs_so : length i.cs ≡ 2 * pairs_count i.us = pair_row_length done bytes i.cs i.lo (length done) i.us i.children in
-    let half : n ≡ length i.cs / 2 = is_n ∙ ap (λ (x : List Cell). (length x - (p + 1)) / 2) i.is_front ∙ ap (λ (x : ℕ). x / 2) (cut_length i.outer i.cs old p i.is_place) in
-    let twice : length i.cs ≡ 2 * n = omega arith in
-    let taken : take p front ≡ i.outer = ap (take p) i.is_front ∙ take_at i.outer (old ∷ i.cs) p i.is_place in
-    let dropped : drop (p + 1) front ≡ i.cs = ap (drop (p + 1)) i.is_front ∙ past_header i.outer i.cs old p i.is_place in
-    let link : link_of (get_or front p cell.Null) ≡ i.around = ap (λ (x : List Cell). link_of (get_or x p cell.Null)) i.is_front ∙ ap link_of (get_or_at i.outer old i.cs cell.Null p i.is_place) in
-    let header = cell.Object (link_to (length done) n) n in
-    let built = ends_object done bytes front p n within.0 next.0 ts i within.2 twice in
-    let more = more_nodes ts (end object) in
-    let closed : Held (i.outer ++ header ∷ []) (done ++ i.cs) bytes i.around (ts ++ end object ∷ []) =
-    record {
-      slots = next.0;
-      awaited = next.2;
-      built = subst (λ (hi : ℕ). Building (done ++ i.cs) bytes (i.outer ++ header ∷ []) i.around hi next.0 (ts ++ end object ∷ [])) (sym (length-append done i.cs)) built;
-      texts = end_text bytes ts (end object) refl h.texts;
-      utf8 = h.utf8;
-      counted = closed_count i.outer i.cs done old header ∙ ap (λ (x : List Cell). length x + length done) (sym i.is_front) ∙ h.counted ∙ omega arith;
-    } in
-    held_same _ _ _ _ bytes bytes _ _ _ (ap (λ (x : List Cell). x ++ header ∷ []) taken)
-    (ap (λ (x : List Cell). done ++ x) dropped) refl link closed
-
--- closing changes no count
-pub same_count : (front done front' done' : List Cell) (p : ℕ) (y : Cell) → p < length front → front' ≡ take p front ++ y ∷ [] → done' ≡ done ++ drop (p + 1) front → length front' + length done' ≡ (length front + length done) + 0
-same_count front done front' done' p y h e f =
-    omega (arith, ap length e, ap length f, length_push (take p front) y, length-take-le p front (omega arith), length-append done (drop (p + 1) front), length-drop (p + 1) front)
-
--- states that agree in each number
-state_of : ℕ → ℕ → ℕ → ℕ → Bool → VisitorState
-state_of p q r s t = record { cell_room = p; text_room = q; nodes = r; bytes = s; full = t }
-
-pub same_state : (a b : VisitorState) → a.cell_room ≡ b.cell_room → a.text_room ≡ b.text_room → a.nodes ≡ b.nodes → a.bytes ≡ b.bytes → a.full ≡ b.full → a ≡ b
-unfolding state_of
-same_state a b p q r s t =
-    ap (λ (x : ℕ). state_of x a.text_room a.nodes a.bytes a.full) p ∙ ap (λ (x : ℕ). state_of b.cell_room x a.nodes a.bytes a.full) q ∙ ap (λ (x : ℕ). state_of b.cell_room b.text_room x a.bytes a.full) r
-    ∙ ap (λ (x : ℕ). state_of b.cell_room b.text_room b.nodes x a.full) s ∙ ap (state_of b.cell_room b.text_room b.nodes b.bytes) t
+    held_end (end object) (cell.Object (length cells) (n / 2)) cells bytes p n ts next.0 refl refl next.2 h (within_object next.0 h.built next.1)

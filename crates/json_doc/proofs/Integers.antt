@@ -15,7 +15,7 @@ use Rattle.json_number.specs.declared.number.Number.{Number}
 use Rattle.json_number.proofs.Integers.{prints_its_literal, negative_number, negative_reads}
 use Rattle.json_doc.specs.ByValue.{integer_cell, raw_part}
 use Rattle.json_doc.specs.Texts.{token_text}
-use Rattle.json_doc.specs.Block.{number_cell}
+use Rattle.json_doc.specs.Segment.{number_cell}
 use Rattle.json_doc.specs.declared.cell.Cell.{Cell}
 use Rattle.json_doc.specs.declared.cell.Cell.TheVariants as cell
 

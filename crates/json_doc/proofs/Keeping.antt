@@ -1,10 +1,28 @@
 -- What the reader of a text keeps.
-use Rattle.std.proofs.Common.{◌≡◌, ◌≢◌, Bool, true, false, ℕ, ◌+◌, ◌<◌, ◌≤◌, ◌/◌, List, [], ◌∷◌, ◌++◌, length, take, drop, refl, sym, ap, subst, ◌∙◌, arith}
+use Rattle.std.specs.Prelude.{◌↔◌, IsTrue}
+use Rattle.std.proofs.Common.{◌≡◌, ◌≢◌, ◌⊎◌, inl, inr, None, ◌-◌, Bool, true, false, ℕ, ◌+◌, ◌<◌, ◌≤◌, ◌/◌, List, [], ◌∷◌, ◌++◌, length, take, drop, length-append, refl, sym, ap, subst, ◌∙◌, arith}
 use Rattle.std.proofs.lemmas.List.{length-take}
-use Rattle.json_grammar.specs.Tree.{Tree, depth, Token, tokens}
-use Rattle.json_grammar.specs.Grammar.{is_text}
+use Rattle.json_grammar.specs.Tree.{Tree, Token, key_token, tokens}
+use Rattle.json_grammar.specs.Grammar.{chars, string, is_text}
 use Rattle.json_grammar.specs.Sizes.{nodes, nodes_of, bytes_of}
 use Rattle.json_grammar.proofs.Sizes.{nodes_tree, read_fits, text_fits}
+use Rattle.json_grammar.proofs.OpenKeys.{keys_append, repeat_one, repeats_tree}
+use Rattle.json_grammar.proofs.Pieces.{piece_length}
+use Rattle.json_grammar.proofs.RulesReader.{key_refused, fault_stands}
+use Rattle.json_grammar.specs.declared.Kind.{Kind}
+use Rattle.json_grammar.specs.declared.Spot.{Spot}
+use Rattle.json_grammar.specs.Place.{TakesKey, reading}
+use Rattle.json_grammar.specs.Given.{piece, NamesTold}
+use Rattle.json_grammar.specs.Needs.{IsGap}
+use Rattle.json_grammar.specs.Fault.{duplicate_key, fault}
+use Rattle.json_grammar.specs.Repeated.{keys_from, RepeatsAt, TokensRepeat}
+use Rattle.json_grammar.specs.Rules.{Rules, fits, fault_with}
+use Rattle.json_text.proofs.DueTokens.{names_before_due, name_told}
+use Rattle.json_text.proofs.OneFaultAt.{stands, stood, fault_with_limit_at}
+use Rattle.json_text.proofs.Stands.{stood_at}
+use Rattle.json_text.specs.Standing.{Stood}
+use Rattle.json_text.specs.Ruled.{usual_rules}
+use Rattle.json_text.specs.declared.error.Error.{Error}
 use Rattle.json_text.specs.declared.error.ErrorCode.{ErrorCode}
 use Rattle.json_text.specs.declared.error.ErrorCode.TheVariants as code
 use Rattle.json_text.specs.declared.error.Place.{Place}
@@ -12,36 +30,40 @@ use Rattle.json_text.specs.declared.error.Place.TheVariants as place
 use Rattle.json_text.specs.declared.event.Event.{Event}
 use Rattle.json_text.specs.declared.event.Event.TheVariants as event
 use Rattle.json_text.specs.Positions.{place_at}
-use Rattle.json_text.specs.Events.{Means, raw_size}
-use Rattle.json_text.specs.Faults.{IsFault, FaultAt, FaultFrom}
-use Rattle.json_text.specs.Parsing.{ParserState, input, HasGiven, SameInput, Goes, TakesToken, IsTight}
+use Rattle.json_text.specs.Events.{Means, raw_size, token_bytes}
+use Rattle.json_text.specs.Faults.{IsFault, IsFaultWith, FaultWithAt}
+use Rattle.json_text.specs.Parsing.{ParserState, input, HasGiven, SameInput, Goes, TakesToken, IsTight, IsDue}
 use Rattle.json_doc.specs.Awaited.{Begins}
 use Rattle.json_doc.specs.State.{VisitorState}
 use Rattle.json_doc.specs.Recorded.{visitor_state, Holds, SameRoom}
-use Rattle.json_doc.specs.Reading.{ReadingFails, EventIsNumber, Follows}
+use Rattle.json_doc.specs.Reading.{ReadingFails, ReadingFailsWith, RefusesName, EventIsNumber, Follows}
+use Rattle.json_doc.specs.OpenNames.{HasNames, TakesIn, Differ}
+use Rattle.json_doc.specs.declared.open_keys.OpenKeys.{OpenKeys}
 use Rattle.json_doc.specs.declared.document_visitor.DocumentVisitor.{DocumentVisitor}
 use Rattle.json_doc.proofs.Prefixes.{reading_begins}
 use Rattle.json_doc.proofs.Fitting.{recorded_bytes}
 use Rattle.json_doc.proofs.Numeric.{event_number}
 
 -- the parser has read a text up to here, and the builder was given the same tokens
-pub record Keeps (p : ParserState) (v : DocumentVisitor) (b : List ℕ) (ts : List Token) : Type 0 where
+pub record Keeps (most : ℕ) (p : ParserState) (v : DocumentVisitor) (b : List ℕ) (ts : List Token) : Type 0 where
   pub reads : p.text ≡ b
   pub start : p.start ≡ 0
-  pub limit : p.limit ≡ 254
+  pub limit : p.limit ≡ most
+  pub unfailed : p.failure ≡ None
   pub gave : HasGiven p ts
   pub follows : Follows v ts
   pub room : (visitor_state v).cell_room ≡ (length b + 1) / 2
   pub text_room : (visitor_state v).text_room ≡ length b
 
-pub keeps_start : (p : ParserState) (v : DocumentVisitor) (b : List ℕ) → p.text ≡ b → p.start ≡ 0 → p.limit ≡ 254 → HasGiven p []
-    → visitor_state v ≡ record { cell_room = (length b + 1) / 2; text_room = length b; nodes = 0; bytes = 0; full = false } → Holds v [] → Keeps p v b []
-keeps_start p v b reads start limit gave fresh held =
+pub keeps_start : (limit : ℕ) (p : ParserState) (v : DocumentVisitor) (b : List ℕ) → p.text ≡ b → p.start ≡ 0 → p.limit ≡ limit → HasGiven p [] → p.failure ≡ None
+    → visitor_state v ≡ record { cell_room = (length b + 1) / 2; text_room = length b; nodes = 0; bytes = 0; full = false } → Holds v [] → Keeps limit p v b []
+keeps_start most p v b reads start limit gave unfailed fresh held =
     let full : v.full ≡ false = ap (λ (s : VisitorState). s.full) fresh in
     record {
       reads = reads;
       start = start;
       limit = limit;
+      unfailed = unfailed;
       gave = gave;
       follows = record { held = λ e. held; over = λ e. absurd (both v.full full e) };
       room = ap (λ (s : VisitorState). s.cell_room) fresh;
@@ -88,7 +110,7 @@ recorded_within p v ts h held =
     let order = h.order in
     omega (arith, length-take h.base (input p))
 
-module _ (p q : ParserState) (v : DocumentVisitor) (b : List ℕ) (ts : List Token) (e : Event) (k : Keeps p v b ts) (other : e ≢ event.End) (goes : Goes p e q) (tight : IsTight p e q) (same : SameInput p q) where
+module _ {limit : ℕ} {p q : ParserState} {v : DocumentVisitor} {b : List ℕ} {ts : List Token} {e : Event} (k : Keeps limit p v b ts) (other : e ≢ event.End) (goes : Goes p e q) (tight : IsTight p e q) (same : SameInput p q) where
   pub next_token : (x : Token) × Means e x × HasGiven q (ts ++ x ∷ [])
   next_token = goes_on p q e other goes ts k.gave
 
@@ -106,6 +128,13 @@ module _ (p q : ParserState) (v : DocumentVisitor) (b : List ℕ) (ts : List Tok
       let whole : q.text ≡ b = same.text ∙ k.reads in
       (t.forward, omega (arith, t.within, ap length whole))
 
+  -- its token ends where the parser stands
+  pub next_behind : length (token_bytes e) ≤ q.index
+  next_behind =
+      let t = tight_on p q e other tight in
+      let size = ap length t.bytes in
+      omega (arith, length-take (q.index - t.begins) (drop t.begins q.text))
+
   -- there is room for its bytes
   pub next_fits : (visitor_state v).full ≡ false → (visitor_state v).bytes + raw_size e ≤ (visitor_state v).text_room
   next_fits full =
@@ -113,11 +142,12 @@ module _ (p q : ParserState) (v : DocumentVisitor) (b : List ℕ) (ts : List Tok
       let within = recorded_within p v ts k.gave (k.follows.held full) in
       omega (arith, t.room, goes_forward.1, k.text_room)
 
-  pub keeps_on : (w : DocumentVisitor) → Follows w (ts ++ next_token.0 ∷ []) → SameRoom v w → Keeps q w b (ts ++ next_token.0 ∷ [])
-  keeps_on w f room = record {
+  pub keeps_on : (w : DocumentVisitor) → Follows w (ts ++ next_token.0 ∷ []) → SameRoom v w → q.failure ≡ None → Keeps limit q w b (ts ++ next_token.0 ∷ [])
+  keeps_on w f room unfailed = record {
     reads = same.text ∙ k.reads;
     start = same.start ∙ k.start;
     limit = same.limit ∙ k.limit;
+    unfailed = unfailed;
     gave = next_token.2;
     follows = f;
     room = room.0 ∙ k.room;
@@ -131,8 +161,8 @@ not_full true h = absurd (h refl)
 not_full false h = refl
 
 -- the builder holds the tree of the text
-pub keeps_end : (p q : ParserState) (v : DocumentVisitor) (b : List ℕ) (ts : List Token) → Keeps p v b ts → Goes p event.End q → (t : Tree) × is_text false t b × (depth t ≤ 254) × Holds v (tokens t)
-keeps_end p q v b ts k g =
+pub keeps_end : (rules : Rules) (p q : ParserState) (v : DocumentVisitor) (o : OpenKeys) (b : List ℕ) (ts : List Token) → Keeps rules.limit p v b ts → Differ rules o ts → Goes p event.End q → (t : Tree) × is_text false t b × fits t rules × Holds v (tokens t)
+keeps_end rules p q v o b ts k d g =
     let whole = g.1 ts k.gave in
     let t = whole.0 in
     let here : input p ≡ b = ap (λ (i : ℕ). drop i p.text) k.start ∙ k.reads in
@@ -141,16 +171,122 @@ keeps_end p q v b ts k g =
     let fits = (text_fits false t b is).0 in
     let room = k.room in
     let open_still : (visitor_state v).full ≡ false = not_full v.full (λ full. omega (arith, k.follows.over full)) in
-    (t, is, omega (arith, whole.3, k.limit), subst (λ (us : List Token). Holds v us) whole.2 (k.follows.held open_still))
+    (t, is, (omega (arith, whole.3, k.limit), λ u r. (d u).0 (subst TokensRepeat (sym whole.2) (repeats_tree t [] r))), subst (λ (us : List Token). Holds v us) whole.2 (k.follows.held open_still))
 
 -- ---- a fault
 
-fault_fails : (b : List ℕ) (c : ErrorCode) (at : Place) → FaultAt 254 b c at → ReadingFails b c at
-fault_fails b code.NoMemory place.None h = tt
-fault_fails b c at h = h
+fault_fails : (rules : Rules) (b : List ℕ) (c : ErrorCode) (at : Place) → FaultWithAt rules b c at → ReadingFailsWith rules b c at
+fault_fails rules b code.NoMemory place.None h = tt
+fault_fails rules b c at h = h
 
-pub refused_fails : (p : ParserState) (b : List ℕ) (c : ErrorCode) (at : Place) → p.text ≡ b → p.start ≡ 0 → p.limit ≡ 254 → FaultFrom p.limit p.start p.text c at → ReadingFails b c at
-refused_fails p b c at reads start limit (k, e, h) =
-    let zeroth : p.start + k ≡ k = omega arith in
+-- where the parser stands in the whole text
+stood_in : (p : ParserState) (limit : ℕ) (b : List ℕ) (ts : List Token) → p.text ≡ b → p.start ≡ 0 → p.limit ≡ limit → HasGiven p ts → Stood limit b p.index p.open_kinds p.spot ts
+stood_in p limit b ts reads start most h =
+    let index : p.index - p.start ≡ p.index = omega arith in
     let here : drop p.start p.text ≡ b = ap (λ (i : ℕ). drop i p.text) start ∙ reads in
-    fault_fails b c at (k, e ∙ ap (place_at p.text) zeroth ∙ ap (λ (s : List ℕ). place_at s k) reads, subst (λ (n : ℕ). IsFault n b c k) limit (subst (λ (s : List ℕ). IsFault p.limit s c k) here h))
+    subst (λ n. Stood n b p.index p.open_kinds p.spot ts) most
+    (subst (λ y. Stood p.limit y p.index p.open_kinds p.spot ts) here (subst (λ i. Stood p.limit (drop p.start p.text) i p.open_kinds p.spot ts) index h))
+
+-- the parser's fault is the one by the rules
+pub refused_fails : (rules : Rules) (p : ParserState) (v : DocumentVisitor) (o : OpenKeys) (b : List ℕ) (ts : List Token) (e : Error) → Keeps rules.limit p v b ts → Differ rules o ts → IsDue p e → ReadingFailsWith rules b e.code e.place
+refused_fails rules p v o b ts e k d due =
+    let index : p.index - p.start ≡ p.index = let z = k.start in omega arith in
+    let here : drop p.start p.text ≡ b = ap (λ (i : ℕ). drop i p.text) k.start ∙ k.reads in
+    let zeroth : p.start + due.offset ≡ due.offset = let z = k.start in omega arith in
+    let stood_here = stood_in p rules.limit b ts k.reads k.start k.limit k.gave in
+    let names : NamesTold false b p.index due.offset =
+    subst (λ i. NamesTold false b i due.offset) index (subst (λ y. NamesTold false y (p.index - p.start) due.offset) here (names_before_due p e ts due k.gave)) in
+    let fault_here : IsFault rules.limit b e.code due.offset = subst (λ n. IsFault n b e.code due.offset) k.limit (subst (λ y. IsFault p.limit y e.code due.offset) here due.fault) in
+    let s = stands (λ row. fault false rules.limit b row due.offset) e.code fault_here in
+    let by_rules = fault_stands false rules b p.index p.open_kinds p.spot ts s.row due.offset (stood_at rules.limit b p.index p.open_kinds p.spot ts stood_here) (λ u. (d u).0) (λ u. names) s.holds in
+    fault_fails rules b e.code e.place (
+      due.offset,
+      due.place ∙ ap (place_at p.text) zeroth ∙ ap (λ y. place_at y due.offset) k.reads,
+      subst (λ c. IsFaultWith rules b c due.offset) (sym s.same) (stood (λ row. fault_with false rules b row due.offset) s.row by_rules),
+    )
+
+-- ---- names that differ
+
+pub differ_start : (rules : Rules) (o : OpenKeys) → HasNames o [] → Differ rules o []
+differ_start rules o h u = (λ r. r, h)
+
+pub differ_on : (rules : Rules) (old new : OpenKeys) (ts : List Token) (x : Token) → TakesIn false old new x → Differ rules old ts → Differ rules new (ts ++ x ∷ [])
+differ_on rules old new ts x t d u =
+    let h = d u in
+    let a = t (keys_from [] ts) h.1 in (
+      λ r. by a.0 (repeat_one ts x r) h.0,
+      subst (HasNames new) (sym (keys_append [] ts (x ∷ []))) (a.1 refl),
+    )
+  where
+    by : IsTrue false ↔ RepeatsAt (keys_from [] ts) x → TokensRepeat ts ⊎ RepeatsAt (keys_from [] ts) x → ¬ (TokensRepeat ts) → ⊥
+    by f (inl r) n = n r
+    by f (inr r) n = let e : false ≡ true = f.1 r in absurd (cc)
+
+same_key : (s t : List ℕ) → key_token s ≡ key_token t → s ≡ t
+same_key s t e = cc
+
+-- a name that repeats is refused at its opening quotation mark
+pub repeated_fails : (rules : Rules) (p q : ParserState) (v : DocumentVisitor) (o : OpenKeys) (b : List ℕ) (ts : List Token) (e : Event) (error : Error)
+    → rules.unique ≡ true → Keeps rules.limit p v b ts → Differ rules o ts → Goes p e q → IsTight p e q → SameInput p q
+    → RefusesName o e b q.index error → ReadingFailsWith rules b error.code error.place
+repeated_fails rules p q v o b ts e error u k d goes tight same (inl is) = subst (λ (x : Error). ReadingFailsWith rules b x.code x.place) (sym is) tt
+repeated_fails rules p q v o b ts e error u k d goes tight same (inr (n, is, repeats, told)) =
+    subst (λ (x : Error). ReadingFailsWith rules b x.code x.place) (sym told) (q.index - (length n.raw.now + 2), refl, at)
+  where
+    whole : q.text ≡ b
+    whole = same.text ∙ k.reads
+
+    t : TakesToken p (event.Key n) q
+    t = tight_on p q (event.Key n) (λ f. absurd (cc)) (subst (λ x. IsTight p x q) is tight)
+
+    next : (x : Token) × Means (event.Key n) x × HasGiven q (ts ++ x ∷ [])
+    next = goes_on p q (event.Key n) (λ f. absurd (cc)) (subst (λ x. Goes p x q) is goes) ts k.gave
+
+    s : List ℕ
+    s = next.1.0
+
+    spelled : chars false s n.raw.now
+    spelled = next.1.1
+
+    given : HasGiven q (ts ++ key_token s ∷ [])
+    given = subst (λ x. HasGiven q (ts ++ x ∷ [])) next.1.2 next.2
+
+    bytes : piece b t.begins q.index ≡ 34 ∷ (n.raw.now ++ 34 ∷ [])
+    bytes = subst (λ y. piece y t.begins q.index ≡ 34 ∷ (n.raw.now ++ 34 ∷ [])) whole t.bytes
+
+    within : q.index ≤ length b
+    within = let l = t.within in omega (arith, ap length whole)
+
+    begins : q.index - (length n.raw.now + 2) ≡ t.begins
+    begins =
+        let l = t.order in
+        let len = ap length bytes in
+        let size : length (34 ∷ (n.raw.now ++ 34 ∷ [])) ≡ length n.raw.now + 2 = omega (arith, length-append n.raw.now (34 ∷ [])) in
+        omega (arith, within, piece_length b t.begins q.index (omega arith) within)
+
+    stood_p : Stood rules.limit b p.index p.open_kinds p.spot ts
+    stood_p = stood_in p rules.limit b ts k.reads k.start k.limit k.gave
+
+    stood_q : Stood rules.limit b q.index q.open_kinds q.spot (ts ++ key_token s ∷ [])
+    stood_q = stood_in q rules.limit b (ts ++ key_token s ∷ []) whole (same.start ∙ k.start) (same.limit ∙ k.limit) given
+
+    gap : IsGap (piece b p.index t.begins)
+    gap = subst (λ y. IsGap (piece y p.index t.begins)) whole t.gap
+
+    string_at : string false s (piece b t.begins q.index)
+    string_at = (n.raw.now, bytes, spelled)
+
+    there : (c : List Kind) × (w : Spot) × reading false (take t.begins b) c w ts × TakesKey w
+    there = let l = t.order in name_told rules.limit rules.limit b p.index t.begins q.index p.open_kinds q.open_kinds p.spot q.spot ts s stood_p l.0 (omega arith) within gap string_at stood_q
+
+    refused : fault_with false rules b duplicate_key t.begins
+    refused = let l = t.order in key_refused false rules b t.begins q.index there.0 there.1 ts s u there.2 there.3 (omega arith) within string_at stood_p.depth (d u).0 (repeats s (keys_from [] ts) spelled (d u).1)
+
+    at : IsFaultWith rules b code.DuplicateKey (q.index - (length n.raw.now + 2))
+    at = subst (λ j. fault_with false rules b duplicate_key j) (sym begins) refused
+
+-- ---- the usual rules
+
+pub usual_fails : (b : List ℕ) (c : ErrorCode) (at : Place) → ReadingFailsWith usual_rules b c at → ReadingFails b c at
+usual_fails b code.NoMemory place.None h = tt
+usual_fails b c at h = (fault_with_limit_at 254 b c at).0 h

@@ -1,12 +1,14 @@
--- A finished cell spells its tree, at each place behind all that stands below it.
-use Rattle.std.proofs.Common.{◌≡◌, ℕ, ℤ, zero, suc, ◌+◌, ◌-◌, ◌≤◌, List, [], ◌∷◌, ◌++◌, length, drop, Option, Some, None, refl, sym, ap, subst, ◌∙◌, arith, append_assoc}
+-- The cells of a tree spell it at their place.
+use Rattle.std.proofs.Common.{◌≡◌, ℕ, ℤ, zero, suc, ◌+◌, ◌-◌, List, [], ◌∷◌, ◌++◌, length, drop, Option, Some, None, refl, sym, ap, subst, ◌∙◌, arith, append_assoc, length-append}
 use Rattle.std.specs.Prelude.{slice_get, slice_range}
 use Rattle.std.proofs.lemmas.List.{drop_at, take_at, length_push}
 use Rattle.json_grammar.specs.Tree.{Tree, null, boolean, num, text, list, pairs, Trees, no_trees, tree_and, Pairs, no_pairs, pair_and}
 use Rattle.json_number.specs.Integers.{integer_in}
-use Rattle.json_doc.specs.Block.{Stands, text_cell, number_cell, node, row, pair_row}
+use Rattle.json_doc.specs.Texts.{trees_count, pairs_count}
+use Rattle.json_doc.specs.Segment.{Stands, text_cell, number_cell, node, row, pair_row}
 use Rattle.json_doc.specs.Spells.{spells_text, spells_number, spells, spells_trees, spells_pairs}
 use Rattle.json_doc.specs.declared.cell.Cell.{Cell}
+use Rattle.json_doc.specs.declared.cell.Cell.TheVariants as cell
 
 pub get_behind : {X : Type 0} (a : List X) (x : X) (b : List X) (n : ℕ) → length a ≡ n → slice_get (a ++ x ∷ b) n ≡ Some x
 get_behind [] x b zero e = refl
@@ -25,6 +27,22 @@ stands_rest xs at y ys s = record {
   place = length_push s.before y ∙ ap (λ (n : ℕ). n + 1) s.place;
 }
 
+pub stands_left : {X : Type 0} (xs : List X) (at : ℕ) (ys zs : List X) → Stands xs at (ys ++ zs) → Stands xs at ys
+stands_left xs at ys zs s = record {
+  before = s.before;
+  after = zs ++ s.after;
+  row = s.row ∙ ap (λ x. s.before ++ x) (append_assoc ys zs s.after);
+  place = s.place;
+}
+
+pub stands_right : {X : Type 0} (xs : List X) (at : ℕ) (ys zs : List X) → Stands xs at (ys ++ zs) → Stands xs (at + length ys) zs
+stands_right xs at ys zs s = record {
+  before = s.before ++ ys;
+  after = s.after;
+  row = s.row ∙ ap (λ x. s.before ++ x) (append_assoc ys zs s.after) ∙ sym (append_assoc s.before ys (zs ++ s.after));
+  place = length-append s.before ys ∙ ap (λ (n : ℕ). n + length ys) s.place;
+}
+
 pub stands_range : {X : Type 0} (xs : List X) (at n : ℕ) (ys : List X) → length ys ≡ n → Stands xs at ys → slice_range xs at (at + n) ≡ ys
 stands_range xs at n ys e s =
     let d : drop at xs ≡ ys ++ s.after = ap (drop at) s.row ∙ drop_at s.before (ys ++ s.after) at s.place in
@@ -38,47 +56,49 @@ number_spells : (o : Option ℤ) (cells : List Cell) (bytes : List ℕ) (c : Cel
 number_spells (Some n) cells bytes c at l (e, t) g = (g ∙ ap Some e, t)
 number_spells None cells bytes c at l (start, e, s) g = (start, g ∙ ap Some e, stands_range bytes start (length l) l refl s.0)
 
-mutual
-  pub node_spells : (cells : List Cell) (bytes : List ℕ) (c : Cell) (lo hi at : ℕ) (t : Tree) → node cells bytes c lo hi t → slice_get cells at ≡ Some c → hi ≤ at → spells cells bytes at t
-  node_spells cells bytes c lo hi at null (e, f) g h = g ∙ ap Some e
-  node_spells cells bytes c lo hi at (boolean b) (e, f) g h = g ∙ ap Some e
-  node_spells cells bytes c lo hi at (num l) (n, k, f) g h = number_spells (integer_in l) cells bytes c at l k g
-  node_spells cells bytes c lo hi at (text s) (k, f) g h = text_spells cells bytes c at s k g
-  node_spells cells bytes c lo hi at (list ts) (mid, cs, e, s, f, r) g h = (mid, g ∙ ap Some e, omega arith, row_spells cells bytes cs lo mid mid ts r s (omega arith))
-  node_spells cells bytes c lo hi at (pairs ps) (mid, cs, e, s, f, r) g h = (mid, g ∙ ap Some e, omega arith, pair_row_spells cells bytes cs lo mid mid ps r s (omega arith))
+module _ (cells : List Cell) (bytes : List ℕ) where
+  alone : (at : ℕ) (cs : List Cell) (c : Cell) → cs ≡ c ∷ [] → Stands cells at cs → slice_get cells at ≡ Some c
+  alone at cs c e s = stands_first cells at c [] (subst (λ (x : List Cell). Stands cells at x) e s)
 
-  row_spells : (cells : List Cell) (bytes : List ℕ) (cs : List Cell) (lo hi at : ℕ) (ts : Trees) → row cells bytes cs lo hi ts → Stands cells at cs → hi ≤ at → spells_trees cells bytes at ts
-  row_spells cells bytes cs lo hi at no_trees r s h = tt
-  row_spells cells bytes cs lo hi at (tree_and t ts) (c, rest, mid, e, n, r) s h =
-      let s' : Stands cells at (c ∷ rest) = subst (λ (x : List Cell). Stands cells at x) e s in
-      let below = row_up cells bytes rest mid hi ts r in
-      (node_spells cells bytes c lo mid at t n (stands_first cells at c rest s') (omega arith), row_spells cells bytes rest mid hi (at + 1) ts r (stands_rest cells at c rest s') (omega arith))
+  one : (at : ℕ) (cs : List Cell) (c : Cell) → cs ≡ c ∷ [] → at + length cs ≡ at + 1
+  one at cs c e = ap (λ (x : List Cell). at + length x) e
 
-  pair_row_spells : (cells : List Cell) (bytes : List ℕ) (cs : List Cell) (lo hi at : ℕ) (ps : Pairs) → pair_row cells bytes cs lo hi ps → Stands cells at cs → hi ≤ at → spells_pairs cells bytes at ps
-  pair_row_spells cells bytes cs lo hi at no_pairs r s h = tt
-  pair_row_spells cells bytes cs lo hi at (pair_and k t ps) (key, c, rest, mid, e, first, n, r) s h =
-      let s' : Stands cells at (key ∷ c ∷ rest) = subst (λ (x : List Cell). Stands cells at x) e s in
-      let s'' = stands_rest cells at key (c ∷ rest) s' in
-      let below = pair_row_up cells bytes rest mid hi ps r in
-      let two : (at + 1) + 1 ≡ at + 2 = omega arith in (
-        text_spells cells bytes key at k first (stands_first cells at key (c ∷ rest) s'),
-        node_spells cells bytes c lo mid (at + 1) t n (stands_first cells (at + 1) c rest s'') (omega arith),
-        pair_row_spells cells bytes rest mid hi (at + 2) ps r (subst (λ (x : ℕ). Stands cells x rest) two (stands_rest cells (at + 1) c rest s'')) (omega arith),
-      )
+  mutual
+    pub node_spells : (at : ℕ) (cs : List Cell) (t : Tree) → node bytes at cs t → Stands cells at cs → spells cells bytes at t (at + length cs)
+    node_spells at cs null e s = (alone at cs cell.Null e s, one at cs cell.Null e)
+    node_spells at cs (boolean b) e s = (alone at cs (cell.Bool b) e s, one at cs (cell.Bool b) e)
+    node_spells at cs (num l) (is, c, e, h) s = (number_spells (integer_in l) cells bytes c at l h (alone at cs c e s), one at cs c e)
+    node_spells at cs (text w) (c, e, h) s = (text_spells cells bytes c at w h (alone at cs c e s), one at cs c e)
+    node_spells at cs (list ts) (rest, e, r) s =
+        let header = cell.Array ((at + 1) + length rest) (trees_count ts) in
+        let there = subst (λ (x : List Cell). Stands cells at x) e s in
+        let end : (at + 1) + length rest ≡ at + length cs = omega (arith, ap length e) in (
+          stands_first cells at header rest there ∙ ap (λ (n : ℕ). Some (cell.Array n (trees_count ts))) end,
+          subst (λ (n : ℕ). spells_trees cells bytes (at + 1) ts n) end (row_spells (at + 1) rest ts r (stands_rest cells at header rest there)),
+        )
+    node_spells at cs (pairs ps) (rest, e, r) s =
+        let header = cell.Object ((at + 1) + length rest) (pairs_count ps) in
+        let there = subst (λ (x : List Cell). Stands cells at x) e s in
+        let end : (at + 1) + length rest ≡ at + length cs = omega (arith, ap length e) in (
+          stands_first cells at header rest there ∙ ap (λ (n : ℕ). Some (cell.Object n (pairs_count ps))) end,
+          subst (λ (n : ℕ). spells_pairs cells bytes (at + 1) ps n) end (pair_row_spells (at + 1) rest ps r (stands_rest cells at header rest there)),
+        )
 
-  -- what stands below a tree begins where it should, and goes up
-  pub node_up : (cells : List Cell) (bytes : List ℕ) (c : Cell) (lo hi : ℕ) (t : Tree) → node cells bytes c lo hi t → lo ≤ hi
-  node_up cells bytes c lo hi null (e, f) = omega arith
-  node_up cells bytes c lo hi (boolean b) (e, f) = omega arith
-  node_up cells bytes c lo hi (num l) (n, e, f) = omega arith
-  node_up cells bytes c lo hi (text s) (e, f) = omega arith
-  node_up cells bytes c lo hi (list ts) (mid, cs, e, s, f, r) = let h = row_up cells bytes cs lo mid ts r in omega arith
-  node_up cells bytes c lo hi (pairs ps) (mid, cs, e, s, f, r) = let h = pair_row_up cells bytes cs lo mid ps r in omega arith
+    row_spells : (at : ℕ) (cs : List Cell) (ts : Trees) → row bytes at cs ts → Stands cells at cs → spells_trees cells bytes at ts (at + length cs)
+    row_spells at cs no_trees e s = omega (arith, ap length e)
+    row_spells at cs (tree_and t ts) (a, b, e, n, r) s =
+        let there = subst (λ (x : List Cell). Stands cells at x) e s in
+        let end : (at + length a) + length b ≡ at + length cs = omega (arith, ap length e, length-append a b) in
+        (at + length a, node_spells at a t n (stands_left cells at a b there), subst (λ (n : ℕ). spells_trees cells bytes (at + length a) ts n) end (row_spells (at + length a) b ts r (stands_right cells at a b there)))
 
-  pub row_up : (cells : List Cell) (bytes : List ℕ) (cs : List Cell) (lo hi : ℕ) (ts : Trees) → row cells bytes cs lo hi ts → lo ≤ hi
-  row_up cells bytes cs lo hi no_trees (e, f) = omega arith
-  row_up cells bytes cs lo hi (tree_and t ts) (c, rest, mid, e, n, r) = let h = node_up cells bytes c lo mid t n in let k = row_up cells bytes rest mid hi ts r in omega arith
-
-  pub pair_row_up : (cells : List Cell) (bytes : List ℕ) (cs : List Cell) (lo hi : ℕ) (ps : Pairs) → pair_row cells bytes cs lo hi ps → lo ≤ hi
-  pair_row_up cells bytes cs lo hi no_pairs (e, f) = omega arith
-  pair_row_up cells bytes cs lo hi (pair_and k t ps) (key, c, rest, mid, e, first, n, r) = let h = node_up cells bytes c lo mid t n in let k = pair_row_up cells bytes rest mid hi ps r in omega arith
+    pair_row_spells : (at : ℕ) (cs : List Cell) (ps : Pairs) → pair_row bytes at cs ps → Stands cells at cs → spells_pairs cells bytes at ps (at + length cs)
+    pair_row_spells at cs no_pairs e s = omega (arith, ap length e)
+    pair_row_spells at cs (pair_and k t ps) (key, a, b, e, f, n, r) s =
+        let there = subst (λ (x : List Cell). Stands cells at x) e s in
+        let behind = stands_rest cells at key (a ++ b) there in
+        let end : ((at + 1) + length a) + length b ≡ at + length cs = omega (arith, ap length e, length-append a b) in (
+          (at + 1) + length a,
+          text_spells cells bytes key at k f (stands_first cells at key (a ++ b) there),
+          node_spells (at + 1) a t n (stands_left cells (at + 1) a b behind),
+          subst (λ (n : ℕ). spells_pairs cells bytes ((at + 1) + length a) ps n) end (pair_row_spells ((at + 1) + length a) b ps r (stands_right cells (at + 1) a b behind)),
+        )

@@ -1,9 +1,9 @@
 -- What an iterator over children or pairs has still to give.
-use Rattle.std.specs.Prelude.{◌≡◌, ℕ, ◌+◌, List, map, Option, IfSome}
+use Rattle.std.specs.Prelude.{◌≡◌, ℕ, ◌+◌, ◌-◌, List, map, Option, IfSome}
 use Rattle.std.specs.Iterator.{YieldsFirstBy}
 use Rattle.std.specs.Borrow.{Bor}
 use Rattle.json_grammar.specs.Tree.{Tree}
-use Rattle.json_doc.specs.Docs.{doc_tree}
+use Rattle.json_doc.specs.Docs.{doc_cells, doc_tree}
 use Rattle.json_doc.specs.Places.{places_from}
 use Rattle.json_doc.specs.Trees.{text_of}
 use Rattle.json_doc.specs.declared.doc.Doc.{Doc}
@@ -18,7 +18,7 @@ children_doc s = s.doc.now
 
 -- their places
 abbrev pub children_places : DocChildren → List ℕ
-children_places s = places_from s.next s.step s.left
+children_places s = places_from (doc_cells (children_doc s)) s.keys s.next s.left
 
 -- their trees
 abbrev pub children_left : DocChildren → List Tree
@@ -29,9 +29,9 @@ abbrev pub GivesChild : DocChildren → Option DocView → DocChildren → Type 
 GivesChild s r t =
     YieldsFirstBy view_tree children_left s r t × YieldsFirstBy view_place children_places s r t × (children_doc t ≡ children_doc s) × IfSome r (λ v. view_doc v ≡ children_doc s)
 
--- the key and the value whose cells stand side by side, the key's at a place
+-- the value at a place, and its key before it
 abbrev pub doc_pair : Doc → ℕ → List ℕ × Tree
-doc_pair d at = (text_of (doc_tree d at), doc_tree d (at + 1))
+doc_pair d at = (text_of (doc_tree d (at - 1)), doc_tree d at)
 
 -- a key and the tree of a value, as they are given
 abbrev pub pair_seen : Bor (List ℕ) × DocView → List ℕ × Tree
@@ -47,11 +47,11 @@ pairs_doc s = s.doc.now
 
 -- the places of their values
 abbrev pub pairs_places : DocPairs → List ℕ
-pairs_places s = places_from (s.next + 1) 2 s.left
+pairs_places s = places_from (doc_cells (pairs_doc s)) 1 (s.next + 1) s.left
 
 -- their keys, each with the tree of its value
 abbrev pub pairs_left : DocPairs → List (List ℕ × Tree)
-pairs_left s = map (doc_pair (pairs_doc s)) (places_from s.next 2 s.left)
+pairs_left s = map (doc_pair (pairs_doc s)) (pairs_places s)
 
 -- a call gave the first of what was left: its key and its value's tree, at its place of the same document
 abbrev pub GivesPair : DocPairs → Option (Bor (List ℕ) × DocView) → DocPairs → Type 0

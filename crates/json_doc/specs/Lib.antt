@@ -1,8 +1,10 @@
 pub mod Awaited
 pub mod ByValue
 pub mod Texts
-pub mod Block
+pub mod Segment
+pub mod OpenCells
 pub mod Building
+pub mod OpenObject
 pub mod Shape
 pub mod Spells
 pub mod Trees
@@ -18,3 +20,4 @@ pub mod Left
 pub mod Nodes
 pub mod Reading
 pub mod Laws
+pub mod OpenNames

@@ -1,24 +1,42 @@
--- Where the children of a cell stand, in blocks.
-use Rattle.std.specs.Prelude.{ℕ, zero, suc, ◌+◌, ◌*◌, ◌<◌, List, [], ◌∷◌}
+-- How the places of a document follow each other.
+use Rattle.std.specs.Prelude.{ℕ, zero, suc, ◌+◌, ◌-◌, ◌<◌, List, [], ◌∷◌, length, slice_index_or}
 use Rattle.json_doc.specs.declared.cell.Cell.{Cell}
 use Rattle.json_doc.specs.declared.cell.Cell.TheVariants as cell
 
--- the place of the element i, or of the value of the pair i
-abbrev pub child_of : Cell → ℕ → ℕ
-child_of (cell.Array link len) i = link + i
-child_of (cell.Object link len) i = (link + 1) + 2 * i
-child_of _ i = 0
+-- the place behind the cell c at a place and all that stands below it
+abbrev pub behind : ℕ → Cell → ℕ
+behind at (cell.Array link len) = link
+behind at (cell.Object link len) = link
+behind at _ = at + 1
 
--- the place of the key of the pair i
-abbrev pub key_of : Cell → ℕ → ℕ
-key_of (cell.Object link len) i = link + 2 * i
-key_of _ i = 0
+-- the place behind what stands at a place
+abbrev pub place_behind : List Cell → ℕ → ℕ
+place_behind cells at = behind at (slice_index_or cells at cell.Null)
 
--- n places, each step behind the one before
-abbrev pub places_from : ℕ → ℕ → ℕ → List ℕ
-places_from at step zero = []
-places_from at step (suc n) = at ∷ places_from (at + step) step n
+-- n places, each behind what stands at the one before, and behind so many keys
+abbrev pub places_from : List Cell → ℕ → ℕ → ℕ → List ℕ
+places_from cells keys at zero = []
+places_from cells keys at (suc n) = at ∷ places_from cells keys (place_behind cells at + keys) n
 
--- each of them is below the end
-abbrev pub AllBelow : ℕ → ℕ → ℕ → ℕ → Type 0
-AllBelow at step n end = (k : ℕ) → k < n → at + step * k < end
+-- the place that follows n of them
+abbrev pub place_from : List Cell → ℕ → ℕ → ℕ → ℕ
+place_from cells keys at zero = at
+place_from cells keys at (suc n) = place_from cells keys (place_behind cells at + keys) n
+
+-- each of n of them is that of a cell
+abbrev pub AllBelow : List Cell → ℕ → ℕ → ℕ → Type 0
+AllBelow cells keys at n = (i : ℕ) → i < n → place_from cells keys at i < length cells
+
+-- where the child i of the cell c at a place stands: an element, or the value of a pair, with its key before it
+abbrev pub child_in : List Cell → ℕ → Cell → ℕ → ℕ
+child_in cells at (cell.Array link len) i = place_from cells 0 (at + 1) i
+child_in cells at (cell.Object link len) i = place_from cells 1 (at + 2) i
+child_in cells at _ i = 0
+
+-- so of what stands at a place
+abbrev pub child_of : List Cell → ℕ → ℕ → ℕ
+child_of cells at i = child_in cells at (slice_index_or cells at cell.Null) i
+
+-- where the key of the pair i stands
+abbrev pub key_of : List Cell → ℕ → ℕ → ℕ
+key_of cells at i = child_of cells at i - 1

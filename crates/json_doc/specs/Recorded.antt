@@ -1,5 +1,5 @@
 -- What a builder of documents has recorded.
-use Rattle.std.specs.Prelude.{◌≡◌, ℕ, ◌+◌, List, length, Some, vec_capacity}
+use Rattle.std.specs.Prelude.{◌≡◌, ℕ, List, length, Some, vec_capacity}
 use Rattle.std.specs.Str.{IsUtf8}
 use Rattle.json_grammar.specs.Tree.{Token}
 use Rattle.json_grammar.specs.Sizes.{nodes_of}
@@ -12,28 +12,26 @@ use Rattle.json_doc.specs.declared.document_visitor.DocumentVisitor.{DocumentVis
 
 -- its room, and how much of it is taken
 abbrev pub visitor_state : DocumentVisitor → VisitorState
-visitor_state v = record { cell_room = v.room; text_room = v.text_room; nodes = length v.front.items + length v.done.items; bytes = length v.text.items; full = v.full }
+visitor_state v = record { cell_room = v.room; text_room = v.text_room; nodes = length v.cells.items; bytes = length v.text.items; full = v.full }
 
 -- these cells and bytes were made of the tokens ts
-pub record Held (front done : List Cell) (bytes : List ℕ) (p : ℕ) (ts : List Token) : Type 0 where
+pub record Held (cells : List Cell) (bytes : List ℕ) (p n : ℕ) (ts : List Token) : Type 0 where
   pub slots : List Slot
   pub awaited : awaits ts ≡ Some slots
-  pub built : Building done bytes front p (length done) slots ts
+  pub built : Building bytes cells p n slots ts
   pub texts : bytes ≡ tokens_text ts
   pub utf8 : IsUtf8 bytes
-  pub counted : length front + length done ≡ nodes_of ts
+  pub counted : length cells ≡ nodes_of ts
 
 -- while no event was refused, the events so far were ts
 abbrev pub Holds : DocumentVisitor → List Token → Type 0
-Holds v ts = Held v.front.items v.done.items v.text.items v.parent ts
+Holds v ts = Held v.cells.items v.text.items v.parent v.count ts
 
 -- the room stays
 abbrev pub SameRoom : DocumentVisitor → DocumentVisitor → Type 0
 SameRoom old new = (new.room ≡ old.room) × (new.text_room ≡ old.text_room)
 
--- none of the three lists grew: what each has room for in its memory stays
+-- neither list grew: what each has room for in its memory stays
 abbrev pub TakesNoMemory : DocumentVisitor → DocumentVisitor → Type 0
 TakesNoMemory old new =
-    (vec_capacity new.front ≡ vec_capacity old.front)
-    × (vec_capacity new.done ≡ vec_capacity old.done)
-    × (vec_capacity new.text ≡ vec_capacity old.text)
+    (vec_capacity new.cells ≡ vec_capacity old.cells) × (vec_capacity new.text ≡ vec_capacity old.text)

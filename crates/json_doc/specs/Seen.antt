@@ -1,9 +1,8 @@
 -- What clauses see of views.
-use Rattle.std.specs.Prelude.{ℕ, slice_index_or}
+use Rattle.std.specs.Prelude.{ℕ}
 use Rattle.json_grammar.specs.Tree.{Tree}
 use Rattle.json_doc.specs.Docs.{doc_cells, doc_tree}
 use Rattle.json_doc.specs.Places.{child_of, key_of}
-use Rattle.json_doc.specs.declared.cell.Cell.TheVariants as cell
 use Rattle.json_doc.specs.declared.doc.Doc.{Doc}
 use Rattle.json_doc.specs.declared.view.DocView.{DocView}
 
@@ -21,8 +20,8 @@ view_tree v = doc_tree (view_doc v) (view_place v)
 
 -- where the child i of the container at a place stands: an element, or the value of a pair
 abbrev pub child_place : Doc → ℕ → ℕ → ℕ
-child_place d at i = child_of (slice_index_or (doc_cells d) at cell.Null) i
+child_place d at i = child_of (doc_cells d) at i
 
 -- where the key of the pair i of the object at a place stands
 abbrev pub key_place : Doc → ℕ → ℕ → ℕ
-key_place d at i = key_of (slice_index_or (doc_cells d) at cell.Null) i
+key_place d at i = key_of (doc_cells d) at i

@@ -1,7 +1,8 @@
--- The tree at each place of a document in blocks, from the first cell to the last.
-use Rattle.std.specs.Prelude.{ℕ, pos, ◌+◌, ◌*◌, List, [], ◌∷◌, ◌++◌, slice_range, slice_index_or}
+-- The tree at each place of a document, from the last cell to the first.
+use Rattle.std.specs.Prelude.{ℕ, pos, ◌+◌, ◌-◌, List, [], ◌∷◌, map, slice_range, slice_index_or}
 use Rattle.std.specs.Fmt.{signed_decimal}
-use Rattle.json_grammar.specs.Tree.{Tree, null, boolean, num, text, list, pairs, Pairs, no_pairs, pair_and, list_trees}
+use Rattle.json_grammar.specs.Tree.{Tree, null, boolean, num, text, list, pairs, list_trees, list_pairs}
+use Rattle.json_doc.specs.Places.{places_from}
 use Rattle.json_doc.specs.declared.cell.Cell.{Cell}
 use Rattle.json_doc.specs.declared.cell.Cell.TheVariants as cell
 
@@ -10,32 +11,30 @@ abbrev pub text_of : Tree → List ℕ
 text_of (text s) = s
 text_of _ = []
 
--- keys and values in turn
-abbrev pub paired : List Tree → Pairs
-paired [] = no_pairs
-paired (k ∷ []) = no_pairs
-paired (k ∷ t ∷ ts) = pair_and (text_of k) t (paired ts)
+-- the tree at the place k, out of those of all cells behind the place at
+abbrev pub tree_behind : List Tree → ℕ → ℕ → Tree
+tree_behind ts at k = slice_index_or ts (k - (at + 1)) null
 
--- what a cell stands for, over the trees of the cells before it
-abbrev pub tree_of_cell : List ℕ → List Tree → Cell → Tree
-tree_of_cell bytes below cell.Null = null
-tree_of_cell bytes below (cell.Bool b) = boolean b
-tree_of_cell bytes below (cell.Unsigned n) = num (signed_decimal (pos n))
-tree_of_cell bytes below (cell.Negative n) = num (signed_decimal n)
-tree_of_cell bytes below (cell.Raw start len) = num (slice_range bytes start (start + len))
-tree_of_cell bytes below (cell.Str start len) = text (slice_range bytes start (start + len))
-tree_of_cell bytes below (cell.Array link len) = list (list_trees (slice_range below link (link + len)))
-tree_of_cell bytes below (cell.Object link len) = pairs (paired (slice_range below link (link + 2 * len)))
+-- the value at the place k, and its key before it
+abbrev pub pair_behind : List Tree → ℕ → ℕ → List ℕ × Tree
+pair_behind ts at k = (text_of (tree_behind ts at (k - 1)), tree_behind ts at k)
 
--- the trees of the cells so far, and of those behind them
-abbrev pub grow : List ℕ → List Tree → List Cell → List Tree
-grow bytes below [] = below
-grow bytes below (c ∷ cs) = grow bytes (below ++ tree_of_cell bytes below c ∷ []) cs
+-- what the cell c at a place stands for, over the trees of the cells behind it
+abbrev pub tree_of_cell : List Cell → List ℕ → ℕ → List Tree → Cell → Tree
+tree_of_cell cells bytes at ts cell.Null = null
+tree_of_cell cells bytes at ts (cell.Bool b) = boolean b
+tree_of_cell cells bytes at ts (cell.Unsigned n) = num (signed_decimal (pos n))
+tree_of_cell cells bytes at ts (cell.Negative n) = num (signed_decimal n)
+tree_of_cell cells bytes at ts (cell.Raw start len) = num (slice_range bytes start (start + len))
+tree_of_cell cells bytes at ts (cell.Str start len) = text (slice_range bytes start (start + len))
+tree_of_cell cells bytes at ts (cell.Array link len) = list (list_trees (map (tree_behind ts at) (places_from cells 0 (at + 1) len)))
+tree_of_cell cells bytes at ts (cell.Object link len) = pairs (list_pairs (map (pair_behind ts at) (places_from cells 1 (at + 2) len)))
 
--- the trees of all cells
-unfoldable pub trees : List ℕ → List Cell → List Tree
-trees bytes cells = grow bytes [] cells
+-- the trees of the cells cs, which stand from a place on
+unfoldable pub trees_from : List Cell → List ℕ → ℕ → List Cell → List Tree
+trees_from cells bytes at [] = []
+trees_from cells bytes at (c ∷ cs) = tree_of_cell cells bytes at (trees_from cells bytes (at + 1) cs) c ∷ trees_from cells bytes (at + 1) cs
 
 -- the tree at a place
 abbrev pub tree_at : List Cell → List ℕ → ℕ → Tree
-tree_at cells bytes at = slice_index_or (trees bytes cells) at null
+tree_at cells bytes at = slice_index_or (trees_from cells bytes 0 cells) at null

@@ -6,14 +6,14 @@ use crate::json_type::JsonType;
 ///
 /// An integer of `u64` or `i64` stands by value (RFC 8259, section 6), every other number as its literal.
 /// A literal and a text name bytes of the document's text, by their start and their length. The length of
-/// a container counts its elements or pairs, and its link is the place of the first, or 0 where there is
-/// none. The children of a container stand in a row, those of an object a key and its value in turn; how
-/// they lie is this crate's own, and views give them.
+/// a container counts its elements or pairs. All that stands below it follows its cell, in the order of the
+/// JSON text, and its link is the place behind the last of it, or behind its own cell where it is empty.
+/// How cells lie is this crate's own, and views give them.
 ///
 /// ```
 /// use json_doc::{Cell, read_document};
 /// let doc = read_document(alloc, "[-1, 1.5]")?;
-/// let cells = [Cell::Negative(-1), Cell::Raw { start: 0, len: 3 }, Cell::Array { link: 0, len: 2 }];
+/// let cells = [Cell::Array { link: 3, len: 2 }, Cell::Negative(-1), Cell::Raw { start: 0, len: 3 }];
 /// assert_eq!(rt; doc.cells(), cells.as_slice());
 /// ```
 #[derive(Clone, Copy, Debug, PartialEq, Eq)]
@@ -33,8 +33,9 @@ pub enum Cell {
 }
 
 impl Cell {
-    ghost use Rattle.std.specs.Prelude.{◌≡◌};
+    ghost use Rattle.std.specs.Prelude.{◌≡◌, ◌<◌, ◌≤◌, ◌^◌};
     ghost use Rattle.json_doc.specs.CellReadings.{cell_type, cell_bool, cell_len};
+    ghost use Rattle.json_doc.specs.Places.{behind};
 
     #[inline(always)]
     pub(crate) fn get_type(self) -> JsonType
@@ -69,6 +70,20 @@ impl Cell {
             Cell::Array { len, .. } => len as usize,
             Cell::Object { len, .. } => len as usize,
             _ => 0,
+        }
+    }
+
+    // The place behind it and all that stands below it, where it stands at a place.
+    #[inline(always)]
+    pub(crate) fn behind(self, at: usize) -> usize
+        requires { at < 2 ^ 32 }
+        ensures is { result ≡ behind at self }
+        ensures small { result ≤ 2 ^ 32 }
+    {
+        match self {
+            Cell::Array { link, .. } => link as usize,
+            Cell::Object { link, .. } => link as usize,
+            _ => at + 1,
         }
     }
 }

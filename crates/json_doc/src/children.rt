@@ -1,5 +1,5 @@
 // The children of a place of a document.
-ghost use Rattle.std.specs.Prelude.{◌≡◌, ◌<◌, ◌≤◌, length};
+ghost use Rattle.std.specs.Prelude.{◌≡◌, ◌≤◌, length};
 ghost use Rattle.json_doc.specs.Places.{AllBelow};
 
 use crate::doc::Doc;
@@ -21,9 +21,10 @@ pub struct DocChildren<'a> {
     doc: &'a Doc,
     next: usize,
     left: usize,
-    step: usize,
-    ghost short: { step ≤ 2 },
-    ghost inside: { AllBelow next step left (length doc.now.cells.items) },
+    // How many keys stand before each child.
+    keys: usize,
+    ghost short: { keys ≤ 1 },
+    ghost inside: { AllBelow doc.now.cells.items keys next left },
 }
 
 impl<'a> DocChildren<'a> {
@@ -32,21 +33,30 @@ impl<'a> DocChildren<'a> {
     ghost use Rattle.json_doc.specs.Places.{places_from};
     ghost use Rattle.json_doc.specs.Left.{children_doc, children_places, children_left};
 
-    // What stands at `left` places from `next` on, each `step` behind the one before.
+    // What stands at `left` places from `next` on, each behind the one before and so many keys.
     #[inline]
-    pub(crate) fn new(doc: &'a Doc, next: usize, left: usize, step: usize) -> DocChildren<'a>
-        requires short { step ≤ 2 }
-        requires inside { AllBelow next step left (length (doc_cells doc.now)) }
+    pub(crate) fn new(doc: &'a Doc, keys: usize, next: usize, left: usize) -> DocChildren<'a>
+        requires short { keys ≤ 1 }
+        requires inside { AllBelow (doc_cells doc.now) keys next left }
         ensures doc { children_doc result ≡ doc.now }
-        ensures places { children_places result ≡ places_from next step left }
-        ensures trees { children_left result ≡ map (doc_tree doc.now) (places_from next step left) }
+        ensures places { children_places result ≡ places_from (doc_cells doc.now) keys next left }
+        ensures trees { children_left result
+            ≡ map (doc_tree doc.now) (places_from (doc_cells doc.now) keys next left) }
     {
         DocChildren {
             doc,
             next,
             left,
-            step,
+            keys,
         }
+    }
+
+    /// How many are still to come.
+    #[inline]
+    pub fn len(&self) -> usize
+        ensures { result ≡ length (children_left self.now) }
+    {
+        self.left
     }
 }
 
@@ -67,7 +77,7 @@ impl<'a> Iterator for DocChildren<'a> {
         }
         let view = self.doc.view_at(self.next as u32);
         self.left -= 1;
-        self.next += self.step;
+        self.next = self.doc.place_behind(self.next) + self.keys;
         Some(view)
     }
 }

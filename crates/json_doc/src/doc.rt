@@ -7,8 +7,8 @@ use crate::view::DocView;
 
 /// A packed document: one cell for each node and each key, and the texts, keys and literals in a row.
 ///
-/// The children of a container stand in a row, at places below its own. Each literal is a number
-/// (RFC 8259, section 6).
+/// The cells stand in the order of the JSON text, each container's before those of its elements or its
+/// keys and values. Each literal is a number (RFC 8259, section 6).
 ///
 /// ```
 /// use json_doc::read_document;
@@ -27,9 +27,10 @@ pub struct Doc {
 }
 
 impl Doc {
-    ghost use Rattle.std.specs.Prelude.{◌≡◌};
+    ghost use Rattle.std.specs.Prelude.{◌≡◌, ◌≤◌, ◌+◌};
     ghost use Rattle.json_doc.specs.Docs.{doc_cells, doc_text, doc_root, doc_tree};
     ghost use Rattle.json_doc.specs.Seen.{view_doc, view_place, view_tree};
+    ghost use Rattle.json_doc.specs.Places.{AllBelow, place_behind, place_from};
 
     /// The cells, one for each node and each key.
     #[inline]
@@ -75,5 +76,30 @@ impl Doc {
         ensures tree { view_tree result ≡ doc_tree self.now at }
     {
         DocView { doc: self, at }
+    }
+
+    // The place behind what stands at a place.
+    #[inline(always)]
+    pub(crate) fn place_behind(&self, at: usize) -> usize
+        requires { at < length (doc_cells self.now) }
+        ensures is { result ≡ place_behind (doc_cells self.now) at }
+        ensures small { result ≤ 2 ^ 32 }
+    {
+        self.cells[at].behind(at)
+    }
+
+    // The place that follows so many children, each behind so many keys: a step for each of them.
+    #[inline]
+    pub(crate) fn place_from(&self, keys: usize, first: usize, count: usize) -> usize
+        requires short { keys ≤ 1 }
+        requires inside { AllBelow (doc_cells self.now) keys first (count + 1) }
+        ensures is { result ≡ place_from (doc_cells self.now) keys first count }
+        ensures within { result < length (doc_cells self.now) }
+    {
+        let mut at = first;
+        for step in 0..count {
+            at = self.place_behind(at) + keys;
+        }
+        at
     }
 }

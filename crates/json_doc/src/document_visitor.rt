@@ -1,5 +1,5 @@
 // The builder of a document.
-ghost use Rattle.std.specs.Prelude.{◌≡◌, ◌+◌, ◌-◌, ◌/◌, ◌<◌, ◌≤◌, ◌^◌, ◌↔◌, List, ℕ, [], ◌∷◌, ◌++◌, length, take, drop, true, false, IsTrue, IfOk, IfErr, vec_len, vec_capacity, slice_index_or};
+ghost use Rattle.std.specs.Prelude.{◌≡◌, ◌+◌, ◌/◌, ◌<◌, ◌≤◌, ◌^◌, ◌↔◌, List, ℕ, [], ◌∷◌, ◌++◌, length, true, false, IsTrue, IfOk, IfErr, vec_len, vec_capacity, slice_index_or, slice_set};
 ghost use Rattle.json_grammar.specs.Grammar.{chars};
 ghost use Rattle.json_text.specs.Spelled.{NoEscape};
 
@@ -10,11 +10,13 @@ use json_text::{Result, Span};
 use std::alloc::Global;
 use std::rc::Rc;
 
+// The place of the container around the outermost one.
+const NOWHERE: u32 = u32::MAX;
+
 /// Packs a document from the events of its tree, and takes no memory for an event.
 ///
-/// The front holds the cells of open containers, each with its children so far behind it. The link of
-/// an open container's cell is the place of the container around it. The children of finished
-/// containers are blocks in `done`.
+/// Each node is written once, in the order of the events. An open container's cell keeps the place and
+/// the count of the container around it until it ends.
 ///
 /// ```
 /// use json_doc::{DocumentVisitor, JsonVisitor};
@@ -25,30 +27,33 @@ use std::rc::Rc;
 /// ```
 #[derive(Drop)]
 pub struct DocumentVisitor {
-    front: Vec<Cell>,
-    done: Vec<Cell>,
+    cells: Vec<Cell>,
     text: Vec<u8>,
+    // The place of the innermost open container, and how many elements, or keys and values, it has.
     parent: u32,
+    count: u32,
     room: usize,
     text_room: usize,
     full: bool,
-    ghost front_room: { room ≤ vec_capacity front },
-    ghost done_room: { room ≤ vec_capacity done },
+    ghost cells_room: { room ≤ vec_capacity cells },
     ghost bytes_room: { text_room ≤ vec_capacity text },
-    ghost cells_fit: { vec_len front + vec_len done ≤ room },
+    ghost cells_fit: { vec_len cells ≤ room },
     ghost text_fits: { vec_len text ≤ text_room },
+    ghost counted: { count ≤ vec_len cells },
     ghost small: { room < 2 ^ 32 },
     ghost small_text: { text_room < 2 ^ 32 },
 }
 
 impl DocumentVisitor {
-    ghost use Rattle.json_grammar.specs.Tree.{Tree, tokens};
+    ghost use Rattle.std.specs.List.{Contains};
+    ghost use Rattle.json_grammar.specs.Tree.{Tree, Pairs, Token, key_token, tokens};
+    ghost use Rattle.json_grammar.specs.Repeated.{names, open_keys};
     ghost use Rattle.json_text.specs.Errors.{no_memory};
     ghost use Rattle.json_doc.specs.Docs.{IsDocOf};
+    ghost use Rattle.json_doc.specs.OpenObject.{NamesText, KeyStands};
     ghost use Rattle.json_doc.specs.State.{VisitorState, Fits};
-    ghost use Rattle.json_doc.specs.Recorded.{visitor_state, SameRoom};
-    ghost use Rattle.json_doc.specs.Shape.{link_of};
-    ghost use Rattle.json_doc.specs.Block.{link_to};
+    ghost use Rattle.json_doc.specs.Recorded.{visitor_state, SameRoom, TakesNoMemory};
+    ghost use Rattle.json_doc.specs.OpenCells.{outer_place, outer_count};
     ghost use Rattle.json_doc.specs.declared.cell.Cell.TheVariants.{Null as null_cell};
 
     /// Room for `(text_len + 1) / 2` nodes and keys and `text_len` bytes of text, as a JSON text of so
@@ -66,15 +71,33 @@ impl DocumentVisitor {
         ensures held { IfOk result (λ v. ⟦<DocumentVisitor as JsonVisitor>⟧.holds v []) }
         ensures err { IfErr result (λ e. e ≡ no_memory) }
     {
-        let room = (text_len + 1) / 2;
-        let front = Vec::with_capacity(alloc, room)?;
-        let done = Vec::with_capacity(alloc, room)?;
+        DocumentVisitor::with_room(alloc, (text_len + 1) / 2, text_len)
+    }
+
+    /// Room for so many nodes and keys and so many bytes of text, each at most 4,294,967,295. Memory may run out.
+    ///
+    /// ```
+    /// use json_doc::{DocumentVisitor, JsonVisitor};
+    /// let mut visitor = DocumentVisitor::with_room(alloc, 1, 0)?;
+    /// assert!(rt; visitor.visit_array_start());
+    /// assert!(rt; !visitor.visit_null());
+    /// ```
+    pub fn with_room(alloc: Global, cells: usize, text_len: usize) -> Result<DocumentVisitor>
+        requires cells { cells < 2 ^ 32 }
+        requires text { text_len < 2 ^ 32 }
+        ensures room { IfOk result (λ v. ⟦<DocumentVisitor as JsonVisitor>⟧.state v
+            ≡ record { cell_room = cells; text_room = text_len; nodes = 0; bytes = 0; full = false }) }
+        ensures held { IfOk result (λ v. ⟦<DocumentVisitor as JsonVisitor>⟧.holds v []) }
+        ensures err { IfErr result (λ e. e ≡ no_memory) }
+    {
+        let room = cells;
+        let cells = Vec::with_capacity(alloc, room)?;
         let text = Vec::with_capacity(alloc, text_len)?;
         Ok(DocumentVisitor {
-            front,
-            done,
+            cells,
             text,
-            parent: 0,
+            parent: NOWHERE,
+            count: 0,
             room,
             text_room: text_len,
             full: false,
@@ -86,13 +109,13 @@ impl DocumentVisitor {
     fn admit(&mut self, nodes: usize, bytes: usize) -> bool
         ensures answer { IsTrue result ↔ Fits (visitor_state self.old) nodes bytes }
         ensures full { IsTrue result ↔ (self.new.full ≡ false) }
-        ensures front { self.new.front ≡ self.old.front }
-        ensures done { self.new.done ≡ self.old.done }
+        ensures cells { self.new.cells ≡ self.old.cells }
         ensures text { self.new.text ≡ self.old.text }
         ensures parent { self.new.parent ≡ self.old.parent }
+        ensures count { self.new.count ≡ self.old.count }
         ensures room { SameRoom self.old self.new }
     {
-        let nodes_left = self.room - (self.front.len() + self.done.len());
+        let nodes_left = self.room - self.cells.len();
         let bytes_left = self.text_room - self.text.len();
         if self.full || nodes > nodes_left || bytes > bytes_left {
             return self.refuse();
@@ -106,28 +129,30 @@ impl DocumentVisitor {
     fn refuse(&mut self) -> bool
         ensures answer { result ≡ false }
         ensures full { self.new.full ≡ true }
-        ensures front { self.new.front ≡ self.old.front }
-        ensures done { self.new.done ≡ self.old.done }
+        ensures cells { self.new.cells ≡ self.old.cells }
         ensures text { self.new.text ≡ self.old.text }
         ensures parent { self.new.parent ≡ self.old.parent }
+        ensures count { self.new.count ≡ self.old.count }
         ensures room { SameRoom self.old self.new }
     {
         self.full = true;
         false
     }
 
+    // The cell of a scalar or a key, one more in the innermost open container.
     #[inline(always)]
     fn push(&mut self, cell: Cell)
-        requires { vec_len self.old.front + vec_len self.old.done < self.old.room }
-        ensures front { self.new.front.items ≡ self.old.front.items ++ cell ∷ [] }
-        ensures capacity { vec_capacity self.new.front ≡ vec_capacity self.old.front }
-        ensures done { self.new.done ≡ self.old.done }
+        requires { vec_len self.old.cells < self.old.room }
+        ensures cells { self.new.cells.items ≡ self.old.cells.items ++ cell ∷ [] }
+        ensures capacity { vec_capacity self.new.cells ≡ vec_capacity self.old.cells }
         ensures text { self.new.text ≡ self.old.text }
         ensures parent { self.new.parent ≡ self.old.parent }
+        ensures count { self.new.count ≡ self.old.count + 1 }
         ensures full { self.new.full ≡ self.old.full }
         ensures room { SameRoom self.old self.new }
     {
-        self.front.push_reserved(cell);
+        self.cells.push_reserved(cell);
+        self.count += 1;
     }
 
     // The text appended, and its cell.
@@ -136,9 +161,9 @@ impl DocumentVisitor {
         requires { vec_len self.old.text + length literal.now ≤ self.old.text_room }
         ensures cell { result ≡ Cell.Raw (vec_len self.old.text) (length literal.now) }
         ensures text { self.new.text.items ≡ self.old.text.items ++ literal.now }
-        ensures front { self.new.front ≡ self.old.front }
-        ensures done { self.new.done ≡ self.old.done }
+        ensures cells { self.new.cells ≡ self.old.cells }
         ensures parent { self.new.parent ≡ self.old.parent }
+        ensures count { self.new.count ≡ self.old.count }
         ensures full { self.new.full ≡ self.old.full }
         ensures room { SameRoom self.old self.new }
     {
@@ -160,9 +185,9 @@ impl DocumentVisitor {
             → self.new.text.items ≡ self.old.text.items ++ t }
         ensures capacity { ¬ (NoEscape s.entry.raw.now)
             → vec_capacity self.new.text ≡ vec_capacity self.old.text }
-        ensures front { self.new.front ≡ self.old.front }
-        ensures done { self.new.done ≡ self.old.done }
+        ensures cells { self.new.cells ≡ self.old.cells }
         ensures parent { self.new.parent ≡ self.old.parent }
+        ensures count { self.new.count ≡ self.old.count }
         ensures full { self.new.full ≡ self.old.full }
         ensures room { SameRoom self.old self.new }
     {
@@ -174,62 +199,104 @@ impl DocumentVisitor {
         }
     }
 
-    // The place around the innermost open container.
+    // The cell of a container that begins, and is now the innermost one.
     #[inline(always)]
-    fn outer(&self) -> u32
-        requires { self.now.parent < length self.now.front.items }
-        ensures { result ≡ link_of (slice_index_or self.now.front.items self.now.parent null_cell) }
-    {
-        match self.front[self.parent as usize] {
-            Cell::Array { link, .. } => link,
-            Cell::Object { link, .. } => link,
-            _ => 0,
-        }
-    }
-
-    // How many cells stand in the innermost open container.
-    #[inline(always)]
-    fn width(&self) -> u32
-        requires { self.now.parent < length self.now.front.items }
-        ensures { result ≡ length self.now.front.items - (self.now.parent + 1) }
-    {
-        (self.front.len() - (self.parent as usize + 1)) as u32
-    }
-
-    // Where so many children will stand.
-    #[inline(always)]
-    fn link(&self, count: u32) -> u32
-        ensures { result ≡ link_to (length self.now.done.items) count }
-    {
-        if count == 0 {
-            return 0;
-        }
-        self.done.len() as u32
-    }
-
-    // The children of the innermost open container become a block, and its cell is finished.
-    #[inline]
-    fn close(&mut self, header: Cell)
-        requires { self.old.parent < length self.old.front.items }
-        ensures done { self.new.done.items
-            ≡ self.old.done.items ++ drop (self.old.parent + 1) self.old.front.items }
-        ensures front { self.new.front.items
-            ≡ take self.old.parent self.old.front.items ++ header ∷ [] }
-        ensures parent { self.new.parent
-            ≡ link_of (slice_index_or self.old.front.items self.old.parent null_cell) }
+    fn open(&mut self, cell: Cell)
+        requires { vec_len self.old.cells < self.old.room }
+        ensures cells { self.new.cells.items ≡ self.old.cells.items ++ cell ∷ [] }
+        ensures parent { self.new.parent ≡ vec_len self.old.cells }
+        ensures count { self.new.count ≡ 0 }
         ensures text { self.new.text ≡ self.old.text }
         ensures full { self.new.full ≡ self.old.full }
         ensures room { SameRoom self.old self.new }
+        ensures memory { TakesNoMemory self.old self.new }
     {
-        let outer = self.outer();
+        self.parent = self.cells.len() as u32;
+        self.cells.push_reserved(cell);
+        self.count = 0;
+    }
+
+    // The cell of the innermost open container is finished. The one around it is the innermost now, and
+    // has one value more.
+    #[inline(always)]
+    fn close(&mut self, cell: Cell)
+        requires is_open { self.old.parent < length self.old.cells.items }
+        requires fits { outer_count self.old.cells.items self.old.parent
+            < length self.old.cells.items }
+        ensures cells { self.new.cells.items
+            ≡ slice_set self.old.cells.items self.old.parent cell }
+        ensures parent { self.new.parent ≡ outer_place self.old.cells.items self.old.parent }
+        ensures count { self.new.count ≡ outer_count self.old.cells.items self.old.parent + 1 }
+        ensures text { self.new.text ≡ self.old.text }
+        ensures full { self.new.full ≡ self.old.full }
+        ensures room { SameRoom self.old self.new }
+        ensures memory { TakesNoMemory self.old self.new }
+    {
         let at = self.parent as usize;
-        match self.done.extend_from_slice(&self.front[at + 1..]) {
-            Ok(()) => {}
-            Err(_) => unreachable!(),
+        let (parent, count) = match self.cells[at] {
+            Cell::Array { link, len } => (link, len),
+            Cell::Object { link, len } => (link, len),
+            _ => (0, 0),
+        };
+        self.cells[at] = cell;
+        self.parent = parent;
+        self.count = count + 1;
+    }
+
+    // The bytes of the text that a cell names.
+    fn text_at(&self, at: usize) -> &[u8]
+        requires { (s : List ℕ) × NamesText self.now.cells.items self.now.text.items at s }
+        ensures { (s : List ℕ) → NamesText self.now.cells.items self.now.text.items at s
+            → result.now ≡ s }
+    {
+        match self.cells[at] {
+            Cell::Str { start, len } => &self.text[start as usize..start as usize + len as usize],
+            _ => unreachable!(),
         }
-        self.front.truncate(at + 1);
-        self.front[at] = header;
-        self.parent = outer;
+    }
+
+    // Whether one of the keys from a place on is the key at the last.
+    fn has_key(&self, first: usize, last: usize) -> bool
+        requires { (ps : Pairs) × (s : List ℕ)
+            × KeyStands self.now.cells.items self.now.text.items first ps last s }
+        ensures { (ps : Pairs) (s : List ℕ)
+            → KeyStands self.now.cells.items self.now.text.items first ps last s
+            → IsTrue result ↔ Contains (names ps) s }
+    {
+        let key = self.text_at(last);
+        let mut at = first;
+        while at < last {
+            if self.text_at(at) == key {
+                return true;
+            }
+            at = self.cells[at + 1].behind(at + 1);
+        }
+        false
+    }
+
+    /// Whether the key that was recorded last is an earlier key of its object too (RFC 8259, section 4).
+    /// The last event has to be a recorded key. Asks each key of the object once.
+    ///
+    /// ```
+    /// use json_doc::{DocumentVisitor, JsonVisitor};
+    /// use json_text::{Event, Parser};
+    /// let mut visitor = DocumentVisitor::new(alloc, 20)?;
+    /// assert!(rt; visitor.visit_object_start());
+    /// let mut parser = Parser::new("{\"a\": null}");
+    /// let _ = parser.next()?;
+    /// if let Event::Key(name) = parser.next()? {
+    ///     assert!(rt; visitor.visit_key(name) && !visitor.key_repeats());
+    ///     assert!(rt; visitor.visit_null() && visitor.visit_key(name) && visitor.key_repeats());
+    /// }
+    /// ```
+    pub fn key_repeats(&self) -> bool
+        requires { (ts : List Token) × (s : List ℕ)
+            × ⟦<DocumentVisitor as JsonVisitor>⟧.holds self.now (ts ++ key_token s ∷ []) }
+        ensures { (ts : List Token) (s : List ℕ)
+            → ⟦<DocumentVisitor as JsonVisitor>⟧.holds self.now (ts ++ key_token s ∷ [])
+            → IsTrue result ↔ Contains (open_keys ts) s }
+    {
+        self.has_key(self.parent as usize + 1, self.cells.len() - 1)
     }
 
     /// The document of the tree whose events were recorded, which has to be whole. Memory may run out.
@@ -239,12 +306,16 @@ impl DocumentVisitor {
             → ⟦<DocumentVisitor as JsonVisitor>⟧.holds self (tokens t) → IsDocOf d.value t) }
         ensures err { IfErr result (λ e. e ≡ no_memory) }
     {
-        let root = self.done.len() as u32;
-        let last = self.front[0];
-        let mut cells = self.done;
-        cells.push_reserved(last);
         let text = unsafe { String::from_utf8_unchecked(self.text) };
-        Ok(Rc::new(alloc, Doc { cells, text, root })?)
+        let cells = self.cells;
+        Ok(Rc::new(
+            alloc,
+            Doc {
+                cells,
+                text,
+                root: 0,
+            },
+        )?)
     }
 }
 
@@ -279,26 +350,16 @@ fn append_text(out: &mut Vec<u8>, s: Span<'_>)
 }
 
 impl JsonVisitor for DocumentVisitor {
-    ghost use Rattle.json_grammar.specs.Tree.{Token, null_token, boolean_token, num_token, text_token, key_token, begin};
-    ghost use Rattle.json_grammar.specs.declared.Kind.TheVariants.{Array as array, Object as object};
     ghost use Rattle.json_doc.specs.Recorded.{visitor_state, Holds, TakesNoMemory};
-    ghost use Rattle.json_doc.specs.State.{Fits, after_event, MayCome, HoldsMore};
-    ghost use Rattle.std.specs.Bool.{OnTrue};
-    ghost use Rattle.std.specs.Fmt.{signed_decimal};
-    ghost use Rattle.std.specs.Prelude.{◌<ℤ◌, pos};
 
     ghost holds = { Holds };
 
     ghost state = { visitor_state };
 
+    ghost keeps_memory = { TakesNoMemory };
+
     #[inline(always)]
-    fn visit_null(&mut self) -> bool
-        requires { (visitor_state self.old).full ≡ false → MayCome (Holds self.old) null_token }
-        ensures answer { IsTrue result ↔ Fits (visitor_state self.old) 1 0 }
-        ensures state { visitor_state self.new ≡ after_event result 1 0 (visitor_state self.old) }
-        ensures held { OnTrue result (HoldsMore (Holds self.old) (Holds self.new) null_token) }
-        ensures capacity { TakesNoMemory self.old self.new }
-    {
+    fn visit_null(&mut self) -> bool {
         if !self.admit(1, 0) {
             return false;
         }
@@ -307,15 +368,7 @@ impl JsonVisitor for DocumentVisitor {
     }
 
     #[inline(always)]
-    fn visit_bool(&mut self, b: bool) -> bool
-        requires { (visitor_state self.old).full ≡ false
-            → MayCome (Holds self.old) (boolean_token b) }
-        ensures answer { IsTrue result ↔ Fits (visitor_state self.old) 1 0 }
-        ensures state { visitor_state self.new ≡ after_event result 1 0 (visitor_state self.old) }
-        ensures held { OnTrue result
-            (HoldsMore (Holds self.old) (Holds self.new) (boolean_token b)) }
-        ensures capacity { TakesNoMemory self.old self.new }
-    {
+    fn visit_bool(&mut self, b: bool) -> bool {
         if !self.admit(1, 0) {
             return false;
         }
@@ -324,15 +377,7 @@ impl JsonVisitor for DocumentVisitor {
     }
 
     #[inline(always)]
-    fn visit_u64(&mut self, n: u64) -> bool
-        requires { (visitor_state self.old).full ≡ false
-            → MayCome (Holds self.old) (num_token (signed_decimal (pos n))) }
-        ensures answer { IsTrue result ↔ Fits (visitor_state self.old) 1 0 }
-        ensures state { visitor_state self.new ≡ after_event result 1 0 (visitor_state self.old) }
-        ensures held { OnTrue result
-            (HoldsMore (Holds self.old) (Holds self.new) (num_token (signed_decimal (pos n)))) }
-        ensures capacity { TakesNoMemory self.old self.new }
-    {
+    fn visit_u64(&mut self, n: u64) -> bool {
         if !self.admit(1, 0) {
             return false;
         }
@@ -341,16 +386,7 @@ impl JsonVisitor for DocumentVisitor {
     }
 
     #[inline(always)]
-    fn visit_i64(&mut self, n: i64) -> bool
-        requires negative { n <ℤ pos 0 }
-        requires come { (visitor_state self.old).full ≡ false
-            → MayCome (Holds self.old) (num_token (signed_decimal n)) }
-        ensures answer { IsTrue result ↔ Fits (visitor_state self.old) 1 0 }
-        ensures state { visitor_state self.new ≡ after_event result 1 0 (visitor_state self.old) }
-        ensures held { OnTrue result
-            (HoldsMore (Holds self.old) (Holds self.new) (num_token (signed_decimal n))) }
-        ensures capacity { TakesNoMemory self.old self.new }
-    {
+    fn visit_i64(&mut self, n: i64) -> bool {
         if !self.admit(1, 0) {
             return false;
         }
@@ -369,16 +405,7 @@ impl JsonVisitor for DocumentVisitor {
     }
 
     #[inline(always)]
-    fn visit_str(&mut self, s: Span<'_>) -> bool
-        requires { (visitor_state self.old).full ≡ false
-            → (t : List ℕ) × chars false t s.raw.now × MayCome (Holds self.old) (text_token t) }
-        ensures answer { IsTrue result ↔ Fits (visitor_state self.old) 1 (length s.entry.raw.now) }
-        ensures state { (t : List ℕ) → chars false t s.entry.raw.now
-            → visitor_state self.new ≡ after_event result 1 (length t) (visitor_state self.old) }
-        ensures held { OnTrue result ((t : List ℕ) → chars false t s.entry.raw.now
-            → HoldsMore (Holds self.old) (Holds self.new) (text_token t)) }
-        ensures capacity { ¬ (NoEscape s.entry.raw.now) → TakesNoMemory self.old self.new }
-    {
+    fn visit_str(&mut self, s: Span<'_>) -> bool {
         if !self.admit(1, s.raw_len()) {
             return false;
         }
@@ -388,16 +415,7 @@ impl JsonVisitor for DocumentVisitor {
     }
 
     #[inline(always)]
-    fn visit_key(&mut self, s: Span<'_>) -> bool
-        requires { (visitor_state self.old).full ≡ false
-            → (t : List ℕ) × chars false t s.raw.now × MayCome (Holds self.old) (key_token t) }
-        ensures answer { IsTrue result ↔ Fits (visitor_state self.old) 1 (length s.entry.raw.now) }
-        ensures state { (t : List ℕ) → chars false t s.entry.raw.now
-            → visitor_state self.new ≡ after_event result 1 (length t) (visitor_state self.old) }
-        ensures held { OnTrue result ((t : List ℕ) → chars false t s.entry.raw.now
-            → HoldsMore (Holds self.old) (Holds self.new) (key_token t)) }
-        ensures capacity { ¬ (NoEscape s.entry.raw.now) → TakesNoMemory self.old self.new }
-    {
+    fn visit_key(&mut self, s: Span<'_>) -> bool {
         if !self.admit(1, s.raw_len()) {
             return false;
         }
@@ -407,20 +425,12 @@ impl JsonVisitor for DocumentVisitor {
     }
 
     #[inline(always)]
-    fn visit_array_start(&mut self) -> bool
-        requires { (visitor_state self.old).full ≡ false → MayCome (Holds self.old) (begin array) }
-        ensures answer { IsTrue result ↔ Fits (visitor_state self.old) 1 0 }
-        ensures state { visitor_state self.new ≡ after_event result 1 0 (visitor_state self.old) }
-        ensures held { OnTrue result (HoldsMore (Holds self.old) (Holds self.new) (begin array)) }
-        ensures capacity { TakesNoMemory self.old self.new }
-    {
+    fn visit_array_start(&mut self) -> bool {
         if !self.admit(1, 0) {
             return false;
         }
-        let place = self.front.len() as u32;
-        let link = self.parent;
-        self.push(Cell::Array { link, len: 0 });
-        self.parent = place;
+        let (link, len) = (self.parent, self.count);
+        self.open(Cell::Array { link, len });
         true
     }
 
@@ -429,27 +439,19 @@ impl JsonVisitor for DocumentVisitor {
         if self.full {
             return false;
         }
-        let len = self.width();
-        let link = self.link(len);
+        let link = self.cells.len() as u32;
+        let len = self.count;
         self.close(Cell::Array { link, len });
         true
     }
 
     #[inline(always)]
-    fn visit_object_start(&mut self) -> bool
-        requires { (visitor_state self.old).full ≡ false → MayCome (Holds self.old) (begin object) }
-        ensures answer { IsTrue result ↔ Fits (visitor_state self.old) 1 0 }
-        ensures state { visitor_state self.new ≡ after_event result 1 0 (visitor_state self.old) }
-        ensures held { OnTrue result (HoldsMore (Holds self.old) (Holds self.new) (begin object)) }
-        ensures capacity { TakesNoMemory self.old self.new }
-    {
+    fn visit_object_start(&mut self) -> bool {
         if !self.admit(1, 0) {
             return false;
         }
-        let place = self.front.len() as u32;
-        let link = self.parent;
-        self.push(Cell::Object { link, len: 0 });
-        self.parent = place;
+        let (link, len) = (self.parent, self.count);
+        self.open(Cell::Object { link, len });
         true
     }
 
@@ -458,8 +460,8 @@ impl JsonVisitor for DocumentVisitor {
         if self.full {
             return false;
         }
-        let len = self.width() / 2;
-        let link = self.link(len);
+        let link = self.cells.len() as u32;
+        let len = self.count / 2;
         self.close(Cell::Object { link, len });
         true
     }

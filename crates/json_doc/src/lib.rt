@@ -18,8 +18,11 @@ mod document_visitor;
 mod json_type;
 pub mod laws;
 mod node;
+mod open_keys;
 mod pairs;
 mod reader;
+#[cfg(test)]
+mod rules_tests;
 #[cfg(test)]
 mod tests;
 mod view;
@@ -32,6 +35,6 @@ pub use document_visitor::DocumentVisitor;
 pub use json_type::JsonType;
 pub use node::DocNode;
 pub use pairs::DocPairs;
-pub use reader::read_document;
+pub use reader::{read_document, read_document_with, read_front};
 pub use view::DocView;
 pub use visitor::JsonVisitor;

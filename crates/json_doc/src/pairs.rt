@@ -1,5 +1,5 @@
 // The pairs of an object of a document.
-ghost use Rattle.std.specs.Prelude.{◌≡◌, ◌<◌, ◌≤◌, ◌+◌, length};
+ghost use Rattle.std.specs.Prelude.{◌≡◌, ◌+◌, length};
 ghost use Rattle.json_doc.specs.Places.{AllBelow};
 ghost use Rattle.json_doc.specs.Shape.{AllKeys};
 
@@ -20,28 +20,55 @@ use crate::view::{DocView, key_text};
 #[derive(Drop)]
 pub struct DocPairs<'a> {
     doc: &'a Doc,
+    // The place of the next key, before that of its value.
     next: usize,
     left: usize,
-    ghost inside: { AllBelow (next + 1) 2 left (length doc.now.cells.items) },
-    ghost keyed: { AllKeys doc.now.cells.items next left },
+    ghost inside: { AllBelow doc.now.cells.items 1 (next + 1) left },
+    ghost keyed: { AllKeys doc.now.cells.items (next + 1) left },
 }
 
 impl<'a> DocPairs<'a> {
-    ghost use Rattle.std.specs.Prelude.{map};
+    ghost use Rattle.std.specs.Prelude.{map, option_map, slice_get, Some, IfSome};
+    ghost use Rattle.json_grammar.specs.Tree.{text};
+    ghost use Rattle.json_doc.specs.Seen.{view_doc, view_place, view_tree};
     ghost use Rattle.json_doc.specs.Docs.{doc_cells};
     ghost use Rattle.json_doc.specs.Places.{places_from};
     ghost use Rattle.json_doc.specs.Left.{pairs_doc, pairs_places, pairs_left, doc_pair};
 
-    // What stands at `left` pairs of cells from `next` on.
+    // The `left` pairs from the key at `next` on.
     #[inline]
     pub(crate) fn new(doc: &'a Doc, next: usize, left: usize) -> DocPairs<'a>
-        requires inside { AllBelow (next + 1) 2 left (length (doc_cells doc.now)) }
-        requires keyed { AllKeys (doc_cells doc.now) next left }
+        requires inside { AllBelow (doc_cells doc.now) 1 (next + 1) left }
+        requires keyed { AllKeys (doc_cells doc.now) (next + 1) left }
         ensures doc { pairs_doc result ≡ doc.now }
-        ensures places { pairs_places result ≡ places_from (next + 1) 2 left }
-        ensures pairs { pairs_left result ≡ map (doc_pair doc.now) (places_from next 2 left) }
+        ensures places { pairs_places result ≡ places_from (doc_cells doc.now) 1 (next + 1) left }
+        ensures pairs { pairs_left result
+            ≡ map (doc_pair doc.now) (places_from (doc_cells doc.now) 1 (next + 1) left) }
     {
         DocPairs { doc, next, left }
+    }
+
+    /// How many are still to come.
+    #[inline]
+    pub fn len(&self) -> usize
+        ensures { result ≡ length (pairs_left self.now) }
+    {
+        self.left
+    }
+
+    /// The key of the next pair, as a string of its own; none behind the last.
+    #[inline]
+    pub fn key(&self) -> Option<DocView<'a>>
+        ensures tree { option_map view_tree result
+            ≡ option_map (λ p. text p.0) (slice_get (pairs_left self.now) 0) }
+        ensures doc { IfSome result (λ k. view_doc k ≡ pairs_doc self.now) }
+        ensures place { IfSome result
+            (λ k. slice_get (pairs_places self.now) 0 ≡ Some (view_place k + 1)) }
+    {
+        if self.left == 0 {
+            return None;
+        }
+        Some(self.doc.view_at(self.next as u32))
     }
 }
 
@@ -63,7 +90,7 @@ impl<'a> Iterator for DocPairs<'a> {
         let key = key_text(self.doc, self.next);
         let value = self.doc.view_at(self.next as u32 + 1);
         self.left -= 1;
-        self.next += 2;
+        self.next = self.doc.place_behind(self.next + 1);
         Some((key, value))
     }
 }

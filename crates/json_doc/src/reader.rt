@@ -1,19 +1,26 @@
 // Reads a text into a document.
-ghost use Rattle.std.specs.Prelude.{◌≡◌, ◌+◌, ◌≤◌, ◌<◌, ◌^◌, List, ℕ, [], ◌∷◌, ◌++◌, length, false, IfOk, IfErr};
+ghost use Rattle.std.specs.Prelude.{◌≡◌, ◌+◌, ◌-◌, ◌≤◌, ◌<◌, ◌^◌, List, ℕ, [], ◌∷◌, ◌++◌, length, true, false, IfOk, IfErr, OnOk};
 ghost use Rattle.json_grammar.specs.Tree.{Tree, Token, num_token, depth};
 ghost use Rattle.json_grammar.specs.Grammar.{is_text, number};
-ghost use Rattle.json_text.specs.Events.{Means, raw_size};
+ghost use Rattle.json_grammar.specs.Fault.{reads};
+ghost use Rattle.json_grammar.specs.Rules.{fits};
+ghost use Rattle.json_text.specs.Events.{Means, raw_size, token_bytes};
+ghost use Rattle.json_text.specs.Parsing.{input, taken, HasGiven, SameInput};
+ghost use Rattle.json_text.specs.Positions.{place_at};
+ghost use Rattle.json_text.specs.Ruled.{rules_of};
 ghost use Rattle.json_doc.specs.Awaited.{Begins};
 ghost use Rattle.json_doc.specs.State.{MayCome};
 ghost use Rattle.json_doc.specs.Recorded.{visitor_state, Holds, SameRoom};
-ghost use Rattle.json_doc.specs.Reading.{ReadingFails, EventIsNumber, HasRoomFor, Follows};
+ghost use Rattle.json_doc.specs.Reading.{ReadingFails, ReadingFailsWith, FrontFails, RefusesName, EventIsNumber, HasRoomFor, Follows};
+ghost use Rattle.json_doc.specs.OpenNames.{HasSomeNames, TakesIn, Differ};
 ghost use Rattle.json_doc.specs.Docs.{IsDocOf};
 
 use crate::doc::Doc;
 use crate::document_visitor::DocumentVisitor;
+use crate::open_keys::OpenKeys;
 use crate::visitor::JsonVisitor;
 use json_number::{JsonNumberTrait, integer_of};
-use json_text::{Event, Parser, Result};
+use json_text::{Error, ErrorCode, Event, Parser, Result, Rules, Span, place_of};
 use std::alloc::Global;
 use std::rc::Rc;
 
@@ -23,8 +30,10 @@ fn record_number(visitor: &mut DocumentVisitor, literal: &str) -> bool
     requires number { number literal.now }
     requires come { (visitor_state visitor.old).full ≡ false
         → MayCome (Holds visitor.old) (num_token literal.now) }
-    ensures follows { (ts : List Token) → Follows visitor.old ts → Begins (ts ++ num_token literal.now ∷ [])
-        → HasRoomFor visitor.old (length literal.now) → Follows visitor.new (ts ++ num_token literal.now ∷ []) }
+    ensures follows { (ts : List Token) → Follows visitor.old ts
+        → Begins (ts ++ num_token literal.now ∷ [])
+        → HasRoomFor visitor.old (length literal.now)
+        → Follows visitor.new (ts ++ num_token literal.now ∷ []) }
     ensures room { SameRoom visitor.old visitor.new }
 {
     match integer_of(literal) {
@@ -64,6 +73,108 @@ fn record_event(visitor: &mut DocumentVisitor, event: Event<'_>) -> bool
     }
 }
 
+// The refusal of a name that repeats. `end` is the place behind it.
+#[cold]
+#[inline(never)]
+fn repeated(name: Span<'_>, text: &str, end: usize) -> Error
+    requires begins { length name.raw.now + 2 ≤ end }
+    requires within { end ≤ length text.now }
+    ensures { result ≡ record {
+      code = ErrorCode.DuplicateKey;
+      place = place_at text.now (end - (length name.entry.raw.now + 2));
+    } }
+{
+    Error {
+        code: ErrorCode::DuplicateKey,
+        place: place_of(text.as_bytes(), end - (name.raw_len() + 2)),
+    }
+}
+
+// Refuses a name that its object has already. `end` is the place behind the event.
+fn refuse_repeated<'a>(
+    keys: &mut OpenKeys<'a>,
+    event: Event<'a>,
+    text: &str,
+    end: usize,
+) -> Result<()>
+    requires some { HasSomeNames keys.old }
+    requires means { (x : Token) × Means event x }
+    requires begins { length (token_bytes event) ≤ end }
+    requires within { end ≤ length text.now }
+    ensures ok { OnOk result ((x : Token) → Means event.entry x
+        → TakesIn false keys.old keys.new x) }
+    ensures err { IfErr result (RefusesName keys.old event.entry text.now end) }
+{
+    match event {
+        Event::Key(name) => {
+            if keys.take_key(name)? {
+                return Err(repeated(name, text, end));
+            }
+        }
+        Event::BeginArray | Event::BeginObject => keys.begin()?,
+        Event::EndArray | Event::EndObject => keys.end(),
+        _ => {}
+    }
+    Ok(())
+}
+
+// The same, where the names of each object have to differ.
+#[inline(always)]
+fn check_names<'a>(
+    rules: Rules,
+    keys: &mut OpenKeys<'a>,
+    event: Event<'a>,
+    text: &str,
+    end: usize,
+) -> Result<()>
+    requires some { (rules_of rules).unique ≡ true → HasSomeNames keys.old }
+    requires means { (x : Token) × Means event x }
+    requires begins { length (token_bytes event) ≤ end }
+    requires within { end ≤ length text.now }
+    ensures ok { OnOk result ((x : Token) (ts : List Token) → Means event.entry x
+        → Differ (rules_of rules) keys.old ts → Differ (rules_of rules) keys.new (ts ++ x ∷ [])) }
+    ensures err { IfErr result (λ e. ((rules_of rules).unique ≡ true)
+        × RefusesName keys.old event.entry text.now end e) }
+{
+    if !rules.unique() {
+        return Ok(());
+    }
+    refuse_repeated(keys, event, text, end)
+}
+
+/// The document of a JSON text of at most 4,294,967,295 bytes that fits the rules: it has no more levels, and where the
+/// names of each object have to differ none repeats (RFC 8259, sections 9 and 4). Each fault of the text by the rules is
+/// told with its place: of a bracket that opens a level too many and a name that repeats the one that comes first, and
+/// either before all else. Or memory runs out.
+///
+/// ```
+/// use json_doc::read_document_with;
+/// use json_text::{ErrorCode, Rules};
+/// let rules = Rules::new(254, true).ok_or("so many levels")?;
+/// let refused = read_document_with(alloc, "{\"a\": 1, \"\\u0061\": 2}", rules).err().ok_or("it was read")?;
+/// assert_eq!(rt; (refused.code, refused.offset()), (ErrorCode::DuplicateKey, Some(9)));
+/// ```
+pub fn read_document_with(alloc: Global, text: &str, rules: Rules) -> Result<Rc<Doc>>
+    requires { length text.now < 2 ^ 32 }
+    ensures ok { IfOk result (λ d. (t : Tree) × is_text false t text.now × fits t (rules_of rules)
+        × IsDocOf d.value t) }
+    ensures err { IfErr result (λ e. ReadingFailsWith (rules_of rules) text.now e.code e.place) }
+{
+    let mut visitor = DocumentVisitor::new(alloc, text.len())?;
+    let mut parser = Parser::new(text).depth(rules.depth());
+    let mut keys = OpenKeys::new(alloc);
+    'events: loop {
+        match parser.next()? {
+            Event::End => break,
+            event => {
+                check_names(rules, &mut keys, event, text, parser.index())?;
+                let _recorded = record_event(&mut visitor, event);
+            }
+        }
+    }
+    visitor.finish(alloc)
+}
+
 /// The document of a JSON text of at most 4,294,967,295 bytes and 254 levels (RFC 8259, section 9, lets
 /// a reader set such limits). Each fault of the text is told with its place; or memory runs out.
 pub fn read_document(alloc: Global, text: &str) -> Result<Rc<Doc>>
@@ -72,15 +183,32 @@ pub fn read_document(alloc: Global, text: &str) -> Result<Rc<Doc>>
         × IsDocOf d.value t) }
     ensures err { IfErr result (λ e. ReadingFails text.now e.code e.place) }
 {
-    let mut visitor = DocumentVisitor::new(alloc, text.len())?;
-    let mut parser = Parser::new(text);
-    'events: loop {
-        match parser.next()? {
-            Event::End => break,
-            event => {
-                let _recorded = record_event(&mut visitor, event);
-            }
-        }
+    read_document_with(alloc, text, Rules::usual())
+}
+
+/// The document of one value, whatever follows it: the parser, which has handed out no event, goes on to the end of the
+/// value and stands right behind it. Its text has at most 4,294,967,295 bytes. Each fault of what it reads, as a value, is
+/// told with its place in the text; or memory runs out.
+///
+/// ```
+/// use json_doc::read_front;
+/// use json_text::Parser;
+/// let mut parser = Parser::new("[1] [2]");
+/// assert_eq!(rt; read_front(alloc, &mut parser)?.cells().len(), 2);
+/// assert_eq!(rt; parser.index(), 3);
+/// ```
+pub fn read_front(alloc: Global, parser: &mut Parser<'_>) -> Result<Rc<Doc>>
+    requires fresh { HasGiven parser.old [] }
+    requires size { length parser.old.text < 2 ^ 32 }
+    ensures same { SameInput parser.old parser.new }
+    ensures ok { IfOk result (λ d. (t : Tree) × reads false (input parser.old) t (taken parser.new)
+        × (depth t ≤ parser.old.limit) × IsDocOf d.value t) }
+    ensures err { IfErr result (λ e. FrontFails parser.old e.code e.place) }
+{
+    let mut visitor = DocumentVisitor::new(alloc, parser.input_len())?;
+    'events: while !parser.done() {
+        let event = parser.next()?;
+        let _recorded = record_event(&mut visitor, event);
     }
     visitor.finish(alloc)
 }

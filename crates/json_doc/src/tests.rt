@@ -1,7 +1,9 @@
 // What documents hold, and what views show of them.
-use crate::{Cell, Doc, DocNode, DocumentVisitor, JsonType, JsonVisitor, read_document};
+use crate::{
+    Cell, Doc, DocNode, DocumentVisitor, JsonType, JsonVisitor, read_document, read_front,
+};
 use json_number::Number;
-use json_text::{Error, ErrorCode, Place};
+use json_text::{Error, ErrorCode, Parser, Place};
 use std::alloc::Global;
 use std::process::Abort;
 use std::rc::Rc;
@@ -15,7 +17,7 @@ fn read(rt: &impl Abort, alloc: Global, text: &str) -> json_text::Result<Rc<Doc>
 #[test]
 fn cells_and_text(rt: HostRuntime) -> Result<(), Fail> {
     let cases = [
-        ("[]", [Cell::Array { link: 0, len: 0 }].as_slice(), ""),
+        ("[]", [Cell::Array { link: 1, len: 0 }].as_slice(), ""),
         (
             " \"\\u00e9\\n\" ",
             [Cell::Str { start: 0, len: 3 }].as_slice(),
@@ -24,12 +26,12 @@ fn cells_and_text(rt: HostRuntime) -> Result<(), Fail> {
         (
             "[[1],[\"x\"],2]",
             [
+                Cell::Array { link: 6, len: 3 },
+                Cell::Array { link: 3, len: 1 },
                 Cell::Unsigned(1),
+                Cell::Array { link: 5, len: 1 },
                 Cell::Str { start: 0, len: 1 },
-                Cell::Array { link: 0, len: 1 },
-                Cell::Array { link: 1, len: 1 },
                 Cell::Unsigned(2),
-                Cell::Array { link: 2, len: 3 },
             ]
             .as_slice(),
             "x",
@@ -37,16 +39,16 @@ fn cells_and_text(rt: HostRuntime) -> Result<(), Fail> {
         (
             "{\"a\":[12,[null]],\"b\":{},\"a\":true}",
             [
-                Cell::Null,
-                Cell::Unsigned(12),
-                Cell::Array { link: 0, len: 1 },
+                Cell::Object { link: 10, len: 3 },
                 Cell::Str { start: 0, len: 1 },
-                Cell::Array { link: 1, len: 2 },
+                Cell::Array { link: 6, len: 2 },
+                Cell::Unsigned(12),
+                Cell::Array { link: 6, len: 1 },
+                Cell::Null,
                 Cell::Str { start: 1, len: 1 },
-                Cell::Object { link: 0, len: 0 },
+                Cell::Object { link: 8, len: 0 },
                 Cell::Str { start: 2, len: 1 },
                 Cell::Bool(true),
-                Cell::Object { link: 3, len: 3 },
             ]
             .as_slice(),
             "aba",
@@ -56,7 +58,7 @@ fn cells_and_text(rt: HostRuntime) -> Result<(), Fail> {
         let doc = read(&rt, rt.alloc(), json)?;
         assert!(rt; doc.cells() == cells, "{json}");
         assert!(rt; doc.text() == text, "{json}");
-        assert!(rt; doc.root() as usize + 1 == cells.len(), "{json}");
+        assert!(rt; doc.root() == 0, "{json}");
     }
     Ok(())
 }
@@ -69,13 +71,13 @@ fn integers_by_value(rt: HostRuntime) -> Result<(), Fail> {
     assert!(rt;
         doc.cells()
             == [
+                Cell::Array { link: 7, len: 6 },
                 Cell::Raw { start: 0, len: 2 },
                 Cell::Raw { start: 2, len: 3 },
                 Cell::Unsigned(u64::MAX),
                 Cell::Negative(i64::MIN),
                 Cell::Raw { start: 5, len: 20 },
                 Cell::Raw { start: 25, len: 20 },
-                Cell::Array { link: 0, len: 6 },
             ]
             .as_slice()
     );
@@ -133,7 +135,7 @@ fn views(rt: HostRuntime) -> Result<(), Fail> {
     let last = root.pair_value(2).ok_or("no value")?;
     assert_eq!(rt;
         (last.as_bool(), last.place(), last.doc().root()),
-        (Some(true), 8, 9)
+        (Some(true), 9, 0)
     );
     let mut types = Vec::new(rt.alloc());
     for child in root.children() {
@@ -157,7 +159,7 @@ fn key_views(rt: HostRuntime) -> Result<(), Fail> {
     let second = root.key_view(1).ok_or("no key")?;
     assert_eq!(rt;
         (second.text(), second.get_type(), second.place()),
-        (Some("b"), JsonType::String, 5)
+        (Some("b"), JsonType::String, 6)
     );
     let value = root.pair_value(0).ok_or("no value")?;
     assert!(rt; root.key_view(3).is_none() && value.key_view(0).is_none());
@@ -223,6 +225,15 @@ fn elements_of_a_node(rt: HostRuntime) -> Result<(), Fail> {
     for element in elements {
         places.push(element.place())?;
     }
-    assert_eq!(rt; places.as_slice(), [1, 2, 3].as_slice());
+    assert_eq!(rt; places.as_slice(), [1, 2, 4].as_slice());
+    Ok(())
+}
+
+#[test]
+fn the_front_of_a_text(rt: HostRuntime) -> Result<(), Fail> {
+    let mut parser = Parser::new("[1]x");
+    let doc = read_front(rt.alloc(), &mut parser)?;
+    assert_eq!(rt; doc.cells().len(), 2);
+    assert_eq!(rt; parser.index(), 3);
     Ok(())
 }

@@ -1,5 +1,5 @@
 // A place of a document, seen as a tree.
-ghost use Rattle.std.specs.Prelude.{◌≡◌, ◌+◌, ◌<◌, length, map, true, option_map, slice_get, slice_index_or, slice_range, string_bytes, IfSome};
+ghost use Rattle.std.specs.Prelude.{◌≡◌, ◌+◌, ◌-◌, ◌<◌, length, map, true, option_map, slice_get, slice_index_or, slice_range, string_bytes, IfSome};
 ghost use Rattle.std.specs.Str.{IsCharBoundary};
 ghost use Rattle.json_doc.specs.Docs.{doc_cells, doc_text, doc_tree};
 ghost use Rattle.json_doc.specs.Shape.{is_str};
@@ -136,9 +136,37 @@ impl<'a> DocView<'a> {
             ≡ child_place (view_doc self.entry) (view_place self.entry) i) }
     {
         match self.cell() {
-            Cell::Array { link, len } => {
+            Cell::Array { len, .. } => {
                 if i < len as usize {
-                    Some(self.doc.view_at(link + i as u32))
+                    let at = self.doc.place_from(0, self.at as usize + 1, i);
+                    Some(self.doc.view_at(at as u32))
+                } else {
+                    None
+                }
+            }
+            _ => None,
+        }
+    }
+
+    // Where the value of the pair `i` stands, with its key before it.
+    #[inline]
+    fn value_place(self, i: usize) -> Option<usize>
+        ensures within { IfSome result (λ k. k < length (doc_cells (view_doc self.entry))) }
+        ensures behind { IfSome result (λ k. 0 < k) }
+        ensures keyed { IfSome result
+            (λ k. is_str (slice_index_or (doc_cells (view_doc self.entry)) (k - 1) null_cell)
+            ≡ true) }
+        ensures place { IfSome result
+            (λ k. k ≡ child_place (view_doc self.entry) (view_place self.entry) i) }
+        ensures value { option_map (doc_tree (view_doc self.entry)) result
+            ≡ slice_get (values (view_tree self.entry)) i }
+        ensures key { option_map (λ k. text_of (doc_tree (view_doc self.entry) (k - 1))) result
+            ≡ slice_get (keys (view_tree self.entry)) i }
+    {
+        match self.cell() {
+            Cell::Object { len, .. } => {
+                if i < len as usize {
+                    Some(self.doc.place_from(1, self.at as usize + 2, i))
                 } else {
                     None
                 }
@@ -152,15 +180,9 @@ impl<'a> DocView<'a> {
     pub fn key(self, i: usize) -> Option<&'a str>
         ensures { option_map (λ s. s.now) result ≡ slice_get (keys (view_tree self.entry)) i }
     {
-        match self.cell() {
-            Cell::Object { link, len } => {
-                if i < len as usize {
-                    text_at(self.doc, link as usize + 2 * i)
-                } else {
-                    None
-                }
-            }
-            _ => None,
+        match self.value_place(i) {
+            Some(at) => Some(key_text(self.doc, at - 1)),
+            None => None,
         }
     }
 
@@ -173,15 +195,9 @@ impl<'a> DocView<'a> {
         ensures place { IfSome result (λ v. view_place v
             ≡ key_place (view_doc self.entry) (view_place self.entry) i) }
     {
-        match self.cell() {
-            Cell::Object { link, len } => {
-                if i < len as usize {
-                    Some(self.doc.view_at(link + 2 * i as u32))
-                } else {
-                    None
-                }
-            }
-            _ => None,
+        match self.value_place(i) {
+            Some(at) => Some(self.doc.view_at(at as u32 - 1)),
+            None => None,
         }
     }
 
@@ -193,15 +209,9 @@ impl<'a> DocView<'a> {
         ensures place { IfSome result (λ v. view_place v
             ≡ child_place (view_doc self.entry) (view_place self.entry) i) }
     {
-        match self.cell() {
-            Cell::Object { link, len } => {
-                if i < len as usize {
-                    Some(self.doc.view_at(link + 1 + 2 * i as u32))
-                } else {
-                    None
-                }
-            }
-            _ => None,
+        match self.value_place(i) {
+            Some(at) => Some(self.doc.view_at(at as u32)),
+            None => None,
         }
     }
 
@@ -215,13 +225,13 @@ impl<'a> DocView<'a> {
             ≡ Some (child_place (view_doc self.entry) (view_place self.entry) i) }
     {
         match self.cell() {
-            Cell::Array { link, len } => {
-                DocChildren::new(self.doc, link as usize, len as usize, 1)
+            Cell::Array { len, .. } => {
+                DocChildren::new(self.doc, 0, self.at as usize + 1, len as usize)
             }
-            Cell::Object { link, len } => {
-                DocChildren::new(self.doc, link as usize + 1, len as usize, 2)
+            Cell::Object { len, .. } => {
+                DocChildren::new(self.doc, 1, self.at as usize + 2, len as usize)
             }
-            _ => DocChildren::new(self.doc, 0, 0, 1),
+            _ => DocChildren::new(self.doc, 0, 0, 0),
         }
     }
 
@@ -240,11 +250,13 @@ impl<'a> DocView<'a> {
             Cell::Negative(n) => DocNode::Number(Number::from(n)),
             Cell::Raw { start, len } => DocNode::Raw(text_range(self.doc, start, len)),
             Cell::Str { start, len } => DocNode::String(text_range(self.doc, start, len)),
-            Cell::Array { link, len } => {
-                DocNode::Array(DocChildren::new(self.doc, link as usize, len as usize, 1))
+            Cell::Array { len, .. } => {
+                let first = self.at as usize + 1;
+                DocNode::Array(DocChildren::new(self.doc, 0, first, len as usize))
             }
-            Cell::Object { link, len } => {
-                DocNode::Object(DocPairs::new(self.doc, link as usize, len as usize))
+            Cell::Object { len, .. } => {
+                let first = self.at as usize + 1;
+                DocNode::Object(DocPairs::new(self.doc, first, len as usize))
             }
         }
     }

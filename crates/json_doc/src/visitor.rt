@@ -6,6 +6,7 @@ ghost use Rattle.json_grammar.specs.Tree.{Token, null_token, boolean_token, num_
 ghost use Rattle.json_grammar.specs.Grammar.{chars, number};
 ghost use Rattle.json_grammar.specs.declared.Kind.TheVariants.{Array as array, Object as object};
 ghost use Rattle.json_number.specs.Integers.{integer_in};
+ghost use Rattle.json_text.specs.Spelled.{NoEscape};
 ghost use Rattle.json_doc.specs.State.{VisitorState, Fits, after_event, MayCome, HoldsMore};
 
 use json_text::Span;
@@ -14,6 +15,8 @@ use json_text::Span;
 ///
 /// Each call answers whether the event was recorded. None is recorded where the room is full, nor after
 /// one that was not. While all were recorded, the events so far and this one begin the events of a tree.
+/// An event takes no memory, but for one that appends a literal or a text without escapes: that has to
+/// have its room, which `append` of std is not said to keep.
 ///
 /// ```
 /// use json_doc::{DocumentVisitor, JsonVisitor};
@@ -30,12 +33,16 @@ pub trait JsonVisitor {
     // the room, and what was recorded
     ghost state: { Self → VisitorState };
 
+    // an event took no memory: what was taken before it is what is taken after it
+    ghost keeps_memory: { Self → Self → Type 0 };
+
     /// `null`.
     fn visit_null(&mut self) -> bool
         requires { (state self.old).full ≡ false → MayCome (holds self.old) null_token }
         ensures answer { IsTrue result ↔ Fits (state self.old) 1 0 }
         ensures state { state self.new ≡ after_event result 1 0 (state self.old) }
-        ensures held { OnTrue result (HoldsMore (holds self.old) (holds self.new) null_token) };
+        ensures held { OnTrue result (HoldsMore (holds self.old) (holds self.new) null_token) }
+        ensures memory { keeps_memory self.old self.new };
 
     /// `true` or `false`.
     fn visit_bool(&mut self, b: bool) -> bool
@@ -43,7 +50,8 @@ pub trait JsonVisitor {
         ensures answer { IsTrue result ↔ Fits (state self.old) 1 0 }
         ensures state { state self.new ≡ after_event result 1 0 (state self.old) }
         ensures held { OnTrue result
-            (HoldsMore (holds self.old) (holds self.new) (boolean_token b)) };
+            (HoldsMore (holds self.old) (holds self.new) (boolean_token b)) }
+        ensures memory { keeps_memory self.old self.new };
 
     /// A number by its integer from 0 on. It adds no text.
     fn visit_u64(&mut self, n: u64) -> bool
@@ -52,7 +60,8 @@ pub trait JsonVisitor {
         ensures answer { IsTrue result ↔ Fits (state self.old) 1 0 }
         ensures state { state self.new ≡ after_event result 1 0 (state self.old) }
         ensures held { OnTrue result
-            (HoldsMore (holds self.old) (holds self.new) (num_token (signed_decimal (pos n)))) };
+            (HoldsMore (holds self.old) (holds self.new) (num_token (signed_decimal (pos n)))) }
+        ensures memory { keeps_memory self.old self.new };
 
     /// A number by its integer below 0. It adds no text.
     fn visit_i64(&mut self, n: i64) -> bool
@@ -62,7 +71,8 @@ pub trait JsonVisitor {
         ensures answer { IsTrue result ↔ Fits (state self.old) 1 0 }
         ensures state { state self.new ≡ after_event result 1 0 (state self.old) }
         ensures held { OnTrue result
-            (HoldsMore (holds self.old) (holds self.new) (num_token (signed_decimal n))) };
+            (HoldsMore (holds self.old) (holds self.new) (num_token (signed_decimal n))) }
+        ensures memory { keeps_memory self.old self.new };
 
     /// A number by its literal, which has to be a number (RFC 8259, section 6) that is no integer of `u64` or `i64`.
     fn visit_raw_number(&mut self, literal: &str) -> bool
@@ -84,7 +94,8 @@ pub trait JsonVisitor {
         ensures state { (t : List ℕ) → chars false t s.entry.raw.now
             → state self.new ≡ after_event result 1 (length t) (state self.old) }
         ensures held { OnTrue result ((t : List ℕ) → chars false t s.entry.raw.now
-            → HoldsMore (holds self.old) (holds self.new) (text_token t)) };
+            → HoldsMore (holds self.old) (holds self.new) (text_token t)) }
+        ensures memory { ¬ (NoEscape s.entry.raw.now) → keeps_memory self.old self.new };
 
     /// A key by what stands between its quotes.
     fn visit_key(&mut self, s: Span<'_>) -> bool
@@ -94,33 +105,38 @@ pub trait JsonVisitor {
         ensures state { (t : List ℕ) → chars false t s.entry.raw.now
             → state self.new ≡ after_event result 1 (length t) (state self.old) }
         ensures held { OnTrue result ((t : List ℕ) → chars false t s.entry.raw.now
-            → HoldsMore (holds self.old) (holds self.new) (key_token t)) };
+            → HoldsMore (holds self.old) (holds self.new) (key_token t)) }
+        ensures memory { ¬ (NoEscape s.entry.raw.now) → keeps_memory self.old self.new };
 
     /// An array begins.
     fn visit_array_start(&mut self) -> bool
         requires { (state self.old).full ≡ false → MayCome (holds self.old) (begin array) }
         ensures answer { IsTrue result ↔ Fits (state self.old) 1 0 }
         ensures state { state self.new ≡ after_event result 1 0 (state self.old) }
-        ensures held { OnTrue result (HoldsMore (holds self.old) (holds self.new) (begin array)) };
+        ensures held { OnTrue result (HoldsMore (holds self.old) (holds self.new) (begin array)) }
+        ensures memory { keeps_memory self.old self.new };
 
     /// The innermost array ends.
     fn visit_array_end(&mut self) -> bool
         requires { (state self.old).full ≡ false → MayCome (holds self.old) (end array) }
         ensures answer { IsTrue result ↔ Fits (state self.old) 0 0 }
         ensures state { state self.new ≡ after_event result 0 0 (state self.old) }
-        ensures held { OnTrue result (HoldsMore (holds self.old) (holds self.new) (end array)) };
+        ensures held { OnTrue result (HoldsMore (holds self.old) (holds self.new) (end array)) }
+        ensures memory { keeps_memory self.old self.new };
 
     /// An object begins.
     fn visit_object_start(&mut self) -> bool
         requires { (state self.old).full ≡ false → MayCome (holds self.old) (begin object) }
         ensures answer { IsTrue result ↔ Fits (state self.old) 1 0 }
         ensures state { state self.new ≡ after_event result 1 0 (state self.old) }
-        ensures held { OnTrue result (HoldsMore (holds self.old) (holds self.new) (begin object)) };
+        ensures held { OnTrue result (HoldsMore (holds self.old) (holds self.new) (begin object)) }
+        ensures memory { keeps_memory self.old self.new };
 
     /// The innermost object ends.
     fn visit_object_end(&mut self) -> bool
         requires { (state self.old).full ≡ false → MayCome (holds self.old) (end object) }
         ensures answer { IsTrue result ↔ Fits (state self.old) 0 0 }
         ensures state { state self.new ≡ after_event result 0 0 (state self.old) }
-        ensures held { OnTrue result (HoldsMore (holds self.old) (holds self.new) (end object)) };
+        ensures held { OnTrue result (HoldsMore (holds self.old) (holds self.new) (end object)) }
+        ensures memory { keeps_memory self.old self.new };
 }

@@ -1,6 +1,9 @@
-use Rattle.std.proofs.Common.{string_bytes}
-use Rattle.json_doc.proofs.OneTree.{one_spelled}
+use Rattle.std.proofs.Common.{◌∙◌, sym, length}
+use Rattle.json_doc.specs.Docs.{doc_cells, doc_text}
+use Rattle.json_doc.proofs.Trees.{spelled}
 use Rattle.json_doc.proofs.laws.one_tree.Goals as goal
 
 pub returns : goal.returns
-returns c d t u h k = one_spelled d.cells.items (string_bytes d.text) d.root t u h.spelled k.spelled
+returns c d t u h k =
+    let end = length (doc_cells d) in
+    sym (spelled (doc_cells d) (doc_text d) d.in_place d.root end t h.spelled) ∙ spelled (doc_cells d) (doc_text d) d.in_place d.root end u k.spelled

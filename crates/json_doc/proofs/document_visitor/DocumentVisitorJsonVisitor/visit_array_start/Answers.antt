@@ -5,5 +5,5 @@ use Rattle.json_doc.proofs.document_visitor.DocumentVisitorJsonVisitor.visit_arr
 pub returns-clause-held : goal.returns-clause-held
 returns-clause-held c ts h b =
     let s = c.args.self.now in
-    let place : c.len-place.result ≡ length s.front.items = c.len-place.ensures ∙ ap vec_len c.if-not-admit.ensures.front ∙ omega (arith, s.front.ok.0) in
-    held_same _ _ _ _ _ _ _ _ _ (cc) (cc) (cc) place (held_array s.front.items s.done.items s.text.items s.parent ts h b)
+    let place : c.open.new.self.parent ≡ length s.cells.items = c.open.ensures.parent ∙ ap vec_len c.if-not-admit.ensures.cells ∙ omega (arith, s.cells.ok.0) in
+    held_same _ _ _ _ _ _ _ _ _ (cc) (cc) place (cc) (held_array s.cells.items s.text.items s.parent s.count ts h b)

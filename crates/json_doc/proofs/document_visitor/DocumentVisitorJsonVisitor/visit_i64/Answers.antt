@@ -5,4 +5,4 @@ use Rattle.json_doc.proofs.document_visitor.DocumentVisitorJsonVisitor.visit_i64
 pub returns-clause-held : goal.returns-clause-held
 returns-clause-held c ts h b =
     let s = c.args.self.now in
-    held_same _ _ _ _ _ _ _ _ _ (cc (to_z-of_z c.ranges.n)) (cc) (cc) (cc) (held_negative s.front.items s.done.items s.text.items s.parent ts c.args.n c.requires.negative c.ranges.n h b)
+    held_same _ _ _ _ _ _ _ _ _ (cc (to_z-of_z c.ranges.n)) (cc) (cc) (cc) (held_negative s.cells.items s.text.items s.parent s.count ts c.args.n c.requires.negative c.ranges.n h b)

@@ -9,5 +9,5 @@ returns-clause-held c t h ts held b =
     let s = c.args.self.now in
     let is = c.push_text-cell.ensures.cell t h in
     let behind = c.push_text-cell.ensures.text t h in
-    let front : c.push.new.self.front.items ≡ s.front.items ++ cell.Str (length s.text.items) (length t) ∷ [] = cc (is, s.text.ok.0) in
-    held_same _ _ _ _ _ _ _ _ _ front (cc) (cc behind) (cc) (held_key s.front.items s.done.items s.text.items s.parent ts t (chars_utf8 false h) held b)
+    let cells : c.push.new.self.cells.items ≡ s.cells.items ++ cell.Str (length s.text.items) (length t) ∷ [] = cc (is, s.text.ok.0) in
+    held_same _ _ _ _ _ _ _ _ _ cells (cc behind) (cc) (cc) (held_key s.cells.items s.text.items s.parent s.count ts t (chars_utf8 false h) held b)

@@ -4,4 +4,4 @@ use Rattle.json_doc.proofs.document_visitor.DocumentVisitorJsonVisitor.visit_nul
 pub returns-clause-held : goal.returns-clause-held
 returns-clause-held c ts h b =
     let s = c.args.self.now in
-    held_same _ _ _ _ _ _ _ _ _ (cc) (cc) (cc) (cc) (held_null s.front.items s.done.items s.text.items s.parent ts h b)
+    held_same _ _ _ _ _ _ _ _ _ (cc) (cc) (cc) (cc) (held_null s.cells.items s.text.items s.parent s.count ts h b)

@@ -1,31 +1,19 @@
-use Rattle.std.proofs.Common.{◌≡◌, ℕ, ◌/◌, ◌∷◌, [], ◌++◌, length, take, ap, arith}
+use Rattle.std.proofs.Common.{◌≡◌, ◌/◌, length, ◌∙◌, arith}
+use Rattle.std.specs.Prelude.{slice_set}
 use Rattle.json_doc.specs.declared.cell.Cell.TheVariants as cell
-use Rattle.json_doc.specs.Block.{link_to}
-use Rattle.json_doc.proofs.Holding.{same_state, same_count, held_same, open_object, held_object_end}
+use Rattle.json_doc.proofs.Holding.{held_same, held_object_end}
 use Rattle.json_doc.proofs.document_visitor.DocumentVisitorJsonVisitor.visit_object_end.Goals as goal
-
-pub width-len-requires : goal.width-len-requires
-width-len-requires c =
-    let s = c.args.self.now in
-    let h = c.requires c.if-self.false in
-    open_object s.front.items s.done.items s.text.items s.parent h.0 h.1 h.2
 
 pub close-requires : goal.close-requires
 close-requires c =
     let s = c.args.self.now in
-    let h = c.requires c.if-self.false in
-    open_object s.front.items s.done.items s.text.items s.parent h.0 h.1 h.2
+    let q = c.requires c.if-self.false in
+    let ends = held_object_end s.cells.items s.text.items s.parent s.count q.0 q.1 q.2 in
+    record { is_open = ends.is_open; fits = ends.fits }
 
 pub returns-clause-held : goal.returns-clause-held
 returns-clause-held c ts h b =
     let s = c.args.self.now in
-    let closed = held_object_end s.front.items s.done.items s.text.items s.parent (c.width-len.result / 2) ts (ap (λ (n : ℕ). n / 2) c.width-len.ensures) h b in
-    let header : c.close.new.self.front.items ≡ take s.parent s.front.items ++ cell.Object (link_to (length s.done.items) (c.width-len.result / 2)) (c.width-len.result / 2) ∷ [] = cc in
-    held_same _ _ _ _ _ _ _ _ _ header c.close.ensures.done (cc) c.close.ensures.parent closed
-
-pub returns-clause-state : goal.returns-clause-state
-returns-clause-state c =
-    let s = c.args.self.now in
-    let h = c.requires c.if-self.false in
-    let count = same_count s.front.items s.done.items _ _ s.parent _ (open_object s.front.items s.done.items s.text.items s.parent h.0 h.1 h.2) c.close.ensures.front c.close.ensures.done in
-    same_state _ _ c.close.ensures.room.0 c.close.ensures.room.1 count (rw c.close.ensures.text (omega arith)) c.close.ensures.full
+    let link : c.len-link.result ≡ length s.cells.items = c.len-link.ensures ∙ omega (arith, s.cells.ok.0) in
+    let cells : c.close.new.self.cells.items ≡ slice_set s.cells.items s.parent (cell.Object (length s.cells.items) (s.count / 2)) = cc in
+    held_same _ _ _ _ _ _ _ _ _ cells (cc) c.close.ensures.parent c.close.ensures.count (held_object_end s.cells.items s.text.items s.parent s.count ts h b).held

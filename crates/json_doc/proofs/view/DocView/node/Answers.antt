@@ -1,13 +1,14 @@
-use Rattle.std.proofs.Common.{ℕ, pos, SFits, w64, to_z-of_z, List, length, sym, ap, subst, ◌∙◌, arith, rules}
+use Rattle.std.proofs.Common.{◌≡◌, ℕ, ◌+◌, pos, SFits, w64, to_z-of_z, List, Some, length, map, sym, ap, subst, ◌∙◌, arith, rules}
 use Rattle.std.specs.Prelude.{slice_get}
 use Rattle.std.specs.Fmt.{signed_decimal}
 use Rattle.json_grammar.specs.Grammar.{number}
 use Rattle.json_grammar.specs.Tree.{num, text}
 use Rattle.json_number.specs.Integers.{integer_in}
 use Rattle.json_doc.specs.ByValue.{value_of_cell}
-use Rattle.json_doc.specs.Docs.{doc_tree}
+use Rattle.json_doc.specs.Docs.{doc_cells, doc_tree}
+use Rattle.json_doc.specs.Places.{places_from}
 use Rattle.json_doc.specs.Left.{doc_pair}
-use Rattle.json_doc.proofs.Shown.{length-of_places, null_at, boolean_at, integer_tree_at, num_at, number_at, raw_at, text_tree_at, array_at, object_at, element_place, value_place}
+use Rattle.json_doc.proofs.Shown.{null_at, boolean_at, integer_tree_at, num_at, number_at, raw_at, text_tree_at, array_at, object_at, elements_below, values_below, all_keyed, length-of_places, get-places, array_child, object_child}
 use Rattle.json_doc.proofs.view.DocView.node.Goals as goal
 
 pub returns-in-Null-clause-tree : goal.returns-in-Null-clause-tree
@@ -50,22 +51,46 @@ returns-in-Array-clause-tree c =
     let a = array_at s.doc.now s.at c.cell.result s.inside c.cell.ensures c.in-Array.link c.in-Array.len c.in-Array.is in
     (a.0, a.1, c.new.ensures.trees ∙ a.2)
 
+pub new-requires-clause-inside : goal.new-requires-clause-inside
+new-requires-clause-inside c =
+    let s = c.args.self in
+    elements_below s.doc.now s.at c.cell.result s.inside c.cell.ensures c.in-Array.link c.in-Array.len c.in-Array.len c.in-Array.is (omega arith)
+
 pub returns-in-Array-clause-places : goal.returns-in-Array-clause-places
 returns-in-Array-clause-places c i h =
     let s = c.args.self in
-    let count = length-of_places (doc_tree s.doc.now) c.in-Array.link 1 c.in-Array.len in
+    let d = s.doc.now in
+    let len = c.in-Array.len in
+    let count = length-of_places (doc_tree d) (doc_cells d) 0 (s.at + 1) len in
     ap (λ (ks : List ℕ). slice_get ks i) c.new.ensures.places
-    ∙ element_place s.doc.now s.at c.cell.result c.in-Array.link c.in-Array.len i c.cell.ensures c.in-Array.is (omega (arith, ap length c.new.ensures.trees, count))
+    ∙ get-places (doc_cells d) 0 (s.at + 1) len i (omega (arith, ap length c.new.ensures.trees, count)) ∙ ap Some (array_child d s.at c.cell.result s.inside c.cell.ensures c.in-Array.link len i c.in-Array.is)
+
+-- the first key, and the value behind it
+second : (at : ℕ) → (at + 1) + 1 ≡ at + 2
+second at = omega arith
+
+pub new-requires-in-Object-clause-inside : goal.new-requires-in-Object-clause-inside
+new-requires-in-Object-clause-inside c =
+    let s = c.args.self in
+    rw second (values_below s.doc.now s.at c.cell.result s.inside c.cell.ensures c.in-Object.link c.in-Object.len c.in-Object.len c.in-Object.is (omega arith))
+
+pub new-requires-in-Object-clause-keyed : goal.new-requires-in-Object-clause-keyed
+new-requires-in-Object-clause-keyed c =
+    let s = c.args.self in
+    rw second (all_keyed s.doc.now s.at c.cell.result s.inside c.cell.ensures c.in-Object.link c.in-Object.len c.in-Object.is)
 
 pub returns-in-Object-clause-tree : goal.returns-in-Object-clause-tree
 returns-in-Object-clause-tree c =
     let s = c.args.self in
-    let o = object_at s.doc.now s.at c.cell.result s.inside c.cell.ensures c.in-Object.link c.in-Object.len c.in-Object.is in
-    (o.0, o.1, c.new-in-Object.ensures.pairs ∙ o.2)
+    let d = s.doc.now in
+    let o = object_at d s.at c.cell.result s.inside c.cell.ensures c.in-Object.link c.in-Object.len c.in-Object.is in
+    (o.0, o.1, c.new-in-Object.ensures.pairs ∙ ap (λ (k : ℕ). map (doc_pair d) (places_from (doc_cells d) 1 k c.in-Object.len)) (second s.at) ∙ o.2)
 
 pub returns-in-Object-clause-places : goal.returns-in-Object-clause-places
 returns-in-Object-clause-places c i h =
     let s = c.args.self in
-    let count = length-of_places (doc_pair s.doc.now) c.in-Object.link 2 c.in-Object.len in
-    ap (λ (ks : List ℕ). slice_get ks i) c.new-in-Object.ensures.places
-    ∙ value_place s.doc.now s.at c.cell.result c.in-Object.link c.in-Object.len i c.cell.ensures c.in-Object.is (omega (arith, ap length c.new-in-Object.ensures.pairs, count))
+    let d = s.doc.now in
+    let len = c.in-Object.len in
+    let count = length-of_places (doc_pair d) (doc_cells d) 1 ((s.at + 1) + 1) len in
+    ap (λ (ks : List ℕ). slice_get ks i) (c.new-in-Object.ensures.places ∙ ap (λ (k : ℕ). places_from (doc_cells d) 1 k len) (second s.at))
+    ∙ get-places (doc_cells d) 1 (s.at + 2) len i (omega (arith, ap length c.new-in-Object.ensures.pairs, count)) ∙ ap Some (object_child d s.at c.cell.result s.inside c.cell.ensures c.in-Object.link len i c.in-Object.is)

@@ -1,0 +1,130 @@
+-- The members of an object that stands open in a builder, gone through key by key.
+use Rattle.std.proofs.Common.{◌≡◌, ◌⊎◌, inl, inr, Bool, true, false, ℕ, ◌+◌, ◌-◌, ◌<◌, ◌≤◌, List, [], ◌∷◌, ◌++◌, length, Option, Some, None, refl, sym, ap, subst, ◌∙◌, arith, append_assoc, length-append}
+use Rattle.std.specs.Prelude.{◌≢◌, slice_get, slice_index_or, option_and_then}
+use Rattle.std.specs.List.{Contains}
+use Rattle.std.proofs.lemmas.List.{length_push}
+use Rattle.std.proofs.lemmas.List.Elements.{Contains-append_right, Contains-append_cases}
+use Rattle.json_grammar.specs.Tree.{Pairs, no_pairs, pair_and, Token, key_token}
+use Rattle.json_grammar.specs.Repeated.{names, open_keys}
+use Rattle.json_grammar.proofs.OpenKeys.{key_inside}
+use Rattle.json_doc.specs.Awaited.{Slot, a_value, an_element, a_key, a_member, awaits, past_tokens}
+use Rattle.json_doc.specs.Building.{Building, nothing, whole, in_array, in_object, in_pair}
+use Rattle.json_doc.specs.Recorded.{Held}
+use Rattle.json_doc.specs.Segment.{Stands, text_cell}
+use Rattle.json_doc.specs.Places.{place_behind}
+use Rattle.json_doc.specs.OpenObject.{NamesText, MembersStand, KeyStands}
+use Rattle.json_doc.specs.declared.cell.Cell.{Cell}
+use Rattle.json_doc.specs.declared.cell.Cell.TheVariants as cell
+use Rattle.json_doc.proofs.Awaiting.{past_append}
+use Rattle.json_doc.proofs.Segments.{node_some}
+use Rattle.json_doc.proofs.Spelling.{get_behind, stands_first, stands_rest, stands_left, stands_right}
+use Rattle.json_doc.proofs.Shaping.{node_behind, stands_within}
+
+module _ (cells : List Cell) (bytes : List ℕ) where
+  -- the first of some members: its key, and the others behind its value
+  pub record OneMember (at end : ℕ) (ps : Pairs) : Type 0 where
+    pub key : List ℕ
+    pub rest : Pairs
+    pub names_are : names ps ≡ key ∷ names rest
+    pub named : NamesText cells bytes at key
+    pub within : at + 1 < length cells
+    pub later : at < place_behind cells (at + 1)
+    pub behind : MembersStand cells bytes (place_behind cells (at + 1)) rest end
+
+  pub one_member : (at end : ℕ) (ps : Pairs) → MembersStand cells bytes at ps end → at < end → OneMember at end ps
+  one_member at end no_pairs (cs, s, r, e) l = absurd (omega (arith, ap length r))
+  one_member at end (pair_and k t ps) (cs, s, (key, a, b, e, n, h, r), f) l =
+      let there = subst (λ (x : List Cell). Stands cells at x) e s in
+      let inner = stands_rest cells at key (a ++ b) there in
+      let some = node_some bytes (at + 1) a t h in
+      let next : place_behind cells (at + 1) ≡ (at + 1) + length a = node_behind cells bytes (at + 1) a t h (stands_left cells (at + 1) a b inner) in
+      let within = stands_within cells (at + 1) (a ++ b) inner in
+      record {
+        key = k;
+        rest = ps;
+        names_are = refl;
+        named = (key, stands_first cells at key (a ++ b) there, n);
+        within = omega (arith, within, length-append a b, some);
+        later = omega (arith, next);
+        behind = subst (λ (n : ℕ). MembersStand cells bytes n ps end) (sym next) (b, stands_right cells (at + 1) a b inner, r, omega (arith, ap length e, length-append a b, f));
+      }
+
+  pub members_end : (at end : ℕ) (ps : Pairs) → MembersStand cells bytes at ps end → at ≤ end
+  members_end at end ps (cs, s, r, e) = omega (arith, e)
+
+  -- with no member left
+  pub none_left : (at end : ℕ) (ps : Pairs) → MembersStand cells bytes at ps end → end ≤ at → names ps ≡ []
+  none_left at end no_pairs m l = refl
+  none_left at end (pair_and k t ps) (cs, s, (key, a, b, e, n, h, r), f) l = absurd (omega (arith, ap length e, f))
+
+pub in_rest : (k s : List ℕ) (ks : List (List ℕ)) → k ≢ s → Contains (k ∷ ks) s → Contains ks s
+in_rest k s ks h c = by (Contains-append_cases (k ∷ []) ks s c)
+  where
+    by : Contains (k ∷ []) s ⊎ Contains ks s → Contains ks s
+    by (inl (i, l, e)) = absurd (h (first i l e))
+      where
+        first : (i : ℕ) → i < 1 → slice_index_or (k ∷ []) i s ≡ s → k ≡ s
+        first i l e = let zeroth : i ≡ 0 = omega arith in subst (λ (n : ℕ). slice_index_or (k ∷ []) n s ≡ s) zeroth e
+    by (inr r) = r
+
+pub is_first : (ks : List (List ℕ)) (k s : List ℕ) (rest : List (List ℕ)) → ks ≡ k ∷ rest → k ≡ s → Contains ks s
+is_first ks k s rest e f = rw e (0, omega arith, f)
+
+pub is_later : (ks : List (List ℕ)) (k s : List ℕ) (rest : List (List ℕ)) → ks ≡ k ∷ rest → Contains rest s → Contains ks s
+is_later ks k s rest e c = subst (λ x. Contains x s) (sym e) (Contains-append_right (k ∷ []) rest s c)
+
+pub none_there : (ks : List (List ℕ)) (s : List ℕ) → ks ≡ [] → Contains ks s → ⊥
+none_there ks s e (i, l, f) = let none : length ks ≡ 0 = ap length e in absurd (omega arith)
+
+pub not_both : (b : Bool) → b ≡ true → b ≡ false → ⊥
+not_both b t f = let e : true ≡ false = sym t ∙ f in absurd (cc)
+
+-- ---- the object that stands open where a key was recorded last
+
+-- a value has to come behind a key
+pub member_awaited : (ts : List Token) (s : List ℕ) (w : List Slot) → awaits (ts ++ key_token s ∷ []) ≡ Some w → (v : List Slot) × (w ≡ a_member ∷ v)
+member_awaited ts s w e = by (past_tokens (a_value ∷ []) ts) (sym (past_append (a_value ∷ []) ts (key_token s ∷ [])) ∙ e)
+  where
+    by : (o : Option (List Slot)) → option_and_then (λ v. past_tokens v (key_token s ∷ [])) o ≡ Some w → (v : List Slot) × (w ≡ a_member ∷ v)
+    by None h = absurd (cc)
+    by (Some []) h = absurd (cc)
+    by (Some (a_value ∷ v)) h = absurd (cc)
+    by (Some (an_element ∷ v)) h = absurd (cc)
+    by (Some (a_key ∷ v)) h = (v, cc)
+    by (Some (a_member ∷ v)) h = absurd (cc)
+
+pub record OpenKey (cells : List Cell) (bytes : List ℕ) (p : ℕ) (ts : List Token) (s : List ℕ) : Type 0 where
+  pub members : Pairs
+  pub stands : KeyStands cells bytes (p + 1) members (length cells - 1) s
+  pub keys : open_keys ts ≡ names members
+
+key_built : {bytes : List ℕ} {cells : List Cell} {p n : ℕ} {w : List Slot} {us : List Token} (ts : List Token) (s : List ℕ) (v : List Slot)
+    → Building bytes cells p n w us → w ≡ a_member ∷ v → us ≡ ts ++ key_token s ∷ [] → OpenKey cells bytes p ts s
+key_built ts s v nothing e f = absurd (cc)
+key_built ts s v (whole t h) e f = absurd (cc)
+key_built ts s v (in_array cs us b r) e f = absurd (cc)
+key_built ts s v (in_object cs us b r) e f = absurd (cc)
+key_built {bytes = bytes} ts s v (in_pair {front = front} {p = p} {n = n} {ts = before} {key = key} cs us k b r m) e f =
+    let header = cell.Object p n in
+    let all = front ++ header ∷ (cs ++ key ∷ []) in
+    let told = key_inside ts before us s k (sym f) in
+    let long : length all ≡ ((length front + 1) + length cs) + 1 = omega (arith, length-append front (header ∷ (cs ++ key ∷ [])), length-append cs (key ∷ [])) in
+    let split : all ≡ (front ++ header ∷ cs) ++ key ∷ [] = sym (append_assoc front (header ∷ cs) (key ∷ [])) in
+    let last : length (front ++ header ∷ cs) ≡ length all - 1 = omega (arith, long, length-append front (header ∷ cs)) in
+    let there : Stands all (length front + 1) cs = record {
+      before = front ++ header ∷ [];
+      after = key ∷ [];
+      row = sym (append_assoc front (header ∷ []) (cs ++ key ∷ []));
+      place = length_push front header;
+    } in
+    record {
+      members = us;
+      stands = (
+        (cs, there, r, omega (arith, long)),
+        (key, ap (λ (x : List Cell). slice_get x (length all - 1)) split ∙ get_behind (front ++ header ∷ cs) key [] (length all - 1) last, subst (λ (x : List ℕ). text_cell bytes key x) (sym told.0) m),
+      );
+      keys = told.1;
+    }
+
+pub open_key : (cells : List Cell) (bytes : List ℕ) (p n : ℕ) (ts : List Token) (s : List ℕ) → Held cells bytes p n (ts ++ key_token s ∷ []) → OpenKey cells bytes p ts s
+open_key cells bytes p n ts s h = let w = member_awaited ts s h.slots h.awaited in key_built ts s w.0 h.built w.1 refl

@@ -1,0 +1,189 @@
+// The names so far of the objects that stand open in a text.
+ghost use Rattle.std.specs.Prelude.{◌≡◌, ◌<◌, ◌≤◌, List, ℕ, [], ◌∷◌, length, drop, get_or, false, IfOk, IfErr, OnOk};
+ghost use Rattle.std.specs.Cow.{cow_str_bytes};
+ghost use Rattle.json_grammar.specs.Tree.{key_token};
+ghost use Rattle.json_grammar.specs.Grammar.{chars};
+ghost use Rattle.json_grammar.specs.Repeated.{Keys, outer_keys};
+ghost use Rattle.json_text.specs.Errors.{no_memory};
+ghost use Rattle.json_doc.specs.OpenNames.{front_of, row_has, names_have, HasNames, HasSomeNames, TakesIn};
+
+use json_text::{Result, Span};
+use std::alloc::Global;
+use std::borrow::CowStr;
+use std::collections::BTreeSet;
+use std::mem;
+
+/// How many names of an object are compared one by one.
+const FEW: usize = 16;
+
+// A byte, or 0 behind the end.
+#[inline(always)]
+fn byte_at(bytes: &[u8], at: usize) -> u8
+    ensures { result ≡ get_or bytes.now at 0 }
+{
+    match bytes.get(at) {
+        Some(byte) => *byte,
+        None => 0,
+    }
+}
+
+// The number of a name's first eight bytes.
+fn front(name: &str) -> u64
+    ensures { result ≡ front_of name.now }
+{
+    let bytes = name.as_bytes();
+    u64::from_be_bytes([
+        byte_at(bytes, 0),
+        byte_at(bytes, 1),
+        byte_at(bytes, 2),
+        byte_at(bytes, 3),
+        byte_at(bytes, 4),
+        byte_at(bytes, 5),
+        byte_at(bytes, 6),
+        byte_at(bytes, 7),
+    ])
+}
+
+/// The names of a container around the innermost.
+#[derive(Drop)]
+pub struct OuterKeys<'a> {
+    // where its few names begin
+    start: usize,
+    many: BTreeSet<(u64, CowStr<'a>)>,
+}
+
+/// The names so far of each open container. The first names of an object stand in a row and are compared one by one;
+/// all others stand in an ordered set, so that a name of an object of n members takes no more than some log n comparisons.
+/// There it stands behind the number of its first bytes, so that few comparisons look at it, and it is lent by the text,
+/// unless escapes stand in it.
+#[derive(Drop)]
+pub struct OpenKeys<'a> {
+    alloc: Global,
+    // names that stand in the text as they are, at most 16 of each open container, those of the innermost last
+    few: Vec<&'a str>,
+    // where those of the innermost begin
+    start: usize,
+    // all other names of the innermost
+    many: BTreeSet<(u64, CowStr<'a>)>,
+    outer: Vec<OuterKeys<'a>>,
+}
+
+impl<'a> OpenKeys<'a> {
+    /// Nothing is open. Takes no memory.
+    pub fn new(alloc: Global) -> OpenKeys<'a>
+        ensures { HasNames result [] }
+    {
+        OpenKeys {
+            alloc,
+            few: Vec::new(alloc),
+            start: 0,
+            many: BTreeSet::new(alloc),
+            outer: Vec::new(alloc),
+        }
+    }
+
+    /// A container begins. Memory may run out.
+    pub fn begin(&mut self) -> Result<()>
+        ensures ok { OnOk result ((all : List Keys) → HasNames self.old all
+            → HasNames self.new ([] ∷ all)) }
+        ensures err { IfErr result (λ e. e ≡ no_memory) }
+    {
+        let many = mem::replace(&mut self.many, BTreeSet::new(self.alloc));
+        let start = self.start;
+        self.outer.push(OuterKeys { start, many })?;
+        self.start = self.few.len();
+        Ok(())
+    }
+
+    /// The innermost container ends.
+    pub fn end(&mut self)
+        ensures { (all : List Keys) → HasNames self.old all → HasNames self.new (outer_keys all) }
+    {
+        if let Some(outer) = self.outer.pop() {
+            self.few.truncate(self.start);
+            self.start = outer.start;
+            self.many = outer.many;
+        }
+    }
+
+    // Whether the name stands in the row of the innermost container.
+    fn in_row(&self, name: &str) -> bool
+        requires { self.now.start ≤ length self.now.few.items }
+        ensures { result ≡ row_has (drop self.now.start self.now.few.items) name.now }
+    {
+        self.few[self.start..].contains(&name)
+    }
+
+    // Whether the innermost container has the name.
+    fn has(&self, name: &'a str) -> bool
+        requires { self.now.start ≤ length self.now.few.items }
+        ensures { result
+            ≡ names_have (drop self.now.start self.now.few.items) self.now.many name.now }
+    {
+        self.in_row(name) || self.many.contains(&(front(name), CowStr::Borrowed(name)))
+    }
+
+    // Whether the innermost container had the name. If not, the name goes into the set.
+    fn take_into_set(&mut self, name: CowStr<'a>) -> Result<bool>
+        requires some { HasSomeNames self.old }
+        requires inside { 0 < length self.old.outer.items }
+        ensures ok { IfOk result (λ had. TakesIn had self.old self.new (key_token (cow_str_bytes name.entry))) }
+        ensures err { IfErr result (λ e. e ≡ no_memory) }
+    {
+        if self.in_row(name.as_str()) {
+            return Ok(true);
+        }
+        let front = front(name.as_str());
+        let added = self.many.insert((front, name))?;
+        Ok(!added)
+    }
+
+    // The same of a name that stands in the text as it is: it goes into the row, where there is place.
+    fn take_plain(&mut self, name: &'a str) -> Result<bool>
+        requires some { HasSomeNames self.old }
+        requires inside { 0 < length self.old.outer.items }
+        ensures ok { IfOk result (λ had. TakesIn had self.old self.new (key_token name.now)) }
+        ensures err { IfErr result (λ e. e ≡ no_memory) }
+    {
+        if self.few.len() - self.start >= FEW {
+            return self.take_into_set(CowStr::Borrowed(name));
+        }
+        if self.has(name) {
+            return Ok(true);
+        }
+        self.few.push(name)?;
+        Ok(false)
+    }
+
+    // The same of a name with escapes.
+    fn take_escaped(&mut self, name: Span<'_>) -> Result<bool>
+        requires some { HasSomeNames self.old }
+        requires inside { 0 < length self.old.outer.items }
+        requires spelled { (s : List ℕ) × chars false s name.raw.now }
+        ensures ok { IfOk result (λ had. (s : List ℕ) → chars false s name.entry.raw.now
+            → TakesIn had self.old self.new (key_token s)) }
+        ensures err { IfErr result (λ e. e ≡ no_memory) }
+    {
+        let mut bytes = Vec::with_capacity(self.alloc, name.raw_len())?;
+        name.unescape_into(&mut bytes);
+        let name = unsafe { String::from_utf8_unchecked(bytes) };
+        self.take_into_set(CowStr::Owned(name))
+    }
+
+    /// Takes the next name of the text, and answers whether its object has it already. Memory may run out.
+    pub fn take_key(&mut self, name: Span<'a>) -> Result<bool>
+        requires some { HasSomeNames self.old }
+        requires spelled { (s : List ℕ) × chars false s name.raw.now }
+        ensures ok { IfOk result (λ had. (s : List ℕ) → chars false s name.entry.raw.now
+            → TakesIn had self.old self.new (key_token s)) }
+        ensures err { IfErr result (λ e. e ≡ no_memory) }
+    {
+        if self.outer.is_empty() {
+            return Ok(false);
+        }
+        match name.plain() {
+            Some(text) => self.take_plain(text),
+            None => self.take_escaped(name),
+        }
+    }
+}
