@@ -31,7 +31,7 @@ special_ascii x n = elim (cases_lt x 128) [ inl m ↦ m | inr m ↦ absurd (n (o
 pub unit_text : (x : ℕ) → x < 256 → 92 ∷ 117 ∷ 48 ∷ 48 ∷ padded_integral (format_spec 32 0 4 2 (2 ^ 64 - 1)) false [] (digits 16 false x) ≡ unit_escape x
 unit_text x l = ap (λ d. 92 ∷ 117 ∷ 48 ∷ 48 ∷ d) (hex_byte false x l)
 
-plain_all : (l : List ℕ) → plain l → shown_bytes l ≡ l
+pub plain_all : (l : List ℕ) → plain l → shown_bytes l ≡ l
 plain_all [] h = refl
 plain_all (x ∷ l) h = ap₂ (λ a b. a ++ b) (plain_shown x h.0.1 h.0.2 h.0.0) (plain_all l h.1)
 
@@ -40,6 +40,10 @@ pub run_shown : (b : List ℕ) (i j : ℕ) → i ≤ j → plain (piece b i j) �
 run_shown b i j l h =
     let e : i + (j - i) ≡ j = omega (arith, l) in
     ap (λ x. shown_bytes (take i b) ++ x) (sym (plain_all (piece b i j) h)) ∙ sym (shown_append (take i b) _) ∙ ap shown_bytes (sym (take-add i (j - i) b)) ∙ ap (λ n. shown_bytes (take n b)) e
+
+-- where the run reaches the end, no byte is special
+pub whole_plain : (b : List ℕ) (j : ℕ) → j ≡ length b → plain (piece b 0 j) → plain b
+whole_plain b j e h = let l : length b ≤ j - 0 = omega arith in subst plain (take_all (j - 0) b l) h
 
 -- a special byte behind it
 pub byte_shown : (b : List ℕ) (i : ℕ) → i < length b → shown_bytes (take i b) ++ shown_byte (get_or b i 0) ≡ shown_bytes (take (i + 1) b)

@@ -4,7 +4,7 @@ use Rattle.std.specs.Fmt.{decimal}
 use Rattle.json_grammar.specs.Place.{closing}
 use Rattle.json_print.specs.Calls.{Call, null_call, boolean_call, number_call, string_call, bytes_call, begin_string, end_string, begin_call, end_call, begin_element, end_element, begin_key, end_key, begin_member, end_member, raw_call, piece_of, level_after, flag_after, closing_line, byte_elements, comma, up, down, holds_any}
 use Rattle.json_print.specs.declared.pretty.PrettyFormatter.{PrettyFormatter}
-use Rattle.json_print.specs.Layouts.{Form, LaidOut, pieces, pieces_of}
+use Rattle.json_print.specs.Layouts.{LaidOut, plain_form, pretty_form, pieces, pieces_of}
 
 -- ---- without an indent the level and the flag change nothing
 
@@ -34,18 +34,12 @@ plain_piece d b begin_member = refl
 plain_piece d b end_member = refl
 plain_piece d b (raw_call x) = refl
 
-abbrev pub plain_form : {F : Type 0} → Form F
-plain_form = record { piece = λ _ c. piece_of None 0 false c; next = λ f _. f }
-
 plain_from : {F : Type 0} (f : F) (d : ℕ) (b : Bool) (cs : List Call) → pieces plain_form f cs ≡ pieces_of None d b cs
 plain_from f d b [] = refl
 plain_from f d b (c ∷ cs) = ap₂ (λ x xs. x ∷ xs) (plain_piece d b c) (plain_from f (level_after d c) (flag_after b c) cs)
 
 pub plain_laid : {F : Type 0} (f : F) → LaidOut plain_form f None 0 false
 plain_laid f = plain_from f 0 false
-
-abbrev pub pretty_form : Form PrettyFormatter
-pretty_form = record { piece = λ s c. piece_of (Some s.indent.bytes.now) s.level s.flag c; next = λ s c. record s { level = level_after s.level c; flag = flag_after s.flag c } }
 
 pub pretty_from : (s : PrettyFormatter) (cs : List Call) → pieces pretty_form s cs ≡ pieces_of (Some s.indent.bytes.now) s.level s.flag cs
 pretty_from s [] = refl

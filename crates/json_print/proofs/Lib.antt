@@ -7,6 +7,9 @@ pub mod Spaces
 pub mod Sending
 pub mod Stopping
 pub mod Answering
+pub mod Taking
+pub mod Data
+pub mod TextWriting
 pub mod Asked
 pub mod Ideals
 pub mod Likeness
@@ -20,3 +23,4 @@ pub mod Numbering
 pub mod RowPieces
 pub mod Layers
 pub mod Emptying
+pub mod Overlapping

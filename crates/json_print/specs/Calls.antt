@@ -1,6 +1,6 @@
 -- The calls of a formatter, and the piece that each of the two formatters writes at it.
-use Rattle.std.specs.Prelude.{ℕ, ◌+◌, ◌-◌, ◌^◌, min, List, [], ◌∷◌, ◌++◌, Bool, true, false, Option}
-use Rattle.std.specs.Fmt.{decimal}
+use Rattle.std.specs.Prelude.{ℕ, ℤ, ◌+◌, ◌-◌, ◌^◌, min, List, [], ◌∷◌, ◌++◌, Bool, true, false, Option}
+use Rattle.std.specs.Fmt.{decimal, signed_decimal}
 use Rattle.json_grammar.specs.declared.Kind.{Kind}
 use Rattle.json_grammar.specs.Place.{bracket, closing}
 use Rattle.json_grammar.specs.Grammar.{null_bytes, boolean_bytes}
@@ -27,6 +27,14 @@ pub data Call : Type 0 where
   begin_member : Call
   end_member : Call
   raw_call : List ℕ → Call
+
+-- an integer
+abbrev pub signed_call : ℤ → Call
+signed_call n = number_call (signed_decimal n)
+
+-- an integer from zero on
+abbrev pub unsigned_call : ℕ → Call
+unsigned_call n = number_call (decimal n)
 
 -- a level more, up to the last value of a usize
 abbrev pub up : ℕ → ℕ
@@ -61,13 +69,17 @@ abbrev pub holds_any : List ℕ → Bool
 holds_any [] = false
 holds_any (x ∷ bytes) = true
 
+-- the bytes as an array: its level, and that of its end
+abbrev pub byte_array : Option (List ℕ) → ℕ → ℕ → List ℕ → List ℕ
+byte_array i level outer bytes = 91 ∷ (byte_elements i level true bytes ++ (closing_line (holds_any bytes) i outer ++ 93 ∷ []))
+
 -- the piece of a call at a level, with the indent of the layout or none; the flag says whether the innermost container holds something
 abbrev pub piece_of : Option (List ℕ) → ℕ → Bool → Call → List ℕ
 piece_of i d flag null_call = null_bytes
 piece_of i d flag (boolean_call b) = boolean_bytes b
 piece_of i d flag (number_call l) = l
 piece_of i d flag (string_call q s) = string_text q s
-piece_of i d flag (bytes_call bytes) = 91 ∷ (byte_elements i (up d) true bytes ++ (closing_line (holds_any bytes) i (down (up d)) ++ 93 ∷ []))
+piece_of i d flag (bytes_call bytes) = byte_array i (up d) (down (up d)) bytes
 piece_of i d flag begin_string = 34 ∷ []
 piece_of i d flag end_string = 34 ∷ []
 piece_of i d flag (begin_call k) = bracket k ∷ []

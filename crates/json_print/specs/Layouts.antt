@@ -1,11 +1,20 @@
 -- What a formatter writes, call by call, and in which layout.
-use Rattle.std.specs.Prelude.{◌≡◌, ℕ, List, [], ◌∷◌, Bool, Option}
+use Rattle.std.specs.Prelude.{◌≡◌, ℕ, List, [], ◌∷◌, Bool, false, Option, Some, None}
+use Rattle.json_print.specs.declared.pretty.PrettyFormatter.{PrettyFormatter}
 use Rattle.json_print.specs.Calls.{Call, piece_of, level_after, flag_after}
 
 -- a formatter: the piece of a call, and the formatter behind it
 pub record Form (F : Type 0) : Type 0 where
   pub piece : F → Call → List ℕ
   pub next : F → Call → F
+
+-- no whitespace, and the calls change nothing
+abbrev pub plain_form : {F : Type 0} → Form F
+plain_form = record { piece = λ _ c. piece_of None 0 false c; next = λ f _. f }
+
+-- its indent at its level
+abbrev pub pretty_form : Form PrettyFormatter
+pretty_form = record { piece = λ s c. piece_of (Some s.indent.bytes.now) s.level s.flag c; next = λ s c. record s { level = level_after s.level c; flag = flag_after s.flag c } }
 
 -- the pieces of calls in a row
 abbrev pub pieces : {F : Type 0} → Form F → F → List Call → List (List ℕ)

@@ -6,12 +6,15 @@ pub mod Styles
 pub mod Adding
 pub mod Buffered
 pub mod Standing
+pub mod Given
+pub mod Data
 pub mod Taking
 pub mod Printer
 pub mod Parts
 pub mod Steps
 pub mod Stands
 pub mod Written
+pub mod TextWriting
 pub mod Serializing
 pub mod Orders
 pub mod Members

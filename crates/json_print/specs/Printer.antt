@@ -15,6 +15,7 @@ use Rattle.json_text.specs.Outside.{Rose, Loan, SinkState}
 use Rattle.json_print.specs.declared.events.Turn.{Turn}
 use Rattle.json_print.specs.declared.events.Turn.TheVariants.{Value as at_value, Element as at_element, Key as at_key, Member as at_member, Done as at_done}
 use Rattle.json_print.specs.Calls.{Call, null_call, boolean_call, number_call, string_call, begin_call, end_call, begin_element, end_element, begin_key, end_key, begin_member, end_member}
+use Rattle.json_print.specs.Given.{Given, token_of}
 use Rattle.json_print.specs.Layouts.{Form}
 use Rattle.json_print.specs.Standing.{Stand, first_turn, outside}
 
@@ -22,6 +23,10 @@ use Rattle.json_print.specs.Standing.{Stand, first_turn, outside}
 pub record Row : Type 0 where
   pub key : List ℕ
   pub text : List ℕ
+
+-- ... of this key and this text
+abbrev pub row_with : List ℕ → List ℕ → Row
+row_with key text = record { key = key; text = text }
 
 -- a sorted object that is open: its finished pairs, and of the last pair the key and the text so far
 pub record Layer : Type 0 where
@@ -54,13 +59,21 @@ start f sorts w =
 abbrev pub IsFresh : {F : Type 0} → Out F → Type 0
 IsFresh s = (s.turn ≡ at_value) × (s.opened ≡ [])
 
+-- without a pair
+abbrev pub no_layer : Layer
+no_layer = record { rows = []; key = []; text = [] }
+
+-- more of the text of its last pair
+abbrev pub text_put : Layer → List ℕ → Layer
+text_put l p = record l { text = l.text ++ p }
+
 abbrev pub gained_put : List Layer → Option (List ℕ) → List ℕ → Option (List ℕ)
 gained_put [] gained p = append_known gained p
 gained_put (l ∷ ls) gained p = gained
 
 abbrev pub layers_put : List Layer → List ℕ → List Layer
 layers_put [] p = []
-layers_put (l ∷ ls) p = record l { text = l.text ++ p } ∷ ls
+layers_put (l ∷ ls) p = text_put l p ∷ ls
 
 -- bytes go to the innermost sorted object, or to the writer
 abbrev pub put : {F : Type 0} → Out F → List ℕ → Out F
@@ -81,9 +94,13 @@ lead_in m s (at_key first) = s
 lead_in m s at_member = cond s.sorts s (call m s begin_member)
 lead_in m s at_done = s
 
+-- its last pair is finished
+abbrev pub pair_filed : Layer → Layer
+pair_filed l = record { rows = l.rows ++ row_with l.key l.text ∷ []; key = []; text = [] }
+
 abbrev pub filed : List Layer → List Layer
 filed [] = []
-filed (l ∷ ls) = record { rows = l.rows ++ record { key = l.key; text = l.text } ∷ []; key = []; text = [] } ∷ ls
+filed (l ∷ ls) = pair_filed l ∷ ls
 
 abbrev pub filed_in : {F : Type 0} → Out F → Out F
 filed_in s = record s { layers = filed s.layers }
@@ -105,10 +122,10 @@ abbrev pub took_scalar : {F : Type 0} → Form F → Out F → Call → Out F
 took_scalar m s c = value_ended m (call m (value_begun m s) c)
 
 abbrev pub layered_in : {F : Type 0} → Out F → Out F
-layered_in s = record s { layers = record { rows = []; key = []; text = [] } ∷ s.layers }
+layered_in s = record s { layers = no_layer ∷ s.layers }
 
 abbrev pub layered : Kind → Bool → List Layer → List Layer
-layered object true ls = record { rows = []; key = []; text = [] } ∷ ls
+layered object true ls = no_layer ∷ ls
 layered k sorts ls = ls
 
 abbrev pub opened_up : {F : Type 0} → Out F → Kind → Out F
@@ -134,6 +151,10 @@ abbrev pub rows_put : {F : Type 0} → Form F → Out F → Bool → List Row �
 rows_put m s first [] = s
 rows_put m s first (r ∷ rows) = rows_put m (row_put m s first r) false rows
 
+-- the pairs of a sorted object in the order of their keys
+abbrev pub members_put : {F : Type 0} → Form F → Layer → Out F → Out F
+members_put m l s = rows_put m s true (rows_sorted l.rows)
+
 abbrev pub top_rows : List Layer → List Row
 top_rows [] = []
 top_rows (l ∷ ls) = l.rows
@@ -157,9 +178,13 @@ abbrev pub is_first : Turn → Bool
 is_first (at_key first) = first
 is_first turn = true
 
+-- more of the key of its last pair
+abbrev pub key_more : Layer → List ℕ → Layer
+key_more l k = record l { key = l.key ++ k }
+
 abbrev pub key_put : List Layer → List ℕ → List Layer
 key_put [] k = []
-key_put (l ∷ ls) k = record l { key = l.key ++ k } ∷ ls
+key_put (l ∷ ls) k = key_more l k ∷ ls
 
 abbrev pub key_kept : {F : Type 0} → Out F → List ℕ → Out F
 key_kept s k = record s { layers = key_put s.layers k }
@@ -167,8 +192,11 @@ key_kept s k = record s { layers = key_put s.layers k }
 abbrev pub key_written : {F : Type 0} → Form F → Out F → List ℕ → Out F
 key_written m s k = call m (call m (call m s (begin_key (is_first s.turn))) (string_call true k)) end_key
 
+abbrev pub keyed : {F : Type 0} → Form F → Out F → List ℕ → Out F
+keyed m s k = cond s.sorts (key_kept s k) (key_written m s k)
+
 abbrev pub took_key : {F : Type 0} → Form F → Out F → List ℕ → Out F
-took_key m s k = turned (cond s.sorts (key_kept s k) (key_written m s k)) at_member
+took_key m s k = turned (keyed m s k) at_member
 
 abbrev pub after : {F : Type 0} → Form F → Out F → Token → Out F
 after m s null_token = took_scalar m s null_call
@@ -206,3 +234,11 @@ pub record Stops {F : Type 0} (old new aim : Out F) (e : Error) : Type 0 where
 -- what a call that meets this error at a token may leave
 abbrev pub StopsAt : {F : Type 0} → Form F → Out F → Token → Out F → Error → Type 0
 StopsAt m s t s' e = (s.deep ≡ false) × Stops s s' (after m s t) e
+
+-- ---- what is given to it
+
+abbrev pub took : {F : Type 0} → Form F → Out F → Given → Out F
+took m s g = after m s (token_of g)
+
+abbrev pub StopsTaking : {F : Type 0} → Form F → Out F → Given → Out F → Error → Type 0
+StopsTaking m s g s' e = StopsAt m s (token_of g) s' e

@@ -1,14 +1,19 @@
 -- What a formatter writes of the rows of a sorted object.
-use Rattle.std.specs.Prelude.{ℕ, suc, List, [], ◌∷◌, ◌++◌, Bool, true, false}
+use Rattle.std.specs.Prelude.{◌≡◌, ℕ, suc, List, [], ◌∷◌, ◌++◌, map, Bool, true, false}
 use Rattle.json_print.specs.Calls.{string_call, begin_key, end_key, begin_member, end_member}
 use Rattle.json_print.specs.Layouts.{Form}
-use Rattle.json_print.specs.Orders.{Pair}
-use Rattle.json_print.specs.Printer.{Out, Row, gained_put, layers_put}
+use Rattle.json_print.specs.declared.order.Numbered.{Numbered}
+use Rattle.json_print.specs.Orders.{Pair, pair_of, inserted_all}
+use Rattle.json_print.specs.Printer.{Out, Row, Layer, gained_put, layers_put, rows_sorted}
 
 -- the rows with their numbers, from one on
 abbrev pub numbered : ℕ → List Row → List Pair
 numbered n [] = []
 numbered n (r ∷ rows) = (r.key, n) ∷ numbered (suc n) rows
+
+-- they are the keys of the rows in their order, each with the number of its row
+abbrev pub IsOrderOf : List Numbered → List Row → Type 0
+IsOrderOf order rows = map pair_of order ≡ inserted_all (numbered 0 rows)
 
 -- the pieces of a key, and the formatter behind them
 abbrev pub key_bytes : {F : Type 0} → Form F → F → Bool → List ℕ → List ℕ
@@ -44,3 +49,14 @@ rows_next m f first (r ∷ rows) = rows_next m (row_next m f first r) false rows
 abbrev pub rows_written : {F : Type 0} → Form F → Out F → List Row → Out F
 rows_written m s rows =
     let p = rows_bytes m s.formatter true rows in record s { formatter = rows_next m s.formatter true rows; gained = gained_put s.layers s.gained p; layers = layers_put s.layers p }
+
+-- the pieces of a sorted object's pairs in the order of their keys, and the formatter behind them
+abbrev pub members_bytes : {F : Type 0} → Form F → F → Layer → List ℕ
+members_bytes m f l = rows_bytes m f true (rows_sorted l.rows)
+
+abbrev pub members_next : {F : Type 0} → Form F → F → Layer → F
+members_next m f l = rows_next m f true (rows_sorted l.rows)
+
+-- they were written
+abbrev pub members_written : {F : Type 0} → Form F → Layer → Out F → Out F
+members_written m l s = rows_written m s (rows_sorted l.rows)

@@ -51,31 +51,32 @@ fn add_rest<W: Sink>(sink: &mut W, piece: &[u8], from: usize) -> Added
     send(sink, piece, &mut sent)
 }
 
-#[cold]
-#[inline(never)]
-fn refuse(error: SinkError) -> Result<()>
-    ensures failed { error ≡ SinkError.Failed → result ≡ Err writing_failed }
-    ensures no_memory { error ≡ SinkError.NoMemory → result ≡ Err no_memory }
+// Why a call of the sink failed, to a caller. It is built in place: an answer behind a call would be cleared at each token.
+#[inline(always)]
+fn refusal(error: SinkError) -> Error
+    ensures failed { error ≡ SinkError.Failed → result ≡ writing_failed }
+    ensures no_memory { error ≡ SinkError.NoMemory → result ≡ no_memory }
 {
     match error {
-        SinkError::Failed => Err(Error {
+        SinkError::Failed => Error {
             code: ErrorCode::Io,
             place: Place::Writing,
-        }),
-        SinkError::NoMemory => Err(Error {
+        },
+        SinkError::NoMemory => Error {
             code: ErrorCode::NoMemory,
             place: Place::None,
-        }),
+        },
     }
 }
 
 // The answer to a caller.
 #[inline(always)]
 pub(crate) fn told(added: Added) -> Result<()>
-    ensures { (old new : SinkState) (piece : List ℕ) → Adds old new piece added → Puts old new piece result }
+    ensures { (old new : SinkState) (piece : List ℕ) → Adds old new piece added
+        → Puts old new piece result }
 {
     match added {
         Ok(()) => Ok(()),
-        Err(error) => refuse(error),
+        Err(error) => Err(refusal(error)),
     }
 }

@@ -8,6 +8,7 @@ ghost use Rattle.json_print.specs.Buffered.{held_behind};
 use crate::adding::send;
 use json_text::{Result, Sink, SinkError};
 use std::alloc::Global;
+use std::simd::prelude::*;
 
 const CAPACITY: usize = 8192;
 
@@ -64,12 +65,33 @@ pub struct BufferedWriter<W> {
     ghost size: { length buffer.items ≡ 8192 },
 }
 
+// Copies a piece of N bytes up to twice as many, by two blocks that may overlap.
 #[inline(always)]
+fn fill_by<const N: usize>(buffer: &mut [u8], at: usize, piece: &[u8])
+    requires lanes { N ≤ 64 }
+    requires room { at + length piece.now ≤ length buffer.old }
+    requires long { N ≤ length piece.now }
+    requires short { length piece.now ≤ N + N }
+    ensures { take (at + length piece.now) buffer.new ≡ take at buffer.old ++ piece.now }
+{
+    let back = piece.len() - N;
+    Simd::<u8, N>::from_slice(piece).copy_to_slice(&mut buffer[at..]);
+    Simd::<u8, N>::from_slice(&piece[back..]).copy_to_slice(&mut buffer[at + back..]);
+}
+
+// Copies a piece. One of a known length costs a store or two.
+#[inline]
 fn fill(buffer: &mut [u8], at: usize, piece: &[u8])
     requires { at + length piece.now ≤ length buffer.old }
     ensures { take (at + length piece.now) buffer.new ≡ take at buffer.old ++ piece.now }
 {
-    buffer[at..at + piece.len()].copy_from_slice(piece);
+    match piece.len() {
+        2..4 => fill_by::<2>(buffer, at, piece),
+        4..8 => fill_by::<4>(buffer, at, piece),
+        8..16 => fill_by::<8>(buffer, at, piece),
+        16..33 => fill_by::<16>(buffer, at, piece),
+        _ => buffer[at..at + piece.len()].copy_from_slice(piece),
+    }
 }
 
 impl<W: Sink> BufferedWriter<W> {
@@ -98,7 +120,8 @@ impl<W: Sink> BufferedWriter<W> {
 
     /// The inner sink. Bytes that are held are dropped.
     pub fn into_inner(self) -> W
-        ensures { (held : List ℕ) × (⟦<BufferedWriter<W> as Sink>⟧.state self ≡ held_behind (W.state result) held) }
+        ensures { (held : List ℕ)
+            × (⟦<BufferedWriter<W> as Sink>⟧.state self ≡ held_behind (W.state result) held) }
     {
         self.inner
     }
@@ -108,7 +131,8 @@ impl<W: Sink> BufferedWriter<W> {
     #[inline(never)]
     fn write_past(&mut self, piece: &[u8]) -> std::result::Result<usize, SinkError>
         ensures bound { WritesAtMost result piece.now }
-        ensures writes { Writes (⟦<BufferedWriter<W> as Sink>⟧.state self.old) (⟦<BufferedWriter<W> as Sink>⟧.state self.new) piece.now result }
+        ensures writes { Writes (⟦<BufferedWriter<W> as Sink>⟧.state self.old)
+            (⟦<BufferedWriter<W> as Sink>⟧.state self.new) piece.now result }
     {
         match send(&mut self.inner, &self.buffer[..self.end], &mut self.sent) {
             Ok(()) => {}

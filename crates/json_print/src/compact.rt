@@ -1,6 +1,5 @@
 // The formatter without whitespace.
-ghost use Rattle.std.specs.Prelude.{false, None};
-ghost use Rattle.json_print.specs.Calls.{piece_of};
+ghost use Rattle.json_print.specs.Layouts.{plain_form};
 
 use crate::Formatter;
 use crate::adding::{add, told};
@@ -21,9 +20,7 @@ use json_text::{Result, Sink};
 pub struct CompactFormatter;
 
 impl Formatter for CompactFormatter {
-    ghost piece = { λ _ c. piece_of None 0 false c };
-
-    ghost next = { λ s _. s };
+    ghost form = { plain_form };
 
     ghost fresh = { λ _. Unit {0} };
 

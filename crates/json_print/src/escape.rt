@@ -4,7 +4,7 @@ ghost use Rattle.std.specs.Char.{digit_char};
 ghost use Rattle.json_model.specs.Print.{quoted, shown_byte, shown_bytes, unit_escape};
 ghost use Rattle.json_print.specs.Adding.{Adds};
 ghost use Rattle.json_print.specs.Calls.{string_text};
-ghost use Rattle.json_text.specs.Runs.{IsPlain};
+ghost use Rattle.json_text.specs.Runs.{IsPlain, plain};
 
 use crate::adding::{Added, add};
 use itoa::{Buffer, Integer};
@@ -40,7 +40,8 @@ fn unit_escape_of(byte: u8) -> [u8; 6]
 #[inline(always)]
 pub(crate) fn short_escape(byte: u8) -> Option<&'static str>
     requires { ¬ (IsPlain byte) }
-    ensures { MatchOption result (shown_byte byte ≡ unit_escape byte) (λ escape. escape.now ≡ shown_byte byte) }
+    ensures { MatchOption result (shown_byte byte ≡ unit_escape byte)
+        (λ escape. escape.now ≡ shown_byte byte) }
 {
     match byte {
         b'"' => Some("\\\""),
@@ -87,7 +88,8 @@ fn add_escaped<W: Sink>(writer: &mut W, value: &[u8]) -> Added
     }
 }
 
-fn add_quoted<W: Sink>(writer: &mut W, value: &[u8]) -> Added
+#[inline(never)]
+fn add_quoted_escaped<W: Sink>(writer: &mut W, value: &[u8]) -> Added
     ensures { Adds (W.state writer.old) (W.state writer.new) (quoted value.now) result }
 {
     add(writer, b"\"")?;
@@ -95,9 +97,32 @@ fn add_quoted<W: Sink>(writer: &mut W, value: &[u8]) -> Added
     add(writer, b"\"")
 }
 
+// A string of which no byte has to be escaped.
+#[inline(always)]
+fn add_quoted_plain<W: Sink>(writer: &mut W, value: &[u8]) -> Added
+    requires { plain value.now }
+    ensures { Adds (W.state writer.old) (W.state writer.new) (quoted value.now) result }
+{
+    add(writer, b"\"")?;
+    add(writer, value)?;
+    add(writer, b"\"")
+}
+
+#[inline(never)]
+fn add_quoted<W: Sink>(writer: &mut W, value: &[u8]) -> Added
+    ensures { Adds (W.state writer.old) (W.state writer.new) (quoted value.now) result }
+{
+    if plain_run(value, 0) == value.len() {
+        add_quoted_plain(writer, value)
+    } else {
+        add_quoted_escaped(writer, value)
+    }
+}
+
 #[inline(always)]
 pub(crate) fn add_string<W: Sink>(writer: &mut W, value: &str, need_quote: bool) -> Added
-    ensures { Adds (W.state writer.old) (W.state writer.new) (string_text need_quote value.now) result }
+    ensures { Adds (W.state writer.old) (W.state writer.new)
+        (string_text need_quote value.now) result }
 {
     if need_quote {
         add_quoted(writer, value.as_bytes())
@@ -106,7 +131,8 @@ pub(crate) fn add_string<W: Sink>(writer: &mut W, value: &str, need_quote: bool)
     }
 }
 
-#[inline(always)]
+// Not in line: what a serializer does at each token has to stay small enough to be in line itself.
+#[inline(never)]
 pub(crate) fn add_number<N: Integer, W: Sink>(writer: &mut W, number: N) -> Added
     ensures { Adds (W.state writer.old) (W.state writer.new) (N.text number) result }
 {

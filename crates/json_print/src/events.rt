@@ -1,10 +1,11 @@
 // The parts of a value from left to right.
-ghost use Rattle.std.specs.Prelude.{◌≡◌, List, Option, None};
+ghost use Rattle.std.specs.Prelude.{◌≡◌, List, Option, None, pos};
 ghost use Rattle.std.specs.Fmt.{decimal, signed_decimal};
 ghost use Rattle.json_grammar.specs.Grammar.{number};
 ghost use Rattle.json_grammar.specs.Tree.{Token, null_token, boolean_token, num_token, text_token, begin, end, key_token};
 ghost use Rattle.json_grammar.specs.declared.Kind.TheVariants.{Array as array, Object as object};
 ghost use Rattle.json_text.specs.declared.error.Error.{Error};
+ghost use Rattle.json_print.specs.Given.{Given, given, given_integer, token_of};
 ghost use Rattle.json_print.specs.Standing.{Stand, MayCome, stand_after};
 ghost use Rattle.json_print.specs.Taking.{Takes};
 
@@ -32,8 +33,8 @@ pub enum Turn {
     Done,
 }
 
-/// Takes the parts of one value from left to right, a call for each. What is taken does not depend on a hint of how
-/// many elements or members come.
+/// Takes the parts of one value from left to right, a call for each. An integer is given by its value, all else as a
+/// token. What is taken does not depend on a hint of how many elements or members come.
 ///
 /// A call that meets an error answers it, and each later call answers it again and changes nothing.
 ///
@@ -53,14 +54,14 @@ pub trait Events {
     /// Computed from what it holds.
     ghost state: { Self → State };
 
-    /// The state behind a token.
-    ghost after: { State → Token → State };
+    /// The state behind what is given.
+    ghost after: { State → Given → State };
 
     /// What may come.
     ghost stand: { State → Stand };
 
-    /// What a call that meets an error at a token may leave.
-    ghost stopped: { State → Token → State → Error → Type 0 };
+    /// What a call that meets an error at what is given may leave.
+    ghost stopped: { State → Given → State → Error → Type 0 };
 
     /// The error that was answered.
     ghost failed: { Self → Option Error };
@@ -68,59 +69,74 @@ pub trait Events {
     /// Takes a null.
     fn null(&mut self) -> Result<()>
         requires { failed self.old ≡ None → MayCome (stand (state self.old)) null_token }
-        ensures { Takes after stopped (state self.old) (state self.new) (failed self.old) (failed self.new) null_token result };
+        ensures { Takes after stopped (state self.old) (state self.new)
+            (failed self.old) (failed self.new) (given null_token) result };
 
     /// Takes a truth value.
     fn boolean(&mut self, b: bool) -> Result<()>
         requires { failed self.old ≡ None → MayCome (stand (state self.old)) (boolean_token b) }
-        ensures { Takes after stopped (state self.old) (state self.new) (failed self.old) (failed self.new) (boolean_token b) result };
+        ensures { Takes after stopped (state self.old) (state self.new)
+            (failed self.old) (failed self.new) (given (boolean_token b)) result };
 
     /// Takes an integer, as its decimal text.
     fn int(&mut self, n: i128) -> Result<()>
-        requires { failed self.old ≡ None → MayCome (stand (state self.old)) (num_token (signed_decimal n)) }
-        ensures { Takes after stopped (state self.old) (state self.new) (failed self.old) (failed self.new) (num_token (signed_decimal n)) result };
+        requires { failed self.old ≡ None
+            → MayCome (stand (state self.old)) (num_token (signed_decimal n)) }
+        ensures { Takes after stopped (state self.old) (state self.new)
+            (failed self.old) (failed self.new) (given_integer n) result };
 
     /// Takes an integer from zero on, as its decimal text.
     fn uint(&mut self, n: u128) -> Result<()>
-        requires { failed self.old ≡ None → MayCome (stand (state self.old)) (num_token (decimal n)) }
-        ensures { Takes after stopped (state self.old) (state self.new) (failed self.old) (failed self.new) (num_token (decimal n)) result };
+        requires { failed self.old ≡ None
+            → MayCome (stand (state self.old)) (num_token (decimal n)) }
+        ensures { Takes after stopped (state self.old) (state self.new)
+            (failed self.old) (failed self.new) (given_integer (pos n)) result };
 
     /// Takes a number by its literal (RFC 8259, section 6), which is kept as it is.
     fn raw_number(&mut self, literal: &str) -> Result<()>
         requires number { number literal.now }
-        requires come { failed self.old ≡ None → MayCome (stand (state self.old)) (num_token literal.now) }
-        ensures { Takes after stopped (state self.old) (state self.new) (failed self.old) (failed self.new) (num_token literal.now) result };
+        requires come { failed self.old ≡ None
+            → MayCome (stand (state self.old)) (num_token literal.now) }
+        ensures { Takes after stopped (state self.old) (state self.new)
+            (failed self.old) (failed self.new) (given (num_token literal.now)) result };
 
     /// Takes a string, by its characters.
     fn text(&mut self, s: &str) -> Result<()>
         requires { failed self.old ≡ None → MayCome (stand (state self.old)) (text_token s.now) }
-        ensures { Takes after stopped (state self.old) (state self.new) (failed self.old) (failed self.new) (text_token s.now) result };
+        ensures { Takes after stopped (state self.old) (state self.new)
+            (failed self.old) (failed self.new) (given (text_token s.now)) result };
 
     /// Takes the beginning of an array. The hint is how many elements come, where that is known.
     fn begin_array(&mut self, hint: Option<usize>) -> Result<()>
         requires { failed self.old ≡ None → MayCome (stand (state self.old)) (begin array) }
-        ensures { Takes after stopped (state self.old) (state self.new) (failed self.old) (failed self.new) (begin array) result };
+        ensures { Takes after stopped (state self.old) (state self.new)
+            (failed self.old) (failed self.new) (given (begin array)) result };
 
     /// Takes the end of the array that was begun last.
     fn end_array(&mut self) -> Result<()>
         requires { failed self.old ≡ None → MayCome (stand (state self.old)) (end array) }
-        ensures { Takes after stopped (state self.old) (state self.new) (failed self.old) (failed self.new) (end array) result };
+        ensures { Takes after stopped (state self.old) (state self.new)
+            (failed self.old) (failed self.new) (given (end array)) result };
 
     /// Takes the beginning of an object. The hint is how many members come, where that is known.
     fn begin_object(&mut self, hint: Option<usize>) -> Result<()>
         requires { failed self.old ≡ None → MayCome (stand (state self.old)) (begin object) }
-        ensures { Takes after stopped (state self.old) (state self.new) (failed self.old) (failed self.new) (begin object) result };
+        ensures { Takes after stopped (state self.old) (state self.new)
+            (failed self.old) (failed self.new) (given (begin object)) result };
 
     /// Takes the key of the next member, by its characters. Its value comes next.
     fn key(&mut self, s: &str) -> Result<()>
         requires { failed self.old ≡ None → MayCome (stand (state self.old)) (key_token s.now) }
-        ensures { Takes after stopped (state self.old) (state self.new) (failed self.old) (failed self.new) (key_token s.now) result };
+        ensures { Takes after stopped (state self.old) (state self.new)
+            (failed self.old) (failed self.new) (given (key_token s.now)) result };
 
     /// Takes the end of the object that was begun last.
     fn end_object(&mut self) -> Result<()>
         requires { failed self.old ≡ None → MayCome (stand (state self.old)) (end object) }
-        ensures { Takes after stopped (state self.old) (state self.new) (failed self.old) (failed self.new) (end object) result };
+        ensures { Takes after stopped (state self.old) (state self.new)
+            (failed self.old) (failed self.new) (given (end object)) result };
 
     /// What may come moves as in the tokens of a tree.
-    ghost moves: { (s : State) (t : Token) → stand (after s t) ≡ stand_after (stand s) t };
+    ghost moves: { (s : State) (g : Given)
+        → stand (after s g) ≡ stand_after (stand s) (token_of g) };
 }

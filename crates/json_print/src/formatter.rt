@@ -1,9 +1,9 @@
 // How the parts of a JSON text are written.
-ghost use Rattle.std.specs.Prelude.{◌≡◌, ℕ, List, OnOk};
-ghost use Rattle.std.specs.Fmt.{decimal, signed_decimal};
+ghost use Rattle.std.specs.Prelude.{◌≡◌, OnOk};
 ghost use Rattle.json_grammar.specs.declared.Kind.TheVariants.{Array as array, Object as object};
 ghost use Rattle.json_text.specs.Transfer.{Puts};
-ghost use Rattle.json_print.specs.Calls.{Call, null_call, boolean_call, number_call, string_call, bytes_call, begin_string, end_string, begin_call, end_call, begin_element, end_element, begin_key, end_key, begin_member, end_member, raw_call};
+ghost use Rattle.json_print.specs.Calls.{null_call, boolean_call, number_call, signed_call, unsigned_call, string_call, bytes_call, begin_string, end_string, begin_call, end_call, begin_element, end_element, begin_key, end_key, begin_member, end_member, raw_call};
+ghost use Rattle.json_print.specs.Layouts.{Form};
 
 use json_text::{Result, Sink};
 
@@ -21,79 +21,89 @@ use json_text::{Result, Sink};
 /// assert_eq!(rt; sink.as_slice(), b"\"a\\tb\": ".as_slice());
 /// ```
 pub trait Formatter {
-    /// The piece that a call writes.
-    ghost piece: { Self → Call → List ℕ };
-
-    /// The formatter behind a call.
-    ghost next: { Self → Call → Self };
+    /// The piece that each call writes, and the formatter behind it.
+    ghost form: { Form Self };
 
     /// The first state, in which nothing was written yet.
     ghost fresh: { Self → Type 0 };
 
     /// Writes `null`.
     fn write_null<W: Sink>(&mut self, writer: &mut W) -> Result<()>
-        ensures puts { Puts (W.state writer.old) (W.state writer.new) (piece self.old null_call) result }
-        ensures next { OnOk result (self.new ≡ next self.old null_call) };
+        ensures puts { Puts (W.state writer.old) (W.state writer.new)
+            (form.piece self.old null_call) result }
+        ensures next { OnOk result (self.new ≡ form.next self.old null_call) };
 
     /// Writes `true` or `false`.
     fn write_bool<W: Sink>(&mut self, writer: &mut W, value: bool) -> Result<()>
-        ensures puts { Puts (W.state writer.old) (W.state writer.new) (piece self.old (boolean_call value)) result }
-        ensures next { OnOk result (self.new ≡ next self.old (boolean_call value)) };
+        ensures puts { Puts (W.state writer.old) (W.state writer.new)
+            (form.piece self.old (boolean_call value)) result }
+        ensures next { OnOk result (self.new ≡ form.next self.old (boolean_call value)) };
 
     /// Writes the integer's decimal text.
     fn write_i8<W: Sink>(&mut self, writer: &mut W, value: i8) -> Result<()>
-        ensures puts { Puts (W.state writer.old) (W.state writer.new) (piece self.old (number_call (signed_decimal value))) result }
-        ensures next { OnOk result (self.new ≡ next self.old (number_call (signed_decimal value))) };
+        ensures puts { Puts (W.state writer.old) (W.state writer.new)
+            (form.piece self.old (signed_call value)) result }
+        ensures next { OnOk result (self.new ≡ form.next self.old (signed_call value)) };
 
     /// Writes the integer's decimal text.
     fn write_i16<W: Sink>(&mut self, writer: &mut W, value: i16) -> Result<()>
-        ensures puts { Puts (W.state writer.old) (W.state writer.new) (piece self.old (number_call (signed_decimal value))) result }
-        ensures next { OnOk result (self.new ≡ next self.old (number_call (signed_decimal value))) };
+        ensures puts { Puts (W.state writer.old) (W.state writer.new)
+            (form.piece self.old (signed_call value)) result }
+        ensures next { OnOk result (self.new ≡ form.next self.old (signed_call value)) };
 
     /// Writes the integer's decimal text.
     fn write_i32<W: Sink>(&mut self, writer: &mut W, value: i32) -> Result<()>
-        ensures puts { Puts (W.state writer.old) (W.state writer.new) (piece self.old (number_call (signed_decimal value))) result }
-        ensures next { OnOk result (self.new ≡ next self.old (number_call (signed_decimal value))) };
+        ensures puts { Puts (W.state writer.old) (W.state writer.new)
+            (form.piece self.old (signed_call value)) result }
+        ensures next { OnOk result (self.new ≡ form.next self.old (signed_call value)) };
 
     /// Writes the integer's decimal text.
     fn write_i64<W: Sink>(&mut self, writer: &mut W, value: i64) -> Result<()>
-        ensures puts { Puts (W.state writer.old) (W.state writer.new) (piece self.old (number_call (signed_decimal value))) result }
-        ensures next { OnOk result (self.new ≡ next self.old (number_call (signed_decimal value))) };
+        ensures puts { Puts (W.state writer.old) (W.state writer.new)
+            (form.piece self.old (signed_call value)) result }
+        ensures next { OnOk result (self.new ≡ form.next self.old (signed_call value)) };
 
     /// Writes the integer's decimal text.
     fn write_i128<W: Sink>(&mut self, writer: &mut W, value: i128) -> Result<()>
-        ensures puts { Puts (W.state writer.old) (W.state writer.new) (piece self.old (number_call (signed_decimal value))) result }
-        ensures next { OnOk result (self.new ≡ next self.old (number_call (signed_decimal value))) };
+        ensures puts { Puts (W.state writer.old) (W.state writer.new)
+            (form.piece self.old (signed_call value)) result }
+        ensures next { OnOk result (self.new ≡ form.next self.old (signed_call value)) };
 
     /// Writes the integer's decimal text.
     fn write_u8<W: Sink>(&mut self, writer: &mut W, value: u8) -> Result<()>
-        ensures puts { Puts (W.state writer.old) (W.state writer.new) (piece self.old (number_call (decimal value))) result }
-        ensures next { OnOk result (self.new ≡ next self.old (number_call (decimal value))) };
+        ensures puts { Puts (W.state writer.old) (W.state writer.new)
+            (form.piece self.old (unsigned_call value)) result }
+        ensures next { OnOk result (self.new ≡ form.next self.old (unsigned_call value)) };
 
     /// Writes the integer's decimal text.
     fn write_u16<W: Sink>(&mut self, writer: &mut W, value: u16) -> Result<()>
-        ensures puts { Puts (W.state writer.old) (W.state writer.new) (piece self.old (number_call (decimal value))) result }
-        ensures next { OnOk result (self.new ≡ next self.old (number_call (decimal value))) };
+        ensures puts { Puts (W.state writer.old) (W.state writer.new)
+            (form.piece self.old (unsigned_call value)) result }
+        ensures next { OnOk result (self.new ≡ form.next self.old (unsigned_call value)) };
 
     /// Writes the integer's decimal text.
     fn write_u32<W: Sink>(&mut self, writer: &mut W, value: u32) -> Result<()>
-        ensures puts { Puts (W.state writer.old) (W.state writer.new) (piece self.old (number_call (decimal value))) result }
-        ensures next { OnOk result (self.new ≡ next self.old (number_call (decimal value))) };
+        ensures puts { Puts (W.state writer.old) (W.state writer.new)
+            (form.piece self.old (unsigned_call value)) result }
+        ensures next { OnOk result (self.new ≡ form.next self.old (unsigned_call value)) };
 
     /// Writes the integer's decimal text.
     fn write_u64<W: Sink>(&mut self, writer: &mut W, value: u64) -> Result<()>
-        ensures puts { Puts (W.state writer.old) (W.state writer.new) (piece self.old (number_call (decimal value))) result }
-        ensures next { OnOk result (self.new ≡ next self.old (number_call (decimal value))) };
+        ensures puts { Puts (W.state writer.old) (W.state writer.new)
+            (form.piece self.old (unsigned_call value)) result }
+        ensures next { OnOk result (self.new ≡ form.next self.old (unsigned_call value)) };
 
     /// Writes the integer's decimal text.
     fn write_u128<W: Sink>(&mut self, writer: &mut W, value: u128) -> Result<()>
-        ensures puts { Puts (W.state writer.old) (W.state writer.new) (piece self.old (number_call (decimal value))) result }
-        ensures next { OnOk result (self.new ≡ next self.old (number_call (decimal value))) };
+        ensures puts { Puts (W.state writer.old) (W.state writer.new)
+            (form.piece self.old (unsigned_call value)) result }
+        ensures next { OnOk result (self.new ≡ form.next self.old (unsigned_call value)) };
 
     /// Writes a number's literal as it is.
     fn write_number_str<W: Sink>(&mut self, writer: &mut W, value: &str) -> Result<()>
-        ensures puts { Puts (W.state writer.old) (W.state writer.new) (piece self.old (number_call value.now)) result }
-        ensures next { OnOk result (self.new ≡ next self.old (number_call value.now)) };
+        ensures puts { Puts (W.state writer.old) (W.state writer.new)
+            (form.piece self.old (number_call value.now)) result }
+        ensures next { OnOk result (self.new ≡ form.next self.old (number_call value.now)) };
 
     /// Writes a string, between quotes where they are needed: `"`, `\\` and the characters below U+0020 are escaped, and nothing else
     /// (RFC 8259, section 7).
@@ -103,76 +113,92 @@ pub trait Formatter {
         value: &str,
         need_quote: bool,
     ) -> Result<()>
-        ensures puts { Puts (W.state writer.old) (W.state writer.new) (piece self.old (string_call need_quote value.now)) result }
-        ensures next { OnOk result (self.new ≡ next self.old (string_call need_quote value.now)) };
+        ensures puts { Puts (W.state writer.old) (W.state writer.new)
+            (form.piece self.old (string_call need_quote value.now)) result }
+        ensures next { OnOk result (self.new ≡
+            form.next self.old (string_call need_quote value.now)) };
 
     /// Writes bytes as an array of numbers.
     fn write_byte_array<W: Sink>(&mut self, writer: &mut W, value: &[u8]) -> Result<()>
-        ensures puts { Puts (W.state writer.old) (W.state writer.new) (piece self.old (bytes_call value.now)) result }
-        ensures next { OnOk result (self.new ≡ next self.old (bytes_call value.now)) };
+        ensures puts { Puts (W.state writer.old) (W.state writer.new)
+            (form.piece self.old (bytes_call value.now)) result }
+        ensures next { OnOk result (self.new ≡ form.next self.old (bytes_call value.now)) };
 
     /// Writes the quote before a string.
     fn begin_string<W: Sink>(&mut self, writer: &mut W) -> Result<()>
-        ensures puts { Puts (W.state writer.old) (W.state writer.new) (piece self.old begin_string) result }
-        ensures next { OnOk result (self.new ≡ next self.old begin_string) };
+        ensures puts { Puts (W.state writer.old) (W.state writer.new)
+            (form.piece self.old begin_string) result }
+        ensures next { OnOk result (self.new ≡ form.next self.old begin_string) };
 
     /// Writes the quote behind a string.
     fn end_string<W: Sink>(&mut self, writer: &mut W) -> Result<()>
-        ensures puts { Puts (W.state writer.old) (W.state writer.new) (piece self.old end_string) result }
-        ensures next { OnOk result (self.new ≡ next self.old end_string) };
+        ensures puts { Puts (W.state writer.old) (W.state writer.new)
+            (form.piece self.old end_string) result }
+        ensures next { OnOk result (self.new ≡ form.next self.old end_string) };
 
     /// Writes `[`.
     fn begin_array<W: Sink>(&mut self, writer: &mut W) -> Result<()>
-        ensures puts { Puts (W.state writer.old) (W.state writer.new) (piece self.old (begin_call array)) result }
-        ensures next { OnOk result (self.new ≡ next self.old (begin_call array)) };
+        ensures puts { Puts (W.state writer.old) (W.state writer.new)
+            (form.piece self.old (begin_call array)) result }
+        ensures next { OnOk result (self.new ≡ form.next self.old (begin_call array)) };
 
     /// Writes what stands before the end of an array, and `]`.
     fn end_array<W: Sink>(&mut self, writer: &mut W) -> Result<()>
-        ensures puts { Puts (W.state writer.old) (W.state writer.new) (piece self.old (end_call array)) result }
-        ensures next { OnOk result (self.new ≡ next self.old (end_call array)) };
+        ensures puts { Puts (W.state writer.old) (W.state writer.new)
+            (form.piece self.old (end_call array)) result }
+        ensures next { OnOk result (self.new ≡ form.next self.old (end_call array)) };
 
     /// Writes what stands before an element: a comma unless it is the first, and the layout.
     fn begin_array_value<W: Sink>(&mut self, writer: &mut W, first: bool) -> Result<()>
-        ensures puts { Puts (W.state writer.old) (W.state writer.new) (piece self.old (begin_element first)) result }
-        ensures next { OnOk result (self.new ≡ next self.old (begin_element first)) };
+        ensures puts { Puts (W.state writer.old) (W.state writer.new)
+            (form.piece self.old (begin_element first)) result }
+        ensures next { OnOk result (self.new ≡ form.next self.old (begin_element first)) };
 
     /// Writes what stands behind an element.
     fn end_array_value<W: Sink>(&mut self, writer: &mut W) -> Result<()>
-        ensures puts { Puts (W.state writer.old) (W.state writer.new) (piece self.old end_element) result }
-        ensures next { OnOk result (self.new ≡ next self.old end_element) };
+        ensures puts { Puts (W.state writer.old) (W.state writer.new)
+            (form.piece self.old end_element) result }
+        ensures next { OnOk result (self.new ≡ form.next self.old end_element) };
 
     /// Writes `{`.
     fn begin_object<W: Sink>(&mut self, writer: &mut W) -> Result<()>
-        ensures puts { Puts (W.state writer.old) (W.state writer.new) (piece self.old (begin_call object)) result }
-        ensures next { OnOk result (self.new ≡ next self.old (begin_call object)) };
+        ensures puts { Puts (W.state writer.old) (W.state writer.new)
+            (form.piece self.old (begin_call object)) result }
+        ensures next { OnOk result (self.new ≡ form.next self.old (begin_call object)) };
 
     /// Writes what stands before the end of an object, and `}`.
     fn end_object<W: Sink>(&mut self, writer: &mut W) -> Result<()>
-        ensures puts { Puts (W.state writer.old) (W.state writer.new) (piece self.old (end_call object)) result }
-        ensures next { OnOk result (self.new ≡ next self.old (end_call object)) };
+        ensures puts { Puts (W.state writer.old) (W.state writer.new)
+            (form.piece self.old (end_call object)) result }
+        ensures next { OnOk result (self.new ≡ form.next self.old (end_call object)) };
 
     /// Writes what stands before a key: a comma unless it is the first, and the layout.
     fn begin_object_key<W: Sink>(&mut self, writer: &mut W, first: bool) -> Result<()>
-        ensures puts { Puts (W.state writer.old) (W.state writer.new) (piece self.old (begin_key first)) result }
-        ensures next { OnOk result (self.new ≡ next self.old (begin_key first)) };
+        ensures puts { Puts (W.state writer.old) (W.state writer.new)
+            (form.piece self.old (begin_key first)) result }
+        ensures next { OnOk result (self.new ≡ form.next self.old (begin_key first)) };
 
     /// Writes what stands behind a key.
     fn end_object_key<W: Sink>(&mut self, writer: &mut W) -> Result<()>
-        ensures puts { Puts (W.state writer.old) (W.state writer.new) (piece self.old end_key) result }
-        ensures next { OnOk result (self.new ≡ next self.old end_key) };
+        ensures puts { Puts (W.state writer.old) (W.state writer.new)
+            (form.piece self.old end_key) result }
+        ensures next { OnOk result (self.new ≡ form.next self.old end_key) };
 
     /// Writes the colon between a key and its value.
     fn begin_object_value<W: Sink>(&mut self, writer: &mut W) -> Result<()>
-        ensures puts { Puts (W.state writer.old) (W.state writer.new) (piece self.old begin_member) result }
-        ensures next { OnOk result (self.new ≡ next self.old begin_member) };
+        ensures puts { Puts (W.state writer.old) (W.state writer.new)
+            (form.piece self.old begin_member) result }
+        ensures next { OnOk result (self.new ≡ form.next self.old begin_member) };
 
     /// Writes what stands behind a value of an object.
     fn end_object_value<W: Sink>(&mut self, writer: &mut W) -> Result<()>
-        ensures puts { Puts (W.state writer.old) (W.state writer.new) (piece self.old end_member) result }
-        ensures next { OnOk result (self.new ≡ next self.old end_member) };
+        ensures puts { Puts (W.state writer.old) (W.state writer.new)
+            (form.piece self.old end_member) result }
+        ensures next { OnOk result (self.new ≡ form.next self.old end_member) };
 
     /// Writes a text as it is.
     fn write_raw_value<W: Sink>(&mut self, writer: &mut W, raw: &str) -> Result<()>
-        ensures puts { Puts (W.state writer.old) (W.state writer.new) (piece self.old (raw_call raw.now)) result }
-        ensures next { OnOk result (self.new ≡ next self.old (raw_call raw.now)) };
+        ensures puts { Puts (W.state writer.old) (W.state writer.new)
+            (form.piece self.old (raw_call raw.now)) result }
+        ensures next { OnOk result (self.new ≡ form.next self.old (raw_call raw.now)) };
 }

@@ -1,6 +1,6 @@
 // An indent, and a new line with some of them behind it.
-ghost use Rattle.std.specs.Prelude.{◌≡◌, ◌∷◌, ◌++◌, ◌*◌, ◌≤◌, ◌<◌, ◌↔◌, [], All, IsTrue, length};
-ghost use Rattle.json_model.specs.Print.{indents};
+ghost use Rattle.std.specs.Prelude.{◌≡◌, ◌∷◌, ◌++◌, ◌*◌, ◌≤◌, ◌<◌, ◌↔◌, [], All, IsTrue, Some, length};
+ghost use Rattle.json_model.specs.Print.{indents, line};
 ghost use Rattle.json_print.specs.Adding.{Adds};
 ghost use Rattle.json_print.specs.Calls.{comma};
 
@@ -66,7 +66,8 @@ fn piece_of_indents<'a>(indent: Indent<'a>, most: usize) -> (&'a [u8], usize)
 }
 
 fn add_indents<W: Sink>(writer: &mut W, indent: Indent<'_>, level: usize) -> Added
-    ensures { Adds (W.state writer.old) (W.state writer.new) (indents level indent.entry.bytes.now) result }
+    ensures { Adds (W.state writer.old) (W.state writer.new)
+        (indents level indent.entry.bytes.now) result }
 {
     let mut left = level;
     'fill: while left > 0 {
@@ -82,7 +83,8 @@ fn add_indents<W: Sink>(writer: &mut W, indent: Indent<'_>, level: usize) -> Add
 
 #[inline(never)]
 fn add_long_break<W: Sink>(writer: &mut W, indent: Indent<'_>, level: usize, first: bool) -> Added
-    ensures { Adds (W.state writer.old) (W.state writer.new) (comma first ++ (10 ∷ indents level indent.entry.bytes.now)) result }
+    ensures { Adds (W.state writer.old) (W.state writer.new)
+        (comma first ++ line (Some indent.entry.bytes.now) level) result }
 {
     add(writer, &LINE[usize::from(first)..2])?;
     add_indents(writer, indent, level)
@@ -96,7 +98,8 @@ pub(crate) fn add_break<W: Sink>(
     level: usize,
     first: bool,
 ) -> Added
-    ensures { Adds (W.state writer.old) (W.state writer.new) (comma first ++ (10 ∷ indents level indent.entry.bytes.now)) result }
+    ensures { Adds (W.state writer.old) (W.state writer.new)
+        (comma first ++ line (Some indent.entry.bytes.now) level) result }
 {
     if level > indent.ready {
         return add_long_break(writer, indent, level, first);

@@ -2,7 +2,7 @@
 ghost use Rattle.std.specs.Prelude.{◌∷◌, ◌++◌, [], true, option_map};
 ghost use Rattle.json_model.specs.Print.{line};
 ghost use Rattle.json_print.specs.Adding.{Adds};
-ghost use Rattle.json_print.specs.Calls.{byte_elements, closing_line, comma, holds_any};
+ghost use Rattle.json_print.specs.Calls.{byte_array, byte_elements, closing_line, comma};
 
 use crate::adding::{Added, add};
 use crate::escape::add_number;
@@ -50,7 +50,8 @@ pub(crate) fn add_end<W: Sink>(
     bracket: u8,
 ) -> Added
     ensures { let i = option_map (λ s. s.bytes.now) indent.entry in
-        Adds (W.state writer.old) (W.state writer.new) (closing_line flag i level ++ bracket ∷ []) result }
+        Adds (W.state writer.old) (W.state writer.new)
+        (closing_line flag i level ++ bracket ∷ []) result }
 {
     if flag {
         add_end_line(writer, indent, level, bracket)
@@ -67,7 +68,8 @@ fn add_byte_element<W: Sink>(
     byte: u8,
 ) -> Added
     ensures { let i = option_map (λ s. s.bytes.now) indent.entry in
-        Adds (W.state writer.old) (W.state writer.new) (byte_elements i level first (byte ∷ [])) result }
+        Adds (W.state writer.old) (W.state writer.new)
+        (byte_elements i level first (byte ∷ [])) result }
 {
     add_start(writer, indent, level, first)?;
     add_number(writer, byte)
@@ -80,7 +82,8 @@ fn add_byte_elements<W: Sink>(
     bytes: &[u8],
 ) -> Added
     ensures { let i = option_map (λ s. s.bytes.now) indent.entry in
-        Adds (W.state writer.old) (W.state writer.new) (byte_elements i level true bytes.now) result }
+        Adds (W.state writer.old) (W.state writer.new)
+        (byte_elements i level true bytes.now) result }
 {
     let mut at = 0;
     'each: while at < bytes.len() {
@@ -103,7 +106,7 @@ pub(crate) fn add_byte_array<W: Sink>(
 ) -> Added
     ensures { let i = option_map (λ s. s.bytes.now) indent.entry in
         Adds (W.state writer.old) (W.state writer.new)
-        (91 ∷ (byte_elements i level true bytes.now ++ (closing_line (holds_any bytes.now) i outer ++ 93 ∷ []))) result }
+        (byte_array i level outer bytes.now) result }
 {
     add(writer, b"[")?;
     add_byte_elements(writer, indent, level, bytes)?;

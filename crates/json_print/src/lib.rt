@@ -17,6 +17,7 @@
 mod adding;
 mod buffered;
 mod compact;
+pub mod data_laws;
 mod escape;
 mod events;
 mod formatter;

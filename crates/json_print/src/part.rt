@@ -1,6 +1,7 @@
 // The calls of a formatter that a serializer makes.
 ghost use Rattle.std.specs.Prelude.{◌≡◌, OnOk};
 ghost use Rattle.json_text.specs.Transfer.{Puts};
+ghost use Rattle.json_print.specs.Calls.{signed_call, unsigned_call};
 ghost use Rattle.json_print.specs.Parts.{meaning};
 
 use crate::Formatter;
@@ -26,20 +27,47 @@ pub(crate) enum Part<'a> {
     EndMember,
 }
 
+// An integer, by 64 bits where it has no more.
+#[inline(always)]
+fn write_int<F: Formatter, W: Sink>(formatter: &mut F, writer: &mut W, value: i128) -> Result<()>
+    ensures puts { Puts (W.state writer.old) (W.state writer.new)
+        (F.form.piece formatter.old (signed_call value)) result }
+    ensures next { OnOk result (formatter.new ≡ F.form.next formatter.old (signed_call value)) }
+{
+    match i64::try_from(value) {
+        Ok(short) => formatter.write_i64(writer, short),
+        Err(_) => formatter.write_i128(writer, value),
+    }
+}
+
+// The same from zero on.
+#[inline(always)]
+fn write_uint<F: Formatter, W: Sink>(formatter: &mut F, writer: &mut W, value: u128) -> Result<()>
+    ensures puts { Puts (W.state writer.old) (W.state writer.new)
+        (F.form.piece formatter.old (unsigned_call value)) result }
+    ensures next { OnOk result (formatter.new ≡ F.form.next formatter.old (unsigned_call value)) }
+{
+    match u64::try_from(value) {
+        Ok(short) => formatter.write_u64(writer, short),
+        Err(_) => formatter.write_u128(writer, value),
+    }
+}
+
 #[inline(always)]
 pub(crate) fn write_part<F: Formatter, W: Sink>(
     formatter: &mut F,
     writer: &mut W,
     part: Part<'_>,
 ) -> Result<()>
-    ensures puts { Puts (W.state writer.old) (W.state writer.new) (F.piece formatter.old (meaning part.entry)) result }
-    ensures next { OnOk result (formatter.new ≡ F.next formatter.old (meaning part.entry)) }
+    ensures puts { Puts (W.state writer.old) (W.state writer.new)
+        (F.form.piece formatter.old (meaning part.entry)) result }
+    ensures next { OnOk result (formatter.new ≡ F.form.next formatter.old (meaning part.entry)) }
 {
     match part {
         Part::Null => formatter.write_null(writer),
         Part::Bool(value) => formatter.write_bool(writer, value),
-        Part::Int(value) => formatter.write_i128(writer, value),
-        Part::Uint(value) => formatter.write_u128(writer, value),
+        Part::Int(value) => write_int(formatter, writer, value),
+        Part::Uint(value) => write_uint(formatter, writer, value),
         Part::Number(literal) => formatter.write_number_str(writer, literal),
         Part::Text(text) => formatter.write_string_fast(writer, text, true),
         Part::Begin(Kind::Array) => formatter.begin_array(writer),

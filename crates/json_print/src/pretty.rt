@@ -1,7 +1,6 @@
 // The formatter that indents.
 ghost use Rattle.std.specs.Prelude.{◌≡◌, false, Some, codes};
-ghost use Rattle.json_print.specs.Layouts.{LaidOut};
-ghost use Rattle.json_print.specs.Calls.{piece_of, level_after, flag_after};
+ghost use Rattle.json_print.specs.Layouts.{LaidOut, pretty_form};
 
 use crate::Formatter;
 use crate::adding::{add, told};
@@ -36,7 +35,7 @@ impl PrettyFormatter<'static> {
     /// Indents by two spaces. Nothing was written yet.
     pub fn new() -> PrettyFormatter<'static>
         ensures fresh { ⟦<PrettyFormatter<'static> as Formatter>⟧.fresh result }
-        ensures laid { LaidOut (record { piece = ⟦<PrettyFormatter<'static> as Formatter>⟧.piece; next = ⟦<PrettyFormatter<'static> as Formatter>⟧.next }) result (Some (codes "  ")) 0 false }
+        ensures laid { LaidOut pretty_form result (Some (codes "  ")) 0 false }
     {
         PrettyFormatter::with_indent(b"  ")
     }
@@ -46,7 +45,7 @@ impl<'a> PrettyFormatter<'a> {
     /// Indents by these bytes. Nothing was written yet.
     pub fn with_indent(indent: &'a [u8]) -> PrettyFormatter<'a>
         ensures fresh { ⟦<PrettyFormatter<'a> as Formatter>⟧.fresh result }
-        ensures laid { LaidOut (record { piece = ⟦<PrettyFormatter<'a> as Formatter>⟧.piece; next = ⟦<PrettyFormatter<'a> as Formatter>⟧.next }) result (Some indent.now) 0 false }
+        ensures laid { LaidOut pretty_form result (Some indent.now) 0 false }
     {
         PrettyFormatter {
             indent: Indent::new(indent),
@@ -58,7 +57,7 @@ impl<'a> PrettyFormatter<'a> {
 
 impl Default for PrettyFormatter<'static> {
     ghost is_default = { λ f. ⟦<PrettyFormatter<'static> as Formatter>⟧.fresh f
-        × LaidOut (record { piece = ⟦<PrettyFormatter<'static> as Formatter>⟧.piece; next = ⟦<PrettyFormatter<'static> as Formatter>⟧.next }) f (Some (codes "  ")) 0 false };
+        × LaidOut pretty_form f (Some (codes "  ")) 0 false };
 
     fn default() -> PrettyFormatter<'static> {
         PrettyFormatter::new()
@@ -66,9 +65,7 @@ impl Default for PrettyFormatter<'static> {
 }
 
 impl Formatter for PrettyFormatter<'_> {
-    ghost piece = { λ s c. piece_of (Some s.indent.bytes.now) s.level s.flag c };
-
-    ghost next = { λ s c. record s { level = level_after s.level c; flag = flag_after s.flag c } };
+    ghost form = { pretty_form };
 
     ghost fresh = { λ s. (s.level ≡ 0) × (s.flag ≡ false) };
 

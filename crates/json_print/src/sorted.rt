@@ -1,12 +1,10 @@
 // An open object whose members wait for its end, to be put in the order of their keys.
-ghost use Rattle.std.specs.Prelude.{◌≡◌, ◌<◌, [], ◌∷◌, ◌++◌, length, map, get_or, slice_get, None, Some, true, false, OnOk, IfOk, IfErr, ◌^◌, ◌-◌};
+ghost use Rattle.std.specs.Prelude.{◌≡◌, ◌<◌, length, slice_get, None, Some, true, false, OnOk, IfOk, IfErr, ◌^◌, ◌-◌};
 ghost use Rattle.json_text.specs.Errors.{no_memory};
 ghost use Rattle.json_text.specs.Transfer.{Puts};
-ghost use Rattle.json_print.specs.Layouts.{Form};
-ghost use Rattle.json_print.specs.Orders.{inserted_all, pair_of};
 ghost use Rattle.json_print.specs.Parts.{meaning};
-ghost use Rattle.json_print.specs.Printer.{Layer, Row, rows_sorted};
-ghost use Rattle.json_print.specs.Rows.{key_bytes, key_next, numbered, row_bytes, row_next, rows_bytes, rows_next, value_bytes, value_next};
+ghost use Rattle.json_print.specs.Printer.{key_more, no_layer, pair_filed, row_with, text_put};
+ghost use Rattle.json_print.specs.Rows.{IsOrderOf, key_bytes, key_next, members_bytes, members_next, row_bytes, row_next, value_bytes, value_next};
 
 use crate::Formatter;
 use crate::order::{Numbered, sort_pairs};
@@ -23,7 +21,13 @@ struct Scratch {
 
 impl Sink for Scratch {
     // No call counts how often memory was not there: the count stands at its last value.
-    ghost state = { λ s. record { gained = Some s.bytes.items; faults = 0; lacks = 2 ^ 64 - 1; unflushed = false; loan = None } };
+    ghost state = { λ s. record {
+      gained = Some s.bytes.items;
+      faults = 0;
+      lacks = 2 ^ 64 - 1;
+      unflushed = false;
+      loan = None;
+    } };
 
     #[inline(always)]
     fn write(&mut self, piece: &[u8]) -> std::result::Result<usize, SinkError> {
@@ -66,14 +70,16 @@ impl Model for SortedObject {
 
     ghost Value = { Layer };
 
-    ghost view = { λ o. layer_of (string_bytes o.keys) o.texts.bytes.items o.members.items o.key_from o.text_from };
+    ghost view = { λ o. layer_of (string_bytes o.keys) o.texts.bytes.items o.members.items
+        o.key_from o.text_from };
 
-    ghost invariant = { λ o. HoldMembers (string_bytes o.keys) o.texts.bytes.items o.members.items o.key_from o.text_from };
+    ghost invariant = { λ o. HoldMembers (string_bytes o.keys) o.texts.bytes.items o.members.items
+        o.key_from o.text_from };
 }
 
 impl SortedObject {
     pub(crate) fn new(alloc: Global) -> SortedObject
-        ensures { result ≡ record { rows = []; key = []; text = [] } }
+        ensures { result ≡ no_layer }
     {
         SortedObject {
             keys: String::new(alloc),
@@ -88,7 +94,7 @@ impl SortedObject {
 
     // Takes all out.
     pub(crate) fn clear(&mut self)
-        ensures { self.new ≡ record { rows = []; key = []; text = [] } }
+        ensures { self.new ≡ no_layer }
     {
         self.keys.clear();
         self.texts.bytes.clear();
@@ -100,8 +106,10 @@ impl SortedObject {
     // A call of the formatter, into the text of the open member.
     #[inline(never)]
     pub(crate) fn call<F: Formatter>(&mut self, formatter: &mut F, part: Part<'_>) -> Result<()>
-        ensures ok { OnOk result (self.new ≡ record self.old { text = self.old.text ++ F.piece formatter.old (meaning part.entry) }) }
-        ensures next { OnOk result (formatter.new ≡ F.next formatter.old (meaning part.entry)) }
+        ensures ok { OnOk result (self.new ≡ text_put self.old
+            (F.form.piece formatter.old (meaning part.entry))) }
+        ensures next { OnOk result (formatter.new ≡
+            F.form.next formatter.old (meaning part.entry)) }
         ensures err { IfErr result (λ e. e ≡ no_memory) }
     {
         write_part(formatter, &mut self.texts, part)
@@ -109,7 +117,7 @@ impl SortedObject {
 
     // More of the key of the open member.
     pub(crate) fn push_key(&mut self, key: &str) -> Result<()>
-        ensures ok { OnOk result (self.new ≡ record self.old { key = self.old.key ++ key.now }) }
+        ensures ok { OnOk result (self.new ≡ key_more self.old key.now) }
         ensures err { IfErr result (λ e. e ≡ no_memory) }
     {
         self.keys.push_str(key)?;
@@ -118,7 +126,7 @@ impl SortedObject {
 
     // The open member is finished.
     pub(crate) fn file(&mut self) -> Result<()>
-        ensures ok { OnOk result (self.new ≡ record { rows = self.old.rows ++ record { key = self.old.key; text = self.old.text } ∷ []; key = []; text = [] }) }
+        ensures ok { OnOk result (self.new ≡ pair_filed self.old) }
         ensures err { IfErr result (λ e. e ≡ no_memory) }
     {
         let key_to = self.keys.len();
@@ -137,7 +145,7 @@ impl SortedObject {
     // The key and the text of a finished member.
     fn row(&self, number: usize) -> (&str, &[u8])
         requires { number < length self.now.rows }
-        ensures { slice_get self.now.rows number ≡ Some (record { key = result.0.now; text = result.1.now }) }
+        ensures { slice_get self.now.rows number ≡ Some (row_with result.0.now result.1.now) }
     {
         let member = self.members[number];
         let key = &self.keys[member.key_from..member.key_to];
@@ -147,7 +155,7 @@ impl SortedObject {
 
     // The finished members in the order of their keys.
     pub(crate) fn in_order(&self, alloc: Global) -> Result<Vec<Numbered<'_>>>
-        ensures ok { IfOk result (λ order. map pair_of order.items ≡ inserted_all (numbered 0 self.now.rows)) }
+        ensures ok { IfOk result (λ order. IsOrderOf order.items self.now.rows) }
         ensures err { IfErr result (λ e. e ≡ no_memory) }
     {
         let mut order = Vec::with_capacity(alloc, self.members.len())?;
@@ -170,9 +178,10 @@ impl SortedObject {
         object: &SortedObject,
         order: &[Numbered<'_>],
     ) -> Result<()>
-        requires { map pair_of order.now ≡ inserted_all (numbered 0 object.now.rows) }
-        ensures ok { OnOk result (self.new ≡ record self.old { text = self.old.text ++ rows_bytes (record { piece = F.piece; next = F.next }) formatter.old true (rows_sorted object.now.rows) }) }
-        ensures next { OnOk result (formatter.new ≡ rows_next (record { piece = F.piece; next = F.next }) formatter.old true (rows_sorted object.now.rows)) }
+        requires { IsOrderOf order.now object.now.rows }
+        ensures ok { OnOk result (self.new ≡ text_put self.old
+            (members_bytes F.form formatter.old object.now)) }
+        ensures next { OnOk result (formatter.new ≡ members_next F.form formatter.old object.now) }
         ensures err { IfErr result (λ e. e ≡ no_memory) }
     {
         put_rows(formatter, &mut self.texts, object, order)
@@ -185,8 +194,9 @@ fn put_key<F: Formatter, W: Sink>(
     first: bool,
     key: &str,
 ) -> Result<()>
-    ensures puts { Puts (W.state writer.old) (W.state writer.new) (key_bytes (record { piece = F.piece; next = F.next }) formatter.old first key.now) result }
-    ensures next { OnOk result (formatter.new ≡ key_next (record { piece = F.piece; next = F.next }) formatter.old first key.now) }
+    ensures puts { Puts (W.state writer.old) (W.state writer.new)
+        (key_bytes F.form formatter.old first key.now) result }
+    ensures next { OnOk result (formatter.new ≡ key_next F.form formatter.old first key.now) }
 {
     formatter.begin_object_key(writer, first)?;
     formatter.write_string_fast(writer, key, true)?;
@@ -194,8 +204,9 @@ fn put_key<F: Formatter, W: Sink>(
 }
 
 fn put_value<F: Formatter, W: Sink>(formatter: &mut F, writer: &mut W, text: &[u8]) -> Result<()>
-    ensures puts { Puts (W.state writer.old) (W.state writer.new) (value_bytes (record { piece = F.piece; next = F.next }) formatter.old text.now) result }
-    ensures next { OnOk result (formatter.new ≡ value_next (record { piece = F.piece; next = F.next }) formatter.old) }
+    ensures puts { Puts (W.state writer.old) (W.state writer.new)
+        (value_bytes F.form formatter.old text.now) result }
+    ensures next { OnOk result (formatter.new ≡ value_next F.form formatter.old) }
 {
     formatter.begin_object_value(writer)?;
     put_all(writer, text)?;
@@ -208,8 +219,10 @@ fn put_row<F: Formatter, W: Sink>(
     first: bool,
     row: (&str, &[u8]),
 ) -> Result<()>
-    ensures puts { Puts (W.state writer.old) (W.state writer.new) (row_bytes (record { piece = F.piece; next = F.next }) formatter.old first (record { key = row.entry.0.now; text = row.entry.1.now })) result }
-    ensures next { OnOk result (formatter.new ≡ row_next (record { piece = F.piece; next = F.next }) formatter.old first (record { key = row.entry.0.now; text = row.entry.1.now })) }
+    ensures puts { Puts (W.state writer.old) (W.state writer.new)
+        (row_bytes F.form formatter.old first (row_with row.entry.0.now row.entry.1.now)) result }
+    ensures next { OnOk result (formatter.new ≡
+        row_next F.form formatter.old first (row_with row.entry.0.now row.entry.1.now)) }
 {
     put_key(formatter, writer, first, row.0)?;
     put_value(formatter, writer, row.1)
@@ -222,9 +235,10 @@ pub(crate) fn put_rows<F: Formatter, W: Sink>(
     object: &SortedObject,
     order: &[Numbered<'_>],
 ) -> Result<()>
-    requires { map pair_of order.now ≡ inserted_all (numbered 0 object.now.rows) }
-    ensures puts { Puts (W.state writer.old) (W.state writer.new) (rows_bytes (record { piece = F.piece; next = F.next }) formatter.old true (rows_sorted object.now.rows)) result }
-    ensures next { OnOk result (formatter.new ≡ rows_next (record { piece = F.piece; next = F.next }) formatter.old true (rows_sorted object.now.rows)) }
+    requires { IsOrderOf order.now object.now.rows }
+    ensures puts { Puts (W.state writer.old) (W.state writer.new)
+        (members_bytes F.form formatter.old object.now) result }
+    ensures next { OnOk result (formatter.new ≡ members_next F.form formatter.old object.now) }
 {
     let mut at = 0;
     'rows: while at < order.len() {

@@ -12,7 +12,8 @@ use std::test::Fail;
 // `"b": [-25, 340282366920938463463374607431768211455, true]`
 fn list_member<E: Events>(out: &mut E) -> Result<()>
     requires { E.stand (E.state out.old) ≡ record { turn = at_value; opened = [] } }
-    ensures { OnOk result (E.stand (E.state out.new) ≡ record { turn = at_key false; opened = object ∷ [] }) }
+    ensures { OnOk result (E.stand (E.state out.new) ≡
+        record { turn = at_key false; opened = object ∷ [] }) }
 {
     out.begin_object(None)?;
     out.key("b")?;
@@ -26,7 +27,8 @@ fn list_member<E: Events>(out: &mut E) -> Result<()>
 // `"a": {"d": null, "c": "\"\\\n\u001fé"}`
 fn object_member<E: Events>(out: &mut E) -> Result<()>
     requires { E.stand (E.state out.old) ≡ record { turn = at_key false; opened = object ∷ [] } }
-    ensures { OnOk result (E.stand (E.state out.new) ≡ record { turn = at_key false; opened = object ∷ [] }) }
+    ensures { OnOk result (E.stand (E.state out.new) ≡
+        record { turn = at_key false; opened = object ∷ [] }) }
 {
     out.key("a")?;
     out.begin_object(None)?;

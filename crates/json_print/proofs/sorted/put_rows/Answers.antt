@@ -1,6 +1,5 @@
 use Rattle.std.proofs.Common.{arith, ◌∙◌}
 use Rattle.std.proofs.lemmas.List.{get_or_default}
-use Rattle.json_print.specs.Layouts.{Form}
 use Rattle.json_print.specs.Printer.{rows_sorted}
 use Rattle.json_print.proofs.Numbering.{number_within, next_row, sorted_length}
 use Rattle.json_print.proofs.RowPieces.{more_rows, row_failed, all_rows}
@@ -11,22 +10,22 @@ row-row-requires g c = number_within c.args.object.now.rows c.args.order.now c.r
 
 pub returns-in-Err-clause-puts : goal.returns-in-Err-clause-puts
 returns-in-Err-clause-puts g c =
-    let m : Form g.row.F.Denot = record { piece = g.F.Formatter.piece; next = g.F.Formatter.next } in
+    let m = g.F.Formatter.form in
     let there = next_row c.args.object.now.rows c.args.order.now c.requires c.rows.at _ c.rows-test.true (get_or_default c.args.order.now c.rows.at _ _ c.rows-test.true) in
     row_failed m _ _ _ _ _ _ c.rows.at _ _ c.rows.invariant.put (there ∙ c.row-row.ensures) c.in-Err.ensures.puts
 
 pub rows-preserved : goal.rows-preserved
 rows-preserved g c =
-    let m : Form g.row.F.Denot = record { piece = g.F.Formatter.piece; next = g.F.Formatter.next } in
+    let m = g.F.Formatter.form in
     let there = next_row c.args.object.now.rows c.args.order.now c.requires c.rows.at _ c.rows-test.true (get_or_default c.args.order.now c.rows.at _ _ c.rows-test.true) in
     record { within = omega arith; put = more_rows m _ _ _ _ _ _ _ c.rows.at _ c.rows.invariant.put (there ∙ c.row-row.ensures) c.in-Ok.ensures.puts c.in-Ok.ensures.next }
 
 pub returns-clause-puts : goal.returns-clause-puts
 returns-clause-puts g c =
-    let m : Form g.row.F.Denot = record { piece = g.F.Formatter.piece; next = g.F.Formatter.next } in
+    let m = g.F.Formatter.form in
     (all_rows m _ _ _ _ (rows_sorted c.args.object.now.rows) c.rows.at (omega (arith, sorted_length c.args.object.now.rows c.args.order.now c.requires)) c.rows.invariant.put).0
 
 pub returns-clause-next : goal.returns-clause-next
 returns-clause-next g c =
-    let m : Form g.row.F.Denot = record { piece = g.F.Formatter.piece; next = g.F.Formatter.next } in
+    let m = g.F.Formatter.form in
     (all_rows m _ _ _ _ (rows_sorted c.args.object.now.rows) c.rows.at (omega (arith, sorted_length c.args.object.now.rows c.args.order.now c.requires)) c.rows.invariant.put).1

@@ -1,7 +1,6 @@
 use Rattle.std.proofs.Common.{◌∙◌, ◌-◌, ap, take}
 use Rattle.std.proofs.lemmas.Result.{err_from_is_err_and}
 use Rattle.json_print.specs.Calls.{end_call}
-use Rattle.json_print.specs.Layouts.{Form}
 use Rattle.json_print.specs.Printer.{Out, call, emptied, value_ended}
 use Rattle.json_print.specs.Serializing.{out_of}
 use Rattle.json_print.proofs.Stopping.{exits, Stopped-on, Stopped-step, Steps-from, Begins-trans, call_begins, emptied_begins, emptied_calm, ended_begins, popped, shut, shut_same}
@@ -9,7 +8,7 @@ use Rattle.json_print.proofs.serializer.Serializer.end.Goals as goal
 
 pub returns-in_err-empty : goal.returns-in_err-empty
 returns-in_err-empty g c =
-    let m : Form g.row.F.Denot = record { piece = g.F.Formatter.piece; next = g.F.Formatter.next } in
+    let m = g.F.Formatter.form in
     let old : Out g.row.F.Denot = out_of g.W.Sink.state c.args.self.now in
     let x = emptied m old c.args.kind in
     exits old _ _ _ _ _ (err_from_is_err_and c.from_residual.result c.from_residual.ensures.1)
@@ -17,7 +16,7 @@ returns-in_err-empty g c =
 
 pub returns-in_err-call : goal.returns-in_err-call
 returns-in_err-call g c =
-    let m : Form g.row.F.Denot = record { piece = g.F.Formatter.piece; next = g.F.Formatter.next } in
+    let m = g.F.Formatter.form in
     let old : Out g.row.F.Denot = out_of g.W.Sink.state c.args.self.now in
     let x = emptied m old c.args.kind in
     exits old _ _ _ _ _ (err_from_is_err_and c.from_residual-in_err-call.result c.from_residual-in_err-call.ensures.1)
@@ -25,7 +24,7 @@ returns-in_err-call g c =
 
 pub returns : goal.returns
 returns g c =
-    let m : Form g.row.F.Denot = record { piece = g.F.Formatter.piece; next = g.F.Formatter.next } in
+    let m = g.F.Formatter.form in
     let old : Out g.row.F.Denot = out_of g.W.Sink.state c.args.self.now in
     let x = emptied m old c.args.kind in
     let called = c.in_ok-call.ensures.ok ∙ ap (λ (s : Out g.row.F.Denot). call m s (end_call c.args.kind)) c.in_ok-empty.ensures.ok in

@@ -1,7 +1,6 @@
 use Rattle.std.proofs.Common.{◌∙◌, ap, refl, true}
 use Rattle.std.proofs.lemmas.Result.{err_from_is_err_and}
 use Rattle.json_print.specs.Calls.{begin_key, string_call, end_key}
-use Rattle.json_print.specs.Layouts.{Form}
 use Rattle.json_print.specs.Printer.{Out, call}
 use Rattle.json_print.specs.Serializing.{out_of}
 use Rattle.json_print.proofs.Stopping.{exits, Stopped-on, Stopped-step, Steps-from, Begins-trans, call_begins}
@@ -9,7 +8,7 @@ use Rattle.json_print.proofs.serializer.Serializer.write_key.Goals as goal
 
 pub returns-in_err-call : goal.returns-in_err-call
 returns-in_err-call g c =
-    let m : Form g.row.F.Denot = record { piece = g.F.Formatter.piece; next = g.F.Formatter.next } in
+    let m = g.F.Formatter.form in
     let old : Out g.row.F.Denot = out_of g.W.Sink.state c.args.self.now in
     let a = call m old (begin_key c.first_key-first.result) in
     rw (← c.first_key-first.ensures) (exits old _ _ _ _ _ (err_from_is_err_and c.from_residual.result c.from_residual.ensures.1)
@@ -17,7 +16,7 @@ returns-in_err-call g c =
 
 pub returns-in_err-call-2 : goal.returns-in_err-call-2
 returns-in_err-call-2 g c =
-    let m : Form g.row.F.Denot = record { piece = g.F.Formatter.piece; next = g.F.Formatter.next } in
+    let m = g.F.Formatter.form in
     let old : Out g.row.F.Denot = out_of g.W.Sink.state c.args.self.now in
     let a = call m old (begin_key c.first_key-first.result) in
     rw (← c.first_key-first.ensures) (exits old _ _ _ _ _ (err_from_is_err_and c.from_residual-in_err-call-2.result c.from_residual-in_err-call-2.ensures.1)
@@ -26,7 +25,7 @@ returns-in_err-call-2 g c =
 
 pub returns : goal.returns
 returns g c =
-    let m : Form g.row.F.Denot = record { piece = g.F.Formatter.piece; next = g.F.Formatter.next } in
+    let m = g.F.Formatter.form in
     let old : Out g.row.F.Denot = out_of g.W.Sink.state c.args.self.now in
     let a = call m old (begin_key c.first_key-first.result) in
     let b = call m a (string_call true c.args.key.now) in

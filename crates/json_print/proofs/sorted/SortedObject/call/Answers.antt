@@ -14,7 +14,7 @@ invariant_of-self g c =
 
 pub returns-clause-ok : goal.returns-clause-ok
 returns-clause-ok g c =
-    let p = g.F.Formatter.piece c.args.formatter.now (meaning c.args.part) in
+    let p = g.F.Formatter.form.piece c.args.formatter.now (meaning c.args.part) in
     on_ok_weaker c.write_part.result (λ e. ap (λ texts. layer_of (string_bytes c.self.inside.keys) texts c.self.inside.members.items c.self.inside.key_from c.self.inside.text_from) e
     ∙ layer_texts _ _ p _ _ _ c.self.invariant ∙ ap (λ (l : Layer). let r : Layer = record l { text = l.text ++ p } in r) c.self.view_is)
     (put_bytes _ _ c.self.inside.texts.bytes.items _ p _ refl refl c.write_part.ensures.puts)

@@ -1,0 +1,325 @@
+// The steps of a serializer.
+ghost use Rattle.std.specs.Prelude.{◌≡◌, None, Some};
+ghost use Rattle.json_print.specs.Parts.{meaning};
+ghost use Rattle.json_print.specs.Printer.{call, emptied, emptied_in, filed_in, is_first, key_kept, key_written, keyed, layered_in, members_put, no_layer, opened_up, took_begin, took_end, took_key, took_scalar, value_begun, value_ended};
+ghost use Rattle.json_print.specs.Rows.{IsOrderOf, members_written};
+ghost use Rattle.json_print.specs.Serializing.{StepsBy, out_of};
+
+use super::{Halted, Serializer, Step};
+use crate::order::Numbered;
+use crate::part::{Part, write_part};
+use crate::sorted::{SortedObject, put_rows};
+use crate::{Formatter, Turn};
+use json_grammar::Kind;
+use json_text::{Error, Sink};
+
+#[inline(always)]
+fn first_key(turn: Turn) -> bool
+    ensures { result ≡ is_first turn }
+{
+    match turn {
+        Turn::Key(first) => first,
+        _ => true,
+    }
+}
+
+impl<W: Sink, F: Formatter> Serializer<W, F> {
+    // Keeps the error.
+    #[cold]
+    #[inline(never)]
+    fn halt(&mut self, error: Error) -> Halted
+        ensures { self.new ≡ record self.old { failed = Some error } }
+    {
+        self.failed = Some(error);
+        Halted
+    }
+
+    // A call of the formatter where members may wait: out of line, so that its answers are not cleared
+    // at each token.
+    #[inline(never)]
+    fn call_waiting(&mut self, part: Part<'_>) -> Step
+        requires { self.old.failed ≡ None }
+        ensures { StepsBy W.state self.old self.new
+            (λ s. call F.form s (meaning part.entry)) result }
+    {
+        match self.objects.last_mut() {
+            None => match write_part(&mut self.formatter, &mut self.writer, part) {
+                Ok(()) => Ok(()),
+                Err(error) => Err(self.halt(error)),
+            },
+            Some(object) => match object.call(&mut self.formatter, part) {
+                Ok(()) => Ok(()),
+                Err(error) => Err(self.halt(error)),
+            },
+        }
+    }
+
+    // A call of the formatter.
+    #[inline(always)]
+    fn call(&mut self, part: Part<'_>) -> Step
+        requires { self.old.failed ≡ None }
+        ensures { StepsBy W.state self.old self.new
+            (λ s. call F.form s (meaning part.entry)) result }
+    {
+        match self.objects.last() {
+            None => match write_part(&mut self.formatter, &mut self.writer, part) {
+                Ok(()) => Ok(()),
+                Err(error) => Err(self.halt(error)),
+            },
+            Some(_) => self.call_waiting(part),
+        }
+    }
+
+    // What stands before a value.
+    #[inline(always)]
+    fn value_begin(&mut self) -> Step
+        requires { self.old.failed ≡ None }
+        ensures { StepsBy W.state self.old self.new (value_begun F.form) result }
+    {
+        match self.turn {
+            Turn::Value | Turn::Key(_) | Turn::Done => Ok(()),
+            Turn::Element(first) => self.call(Part::BeginElement(first)),
+            Turn::Member if self.sorts => Ok(()),
+            Turn::Member => self.call(Part::BeginMember),
+        }
+    }
+
+    // The open member of the innermost object is finished.
+    #[inline(never)]
+    fn file(&mut self) -> Step
+        requires { self.old.failed ≡ None }
+        ensures { StepsBy W.state self.old self.new filed_in result }
+    {
+        match self.objects.last_mut() {
+            None => Ok(()),
+            Some(object) => match object.file() {
+                Ok(()) => Ok(()),
+                Err(error) => Err(self.halt(error)),
+            },
+        }
+    }
+
+    // What stands behind a value.
+    #[inline(always)]
+    fn value_end(&mut self) -> Step
+        requires { self.old.failed ≡ None }
+        ensures { StepsBy W.state self.old self.new (value_ended F.form) result }
+    {
+        match self.opened.last() {
+            None => {
+                self.turn = Turn::Done;
+                Ok(())
+            }
+            Some(Kind::Array) => {
+                self.turn = Turn::Element(false);
+                self.call(Part::EndElement)
+            }
+            Some(Kind::Object) => {
+                self.turn = Turn::Key(false);
+                if self.sorts {
+                    self.file()
+                } else {
+                    self.call(Part::EndMember)
+                }
+            }
+        }
+    }
+
+    #[inline(always)]
+    pub(super) fn scalar(&mut self, part: Part<'_>) -> Step
+        requires { self.old.failed ≡ None }
+        ensures { StepsBy W.state self.old self.new
+            (λ s. took_scalar F.form s (meaning part.entry)) result }
+    {
+        self.value_begin()?;
+        self.call(part)?;
+        self.value_end()
+    }
+
+    // An object without members, in memory that was used before where there is some.
+    fn empty_object(&mut self) -> SortedObject
+        ensures empty { result ≡ no_layer }
+        ensures state { out_of W.state self.new ≡ out_of W.state self.old }
+        ensures failed { self.new.failed ≡ self.old.failed }
+    {
+        match self.spare.pop() {
+            None => SortedObject::new(self.alloc),
+            Some(mut object) => {
+                object.clear();
+                object
+            }
+        }
+    }
+
+    // Puts an object on those whose members wait.
+    #[inline(never)]
+    fn open_object(&mut self) -> Step
+        requires { self.old.failed ≡ None }
+        ensures { StepsBy W.state self.old self.new layered_in result }
+    {
+        let object = self.empty_object();
+        match self.objects.push(object) {
+            Ok(()) => Ok(()),
+            Err(error) => Err(self.halt(Error::from(error))),
+        }
+    }
+
+    // Puts a container on those that are open.
+    #[inline(always)]
+    fn open(&mut self, kind: Kind) -> Step
+        requires { self.old.failed ≡ None }
+        ensures { StepsBy W.state self.old self.new (λ s. opened_up s kind) result }
+    {
+        match self.opened.push(kind) {
+            Ok(()) => {}
+            Err(error) => return Err(self.halt(Error::from(error))),
+        }
+        match kind {
+            Kind::Array => {
+                self.turn = Turn::Element(true);
+                Ok(())
+            }
+            Kind::Object => {
+                self.turn = Turn::Key(true);
+                if self.sorts {
+                    self.open_object()
+                } else {
+                    Ok(())
+                }
+            }
+        }
+    }
+
+    #[inline(always)]
+    pub(super) fn begin(&mut self, kind: Kind) -> Step
+        requires { self.old.failed ≡ None }
+        ensures { StepsBy W.state self.old self.new (λ s. took_begin F.form s kind) result }
+    {
+        self.value_begin()?;
+        self.call(Part::Begin(kind))?;
+        self.open(kind)
+    }
+
+    // The rows of an object in this order.
+    fn put_in_order(&mut self, object: &SortedObject, order: &[Numbered<'_>]) -> Step
+        requires goes { self.old.failed ≡ None }
+        requires order { IsOrderOf order.now object.now.rows }
+        ensures { StepsBy W.state self.old self.new (members_written F.form object.now) result }
+    {
+        match self.objects.last_mut() {
+            None => match put_rows(&mut self.formatter, &mut self.writer, object, order) {
+                Ok(()) => Ok(()),
+                Err(error) => Err(self.halt(error)),
+            },
+            Some(outer) => match outer.take_rows(&mut self.formatter, object, order) {
+                Ok(()) => Ok(()),
+                Err(error) => Err(self.halt(error)),
+            },
+        }
+    }
+
+    // The rows of an object in the order of their keys.
+    fn put_object(&mut self, object: &SortedObject) -> Step
+        requires { self.old.failed ≡ None }
+        ensures { StepsBy W.state self.old self.new (members_put F.form object.now) result }
+    {
+        match object.in_order(self.alloc) {
+            Ok(order) => self.put_in_order(object, &order),
+            Err(error) => Err(self.halt(error)),
+        }
+    }
+
+    // The members of the innermost object in their order.
+    #[inline(never)]
+    fn put_members(&mut self) -> Step
+        requires { self.old.failed ≡ None }
+        ensures { StepsBy W.state self.old self.new (emptied_in F.form) result }
+    {
+        match self.objects.pop() {
+            None => Ok(()),
+            Some(object) => {
+                let went = self.put_object(&object);
+                let _ = self.spare.push(object);
+                went
+            }
+        }
+    }
+
+    // What stands before the end of a container.
+    #[inline(always)]
+    fn empty(&mut self, kind: Kind) -> Step
+        requires { self.old.failed ≡ None }
+        ensures { StepsBy W.state self.old self.new (λ s. emptied F.form s kind) result }
+    {
+        match kind {
+            Kind::Array => Ok(()),
+            Kind::Object => {
+                if self.sorts {
+                    self.put_members()
+                } else {
+                    Ok(())
+                }
+            }
+        }
+    }
+
+    #[inline(always)]
+    pub(super) fn end(&mut self, kind: Kind) -> Step
+        requires { self.old.failed ≡ None }
+        ensures { StepsBy W.state self.old self.new (λ s. took_end F.form s kind) result }
+    {
+        self.empty(kind)?;
+        self.call(Part::End(kind))?;
+        let _ = self.opened.pop();
+        self.value_end()
+    }
+
+    // The key of the open member of the innermost object.
+    #[inline(never)]
+    fn keep_key(&mut self, key: &str) -> Step
+        requires { self.old.failed ≡ None }
+        ensures { StepsBy W.state self.old self.new (λ s. key_kept s key.now) result }
+    {
+        match self.objects.last_mut() {
+            None => Ok(()),
+            Some(object) => match object.push_key(key) {
+                Ok(()) => Ok(()),
+                Err(error) => Err(self.halt(error)),
+            },
+        }
+    }
+
+    // A key and what stands around it.
+    #[inline(always)]
+    fn write_key(&mut self, key: &str) -> Step
+        requires { self.old.failed ≡ None }
+        ensures { StepsBy W.state self.old self.new (λ s. key_written F.form s key.now) result }
+    {
+        let first = first_key(self.turn);
+        self.call(Part::BeginKey(first))?;
+        self.call(Part::Text(key))?;
+        self.call(Part::EndKey)
+    }
+
+    #[inline(always)]
+    fn put_key(&mut self, key: &str) -> Step
+        requires { self.old.failed ≡ None }
+        ensures { StepsBy W.state self.old self.new (λ s. keyed F.form s key.now) result }
+    {
+        if self.sorts {
+            self.keep_key(key)
+        } else {
+            self.write_key(key)
+        }
+    }
+
+    #[inline(always)]
+    pub(super) fn key_text(&mut self, key: &str) -> Step
+        requires { self.old.failed ≡ None }
+        ensures { StepsBy W.state self.old self.new (λ s. took_key F.form s key.now) result }
+    {
+        self.put_key(key)?;
+        self.turn = Turn::Member;
+        Ok(())
+    }
+}
