@@ -1,5 +1,5 @@
 -- The row of a place that is lent, or of none, or of a refusal, and what stays where none is lent.
-use Rattle.json_value.proofs.Walking.{◌≡◌, refl, ap, named, Laws, MutRef}
+use Rattle.json_value.proofs.HandProofs.{◌≡◌, refl, ap, named, Laws, MutRef}
 use mathlib.Core.Option as maybe
 use base.Fml.{Lft, GName}
 use denote.Builtin.{One}

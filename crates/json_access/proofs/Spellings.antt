@@ -8,7 +8,7 @@ use Rattle.json_number.specs.Integers.{integer_in}
 use Rattle.json_doc.specs.Readings.{literal_of, literal_unless}
 use Rattle.json_value.specs.Seen.{seen}
 use Rattle.json_value.specs.declared.view.View.{View}
-use Rattle.json_value.proofs.Numbering.{seen_proper}
+use Rattle.json_value.proofs.SameNumbers.{seen_proper}
 
 -- the literal of a number that is no integer by value is all of it
 whole_literal : (o : Option ℤ) (k l : List ℕ) → Some l ≡ literal_unless o k → l ≡ k

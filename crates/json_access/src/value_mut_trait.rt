@@ -1,8 +1,7 @@
 // Places of values, lent to be changed.
-ghost use Rattle.std.specs.Prelude.{◌≡◌, [], ◌∷◌, option_map, IfSome, IfOk, IfErr, Ok};
+ghost use Rattle.std.specs.Prelude.{◌≡◌, [], ◌∷◌, option_map, IfSome, IfOk, Ok};
 ghost use Rattle.std.specs.Borrow.{sem};
 ghost use Rattle.json_grammar.specs.Tree.{list, pairs, list_trees, list_pairs};
-ghost use Rattle.json_text.specs.Errors.{no_memory};
 ghost use Rattle.json_model.specs.Edit.{edited_once, set_at};
 ghost use Rattle.json_value.specs.Denotes.{tree_of, list_in, pairs_in};
 ghost use Rattle.json_value.specs.Edits.{steps_of};
@@ -13,6 +12,7 @@ ghost use Rattle.json_value.specs.Steps.{child, tree_at};
 ghost use Rattle.json_value.specs.Touched.{Exchanges, Same, KeptAlong};
 ghost use Rattle.json_value.specs.Written.{ArrayOpened, ObjectOpened};
 ghost use Rattle.json_value.specs.declared.value.Value.{Value, Array as ArrayValue, Object as ObjectValue};
+ghost use Rattle.json_value.specs.Failures.{OnlyNoMemory};
 
 use crate::value_trait::JsonValueTrait;
 use json_text::Result;
@@ -38,44 +38,54 @@ pub trait JsonValueMutTrait: JsonValueTrait {
     ghost held: { Self → Value };
 
     /// The array; none exactly for another kind. None and a refusal change nothing.
-    /// `NoMemory` comes where memory runs out.
+    /// Fails with `NoMemory` if memory runs out.
     fn as_array_mut(&mut self, alloc: Global) -> Result<Option<&mut Array>>
         ensures* writes_back { sem 𝓛 (LendsPart Self.row array_row self.entry result
             (λ n w. (Self.tree n ≡ list (list_trees (list_in w))) × (held n ≡ ArrayValue w))
             (λ n. (Self.tree n ≡ Self.tree self.old) × (held n ≡ held self.old))) }
-        ensures array { IfOk result (λ o. option_map (λ a. list_in a.now) o ≡ list_of (Self.tree self.old)) }
+        ensures array { IfOk result (λ o. option_map (λ a. list_in a.now) o
+            ≡ list_of (Self.tree self.old)) }
         ensures children { IfSome (lent result) (ArrayOpened (held self.old)) }
-        ensures only { IfErr result (λ e. e ≡ no_memory) };
+        ensures only { OnlyNoMemory result };
 
     /// The object; none exactly for another kind. None and a refusal change nothing.
-    /// `NoMemory` comes where memory runs out.
+    /// Fails with `NoMemory` if memory runs out.
     fn as_object_mut(&mut self, alloc: Global) -> Result<Option<&mut Object>>
         ensures* writes_back { sem 𝓛 (LendsPart Self.row object_row self.entry result
             (λ n w. (Self.tree n ≡ pairs (list_pairs (pairs_in w))) × (held n ≡ ObjectValue w))
             (λ n. (Self.tree n ≡ Self.tree self.old) × (held n ≡ held self.old))) }
-        ensures object { IfOk result (λ o. option_map (λ a. pairs_in a.now) o ≡ pairs_of (Self.tree self.old)) }
+        ensures object { IfOk result (λ o. option_map (λ a. pairs_in a.now) o
+            ≡ pairs_of (Self.tree self.old)) }
         ensures children { IfSome (lent result) (ObjectOpened (held self.old)) }
-        ensures only { IfErr result (λ e. e ≡ no_memory) };
+        ensures only { OnlyNoMemory result };
 
     /// The value of the first member of a key, or the element of an index; none where the step leads nowhere.
-    /// `NoMemory` comes where memory runs out.
+    /// Fails with `NoMemory` if memory runs out.
     fn get_mut<I: Index>(&mut self, alloc: Global, index: I) -> Result<Option<&mut Value>>
         ensures* writes_back { sem 𝓛 (LendsPart Self.row value_row self.entry result
-            (λ n w. IfSome (lent result) (λ x. (edited_once (set_at (I.step index ∷ []) (tree_of w)) (Self.tree self.old) ≡ Ok (Self.tree n))
+            (λ n w. IfSome (lent result) (λ x.
+            (edited_once (set_at (I.step index ∷ []) (tree_of w)) (Self.tree self.old)
+            ≡ Ok (Self.tree n))
             × Exchanges (I.step index ∷ []) x w (held self.old) (held n)))
-            (λ n. (Self.tree n ≡ Self.tree self.old) × KeptAlong (I.step index ∷ []) Same (held self.old) (held n))) }
-        ensures stands { IfOk result (λ o. option_map (λ x. tree_of x.now) o ≡ child (I.step index) (Self.tree self.old)) }
-        ensures only { IfErr result (λ e. e ≡ no_memory) };
+            (λ n. (Self.tree n ≡ Self.tree self.old)
+            × KeptAlong (I.step index ∷ []) Same (held self.old) (held n))) }
+        ensures stands { IfOk result (λ o. option_map (λ x. tree_of x.now) o
+            ≡ child (I.step index) (Self.tree self.old)) }
+        ensures only { OnlyNoMemory result };
 
     /// The place to which the steps lead; none where one of them leads nowhere.
-    /// `NoMemory` comes where memory runs out.
+    /// Fails with `NoMemory` if memory runs out.
     fn pointer_mut(&mut self, alloc: Global, path: &[PointerNode]) -> Result<Option<&mut Value>>
         ensures* writes_back { sem 𝓛 (LendsPart Self.row value_row self.entry result
-            (λ n w. IfSome (lent result) (λ x. (edited_once (set_at (steps_of path.now) (tree_of w)) (Self.tree self.old) ≡ Ok (Self.tree n))
+            (λ n w. IfSome (lent result) (λ x.
+            (edited_once (set_at (steps_of path.now) (tree_of w)) (Self.tree self.old)
+            ≡ Ok (Self.tree n))
             × Exchanges (steps_of path.now) x w (held self.old) (held n)))
-            (λ n. (Self.tree n ≡ Self.tree self.old) × KeptAlong (steps_of path.now) Same (held self.old) (held n))) }
-        ensures stands { IfOk result (λ o. option_map (λ x. tree_of x.now) o ≡ tree_at (steps_of path.now) (Self.tree self.old)) }
-        ensures only { IfErr result (λ e. e ≡ no_memory) };
+            (λ n. (Self.tree n ≡ Self.tree self.old)
+            × KeptAlong (steps_of path.now) Same (held self.old) (held n))) }
+        ensures stands { IfOk result (λ o. option_map (λ x. tree_of x.now) o
+            ≡ tree_at (steps_of path.now) (Self.tree self.old)) }
+        ensures only { OnlyNoMemory result };
 
     // the tree is the held value's
     ghost denotes: { (v : Self) → Self.tree v ≡ tree_of (held v) };

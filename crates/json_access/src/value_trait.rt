@@ -1,7 +1,6 @@
 // What can be read of a value at once.
-ghost use Rattle.std.specs.Prelude.{◌≡◌, ◌↔◌, true, false, option_map, is_some, IsTrue, IfOk, IfErr};
-ghost use Rattle.json_grammar.specs.Tree.{Tree, null, boolean};
-ghost use Rattle.json_text.specs.Errors.{no_memory};
+ghost use Rattle.std.specs.Prelude.{◌≡◌, ◌↔◌, true, false, option_map, is_some, IsTrue, IfOk};
+ghost use Rattle.json_grammar.specs.Tree.{Tree, boolean};
 ghost use Rattle.json_number.specs.Literals.{raw_literal};
 ghost use Rattle.json_number.specs.Numbers.{value_of};
 ghost use Rattle.json_doc.specs.Readings.{type_of, bool_of, integer_of, string_of};
@@ -9,6 +8,7 @@ ghost use Rattle.json_doc.specs.declared.json_type.JsonType.TheVariants as kind;
 ghost use Rattle.json_value.specs.Denotes.{tree_of};
 ghost use Rattle.json_value.specs.Seen.{seen};
 ghost use Rattle.json_access.specs.Trees.{option_tree, result_tree, spelling, i64_of, u64_of};
+ghost use Rattle.json_value.specs.Failures.{OnlyNoMemory};
 
 use crate::raw::raw_number;
 use json_doc::JsonType;
@@ -49,10 +49,11 @@ pub trait JsonValueTrait {
         ensures { option_map value_of result ≡ integer_of (tree self.now) };
 
     /// The literal of the number: as it was written, or the decimal text of an integer of `u64` or `i64`; none of another kind.
-    /// `NoMemory` comes where memory runs out.
+    /// Fails with `NoMemory` if memory runs out.
     fn as_raw_number(&self, alloc: Global) -> json_text::Result<Option<RawNumber>>
-        ensures literal { IfOk result (λ o. option_map raw_literal o ≡ spelling (tree self.now)) }
-        ensures only { IfErr result (λ e. e ≡ no_memory) };
+        ensures literal { IfOk result (λ o. option_map raw_literal o
+            ≡ spelling (tree self.now)) }
+        ensures only { OnlyNoMemory result };
 
     /// The integer, where it is one of `i64`; none of another number, nor of another kind.
     fn as_i64(&self) -> Option<i64>

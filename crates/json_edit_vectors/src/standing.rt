@@ -6,11 +6,10 @@ use json_value::{Array, Index, PointerNode, Value, put};
 use std::alloc::Global;
 use std::test::Fail;
 
-// Six cells, counted from 0; what stands in a container stands in a row, in the order in which containers are closed:
-// `1`, then `"x"`, then `[1]`, `["x"]` and `2`, and last the list.
+// Six cells in the order of the text, counted from 0: the list, `[1]`, `1`, `["x"]`, `"x"` and `2`.
 const LIST: &str = "[[1],[\"x\"],2]";
 
-// Seven cells: `1`, then `"x"`, then `"a"`, `[1]`, `"b"` and `["x"]`, and last the object.
+// Seven cells: the object, `"a"`, `[1]`, `1`, `"b"`, `["x"]` and `"x"`.
 const MEMBERS: &str = "{\"a\":[1],\"b\":[\"x\"]}";
 
 fn are_alike(first: &Doc, second: &Doc) -> bool {
@@ -38,11 +37,10 @@ pub(crate) fn stands_at<I: Index>(value: &Value, step: I, doc: &Doc, at: u32) ->
     is_cell(child_place(value, step), doc, at)
 }
 
-// Whether the document of a text has so many cells, the last of which is its root, and these texts in a row.
+// Whether the document of a text has so many cells, the first of which is its root, and these texts in a row.
 fn is_packed(alloc: Global, json: &str, cells: usize, texts: &str) -> json_text::Result<bool> {
     let doc = read(alloc, json)?;
-    let root = doc.root() as usize;
-    Ok(doc.cells().len() == cells && root + 1 == cells && doc.text() == texts)
+    Ok(doc.cells().len() == cells && doc.root() == 0 && doc.text() == texts)
 }
 
 #[test]
@@ -114,7 +112,7 @@ fn append_null(value: &mut Value, alloc: Global) -> json_text::Result<bool> {
 #[test]
 fn elements_before_one_that_is_appended_stay_places(rt: HostRuntime) -> Result<(), Fail> {
     let then = "[[1],[\"x\"],2,null]";
-    assert!(rt; keeps(rt.alloc(), LIST, append_null, 0_usize, 2, then)?);
+    assert!(rt; keeps(rt.alloc(), LIST, append_null, 0_usize, 1, then)?);
     assert!(rt; keeps(rt.alloc(), LIST, append_null, 1_usize, 3, then)?);
     Ok(())
 }

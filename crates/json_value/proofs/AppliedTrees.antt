@@ -23,14 +23,7 @@ use Rattle.json_value.specs.declared.path.PointerNode.TheVariants.{Key, Index}
 use Rattle.json_value.specs.declared.path.Edit.{Edit}
 use Rattle.json_value.specs.declared.path.Edit.TheVariants.{Set, Insert, Push, Remove}
 use Rattle.json_value.proofs.TreeEdits.{at_index-here, at_index-refused, at_index-missed, pushed-list, without_index-here, without_index-missed, at_key-here, at_key-refused, inserted-here, inserted-beside, without_key-list, has_key-push, has_key-here}
-use Rattle.json_value.proofs.Views.{array_tree, object_tree}
-
--- an edit is its change at the end of its path
-pub edited_at : (e : Edit) (p : List Step) (t : Tree) → edited_once (edit_at p e) t ≡ at_path p (change_of e) t
-edited_at (Set q v) p t = refl
-edited_at (Insert q k v) p t = refl
-edited_at (Push q v) p t = refl
-edited_at (Remove q s) p t = refl
+use Rattle.json_value.proofs.ValueLevels.{array_tree, object_tree}
 
 -- a refusal is passed on
 pub refuses_so : {A B : Type 0} (r : Changed A) (s : Changed B) → ((e : Refusal) → r ≡ Err e → s ≡ Err e) → (code : ErrorCode) (place : Place) → RefusesChange r code place → RefusesChange s code place
@@ -46,17 +39,6 @@ refused_as r e d is h = subst (λ (x : Error). RefusesChange r x.code x.place) (
 pub anyway : {T E P : Type 0} (r : Result T E) → P → OnErr r P
 anyway (Ok x) h = tt
 anyway (Err e) h = h
-
--- a path, step by step
-pub path_key : (ss rest : List PointerNode) (s : PointerNode) (k : Text) (m : List ℕ) (f : Tree → Changed Tree) (t : Tree) → ss ≡ s ∷ rest → s ≡ Key k → m ≡ text_bytes k
-    → at_path (steps_of ss) f t ≡ on_pairs (at_key m (at_path (steps_of rest) f)) t
-path_key ss rest s k m f t e d g =
-    ap (λ (q : List PointerNode). at_path (steps_of q) f t) (e ∙ ap (λ (r : PointerNode). r ∷ rest) d)
-    ∙ ap (λ (n : List ℕ). on_pairs (at_key n (at_path (steps_of rest) f)) t) (sym g)
-
-pub path_index : (ss rest : List PointerNode) (s : PointerNode) (i : ℕ) (f : Tree → Changed Tree) (t : Tree) → ss ≡ s ∷ rest → s ≡ Index i
-    → at_path (steps_of ss) f t ≡ on_list (at_index i (at_path (steps_of rest) f)) t
-path_index ss rest s i f t e d = ap (λ (q : List PointerNode). at_path (steps_of q) f t) (e ∙ ap (λ (r : PointerNode). r ∷ rest) d)
 
 -- what the removal of a key leaves of members
 abbrev pub removal : List ℕ → Pairs → Changed Pairs

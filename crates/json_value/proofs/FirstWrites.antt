@@ -16,30 +16,30 @@ use Rattle.json_value.specs.Places.{places_in, member_places}
 use Rattle.json_value.specs.Readings.{members}
 use Rattle.json_value.specs.Rows.{owned_items, IsOwned}
 use Rattle.json_value.specs.Said.{place_tree}
-use Rattle.json_value.specs.Spots.{Spot, spot_in, spot_tree, spot_of, spot_of_text, kind_spot, form_spot, kept_spot, IsPacked, FirstList, FirstPairs}
+use Rattle.json_value.specs.Spots.{CellRef, spot_in, spot_tree, spot_of, spot_of_text, kind_spot, form_spot, kept_spot, IsPacked, FirstList, FirstPairs}
 use Rattle.json_value.specs.declared.container.Container.{Container}
 use Rattle.json_value.specs.declared.container.Form.{Form}
 use Rattle.json_value.specs.declared.container.Form.TheVariants.{Empty, Owned, Packed}
 use Rattle.json_value.specs.declared.pair.Keyed.{Keyed}
 use Rattle.json_value.specs.declared.value.Value.{Value}
 use Rattle.json_value.proofs.PlacesKept.{array_of_form, object_of_form}
-use Rattle.json_value.proofs.Views.{array_spot, object_spot}
+use Rattle.json_value.proofs.ValueLevels.{array_spot, object_spot}
 
 -- ---- by the place alone
 
 -- where a value that is read from a place stands
-abbrev spot_read : Spot → Option Spot
+abbrev spot_read : CellRef → Option CellRef
 spot_read s = kept_spot (spot_tree s) s
 
 -- the place of the child i, and that of the key of the pair i
-abbrev child_spot : Spot → ℕ → Spot
-child_spot s i = record { cells = s.cells; bytes = s.bytes; at = child_of (slice_index_or s.cells s.at cell.Null) i }
+abbrev child_spot : CellRef → ℕ → CellRef
+child_spot s i = record { cells = s.cells; bytes = s.bytes; at = child_of s.cells s.at i }
 
-abbrev key_spot : Spot → ℕ → Spot
-key_spot s i = record { cells = s.cells; bytes = s.bytes; at = key_of (slice_index_or s.cells s.at cell.Null) i }
+abbrev key_spot : CellRef → ℕ → CellRef
+key_spot s i = record { cells = s.cells; bytes = s.bytes; at = key_of s.cells s.at i }
 
 -- there is no other place of the kind
-kind_there : (k : JsonType) (x s : Spot) → kind_spot k x ≡ Some s → x ≡ s
+kind_there : (k : JsonType) (x s : CellRef) → kind_spot k x ≡ Some s → x ≡ s
 kind_there k x s e = by (type_number (type_of (spot_tree x)) == type_number k) e
   where
     by : (b : Bool) → cond b (Some x) None ≡ Some s → x ≡ s
@@ -48,20 +48,20 @@ kind_there k x s e = by (type_number (type_of (spot_tree x)) == type_number k) e
 
 -- ---- read from their places
 
-elements_read : (f : Form Value) (items : List Value) (s : Spot) → FirstList f items → option_and_then (kind_spot kind.Array) (form_spot f) ≡ Some s → (i : ℕ) → IfSome (slice_get items i) (λ v. spot_of v ≡ spot_read (child_spot s i))
+elements_read : (f : Form Value) (items : List Value) (s : CellRef) → FirstList f items → option_and_then (kind_spot kind.Array) (form_spot f) ≡ Some s → (i : ℕ) → IfSome (slice_get items i) (λ v. spot_of v ≡ spot_read (child_spot s i))
 elements_read Empty items s h e i = absurd (none-some s e)
 elements_read (Owned v) items s h e i = absurd (none-some s e)
-elements_read (Packed p) items s h e i = subst (λ (x : Spot). IfSome (slice_get items i) (λ v. spot_of v ≡ spot_read (child_spot x i))) (kind_there kind.Array (spot_in p.doc.value p.at) s e) (h i)
+elements_read (Packed p) items s h e i = subst (λ (x : CellRef). IfSome (slice_get items i) (λ v. spot_of v ≡ spot_read (child_spot x i))) (kind_there kind.Array (spot_in p.doc.value p.at) s e) (h i)
 
 pub elements_are_read : FirstElementsAreRead
 elements_are_read a items d at h e i = elements_read a.form items (spot_in d at) h (sym (array_spot a) ∙ e) i
 
-members_read : (f : Form (Keyed Value)) (items : List (Keyed Value)) (s : Spot) → FirstPairs f items → option_and_then (kind_spot kind.Object) (form_spot f) ≡ Some s
+members_read : (f : Form (Keyed Value)) (items : List (Keyed Value)) (s : CellRef) → FirstPairs f items → option_and_then (kind_spot kind.Object) (form_spot f) ≡ Some s
     → (i : ℕ) → IfSome (slice_get items i) (λ m. (spot_of_text m.key ≡ Some (key_spot s i)) × (spot_of m.value ≡ spot_read (child_spot s i)))
 members_read Empty items s h e i = absurd (none-some s e)
 members_read (Owned v) items s h e i = absurd (none-some s e)
 members_read (Packed p) items s h e i =
-    subst (λ (x : Spot). IfSome (slice_get items i) (λ m. (spot_of_text m.key ≡ Some (key_spot x i)) × (spot_of m.value ≡ spot_read (child_spot x i)))) (kind_there kind.Object (spot_in p.doc.value p.at) s e) (h i)
+    subst (λ (x : CellRef). IfSome (slice_get items i) (λ m. (spot_of_text m.key ≡ Some (key_spot x i)) × (spot_of m.value ≡ spot_read (child_spot x i)))) (kind_there kind.Object (spot_in p.doc.value p.at) s e) (h i)
 
 pub members_are_read : FirstMembersAreRead
 members_are_read o items d at h e i = members_read o.form items (spot_in d at) h (sym (object_spot o) ∙ e) i
@@ -73,7 +73,7 @@ none_seen f [] e = refl
 none_seen f (x ∷ xs) e = cc
 
 -- what stands nowhere as an array has no elements
-no_elements : (t : Tree) (x : Spot) → cond (type_number (type_of t) == type_number kind.Array) (Some x) None ≡ None → elements t ≡ []
+no_elements : (t : Tree) (x : CellRef) → cond (type_number (type_of t) == type_number kind.Array) (Some x) None ≡ None → elements t ≡ []
 no_elements (list ts) x e = absurd (none-some x (sym e))
 no_elements null x e = refl
 no_elements (boolean b) x e = refl
@@ -81,7 +81,7 @@ no_elements (num l) x e = refl
 no_elements (text s) x e = refl
 no_elements (pairs ps) x e = refl
 
-no_members : (t : Tree) (x : Spot) → cond (type_number (type_of t) == type_number kind.Object) (Some x) None ≡ None → members t ≡ []
+no_members : (t : Tree) (x : CellRef) → cond (type_number (type_of t) == type_number kind.Object) (Some x) None ≡ None → members t ≡ []
 no_members (pairs ps) x e = absurd (none-some x (sym e))
 no_members null x e = refl
 no_members (boolean b) x e = refl
@@ -107,7 +107,7 @@ members_stay o items h same e = members_kept o.form items h same (sym (object_sp
 
 -- ---- where containers stand
 
-elements_stand : (t : Tree) (x : Spot) → 0 < length (elements t) → IsSome (cond (type_number (type_of t) == type_number kind.Array) (Some x) None)
+elements_stand : (t : Tree) (x : CellRef) → 0 < length (elements t) → IsSome (cond (type_number (type_of t) == type_number kind.Array) (Some x) None)
 elements_stand (list ts) x h = refl
 elements_stand null x h = absurd (omega arith)
 elements_stand (boolean b) x h = absurd (omega arith)
@@ -115,7 +115,7 @@ elements_stand (num l) x h = absurd (omega arith)
 elements_stand (text s) x h = absurd (omega arith)
 elements_stand (pairs ps) x h = absurd (omega arith)
 
-members_stand : (t : Tree) (x : Spot) → 0 < length (members t) → IsSome (cond (type_number (type_of t) == type_number kind.Object) (Some x) None)
+members_stand : (t : Tree) (x : CellRef) → 0 < length (members t) → IsSome (cond (type_number (type_of t) == type_number kind.Object) (Some x) None)
 members_stand (pairs ps) x h = refl
 members_stand null x h = absurd (omega arith)
 members_stand (boolean b) x h = absurd (omega arith)
@@ -157,7 +157,7 @@ owned_is_no_place (Owned v) own place = place
 owned_is_no_place (Packed p) own place = own
 
 pub places_of_elements : PlacesOfElements
-places_of_elements v = array_of_form (Owned v) ∙ flat_map-map (λ (places : List (Option Spot)). places) places_in v.items
+places_of_elements v = array_of_form (Owned v) ∙ flat_map-map (λ (places : List (Option CellRef)). places) places_in v.items
 
 pub places_of_members : PlacesOfMembers
-places_of_members v = object_of_form (Owned v) ∙ flat_map-map (λ (places : List (Option Spot)). places) member_places v.items
+places_of_members v = object_of_form (Owned v) ∙ flat_map-map (λ (places : List (Option CellRef)). places) member_places v.items

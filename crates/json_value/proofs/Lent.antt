@@ -26,7 +26,7 @@ use Rattle.json_value.specs.Steps.{child, tree_or_null, key_in, index_in}
 use Rattle.json_value.specs.declared.value.Value.{Value, Null, Object}
 use Rattle.json_value.specs.declared.pair.Keyed.{Keyed}
 use Rattle.json_value.specs.declared.text.Text.{Text}
-use Rattle.json_value.proofs.Views.{null_tree, object_tree}
+use Rattle.json_value.proofs.ValueLevels.{null_tree, object_tree}
 use Rattle.json_value.proofs.Trees.{list_again, pairs_again}
 use Rattle.json_value.proofs.TreeEdits.{split_front, same_key, inserted-beside}
 use Rattle.json_value.proofs.AppliedTrees.{element_got, element_changed, element_missed, element_pushed, pair_got, pair_changed, insert_over}

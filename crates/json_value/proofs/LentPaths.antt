@@ -108,7 +108,7 @@ back (index_step i) (num l) c here = absurd (none-some c here)
 back (index_step i) (text s) c here = absurd (none-some c here)
 back (index_step i) (pairs ps) c here = absurd (none-some c here)
 
-same_Ok : (x y : Tree) → ◌≡◌ {A = Changed Tree} (Ok x) (Ok y) → x ≡ y
+pub same_Ok : (x y : Tree) → ◌≡◌ {A = Changed Tree} (Ok x) (Ok y) → x ≡ y
 same_Ok x y e = cc
 
 -- ---- one step and the rest of a path

@@ -7,7 +7,8 @@ use Rattle.json_grammar.specs.Tree.{Tree, Pairs, list_pairs}
 use Rattle.json_model.specs.Edit.{inserted, has_key}
 use Rattle.json_value.specs.Denotes.{pair_of, text_bytes}
 use Rattle.json_value.specs.FirstMember.{IsFirstOf}
-use Rattle.json_value.specs.Merged.{inserted_all, with_member, with_members}
+use Rattle.json_model.specs.Merged.{inserted_all}
+use Rattle.json_value.specs.Merged.{with_member, with_members}
 use Rattle.json_value.specs.Written.{value_in, with_value}
 use Rattle.json_value.specs.declared.pair.Keyed.{Keyed}
 use Rattle.json_value.specs.declared.value.Value.{Value}

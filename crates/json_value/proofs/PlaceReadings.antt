@@ -12,7 +12,7 @@ use Rattle.json_value.specs.declared.container.Form.TheVariants.{Packed}
 use Rattle.json_value.specs.declared.pair.Keyed.{Keyed}
 use Rattle.json_value.specs.declared.value.Value.{Value, Array, Object}
 use Rattle.json_value.proofs.Trees.{array_back, object_back}
-use Rattle.json_value.proofs.Views.{array_tree, object_tree}
+use Rattle.json_value.proofs.ValueLevels.{array_tree, object_tree}
 
 -- an array that is a place of one
 pub array_stands : (v : Value) (a : Container Value) (p : Place) → v ≡ Array a → a.form ≡ Packed p → (t : Tree) → (t ≡ place_tree p) × (type_of (place_tree p) ≡ kind.Array) → t ≡ tree_of v

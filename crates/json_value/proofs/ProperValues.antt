@@ -16,10 +16,10 @@ use Rattle.json_value.specs.declared.value.Value.{Value, roll-Value}
 use Rattle.json_value.specs.declared.value.Value.TheFolds.{ind-Value, map-Value}
 use Rattle.json_value.specs.declared.value.Value.TheOpen.{Value-F}
 use Rattle.json_value.specs.declared.value.Value.TheVariants.{rolls-Null, rolls-Bool, rolls-Number, rolls-Raw, rolls-Text, rolls-Array, rolls-Object}
-use Rattle.json_value.proofs.Held.{literal_number, text_utf8}
-use Rattle.json_doc.proofs.Pieces.{list_back}
+use Rattle.json_value.proofs.StoredTexts.{literal_number, text_utf8}
+use Rattle.json_doc.proofs.Trees.{list_back}
 use Rattle.json_value.proofs.Trees.{pairs_back}
-use Rattle.json_value.proofs.Views.{null_tree, bool_tree, number_tree, literal_tree, text_tree, array_tree, object_tree}
+use Rattle.json_value.proofs.ValueLevels.{null_tree, bool_tree, number_tree, literal_tree, text_tree, array_tree, object_tree}
 
 abbrev Proper : Value → Type 0
 Proper v = IsProper (tree_of v)

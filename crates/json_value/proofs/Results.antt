@@ -2,7 +2,7 @@
 --     ok_val, err_val     the machine's value
 --     ok_out, err_out     what it owns, and which value it is
 --     ok_in, err_in       it is made
-use Rattle.json_value.proofs.Walking.{◌≡◌, [], ◌∷◌, refl, ap, ◌∙◌, MutBor, Ok, Err, MutRef, mut_vals, mut_Tells, named, Val, vptr, live, ‵, ◌$◌, ◌∵◌, !, qed, done, move, keep, fsplit, fjoin, feq_i, feq_l, fpick, rewrite, peeks, shows, nothing}
+use Rattle.json_value.proofs.HandProofs.{◌≡◌, [], ◌∷◌, refl, ap, ◌∙◌, MutBor, Ok, Err, MutRef, mut_vals, mut_Tells, named, Val, vptr, live, ‵, ◌$◌, ◌∵◌, !, qed, done, move, keep, fsplit, fjoin, feq_i, feq_l, fpick, rewrite, peeks, shows, nothing}
 use Prim.Native.Nat.{ℕ}
 use mathlib.Core.List.{List, ◌++◌}
 use mir.Val.{vcons, vnil, of_list}

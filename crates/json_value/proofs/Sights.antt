@@ -46,23 +46,7 @@ member_got d held at ps i k t e = got_numbered (λ (q : ℕ × (List ℕ × Tree
 pub no_member_got : (d : Doc) (held : Option Doc) (at : ℕ) (ps : List (List ℕ × Tree)) (i : ℕ) → slice_get ps i ≡ None → slice_get (members_at d held at ps) i ≡ None
 no_member_got d held at ps i e = none_numbered (λ (q : ℕ × (List ℕ × Tree)). (q.1.0, child_sight d held at q.0)) ps 0 i e
 
-keys_numbered : (d : Doc) (held : Option Doc) (at n : ℕ) (ps : List (List ℕ × Tree)) → map (λ (p : List ℕ × Sight). p.0) (map (λ (q : ℕ × (List ℕ × Tree)). (q.1.0, child_sight d held at q.0)) (enumerate_from n ps)) ≡ map (λ (p : List ℕ × Tree). p.0) ps
-keys_numbered d held at n [] = refl
-keys_numbered d held at n (p ∷ ps) = ap (λ ks. p.0 ∷ ks) (keys_numbered d held at (n + 1) ps)
-
--- the keys are those of the members
-pub keys_at : (d : Doc) (held : Option Doc) (at : ℕ) (ps : List (List ℕ × Tree)) (i : ℕ) (o : Option (List ℕ)) → slice_get (map (λ (p : List ℕ × Tree). p.0) ps) i ≡ o → slice_get (map (λ (p : List ℕ × Sight). p.0) (members_at d held at ps)) i ≡ o
-keys_at d held at ps i o e = ap (λ ks. slice_get ks i) (keys_numbered d held at 0 ps) ∙ e
-
--- there are as many
-pub length_at : (d : Doc) (held : Option Doc) (at : ℕ) (ps : List (List ℕ × Tree)) → length {A = List ℕ × Sight} (members_at d held at ps) ≡ length ps
-length_at d held at ps = length-map (enumerate_from 0 ps) (λ (q : ℕ × (List ℕ × Tree)). (q.1.0, child_sight d held at q.0)) ∙ length-enumerate_from 0 ps
-
 -- the view of a child of what is seen of a document
 pub child_shown : (p b : PackedView) (e : DocView) (i : ℕ) → b.view ≡ e → b.holder ≡ p.holder → view_doc e ≡ view_doc p.view → view_place e ≡ child_place (view_doc p.view) (view_place p.view) i
     → form_sight (whole.Packed b) ≡ child_sight (view_doc p.view) (doc_held p.holder) (view_place p.view) i
 child_shown p b e i v h d a = cc
-
--- the key of a member that stands in an owned list
-pub key_of_sight : (ss : List (List ℕ × Sight)) (i : ℕ) (p : Keyed Value) (k : List ℕ) → slice_get ss i ≡ Some (pair_sight p) → k ≡ text_bytes p.key → slice_get (map (λ (q : List ℕ × Sight). q.0) ss) i ≡ Some k
-key_of_sight ss i p k e h = map_there (λ (q : List ℕ × Sight). q.0) ss i (pair_sight p) e ∙ ap (λ z. Some z) (sym h)

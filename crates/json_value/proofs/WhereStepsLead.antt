@@ -1,10 +1,12 @@
 -- Changes where steps lead, and what stands there before and after.
 use Rattle.std.proofs.Common.{◌≡◌, ℕ, zero, suc, List, [], ◌∷◌, Bool, true, false, cond, Option, Some, None, Ok, Err, refl, sym, ap, ◌∙◌, subst, bytes_eq}
-use Rattle.std.specs.Prelude.{slice_get, option_map, IsErr, IsOkAnd}
+use Rattle.std.specs.Prelude.{slice_get, option_map, option_and_then, IsErr, IsOkAnd}
 use Rattle.std.proofs.lemmas.Option.{none-some, same_Some}
 use Rattle.json_grammar.specs.Tree.{Tree, null, boolean, num, text, list, pairs, Trees, no_trees, tree_and, Pairs, no_pairs, pair_and, trees_list, pairs_list}
 use Rattle.json_model.specs.Edit.{Step, key_step, index_step, Changed, Refusal, within, at_path, at_key, at_index}
-use Rattle.json_value.specs.Laws.{ChangeIsThere, ChangeRefusedThere, NoChangeNowhere}
+use Rattle.json_model.specs.Places.{part_of, part_at}
+use Rattle.json_model.specs.Sort.{values_of}
+use Rattle.json_value.specs.Laws.{ChangeIsThere, ChangeRefusedThere, NoChangeNowhere, StepsLeadToParts}
 use Rattle.json_value.specs.Seen.{first_of}
 use Rattle.json_value.specs.Steps.{child, tree_at}
 use Rattle.json_value.proofs.LentPaths.{there, passes, split}
@@ -85,7 +87,7 @@ missed (index_step i) (pairs ps) g none = refl
 
 -- ---- one step before the others
 
-abbrev onward : List Step → Option Tree → Option Tree
+abbrev pub onward : List Step → Option Tree → Option Tree
 onward p o = elim o [ None ↦ None | Some u ↦ tree_at p u ]
 
 module _ (s : Step) (p : List Step) (f : Tree → Changed Tree) (t c : Tree) (is : child s t ≡ Some c) where
@@ -133,3 +135,36 @@ missed_step s p f t (Some c) is none more = missed_behind s p f t c is (at_path 
 pub no_change_nowhere : NoChangeNowhere
 no_change_nowhere [] f t none = absurd (none-some t (sym none))
 no_change_nowhere (s ∷ p) f t none = missed_step s p f t (child s t) refl none (λ c at. no_change_nowhere p f c at)
+
+-- ---- where a path leads
+
+first_value : (k : List ℕ) (ps : Pairs) → value_of k ps ≡ slice_get (values_of k ps) 0
+first_value k no_pairs = refl
+first_value k (pair_and n t ps) = by (bytes_eq n k) (first_value k ps)
+  where
+    by : (b : Bool) → value_of k ps ≡ slice_get (values_of k ps) 0
+        → option_map (λ (q : List ℕ × Tree). q.1) (cond b (Some (n, t)) (first_of k (pairs_list ps))) ≡ slice_get (cond b (t ∷ values_of k ps) (values_of k ps)) 0
+    by true more = refl
+    by false more = more
+
+child_is_part : (s : Step) (t : Tree) → child s t ≡ part_of s t
+child_is_part (key_step k) (pairs ps) = first_value k ps
+child_is_part (key_step k) null = refl
+child_is_part (key_step k) (boolean b) = refl
+child_is_part (key_step k) (num l) = refl
+child_is_part (key_step k) (text s) = refl
+child_is_part (key_step k) (list ts) = refl
+child_is_part (index_step i) (list ts) = refl
+child_is_part (index_step i) null = refl
+child_is_part (index_step i) (boolean b) = refl
+child_is_part (index_step i) (num l) = refl
+child_is_part (index_step i) (text s) = refl
+child_is_part (index_step i) (pairs ps) = refl
+
+pub steps_lead_to_parts : StepsLeadToParts
+steps_lead_to_parts [] t = refl
+steps_lead_to_parts (s ∷ p) t = ap (onward p) (child_is_part s t) ∙ by (part_of s t) (steps_lead_to_parts p)
+  where
+    by : (o : Option Tree) → ((u : Tree) → tree_at p u ≡ part_at p u) → onward p o ≡ option_and_then (part_at p) o
+    by None more = refl
+    by (Some u) more = more u

@@ -12,7 +12,7 @@ use Rattle.json_value.specs.declared.container.Form.{Form}
 use Rattle.json_value.specs.declared.literal.Literal.{Literal}
 use Rattle.json_value.specs.declared.pair.Keyed.{Keyed}
 use Rattle.json_value.specs.declared.text.Text.{Text as TextType}
-use Rattle.json_value.proofs.Views.{null_tree, bool_tree, number_tree, literal_tree, text_tree, array_tree, object_tree}
+use Rattle.json_value.proofs.ValueLevels.{null_tree, bool_tree, number_tree, literal_tree, text_tree, array_tree, object_tree}
 
 pub null_in : (v : Value) → v ≡ Null → tree_of v ≡ null
 null_in v e = ap tree_of e ∙ null_tree

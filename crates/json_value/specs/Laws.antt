@@ -6,6 +6,7 @@ use Rattle.json_grammar.specs.Tree.{Tree}
 use Rattle.json_doc.specs.Seen.{child_place, key_place}
 use Rattle.json_doc.specs.declared.doc.Doc.{Doc}
 use Rattle.json_model.specs.Edit.{Step, Changed, Refusal, at_path}
+use Rattle.json_model.specs.Places.{part_at}
 use Rattle.json_value.specs.Denotes.{tree_of, pair_of, list_in, pairs_in}
 use Rattle.json_value.specs.Places.{places_in, member_places}
 use Rattle.json_value.specs.Rows.{owned, owned_items_of, OwnsList}
@@ -83,3 +84,7 @@ ChangeRefusedThere = (p : List Step) (f : Tree → Changed Tree) (t u : Tree) (e
 -- where the steps lead nowhere, every change is refused
 abbrev pub NoChangeNowhere : Type 0
 NoChangeNowhere = (p : List Step) (f : Tree → Changed Tree) (t : Tree) → tree_at p t ≡ None → IsErr (at_path p f t)
+
+-- steps lead where the definition of edits says that a path leads
+abbrev pub StepsLeadToParts : Type 0
+StepsLeadToParts = (p : List Step) (t : Tree) → tree_at p t ≡ part_at p t

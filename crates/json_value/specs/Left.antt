@@ -1,34 +1,64 @@
 -- What an iterator over an array or an object that is seen has still to give.
-use Rattle.std.specs.Prelude.{ℕ, List, Option, drop}
+use Rattle.std.specs.Prelude.{ℕ, List, Option, map}
+use Rattle.std.specs.List.{zip}
 use Rattle.std.specs.Borrow.{Bor}
 use Rattle.std.specs.Iterator.{YieldsFirstBy}
 use Rattle.json_grammar.specs.Tree.{Tree}
-use Rattle.json_value.specs.Seen.{seen, elements_seen, members_seen}
-use Rattle.json_value.specs.Sights.{Sight, sight_of}
-use Rattle.json_value.specs.SightParts.{elements_sights, members_sights, member_sight}
-use Rattle.json_value.specs.declared.array_iter.ArrayIter.{ArrayIter}
-use Rattle.json_value.specs.declared.iter.Iter.{Iter}
+use Rattle.json_doc.specs.Left.{children_places, children_left, pairs_places, pairs_left}
+use Rattle.json_doc.specs.Seen.{view_doc}
+use Rattle.json_value.specs.Denotes.{tree_of, pair_of}
+use Rattle.json_value.specs.Seen.{seen, member_seen}
+use Rattle.json_value.specs.Sights.{Sight, whole_value, place_of, doc_held, sight_of}
+use Rattle.json_value.specs.SightParts.{pair_sight, member_sight}
+use Rattle.json_value.specs.declared.array_view.ArrayIter.{ArrayIter}
+use Rattle.json_value.specs.declared.array_view.ElementsLeft.{ElementsLeft}
+use Rattle.json_value.specs.declared.array_view.ElementsLeft.TheVariants as elements
+use Rattle.json_value.specs.declared.array_view.PackedElements.{PackedElements}
+use Rattle.json_value.specs.declared.object_view.Iter.{Iter}
+use Rattle.json_value.specs.declared.object_view.MembersLeft.{MembersLeft}
+use Rattle.json_value.specs.declared.object_view.MembersLeft.TheVariants as members
+use Rattle.json_value.specs.declared.object_view.PackedMembers.{PackedMembers}
 use Rattle.json_value.specs.declared.view.View.{View}
 
 -- the trees of the elements
+abbrev pub trees_to_come : ElementsLeft → List Tree
+trees_to_come (elements.Packed p) = children_left p.elements
+trees_to_come (elements.Whole vs) = map tree_of vs.now
+
 abbrev pub elements_left : ArrayIter → List Tree
-elements_left s = drop s.next (elements_seen s.view)
+elements_left s = trees_to_come s.left
 
 -- the keys of the members, each with the tree of its value
-abbrev pub members_left : Iter → List (List ℕ × Tree)
-members_left s = drop s.next (members_seen s.view)
+abbrev pub pairs_to_come : MembersLeft → List (List ℕ × Tree)
+pairs_to_come (members.Packed p) = pairs_left p.members
+pairs_to_come (members.Whole ps) = map pair_of ps.now
 
--- a member, as it is given
-abbrev pub member_seen : Bor (List ℕ) × View → List ℕ × Tree
-member_seen p = (p.0.now, seen p.1)
+abbrev pub members_left : Iter → List (List ℕ × Tree)
+members_left s = pairs_to_come s.left
+
+-- the places of the elements, of the document that a value holds, if one does
+abbrev pub packed_sights : PackedElements → List Sight
+packed_sights p = map (place_of (view_doc p.packed.view) (doc_held p.packed.holder)) (children_places p.elements)
 
 -- what the views of the elements are of
+abbrev pub sights_to_come : ElementsLeft → List Sight
+sights_to_come (elements.Packed p) = packed_sights p
+sights_to_come (elements.Whole vs) = map whole_value vs.now
+
 abbrev pub elements_sights_left : ArrayIter → List Sight
-elements_sights_left s = drop s.next (elements_sights s.view)
+elements_sights_left s = sights_to_come s.left
+
+-- so of the members, each behind its key
+abbrev pub packed_member_sights : PackedMembers → List (List ℕ × Sight)
+packed_member_sights p = zip (map (λ q. q.0) (pairs_left p.members)) (map (place_of (view_doc p.packed.view) (doc_held p.packed.holder)) (pairs_places p.members))
+
+abbrev pub member_sights_to_come : MembersLeft → List (List ℕ × Sight)
+member_sights_to_come (members.Packed p) = packed_member_sights p
+member_sights_to_come (members.Whole ps) = map pair_sight ps.now
 
 -- what the views of the values are of, each behind its key
 abbrev pub members_sights_left : Iter → List (List ℕ × Sight)
-members_sights_left s = drop s.next (members_sights s.view)
+members_sights_left s = member_sights_to_come s.left
 
 -- a call gave the first element of what was left: its tree, and what its view is of
 abbrev pub GivesElement : ArrayIter → Option View → ArrayIter → Type 0

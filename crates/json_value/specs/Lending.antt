@@ -1,20 +1,22 @@
 -- What calls lend inside a value, and what a write there changes.
 use denote.RattleType.{RattleType}
-use Rattle.std.specs.Prelude.{◌≡◌, ◌⊎◌, List, [], ◌∷◌, ℕ, Option, Some, None, IfSome, IfOk, Result, Ok, Err, cond}
+use Rattle.std.specs.Prelude.{◌≡◌, ◌⊎◌, List, [], ◌∷◌, ℕ, Option, Some, None, IfSome, IfOk, IfErr, Result, Ok, Err, Vec, cond, map}
 use Rattle.std.specs.Borrow.{follows_so, name_if_ok, LendsSoOk, MutBor, Fml, GName}
 use mathlib.Core.Option as maybe
-use Rattle.json_grammar.specs.Tree.{Tree, null, pairs, Pairs, no_pairs, pair_and}
+use Rattle.std.specs.declared.alloc.Global.{Global}
+use Rattle.json_grammar.specs.Tree.{Tree, null, list, pairs, Pairs, no_pairs, pair_and, list_trees, list_pairs}
 use Rattle.json_text.specs.Errors.{no_memory, type_unmatched}
 use Rattle.json_text.specs.declared.error.Error.{Error}
 use Rattle.json_text.specs.declared.error.ErrorCode.{ErrorCode}
 use Rattle.json_text.specs.declared.error.ErrorCode.TheVariants.{NoMemory}
 use Rattle.json_model.specs.Edit.{Step, key_step, index_step, Changed, at_path, edited_once, set_at, at_index, on_list, on_pairs, inserted, has_key}
-use Rattle.json_value.specs.Denotes.{tree_of}
-use Rattle.json_value.specs.Edits.{RefusesChange}
+use Rattle.json_value.specs.Denotes.{tree_of, pair_of}
+use Rattle.json_value.specs.Edits.{RefusesChange, inserted_in, pushed_in}
 use Rattle.json_value.specs.Rows.{value_row}
 use Rattle.json_value.specs.Steps.{tree_at}
-use Rattle.json_value.specs.Touched.{Exchanges, Same, ArrayKept, ObjectKept, KeptAlong}
-use Rattle.json_value.specs.declared.value.Value.{Value}
+use Rattle.json_value.specs.Touched.{ArrayTouched, ObjectTouched, ReplacedBy, Exchanges, Same, ArrayKept, ObjectKept, KeptAlong, Adds, UpsertsValue, ExchangesOrUpserts}
+use Rattle.json_value.specs.declared.pair.Keyed.{Keyed}
+use Rattle.json_value.specs.declared.value.Value.{Value, Null}
 use Rattle.json_value.specs.declared.path.PointerNode.{PointerNode}
 use Rattle.json_value.specs.declared.path.PointerNode.TheVariants.{Index}
 
@@ -42,9 +44,9 @@ abbrev pub none_or : {X : Type 0} → ErrorCode → Error → Result (Option (Mu
 none_or NoMemory e = Err e
 none_or _ e = Ok None
 
-abbrev pub settled : {X : Type 0} → Result (MutBor X) Error → Result (Option (MutBor X)) Error
-settled (Ok x) = Ok (Some x)
-settled (Err e) = none_or e.code e
+abbrev pub missing_as_none : {X : Type 0} → Result (MutBor X) Error → Result (Option (MutBor X)) Error
+missing_as_none (Ok x) = Ok (Some x)
+missing_as_none (Err e) = none_or e.code e
 
 -- what is lent, if something is
 abbrev pub lent : {X E : Type 0} → Result (Option (MutBor X)) E → Option X
@@ -87,8 +89,8 @@ abbrev pub AddsNothing : (old new : Value) → Type 0
 AddsNothing old new = (tree_of new ≡ tree_of old) × ArrayKept Same old new
 
 -- nothing is put into an object: the tree stays, and so does the value, but for its first write
-abbrev pub SeatsNothing : (old new : Value) → Type 0
-SeatsNothing old new = (tree_of new ≡ tree_of old) × ObjectKept Same old new
+abbrev pub UpsertsNothing : (old new : Value) → Type 0
+UpsertsNothing old new = (tree_of new ≡ tree_of old) × ObjectKept Same old new
 
 -- a place in s is lent, or none is, by a result: s ends as a value n with P x w n, where x is what stood at the place at first, and where none is lent as P₀ says
 abbrev pub LendsPlace : {E : Type 0} → MutBor Value → Result (Option (MutBor Value)) E → (Value → Value → Value → Type 0) → (Value → Type 0) → Fml
@@ -108,9 +110,9 @@ first_node [] = Index 0
 first_node (s ∷ path) = s
 
 -- what a result tells of the place in t to which the steps lead: what stands there first, or why they lead nowhere
-abbrev pub Stands : List Step → Tree → Result (MutBor Value) Error → Type 0
-Stands p t (Ok x) = tree_at p t ≡ Some (tree_of x.now)
-Stands p t (Err e) = (f : Tree → Changed Tree) → RefusesChange (at_path p f t) e.code e.place
+abbrev pub LeadsTo : List Step → Tree → Result (MutBor Value) Error → Type 0
+LeadsTo p t (Ok x) = tree_at p t ≡ Some (tree_of x.now)
+LeadsTo p t (Err e) = (f : Tree → Changed Tree) → RefusesChange (at_path p f t) e.code e.place
 
 -- a part of s is lent, or none is. With any w written there s ends as an n with P n w, and where none is lent as P₀ says
 abbrev pub LendsPart : (R T : RattleType) → {E : Type 0} → MutBor R.Denot → Result (Option (MutBor T.Denot)) E → (R.Denot → T.Denot → Type 0) → (R.Denot → Type 0) → Fml
@@ -120,3 +122,37 @@ LendsPart R T s r P P₀ = follows_so R T s.ghost_name (name_of r) (λ w n. IsLe
 abbrev pub Opens : {C A : Type 0} → (C → A) → Option A → (C → Type 0) → Result (MutBor C) Error → Type 0
 Opens parts o Opened (Ok c) = (o ≡ Some (parts c.now)) × Opened c.now
 Opens parts o Opened (Err e) = (e ≡ no_memory) ⊎ ((e ≡ type_unmatched) × (o ≡ None))
+
+-- ---- what is written into a container that lends
+
+-- w is put where the steps lead from old, in the place of what a result lends there
+abbrev pub PutsAt : {E : Type 0} → List Step → Result (MutBor Value) E → (w old new : Value) → Type 0
+PutsAt p r w old new = IfOk r (λ v. Puts p v.now w old new)
+
+-- w is put at the first member of the key in an object, or appended with a member of its own
+abbrev pub PutsMember : List ℕ → (w old new : Value) → Type 0
+PutsMember k w old new = (inserted_in k (tree_of w) (tree_of old) ≡ Ok (tree_of new)) × UpsertsValue k w old new
+
+-- w is appended to an array
+abbrev pub Appends : (w old new : Value) → Type 0
+Appends w old new = (pushed_in (tree_of w) (tree_of old) ≡ Ok (tree_of new)) × Adds w old new
+
+-- w is put where the step leads, in the place of what a result lends there, or with a member of its own
+abbrev pub PutsOrInserts : {E : Type 0} → Step → Result (MutBor Value) E → (w old new : Value) → Type 0
+PutsOrInserts s r w old new = (put_or_insert s (tree_of w) (tree_of old) ≡ Ok (tree_of new)) × IfOk r (λ v. ExchangesOrUpserts s v.now w old new)
+
+-- a call failed as such an insertion does, or for want of memory
+abbrev pub FailsToInsert : {A : Type 0} → Step → Tree → Result A Error → Type 0
+FailsToInsert s t r = IfErr r (λ e. (u : Tree) → RefusesChange (put_or_insert s u t) e.code e.place)
+
+-- an array becomes that of w, which is put in the place of the list that a result lends
+abbrev pub BecomesList : {E : Type 0} → Result (MutBor (Vec Value Global)) E → Vec Value Global → (old new : Value) → Type 0
+BecomesList r w old new = (tree_of new ≡ list (list_trees (map tree_of w.items))) × IfOk r (λ v. ArrayTouched (ReplacedBy v.now.items w.items) old new)
+
+-- an object becomes that of w, which is put in the place of the members that a result lends
+abbrev pub BecomesPairs : {E : Type 0} → Result (MutBor (Vec (Keyed Value) Global)) E → Vec (Keyed Value) Global → (old new : Value) → Type 0
+BecomesPairs r w old new = (tree_of new ≡ pairs (list_pairs (map pair_of w.items))) × IfOk r (λ v. ObjectTouched (ReplacedBy v.now.items w.items) old new)
+
+-- so of an object, or of null
+abbrev pub BecomesPairsOrNull : {E : Type 0} → Result (MutBor (Vec (Keyed Value) Global)) E → Vec (Keyed Value) Global → (old new : Value) → Type 0
+BecomesPairsOrNull r w old new = (tree_of new ≡ pairs (list_pairs (map pair_of w.items))) × IfOk r (λ v. (old ≡ Null) ⊎ ObjectTouched (ReplacedBy v.now.items w.items) old new)

@@ -1,16 +1,9 @@
 -- Members that are put into an object in turn.
-use Rattle.std.specs.Prelude.{ℕ, List, [], ◌∷◌, cond, bytes_eq}
-use Rattle.json_grammar.specs.Tree.{Tree, Pairs}
-use Rattle.json_model.specs.Edit.{inserted}
+use Rattle.std.specs.Prelude.{List, [], ◌∷◌, cond, bytes_eq}
 use Rattle.json_value.specs.Denotes.{text_bytes}
 use Rattle.json_value.specs.Written.{value_in, with_value}
 use Rattle.json_value.specs.declared.pair.Keyed.{Keyed}
 use Rattle.json_value.specs.declared.value.Value.{Value}
-
--- each of these is inserted, from the first on
-abbrev pub inserted_all : List (List ℕ × Tree) → Pairs → Pairs
-inserted_all [] ps = ps
-inserted_all (q ∷ qs) ps = inserted_all qs (inserted q.0 q.1 ps)
 
 -- the members, the first of the member's key with its value, or the member behind them where none has the key
 abbrev pub with_member : Keyed Value → List (Keyed Value) → List (Keyed Value)

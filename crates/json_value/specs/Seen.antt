@@ -1,5 +1,6 @@
 -- The trees that views show, and what can be read of a tree at once.
 use Rattle.std.specs.Prelude.{ℕ, List, [], ◌∷◌, Option, None, Some, cond, map, bytes_eq}
+use Rattle.std.specs.Borrow.{Bor}
 use Rattle.json_grammar.specs.Tree.{Tree, list, pairs, trees_list, pairs_list}
 use Rattle.json_doc.specs.Seen.{view_tree}
 use Rattle.json_doc.specs.Readings.{elements}
@@ -21,6 +22,10 @@ form_seen f = sight_tree (form_sight f)
 
 abbrev pub seen : View → Tree
 seen v = sight_tree (sight_of v)
+
+-- a member, as it is given
+abbrev pub member_seen : Bor (List ℕ) × View → List ℕ × Tree
+member_seen p = (p.0.now, seen p.1)
 
 -- the elements that are seen
 abbrev pub array_form_seen : ArrayForm → List Tree

@@ -82,14 +82,14 @@ members_of (place_of d held at) = option_map (members_at d held at) (pairs_of (d
 members_of nowhere = None
 
 -- the value of the first member of a key, or the element of an index, counted from 0
-abbrev pub part_of : Step → Sight → Option Sight
-part_of (key_step k) s = option_and_then (λ ps. option_map (λ p. p.1) (first_of k ps)) (members_of s)
-part_of (index_step i) s = option_and_then (λ ss. slice_get ss i) (elements_of s)
+abbrev pub sight_after : Step → Sight → Option Sight
+sight_after (key_step k) s = option_and_then (λ ps. option_map (λ p. p.1) (first_of k ps)) (members_of s)
+sight_after (index_step i) s = option_and_then (λ ss. slice_get ss i) (elements_of s)
 
 -- what stands where the steps lead
-abbrev pub part_at : List Step → Sight → Option Sight
-part_at [] s = Some s
-part_at (x ∷ p) s = elim (part_of x s) [ None ↦ None | Some u ↦ part_at p u ]
+abbrev pub sight_along : List Step → Sight → Option Sight
+sight_along [] s = Some s
+sight_along (x ∷ p) s = elim (sight_after x s) [ None ↦ None | Some u ↦ sight_along p u ]
 
 -- that, or null, which stands nowhere
 abbrev pub or_nowhere : Option Sight → Sight

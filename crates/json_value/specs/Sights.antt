@@ -9,7 +9,7 @@ use Rattle.json_doc.specs.Seen.{view_doc, view_place}
 use Rattle.json_doc.specs.declared.doc.Doc.{Doc}
 use Rattle.json_value.specs.Denotes.{tree_of}
 use Rattle.json_value.specs.Places.{places_in}
-use Rattle.json_value.specs.Spots.{Spot, spot_in, spot_of, read_spot}
+use Rattle.json_value.specs.Spots.{CellRef, spot_in, spot_of, read_spot}
 use Rattle.json_value.specs.declared.value.Value.{Value}
 use Rattle.json_value.specs.declared.view.View.{View}
 use Rattle.json_value.specs.declared.view.ViewForm.{ViewForm}
@@ -28,24 +28,24 @@ sight_tree (place_of d held at) = doc_tree d at
 sight_tree nowhere = null
 
 -- where it stands; nowhere for a value that is no place
-abbrev pub sight_spot : Sight → Option Spot
+abbrev pub sight_spot : Sight → Option CellRef
 sight_spot (whole_value v) = spot_of v
 sight_spot (place_of d held at) = Some (spot_in d at)
 sight_spot nowhere = None
 
 -- where a value stands that is read from a place of the document which a value holds; nowhere if none holds it
-abbrev pub kept_at : Option Doc → ℕ → Option Spot
+abbrev pub kept_at : Option Doc → ℕ → Option CellRef
 kept_at None at = None
 kept_at (Some d) at = read_spot d at
 
 -- where a value made of it stands
-abbrev pub sight_kept : Sight → Option Spot
+abbrev pub sight_kept : Sight → Option CellRef
 sight_kept (whole_value v) = spot_of v
 sight_kept (place_of d held at) = kept_at held at
 sight_kept nowhere = None
 
 -- where the parts of a value made of it stand, if it is a whole value
-abbrev pub sight_places : Sight → Option (List (Option Spot))
+abbrev pub sight_places : Sight → Option (List (Option CellRef))
 sight_places (whole_value v) = Some (places_in v)
 sight_places (place_of d held at) = None
 sight_places nowhere = None

@@ -6,7 +6,7 @@ use Rattle.json_model.specs.Edit.{Step, key_step, index_step, has_key}
 use Rattle.json_value.specs.Denotes.{tree_of, pair_of, text_bytes, list_in, pairs_in}
 use Rattle.json_value.specs.FirstMember.{IsFirstOf}
 use Rattle.json_value.specs.Rows.{owned}
-use Rattle.json_value.specs.Places.{Stand, stand_of}
+use Rattle.json_value.specs.Places.{Origin, origin_of}
 use Rattle.json_value.specs.Spots.{spot_of_text}
 use Rattle.json_value.specs.Written.{FirstElements, FirstMembers, value_in, with_value}
 use Rattle.json_value.specs.declared.container.Container.{Container}
@@ -66,16 +66,16 @@ pub record Appended (k : List ℕ) (Is : Keyed Value → Type 0) (items now : Li
   pub is : Is member
 
 -- a member whose key stands where this one does, and whose value and its parts stand so
-abbrev pub StandsSo : Text → Stand → Keyed Value → Type 0
-StandsSo k s m = (spot_of_text m.key ≡ spot_of_text k) × (stand_of m.value ≡ s)
+abbrev pub HasOrigin : Text → Origin → Keyed Value → Type 0
+HasOrigin k s m = (spot_of_text m.key ≡ spot_of_text k) × (origin_of m.value ≡ s)
 
 -- a value that stands so came to the first member of the key, or with a member of its own
-abbrev pub Inserts : Text → Stand → List (Keyed Value) → List (Keyed Value) → Type 0
-Inserts k s items now = AtMember (text_bytes k) (λ before after. stand_of after ≡ s) items now ⊎ Appended (text_bytes k) (StandsSo k s) items now
+abbrev pub Inserts : Text → Origin → List (Keyed Value) → List (Keyed Value) → Type 0
+Inserts k s items now = AtMember (text_bytes k) (λ before after. origin_of after ≡ s) items now ⊎ Appended (text_bytes k) (HasOrigin k s) items now
 
 -- a value that stands so came behind the others
-abbrev pub Pushes : Stand → List Value → List Value → Type 0
-Pushes s items now = (v : Value) × (stand_of v ≡ s) × (now ≡ items ++ v ∷ [])
+abbrev pub Pushes : Origin → List Value → List Value → Type 0
+Pushes s items now = (v : Value) × (origin_of v ≡ s) × (now ≡ items ++ v ∷ [])
 
 -- the members but those of the key
 abbrev pub unkeyed : List ℕ → List (Keyed Value) → List (Keyed Value)
@@ -88,9 +88,9 @@ RemovalTouches (Index i) old new = ArrayTouched (λ items now. now ≡ remove it
 
 -- what the edit leaves of the value at its place
 abbrev pub ChangeTouches : Edit → Value → Value → Type 0
-ChangeTouches (Set p v) old new = stand_of new ≡ stand_of v
-ChangeTouches (Insert p k v) old new = ObjectTouched (Inserts k (stand_of v)) old new
-ChangeTouches (Push p v) old new = ArrayTouched (Pushes (stand_of v)) old new
+ChangeTouches (Set p v) old new = origin_of new ≡ origin_of v
+ChangeTouches (Insert p k v) old new = ObjectTouched (Inserts k (origin_of v)) old new
+ChangeTouches (Push p v) old new = ArrayTouched (Pushes (origin_of v)) old new
 ChangeTouches (Remove p s) old new = RemovalTouches s old new
 
 -- the value to which the steps lead was changed so
@@ -150,12 +150,12 @@ Keeps p e = KeptAlong p (ChangeKeeps e)
 -- ---- through a lent place
 
 -- x was there, and w is there now
-abbrev pub Became : {T : Type 0} → (x w before after : T) → Type 0
-Became x w before after = (before ≡ x) × (after ≡ w)
+abbrev pub ReplacedBy : {T : Type 0} → (x w before after : T) → Type 0
+ReplacedBy x w before after = (before ≡ x) × (after ≡ w)
 
 -- w came to where the steps lead, in the place of x
 abbrev pub Exchanges : List Step → (x w old new : Value) → Type 0
-Exchanges p x w = Along p (Became x w)
+Exchanges p x w = Along p (ReplacedBy x w)
 
 -- w came behind the other elements
 abbrev pub Adds : (w old new : Value) → Type 0
@@ -166,18 +166,18 @@ abbrev pub OfValue : Value → Keyed Value → Type 0
 OfValue w m = (spot_of_text m.key ≡ None) × (m.value ≡ w)
 
 -- a member of the key with null came behind the others where none has the key, and then it is the member at i
-abbrev pub SeatedAt : List ℕ → ℕ → (items now : List (Keyed Value)) → Type 0
-SeatedAt k i items now = (now ≡ items) ⊎ ((i ≡ length items) × Appended k (OfValue Null) items now)
+abbrev pub UpsertedAt : List ℕ → ℕ → (items now : List (Keyed Value)) → Type 0
+UpsertedAt k i items now = (now ≡ items) ⊎ ((i ≡ length items) × Appended k (OfValue Null) items now)
 
 -- the value of the first member of the key was changed so, or w came with a member of its own
-abbrev pub Seats : List ℕ → (Value → Value → Type 0) → (w old new : Value) → Type 0
-Seats k Changes w = ObjectTouched (λ items now. AtMember k Changes items now ⊎ Appended k (OfValue w) items now)
+abbrev pub Upserts : List ℕ → (Value → Value → Type 0) → (w old new : Value) → Type 0
+Upserts k Changes w = ObjectTouched (λ items now. AtMember k Changes items now ⊎ Appended k (OfValue w) items now)
 
 -- w came to the member of the key
-abbrev pub SeatsValue : List ℕ → (w old new : Value) → Type 0
-SeatsValue k w = Seats k (λ before after. after ≡ w) w
+abbrev pub UpsertsValue : List ℕ → (w old new : Value) → Type 0
+UpsertsValue k w = Upserts k (λ before after. after ≡ w) w
 
 -- w came to where the step leads, in the place of x, or with a member of its own; null has no other members
-abbrev pub ExchangesOrSeats : Step → (x w old new : Value) → Type 0
-ExchangesOrSeats (key_step k) x w old new = (old ≡ Null) ⊎ Seats k (Became x w) w old new
-ExchangesOrSeats (index_step i) x w old new = Exchanges (index_step i ∷ []) x w old new
+abbrev pub ExchangesOrUpserts : Step → (x w old new : Value) → Type 0
+ExchangesOrUpserts (key_step k) x w old new = (old ≡ Null) ⊎ Upserts k (ReplacedBy x w) w old new
+ExchangesOrUpserts (index_step i) x w old new = Exchanges (index_step i ∷ []) x w old new

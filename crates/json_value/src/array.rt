@@ -1,38 +1,82 @@
 // Arrays.
-ghost use Rattle.std.specs.Prelude.{◌≡◌, ◌≤◌, ◌↔◌, [], map, IfOk, IfErr, OnOk, OnErr, IfSome, IsNone, IsOk};
+ghost use Rattle.std.specs.Prelude.{◌≡◌, ◌≤◌, ◌↔◌, [], map, IfOk, OnOk, OnErr, IfSome, IsNone, IsOk};
 ghost use Rattle.std.specs.Borrow.{Lends, LendsIfOk, sem};
 ghost use Rattle.json_grammar.specs.Tree.{list, list_trees};
+ghost use Rattle.json_doc.specs.Left.{children_doc, children_places, children_left};
 ghost use Rattle.json_doc.specs.Readings.{elements};
-ghost use Rattle.json_text.specs.Errors.{no_memory};
 ghost use Rattle.json_value.specs.Denotes.{tree_of, list_in};
 ghost use Rattle.json_value.specs.Said.{place_tree};
 ghost use Rattle.json_value.specs.Rows.{array_row, value_row, vec_row, owned, owned_items, owned_items_of, IsOwned, OwnsList};
 ghost use Rattle.json_value.specs.Room.{spare_in};
-ghost use Rattle.json_value.specs.Spots.{IsPlace, FirstList, PlaceElements};
+ghost use Rattle.json_value.specs.Spots.{IsPlace, FirstList, PlaceElements, spot_of, read_spot};
 ghost use Rattle.json_value.specs.Written.{FirstElements};
 ghost use Rattle.json_value.specs.declared.value.Value.{Array as ArrayValue};
+ghost use Rattle.json_value.specs.Places.{places_in, array_places};
+ghost use Rattle.json_value.specs.Seen.{elements_seen};
+ghost use Rattle.json_value.specs.SightParts.{array_sights, elements_sights};
+ghost use Rattle.json_value.specs.Failures.{OnlyNoMemory};
 
+use crate::array_view::{ArrayForm, ArrayView};
 use crate::container::{Container, Form};
+use crate::packed_view::PackedView;
 use crate::place::Place;
-use crate::value::{Array, Value};
+use crate::value::Value;
+use json_doc::{Doc, DocChildren, DocNode};
 use json_text::Result;
 use std::alloc::Global;
+use std::rc::Rc;
+
+/// An array (RFC 8259, section 5).
+///
+/// ```
+/// use json_value::{Array, Value};
+/// let mut array = Array::new();
+/// let list = array.list_mut(alloc)?;
+/// list.push(Value::new_u64(1))?;
+/// list.push(Value::from_static_str("x"))?;
+/// assert_eq!(rt; array.to_string(alloc)?.as_str(), "[1,\"x\"]");
+/// ```
+pub type Array = Container<Value>;
 
 // The elements of a packed array, each as a value of its own.
 fn unpack_list(alloc: Global, place: &Place) -> Result<Vec<Value>>
     ensures list { IfOk result (λ v. map tree_of v.items ≡ elements (place_tree place.now)) }
     ensures children { IfOk result (λ v. PlaceElements place.now v.items) }
-    ensures only { IfErr result (λ e. e ≡ no_memory) }
+    ensures only { OnlyNoMemory result }
 {
-    let packed = place.view();
-    let len = packed.len();
-    let mut list = Vec::with_capacity(alloc, len)?;
-    for i in 0..len {
-        if let Some(element) = packed.element(i) {
-            list.push(Value::from_place(alloc, &place.doc, element.place())?)?;
-        }
+    match place.view().node() {
+        DocNode::Array(elements) => unpack_elements(alloc, &place.doc, elements),
+        _ => Ok(Vec::new(alloc)),
+    }
+}
+
+// Elements of the document, each as a value of its own.
+fn unpack_elements(alloc: Global, doc: &Rc<Doc>, elements: DocChildren<'_>) -> Result<Vec<Value>>
+    requires { children_doc elements ≡ doc.now.value }
+    ensures list { IfOk result (λ v. map tree_of v.items ≡ children_left elements.entry) }
+    ensures spots { IfOk result (λ v. map spot_of v.items
+        ≡ map (read_spot doc.now.value) (children_places elements.entry)) }
+    ensures only { OnlyNoMemory result }
+{
+    let mut list = Vec::with_capacity(alloc, elements.len())?;
+    for element in elements {
+        let value = Value::from_place(alloc, doc, element.place())?;
+        list.push(value)?;
     }
     Ok(list)
+}
+
+#[cycle(copy)]
+pub(crate) fn copy_list(alloc: Global, list: &Vec<Value>) -> Result<Vec<Value>>
+    ensures list { IfOk result (λ v. map tree_of v.items ≡ map tree_of list.now.items) }
+    ensures places { IfOk result (λ v. map places_in v.items ≡ map places_in list.now.items) }
+    ensures only { OnlyNoMemory result }
+{
+    let mut copies = Vec::with_capacity(alloc, list.len())?;
+    for value in list {
+        copies.push(value.clone(alloc)?)?;
+    }
+    Ok(copies)
 }
 
 impl Container<Value> {
@@ -93,7 +137,7 @@ impl Container<Value> {
         ensures err { OnErr result (self.new ≡ self.old) }
         ensures as_it_was { OwnsList self.old → self.new ≡ self.old }
         ensures room { OnOk result (spare_in self.old ≤ spare_in self.new) }
-        ensures only { IfErr result (λ e. e ≡ no_memory) }
+        ensures only { OnlyNoMemory result }
         ensures free { (IsPlace self.old → ⊥) → IsOk result }
     {
         match &self.form {
@@ -108,26 +152,76 @@ impl Container<Value> {
     }
 
     /// The elements, to be changed. On a place of a document this is the first write: each child becomes a value of its own,
-    /// or a place of the same document, and nothing deeper is copied; `NoMemory` comes there alone. What is written through
-    /// the list is what the array becomes.
+    /// or a place of the same document, and nothing deeper is copied. What is written through the list is what the array
+    /// becomes. Fails with `NoMemory` if memory runs out, which it can for a place of a document alone.
     pub fn list_mut(&mut self, alloc: Global) -> Result<&mut Vec<Value>>
-        ensures* writes_back { sem 𝓛 (LendsIfOk array_row (vec_row value_row) self.entry result owned self.old) }
+        ensures* writes_back { sem 𝓛 (LendsIfOk array_row (vec_row value_row) self.entry result
+            owned self.old) }
         ensures list { IfOk result (λ v. map tree_of v.now.items ≡ list_in self.old) }
         ensures children { IfOk result (λ v. FirstElements self.old v.now.items) }
         ensures as_it_was { IfOk result (λ v. OwnsList self.old → owned v.now ≡ self.old) }
         ensures room { IfOk result (λ v. spare_in self.old ≤ spare_in (owned v.now)) }
-        ensures only { IfErr result (λ e. e ≡ no_memory) }
+        ensures only { OnlyNoMemory result }
         ensures free { (IsPlace self.old → ⊥) → IsOk result }
     {
         self.make_owned(alloc)?;
         Ok(self.form.owned())
     }
-    /// The owned list, to be changed; it has to be there. Takes no memory.
+
+    /// The owned list, to be changed; the array must have one. Takes no memory.
     pub fn owned_mut(&mut self) -> &mut Vec<Value>
         requires { OwnsList self.old }
-        ensures* writes_back { sem 𝓛 (Lends array_row (vec_row value_row) self.entry result owned) }
+        ensures* writes_back { sem 𝓛 (Lends array_row (vec_row value_row) self.entry result
+            owned) }
         ensures value { self.old ≡ owned result.now }
     {
         self.form.owned()
+    }
+
+    /// The whole array.
+    #[inline]
+    pub fn view(&self) -> ArrayView<'_>
+        ensures trees { elements_seen result ≡ list_in self.now }
+        ensures sights { elements_sights result ≡ array_sights self.now }
+    {
+        let form = match &self.form {
+            Form::Empty => ArrayForm::Whole(&[]),
+            Form::Owned(values) => ArrayForm::Whole(values.as_slice()),
+            Form::Packed(place) => ArrayForm::Packed(PackedView::of_place(place)),
+        };
+        ArrayView { form }
+    }
+
+    /// An array of the same elements, which no later write to this one reaches; places stay places of the same document.
+    /// Fails with `NoMemory` if memory runs out.
+    pub fn clone(&self, alloc: Global) -> Result<Array>
+        ensures list { IfOk result (λ a. list_in a ≡ list_in self.now) }
+        ensures places { IfOk result (λ a. array_places a ≡ array_places self.now) }
+        ensures only { OnlyNoMemory result }
+    {
+        match &self.form {
+            Form::Empty => Ok(Container { form: Form::Empty }),
+            Form::Owned(list) => {
+                let list = copy_list(alloc, list)?;
+                Ok(Container {
+                    form: Form::Owned(list),
+                })
+            }
+            Form::Packed(place) => {
+                let place = place.copy()?;
+                Ok(Container {
+                    form: Form::Packed(place),
+                })
+            }
+        }
+    }
+}
+
+impl Default for Container<Value> {
+    ghost is_default = { λ a. list_in a ≡ [] };
+
+    /// The array without elements. Takes no memory.
+    fn default() -> Array {
+        Array::new()
     }
 }

@@ -1,18 +1,18 @@
-// Views of arrays.
-ghost use Rattle.std.specs.Prelude.{◌≡◌, ◌↔◌, [], length, map, option_map, slice_get, IsTrue};
+// Views of arrays, and their elements in order.
+ghost use Rattle.std.specs.Prelude.{◌≡◌, ◌↔◌, [], length, map, option_map, slice_get, IsTrue, ◌≤◌};
+ghost use Rattle.std.proofs.Props.{props};
+ghost use Rattle.json_doc.specs.Left.{children_doc, children_left};
 ghost use Rattle.json_doc.specs.Readings.{elements};
 ghost use Rattle.json_doc.specs.Seen.{view_doc, view_place, view_tree};
-ghost use Rattle.json_value.specs.Denotes.{tree_of, list_in};
+ghost use Rattle.json_value.specs.Denotes.{tree_of};
 ghost use Rattle.json_value.specs.Seen.{seen, elements_seen, list_of};
-ghost use Rattle.json_value.specs.SightParts.{elements_at, array_sights};
-ghost use Rattle.json_value.specs.SightParts.{elements_of, elements_sights};
+ghost use Rattle.json_value.specs.SightParts.{elements_at, elements_of, elements_sights};
 ghost use Rattle.json_value.specs.Sights.{whole_value, place_of, doc_held, sight_of};
 
-use crate::container::{Container, Form};
 use crate::packed_view::PackedView;
 use crate::value::Value;
 use crate::view::{View, ViewForm};
-use json_doc::{DocView, JsonType};
+use json_doc::{DocChildren, DocNode, DocView, JsonType};
 
 #[derive(Clone, Copy)]
 pub(crate) enum ArrayForm<'a> {
@@ -36,23 +36,9 @@ pub struct ArrayView<'a> {
     pub(crate) form: ArrayForm<'a>,
 }
 
-impl Container<Value> {
-    /// The whole array.
-    #[inline]
-    pub fn view(&self) -> ArrayView<'_>
-        ensures trees { elements_seen result ≡ list_in self.now }
-        ensures sights { elements_sights result ≡ array_sights self.now }
-    {
-        let form = match &self.form {
-            Form::Empty => ArrayForm::Whole(&[]),
-            Form::Owned(values) => ArrayForm::Whole(values.as_slice()),
-            Form::Packed(place) => ArrayForm::Packed(PackedView::of_place(place)),
-        };
-        ArrayView { form }
-    }
-}
-
 impl<'a> ArrayView<'a> {
+    ghost use Rattle.json_value.specs.Left.{elements_left, elements_sights_left};
+
     pub(crate) fn of_packed(packed: PackedView<'a>) -> Option<ArrayView<'a>>
         ensures trees { option_map elements_seen result ≡ list_of (view_tree packed.entry.view) }
         ensures sights { let p = packed.entry in option_map elements_sights result
@@ -106,6 +92,19 @@ impl<'a> ArrayView<'a> {
             ArrayForm::Whole(values) => whole_element(values, i),
         }
     }
+
+    /// The elements, in order.
+    #[inline]
+    pub fn iter(self) -> ArrayIter<'a>
+        ensures trees { elements_left result ≡ elements_seen self.entry }
+        ensures sights { elements_sights_left result ≡ elements_sights self.entry }
+    {
+        let left = match self.form {
+            ArrayForm::Packed(packed) => ElementsLeft::of_packed(packed),
+            ArrayForm::Whole(values) => ElementsLeft::Whole(values),
+        };
+        ArrayIter { left }
+    }
 }
 
 fn packed_len(view: DocView<'_>) -> usize
@@ -139,5 +138,112 @@ fn whole_element(values: &[Value], i: usize) -> Option<View<'_>>
         Some(values[i].view())
     } else {
         None
+    }
+}
+
+/// The elements of an array that are still to come, in order.
+///
+/// ```
+/// use json_doc::read_document;
+/// use json_value::View;
+/// let doc = read_document(alloc, "[\"a\", 1, \"b\"]")?;
+/// let mut joined = String::new(alloc);
+/// for element in View::packed(doc.view()).as_array().ok_or("no array")?.iter() {
+///     joined.push_str(element.text().unwrap_or("-"))?;
+/// }
+/// assert_eq!(rt; joined.as_str(), "a-b");
+/// ```
+#[derive(Drop)]
+pub struct ArrayIter<'a> {
+    left: ElementsLeft<'a>,
+}
+
+#[derive(Drop)]
+pub(crate) enum ElementsLeft<'a> {
+    Packed(PackedElements<'a>),
+    Whole(&'a [Value]),
+}
+
+// The elements of a packed array that are still to come.
+#[derive(Drop)]
+pub(crate) struct PackedElements<'a> {
+    packed: PackedView<'a>,
+    elements: DocChildren<'a>,
+    ghost same: { children_doc elements ≡ view_doc packed.view } by { Prim.hlevel props },
+}
+
+impl<'a> PackedElements<'a> {
+    ghost use Rattle.std.specs.Iterator.{YieldsFirstBy};
+    ghost use Rattle.json_value.specs.Left.{packed_sights};
+
+    #[inline]
+    fn next(&mut self) -> Option<View<'a>>
+        ensures tree { YieldsFirstBy seen (λ p. children_left p.elements) self.old result self.new }
+        ensures sight { YieldsFirstBy sight_of packed_sights self.old result self.new }
+    {
+        match self.elements.next() {
+            Some(element) => Some(View {
+                form: ViewForm::Packed(self.packed.beside(element)),
+            }),
+            None => None,
+        }
+    }
+}
+
+impl<'a> ElementsLeft<'a> {
+    ghost use Rattle.json_value.specs.Left.{trees_to_come, sights_to_come};
+
+    // The elements of a place of a document; none where that is no array.
+    #[inline]
+    fn of_packed(packed: PackedView<'a>) -> ElementsLeft<'a>
+        ensures trees { trees_to_come result ≡ elements (view_tree packed.entry.view) }
+        ensures sights { let p = packed.entry in let ts = elements (view_tree p.view) in
+            sights_to_come result
+            ≡ elements_at (view_doc p.view) (doc_held p.holder) (view_place p.view) ts }
+    {
+        match packed.view.node() {
+            DocNode::Array(elements) => ElementsLeft::Packed(PackedElements { packed, elements }),
+            _ => ElementsLeft::Whole(&[]),
+        }
+    }
+}
+
+impl<'a> ArrayIter<'a> {
+    ghost use Rattle.json_value.specs.Left.{elements_left};
+
+    /// How many elements are still to come.
+    #[inline]
+    pub fn len(&self) -> usize
+        ensures { result ≡ length (elements_left self.now) }
+    {
+        match &self.left {
+            ElementsLeft::Packed(packed) => packed.elements.len(),
+            ElementsLeft::Whole(values) => values.len(),
+        }
+    }
+}
+
+impl<'a> Iterator for ArrayIter<'a> {
+    ghost use Rattle.std.specs.Iterator.{item_count};
+    ghost use Rattle.json_value.specs.Left.{elements_left, GivesElement};
+
+    type Item = View<'a>;
+
+    ghost next_gives = { GivesElement };
+
+    ghost remaining = { item_count elements_left };
+
+    #[inline]
+    fn next(&mut self) -> Option<View<'a>> {
+        match &mut self.left {
+            ElementsLeft::Packed(packed) => packed.next(),
+            ElementsLeft::Whole(values) => match values.split_first() {
+                Some((value, rest)) => {
+                    *values = rest;
+                    Some(value.view())
+                }
+                None => None,
+            },
+        }
     }
 }

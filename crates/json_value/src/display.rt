@@ -74,7 +74,7 @@ fn show_scalar<W: fmt::Write>(view: View<'_>, f: &mut fmt::Formatter<W>) -> fmt:
     }
 }
 
-// What stands before the part `i` of a container.
+// What is printed before the part `i` of a container.
 fn separator(i: usize) -> &'static str
     ensures { result.now ≡ comma (i == 0) }
 {
@@ -83,11 +83,13 @@ fn separator(i: usize) -> &'static str
 
 #[cycle(text)]
 fn show_elements<W: fmt::Write>(array: ArrayView<'_>, f: &mut fmt::Formatter<W>) -> fmt::Result
-    ensures { WritesOnOk W.write_str_gives f.old result (shown None 0 (list (list_trees (elements_seen array.entry)))) f.new }
+    ensures { WritesOnOk W.write_str_gives f.old result
+        (shown None 0 (list (list_trees (elements_seen array.entry)))) f.new }
 {
     f.write_str("[")?;
+    let mut elements = array.iter();
     'elements: for i in 0..array.len() {
-        if let Some(element) = array.get(i) {
+        if let Some(element) = elements.next() {
             f.write_str(separator(i))?;
             show(element, f)?;
         }
@@ -97,11 +99,13 @@ fn show_elements<W: fmt::Write>(array: ArrayView<'_>, f: &mut fmt::Formatter<W>)
 
 #[cycle(text)]
 fn show_members<W: fmt::Write>(object: ObjectView<'_>, f: &mut fmt::Formatter<W>) -> fmt::Result
-    ensures { WritesOnOk W.write_str_gives f.old result (shown None 0 (pairs (list_pairs (members_seen object.entry)))) f.new }
+    ensures { WritesOnOk W.write_str_gives f.old result
+        (shown None 0 (pairs (list_pairs (members_seen object.entry)))) f.new }
 {
     f.write_str("{")?;
+    let mut members = object.iter();
     'members: for i in 0..object.len() {
-        if let Some((key, value)) = object.pair(i) {
+        if let Some((key, value)) = members.next() {
             write!(f, "{}{}:", separator(i), Quoted(key))?;
             show(value, f)?;
         }

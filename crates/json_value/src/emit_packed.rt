@@ -1,12 +1,12 @@
 // The tokens of a document's tree, from left to right.
 ghost use Rattle.std.specs.Prelude.{◌≡◌, None};
-ghost use Rattle.json_grammar.specs.Tree.{num, list, no_trees, list_trees, pairs, no_pairs, list_pairs, tokens};
+ghost use Rattle.json_grammar.specs.Tree.{num, list, no_trees, list_trees, pairs, no_pairs, list_pairs};
 ghost use Rattle.json_number.specs.Numbers.{text_of_number};
 ghost use Rattle.json_doc.specs.Left.{children_left, pairs_left};
 ghost use Rattle.json_doc.specs.Readings.{elements};
 ghost use Rattle.json_doc.specs.Seen.{view_tree};
 ghost use Rattle.json_print.specs.Standing.{TakesValue};
-ghost use Rattle.json_value.specs.Emitting.{Emits};
+ghost use Rattle.json_value.specs.Emitting.{Emits, tree_given};
 ghost use Rattle.json_value.specs.Readings.{members};
 
 use json_doc::{DocChildren, DocNode, DocPairs, DocView};
@@ -19,7 +19,7 @@ use json_text::Result;
 pub(crate) fn emit_document<E: Events>(view: DocView<'_>, out: &mut E) -> Result<()>
     requires { E.failed out.old ≡ None → TakesValue (E.stand (E.state out.old)).turn }
     ensures { Emits E.after E.stopped (E.state out.old) (E.state out.new)
-        (E.failed out.old) (E.failed out.new) (tokens (view_tree view.entry)) result }
+        (E.failed out.old) (E.failed out.new) (tree_given (view_tree view.entry)) result }
 {
     match view.node() {
         DocNode::Null => out.null(),
@@ -36,7 +36,7 @@ pub(crate) fn emit_document<E: Events>(view: DocView<'_>, out: &mut E) -> Result
 pub(crate) fn emit_number<E: Events>(number: Number, out: &mut E) -> Result<()>
     requires { E.failed out.old ≡ None → TakesValue (E.stand (E.state out.old)).turn }
     ensures { Emits E.after E.stopped (E.state out.old) (E.state out.new)
-        (E.failed out.old) (E.failed out.new) (tokens (num (text_of_number number))) result }
+        (E.failed out.old) (E.failed out.new) (tree_given (num (text_of_number number))) result }
 {
     match number.as_u64() {
         Some(n) => out.uint(n as u128),
@@ -47,13 +47,13 @@ pub(crate) fn emit_number<E: Events>(number: Number, out: &mut E) -> Result<()>
     }
 }
 
-// Gives the tokens of an array; `count` tells how many elements there are.
+// Gives the tokens of an array; `count` is how many elements there are.
 #[cycle(document)]
 fn emit_children<E: Events>(children: DocChildren<'_>, count: usize, out: &mut E) -> Result<()>
     requires { E.failed out.old ≡ None → TakesValue (E.stand (E.state out.old)).turn }
     ensures { Emits E.after E.stopped (E.state out.old) (E.state out.new)
         (E.failed out.old) (E.failed out.new)
-        (tokens (list (list_trees (children_left children.entry)))) result }
+        (tree_given (list (list_trees (children_left children.entry)))) result }
 {
     out.begin_array(Some(count))?;
     for child in children {
@@ -62,13 +62,13 @@ fn emit_children<E: Events>(children: DocChildren<'_>, count: usize, out: &mut E
     out.end_array()
 }
 
-// Gives the tokens of an object; `count` tells how many members there are.
+// Gives the tokens of an object; `count` is how many members there are.
 #[cycle(document)]
 fn emit_pairs<E: Events>(members: DocPairs<'_>, count: usize, out: &mut E) -> Result<()>
     requires { E.failed out.old ≡ None → TakesValue (E.stand (E.state out.old)).turn }
     ensures { Emits E.after E.stopped (E.state out.old) (E.state out.new)
         (E.failed out.old) (E.failed out.new)
-        (tokens (pairs (list_pairs (pairs_left members.entry)))) result }
+        (tree_given (pairs (list_pairs (pairs_left members.entry)))) result }
 {
     out.begin_object(Some(count))?;
     for (key, value) in members {
@@ -81,7 +81,7 @@ fn emit_pairs<E: Events>(members: DocPairs<'_>, count: usize, out: &mut E) -> Re
 pub(crate) fn emit_no_values<E: Events>(out: &mut E) -> Result<()>
     requires { E.failed out.old ≡ None → TakesValue (E.stand (E.state out.old)).turn }
     ensures { Emits E.after E.stopped (E.state out.old) (E.state out.new)
-        (E.failed out.old) (E.failed out.new) (tokens (list no_trees)) result }
+        (E.failed out.old) (E.failed out.new) (tree_given (list no_trees)) result }
 {
     out.begin_array(Some(0))?;
     out.end_array()
@@ -90,7 +90,7 @@ pub(crate) fn emit_no_values<E: Events>(out: &mut E) -> Result<()>
 pub(crate) fn emit_no_pairs<E: Events>(out: &mut E) -> Result<()>
     requires { E.failed out.old ≡ None → TakesValue (E.stand (E.state out.old)).turn }
     ensures { Emits E.after E.stopped (E.state out.old) (E.state out.new)
-        (E.failed out.old) (E.failed out.new) (tokens (pairs no_pairs)) result }
+        (E.failed out.old) (E.failed out.new) (tree_given (pairs no_pairs)) result }
 {
     out.begin_object(Some(0))?;
     out.end_object()
@@ -101,7 +101,7 @@ pub(crate) fn emit_elements<E: Events>(view: DocView<'_>, out: &mut E) -> Result
     requires { E.failed out.old ≡ None → TakesValue (E.stand (E.state out.old)).turn }
     ensures { Emits E.after E.stopped (E.state out.old) (E.state out.new)
         (E.failed out.old) (E.failed out.new)
-        (tokens (list (list_trees (elements (view_tree view.entry))))) result }
+        (tree_given (list (list_trees (elements (view_tree view.entry))))) result }
 {
     match view.node() {
         DocNode::Array(children) => emit_children(children, view.len(), out),
@@ -114,7 +114,7 @@ pub(crate) fn emit_members<E: Events>(view: DocView<'_>, out: &mut E) -> Result<
     requires { E.failed out.old ≡ None → TakesValue (E.stand (E.state out.old)).turn }
     ensures { Emits E.after E.stopped (E.state out.old) (E.state out.new)
         (E.failed out.old) (E.failed out.new)
-        (tokens (pairs (list_pairs (members (view_tree view.entry))))) result }
+        (tree_given (pairs (list_pairs (members (view_tree view.entry))))) result }
 {
     match view.node() {
         DocNode::Object(members) => emit_pairs(members, view.len(), out),

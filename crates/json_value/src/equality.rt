@@ -1,18 +1,126 @@
 // Whether two values are the same.
-ghost use Rattle.std.specs.Prelude.{◌≡◌, None, take, option_map, is_some, bytes_eq};
+ghost use Rattle.std.specs.Prelude.{◌≡◌, None, take, option_map, is_some, bytes_eq, map, length, IfSome};
 ghost use Rattle.std.specs.List.{list_all, list_any};
 ghost use Rattle.std.specs.Option.{option_eq};
-ghost use Rattle.json_grammar.specs.Tree.{list, list_trees, pairs, list_pairs};
+ghost use Rattle.json_grammar.specs.Tree.{list, list_trees, pairs, list_pairs, boolean, num, text};
 ghost use Rattle.json_doc.specs.Readings.{type_of};
 ghost use Rattle.json_doc.specs.declared.json_type.JsonType.TheVariants as JsonType;
 ghost use Rattle.json_model.specs.Same.{same};
-ghost use Rattle.json_value.specs.Agreeing.{agree_at, keys_in};
+ghost use Rattle.json_value.specs.SameMembers.{agree_at, keys_in, tree_of_array, tree_of_object};
 ghost use Rattle.json_value.specs.Seen.{seen, elements_seen, members_seen, list_of, pairs_of, first_of};
+ghost use Rattle.std.specs.Cmp.{partial_equiv_from_equiv, on_equiv};
+ghost use Rattle.std.specs.Ordering.{on};
+ghost use Rattle.std.specs.Fmt.{decimal, signed_decimal};
+ghost use Rattle.json_model.proofs.Equality.{same_equivalent};
+ghost use Rattle.json_number.specs.Numbers.{text_of_number};
+ghost use Rattle.json_value.specs.Denotes.{tree_of};
 
-use crate::array_view::ArrayView;
+use crate::array::Array;
+use crate::array_view::{ArrayForm, ArrayView};
+use crate::container::Container;
+use crate::object::Object;
 use crate::object_view::ObjectView;
+use crate::pair::Keyed;
+use crate::value::Value;
 use crate::view::View;
 use json_doc::JsonType;
+use json_number::Number;
+
+/// Scalars are equal where their content is, numbers by their literals; arrays element by element; and objects of as many
+/// members where the first values of each key are, in any order of the keys. Takes no memory. Where the keys of two objects
+/// stand in another order each is searched for from the left, so the time grows with the square of the members.
+impl PartialEq for Value {
+    ghost eq = { on tree_of same };
+
+    ghost laws = { partial_equiv_from_equiv (on_equiv tree_of same_equivalent) };
+
+    fn eq(&self, other: &Value) -> bool {
+        are_same(self.view(), other.view())
+    }
+}
+
+impl Eq for Value {
+    ghost laws = { on_equiv tree_of same_equivalent };
+}
+
+/// As the arrays are equal as values.
+impl PartialEq for Container<Value> {
+    ghost eq = { on tree_of_array same };
+
+    ghost laws = { partial_equiv_from_equiv (on_equiv tree_of_array same_equivalent) };
+
+    fn eq(&self, other: &Array) -> bool {
+        are_arrays_same(self.view(), other.view())
+    }
+}
+
+impl Eq for Container<Value> {
+    ghost laws = { on_equiv tree_of_array same_equivalent };
+}
+
+/// As the objects are equal as values.
+impl PartialEq for Container<Keyed<Value>> {
+    ghost eq = { on tree_of_object same };
+
+    ghost laws = { partial_equiv_from_equiv (on_equiv tree_of_object same_equivalent) };
+
+    fn eq(&self, other: &Object) -> bool {
+        are_objects_same(self.view(), other.view())
+    }
+}
+
+impl Eq for Container<Keyed<Value>> {
+    ghost laws = { on_equiv tree_of_object same_equivalent };
+}
+
+impl Value {
+    /// Whether this is the boolean.
+    pub fn eq_bool(&self, b: bool) -> bool
+        ensures { result ≡ same (tree_of self.now) (boolean b) }
+    {
+        self.view().as_bool() == Some(b)
+    }
+
+    /// Whether this is the integer.
+    pub fn eq_i64(&self, n: i64) -> bool
+        ensures { result ≡ same (tree_of self.now) (num (signed_decimal n)) }
+    {
+        self.eq_number(Number::from(n))
+    }
+
+    /// Whether this is the integer.
+    pub fn eq_u64(&self, n: u64) -> bool
+        ensures { result ≡ same (tree_of self.now) (num (decimal n)) }
+    {
+        self.eq_number(Number::from(n))
+    }
+
+    fn eq_number(&self, number: Number) -> bool
+        ensures { result ≡ same (tree_of self.now) (num (text_of_number number)) }
+    {
+        self.view().as_number() == Some(number)
+    }
+
+    /// Whether this is the string of these characters.
+    pub fn eq_str(&self, s: &str) -> bool
+        ensures { result ≡ same (tree_of self.now) (text s.now) }
+    {
+        self.view().text() == Some(s)
+    }
+
+    /// Whether this is the array of the same elements.
+    pub fn eq_slice(&self, items: &[Value]) -> bool
+        ensures { result ≡ same (tree_of self.now) (list (list_trees (map tree_of items.now))) }
+    {
+        let elements = ArrayView {
+            form: ArrayForm::Whole(items),
+        };
+        match self.view().as_array() {
+            Some(array) => are_arrays_same(array, elements),
+            None => false,
+        }
+    }
+}
 
 // Whether the trees that are seen are the same.
 #[cycle(same)]
@@ -58,7 +166,8 @@ fn are_numbers_same(first: View<'_>, second: View<'_>) -> bool
 // Whether both are there and the same, or neither is there.
 #[cycle(same)]
 fn are_both_same(first: Option<View<'_>>, second: Option<View<'_>>) -> bool
-    ensures { result ≡ option_eq same (option_map seen first.entry) (option_map seen second.entry) }
+    ensures { result ≡ option_eq same (option_map seen first.entry)
+        (option_map seen second.entry) }
 {
     match first {
         Some(first) => match second {
@@ -71,14 +180,17 @@ fn are_both_same(first: Option<View<'_>>, second: Option<View<'_>>) -> bool
 
 #[cycle(same)]
 pub(crate) fn are_arrays_same(first: ArrayView<'_>, second: ArrayView<'_>) -> bool
-    ensures { result ≡ same (list (list_trees (elements_seen first.entry))) (list (list_trees (elements_seen second.entry))) }
+    ensures { result ≡ same (list (list_trees (elements_seen first.entry)))
+        (list (list_trees (elements_seen second.entry))) }
 {
     let len = first.len();
     if len != second.len() {
         return false;
     }
-    'elements: for i in 0..len {
-        if !are_both_same(first.get(i), second.get(i)) {
+    let mut elements = first.iter();
+    let mut others = second.iter();
+    'elements: for step in 0..len {
+        if !are_both_same(elements.next(), others.next()) {
             return false;
         }
     }
@@ -87,21 +199,57 @@ pub(crate) fn are_arrays_same(first: ArrayView<'_>, second: ArrayView<'_>) -> bo
 
 #[cycle(same)]
 pub(crate) fn are_objects_same(first: ObjectView<'_>, second: ObjectView<'_>) -> bool
-    ensures { result ≡ same (pairs (list_pairs (members_seen first.entry))) (pairs (list_pairs (members_seen second.entry))) }
+    ensures { result ≡ same (pairs (list_pairs (members_seen first.entry)))
+        (pairs (list_pairs (members_seen second.entry))) }
 {
     if first.len() != second.len() {
         return false;
     }
-    are_firsts_same(first, second) && has_keys(first, second)
+    match are_members_same(first, second) {
+        Some(answer) => answer,
+        None => are_firsts_same(first, second) && has_keys(first, second),
+    }
+}
+
+// Whether two objects of as many members are the same, where that shows member by member: nothing is told
+// where their keys differ at some place, or where values do behind a key that stood before.
+#[cycle(same)]
+fn are_members_same(first: ObjectView<'_>, second: ObjectView<'_>) -> Option<bool>
+    requires { length (members_seen first) ≡ length (members_seen second) }
+    ensures { let ps = members_seen first.entry in let qs = members_seen second.entry in
+        IfSome result (λ b. b ≡ same (pairs (list_pairs ps)) (pairs (list_pairs qs))) }
+{
+    let mut members = first.iter();
+    let mut others = second.iter();
+    'members: for i in 0..first.len() {
+        let Some((key, value)) = members.next() else {
+            return None;
+        };
+        let Some((other_key, other_value)) = others.next() else {
+            return None;
+        };
+        if key != other_key {
+            return None;
+        }
+        if !are_same(value, other_value) {
+            if has_before(first, i, key) {
+                return None;
+            }
+            return Some(false);
+        }
+    }
+    Some(true)
 }
 
 // Whether the first value of each key of the first is that of the second.
 #[cycle(same)]
 fn are_firsts_same(first: ObjectView<'_>, second: ObjectView<'_>) -> bool
-    ensures { result ≡ list_all (agree_at (members_seen first.entry) (members_seen second.entry)) (keys_in (members_seen first.entry)) }
+    ensures { result ≡ list_all (agree_at (members_seen first.entry) (members_seen second.entry))
+        (keys_in (members_seen first.entry)) }
 {
+    let mut members = first.iter();
     'members: for i in 0..first.len() {
-        if let Some((key, value)) = first.pair(i) {
+        if let Some((key, value)) = members.next() {
             if !has_before(first, i, key) && !are_both_same(Some(value), second.get(key)) {
                 return false;
             }
@@ -112,10 +260,12 @@ fn are_firsts_same(first: ObjectView<'_>, second: ObjectView<'_>) -> bool
 
 // Whether a member before the member `end` has the key.
 fn has_before(object: ObjectView<'_>, end: usize, key: &str) -> bool
-    ensures { result ≡ list_any (λ k. bytes_eq k key.now) (take end (keys_in (members_seen object.entry))) }
+    ensures { result ≡ list_any (λ k. bytes_eq k key.now)
+        (take end (keys_in (members_seen object.entry))) }
 {
-    for i in 0..end {
-        if let Some((found, _)) = object.pair(i) {
+    let mut members = object.iter();
+    for step in 0..end {
+        if let Some((found, _)) = members.next() {
             if found == key {
                 return true;
             }
@@ -126,10 +276,12 @@ fn has_before(object: ObjectView<'_>, end: usize, key: &str) -> bool
 
 // Whether the first has each key of the second.
 fn has_keys(first: ObjectView<'_>, second: ObjectView<'_>) -> bool
-    ensures { result ≡ list_all (λ k. is_some (first_of k (members_seen first.entry))) (keys_in (members_seen second.entry)) }
+    ensures { result ≡ list_all (λ k. is_some (first_of k (members_seen first.entry)))
+        (keys_in (members_seen second.entry)) }
 {
-    for i in 0..second.len() {
-        if let Some((key, _)) = second.pair(i) {
+    let mut members = second.iter();
+    for step in 0..second.len() {
+        if let Some((key, _)) = members.next() {
             if first.get(key).is_none() {
                 return false;
             }

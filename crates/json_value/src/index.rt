@@ -1,17 +1,16 @@
 // Steps into values, as calls take them.
-ghost use Rattle.std.specs.Prelude.{◌≡◌, [], ◌∷◌, Ok, IfOk, IfErr, option_map};
+ghost use Rattle.std.specs.Prelude.{◌≡◌, [], ◌∷◌, Ok, IfOk, option_map};
 ghost use Rattle.std.specs.Borrow.{LendsSoOk, sem};
-ghost use Rattle.json_grammar.specs.Tree.{Tree};
 ghost use Rattle.json_model.specs.Edit.{Step, key_step, index_step};
 ghost use Rattle.json_value.specs.Denotes.{tree_of};
-ghost use Rattle.json_value.specs.Edits.{step_of, RefusesChange};
-ghost use Rattle.json_value.specs.Lending.{put_or_insert, PutsNothing};
+ghost use Rattle.json_value.specs.Edits.{step_of};
+ghost use Rattle.json_value.specs.Lending.{put_or_insert, PutsNothing, FailsToInsert};
 ghost use Rattle.json_value.specs.Rows.{value_row};
 ghost use Rattle.json_value.specs.Steps.{key_in, index_in, child, tree_or_null};
-ghost use Rattle.json_value.specs.Touched.{ExchangesOrSeats};
+ghost use Rattle.json_value.specs.Touched.{ExchangesOrUpserts};
 
+use crate::container_mut::place_or_insert;
 use crate::path::PointerNode;
-use crate::placing::place_or_insert;
 use crate::value::Value;
 use json_text::Result;
 use std::alloc::Global;
@@ -39,17 +38,18 @@ pub trait Index: Drop {
     fn as_index(&self) -> Option<usize>
         ensures index { result ≡ index_in (step self.now) };
 
-    /// The place to which the step leads. A key that an object lacks is appended with null, and null counts as an empty
-    /// object. What is written there changes that place and no other; a packed container is copied by one level. `NotFound`
-    /// for an index that an array lacks; `TypeUnmatched` for an index on no array, or a key on neither an object nor null;
-    /// `NoMemory`. A refusal keeps the tree, and copies no more than that level.
+    /// The place to which the step leads. A key that is missing is appended with null, and null counts as an empty object.
+    /// What is written there changes that place and no other; a packed container is copied by one level. Fails with `NotFound`
+    /// if the array has no such index, with `TypeUnmatched` for an index of what is no array or a key of what is neither an
+    /// object nor null, and with `NoMemory` if memory runs out. A refusal keeps the tree, and copies no more than that level.
     final fn index_or_insert<'v>(&self, alloc: Global, v: &'v mut Value) -> Result<&'v mut Value>
         ensures* writes_back { sem 𝓛 (LendsSoOk value_row value_row v.entry result
             (λ n w. (put_or_insert (step self.now) (tree_of w) (tree_of v.old) ≡ Ok (tree_of n))
-            × IfOk result (λ x. ExchangesOrSeats (step self.now) x.now w v.old n))
+            × IfOk result (λ x. ExchangesOrUpserts (step self.now) x.now w v.old n))
             (PutsNothing (step self.now ∷ []) v.old)) }
-        ensures value { IfOk result (λ x. tree_of x.now ≡ tree_or_null (child (step self.now) (tree_of v.old))) }
-        ensures refused { IfErr result (λ e. (u : Tree) → RefusesChange (put_or_insert (step self.now) u (tree_of v.old)) e.code e.place) }
+        ensures value { IfOk result (λ x. tree_of x.now
+            ≡ tree_or_null (child (step self.now) (tree_of v.old))) }
+        ensures refused { FailsToInsert (step self.now) (tree_of v.old) result }
     {
         place_or_insert(v, alloc, self)
     }

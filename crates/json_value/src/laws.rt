@@ -4,7 +4,7 @@ ghost use Rattle.json_value.specs.Denotes.{tree_of};
 ghost use Rattle.json_value.specs.Laws.{FirstElementsAreRead, FirstMembersAreRead, FirstElementsStay, FirstMembersStay};
 ghost use Rattle.json_value.specs.Laws.{PackedArrayStands, PackedObjectStands, ArrayStandsAsPlace, ObjectStandsAsPlace};
 ghost use Rattle.json_value.specs.Laws.{OwnArrayIsNoPlace, OwnObjectIsNoPlace, PlacesOfElements, PlacesOfMembers};
-ghost use Rattle.json_value.specs.Laws.{ChangeIsThere, ChangeRefusedThere, NoChangeNowhere};
+ghost use Rattle.json_value.specs.Laws.{ChangeIsThere, ChangeRefusedThere, NoChangeNowhere, StepsLeadToParts};
 
 use crate::value::Value;
 
@@ -42,9 +42,10 @@ pub fn own_lists_are_no_places()
 {}
 
 /// A change where steps lead is one of the tree to which they lead: it is there afterwards, and is refused where that tree
-/// refuses it or where the steps lead nowhere.
+/// refuses it or where the steps lead nowhere. Steps lead where the definition of edits says that a path leads.
 pub fn changes_are_where_steps_lead()
     ensures there { ChangeIsThere }
     ensures refused { ChangeRefusedThere }
     ensures nowhere { NoChangeNowhere }
+    ensures parts { StepsLeadToParts }
 {}

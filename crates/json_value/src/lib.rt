@@ -1,5 +1,5 @@
-//! Values of JSON (RFC 8259, section 3) that can be edited: scalars, owned texts and containers, and places of shared packed documents.
-//! The first write to a packed container copies one level of it.
+//! Values of JSON (RFC 8259, section 3) that can be edited: scalars, owned texts and containers, and places of shared
+//! packed documents. The first write to a packed container copies one level of it.
 //!
 //! ```
 //! use json_doc::read_document;
@@ -14,56 +14,38 @@
 //! ```
 #![tactic(auto)]
 
-mod applying;
 mod array;
-mod array_iter;
 mod array_view;
-mod child;
-mod comparing;
 mod container;
-mod conversion;
-mod copying;
-mod defaults;
+mod container_mut;
 mod display;
 mod emit;
 mod emit_packed;
 mod equality;
 mod index;
-mod iter;
 pub mod laws;
-mod lending;
 mod literal;
-mod lookup;
-mod making;
 mod object;
 mod object_view;
-mod opening;
-mod owning;
 mod packed_view;
 mod pair;
 mod path;
 mod place;
 mod places;
-mod placing;
-mod slot;
-mod standing;
 mod text;
 mod value;
-mod value_ref;
 mod view;
-mod view_place;
 
-pub use array_iter::ArrayIter;
-pub use array_view::ArrayView;
+pub use array::Array;
+pub use array_view::{ArrayIter, ArrayView};
 pub use container::Container;
 pub use index::Index;
-pub use iter::Iter;
 pub use literal::Literal;
-pub use object_view::ObjectView;
-pub use pair::Keyed;
+pub use object::Object;
+pub use object_view::{Iter, ObjectView};
+pub use pair::{Keyed, Pair, find_key};
 pub use path::{Edit, Path, PointerNode};
 pub use places::{Places, put, update};
 pub use text::Text;
-pub use value::{Array, Object, Pair, Value};
-pub use value_ref::ValueRef;
+pub use value::{Value, ValueRef};
 pub use view::View;

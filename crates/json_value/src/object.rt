@@ -1,44 +1,92 @@
 // Objects.
-ghost use Rattle.std.specs.Prelude.{◌≡◌, ◌≤◌, ◌↔◌, [], map, IfOk, IfErr, OnOk, OnErr, IfSome, IsNone, IsOk};
+ghost use Rattle.std.specs.Prelude.{◌≡◌, ◌≤◌, ◌↔◌, [], map, IfOk, OnOk, OnErr, IfSome, IsNone, IsOk};
 ghost use Rattle.std.specs.Borrow.{Lends, LendsIfOk, sem};
 ghost use Rattle.json_grammar.specs.Tree.{pairs, list_pairs};
-ghost use Rattle.json_text.specs.Errors.{no_memory};
+ghost use Rattle.json_doc.specs.Left.{pairs_doc, pairs_places, pairs_left};
 ghost use Rattle.json_value.specs.Denotes.{tree_of, pair_of, pairs_in};
 ghost use Rattle.json_value.specs.Said.{place_tree};
 ghost use Rattle.json_value.specs.Readings.{members};
 ghost use Rattle.json_value.specs.Rows.{object_row, pair_row, vec_row, owned, owned_items, owned_items_of, IsOwned, OwnsList};
 ghost use Rattle.json_value.specs.Room.{spare_in};
-ghost use Rattle.json_value.specs.Spots.{IsPlace, FirstPairs, PlaceMembers};
+ghost use Rattle.json_value.specs.Spots.{IsPlace, FirstPairs, PlaceMembers, member_spots, read_member_spots};
 ghost use Rattle.json_value.specs.Written.{FirstMembers};
 ghost use Rattle.json_value.specs.declared.value.Value.{Object as ObjectValue};
+ghost use Rattle.json_value.specs.Places.{member_places, object_places};
+ghost use Rattle.json_value.specs.Seen.{members_seen};
+ghost use Rattle.json_value.specs.SightParts.{object_sights, members_sights};
+ghost use Rattle.json_value.specs.Failures.{OnlyNoMemory};
 
 use crate::container::{Container, Form};
-use crate::pair::Keyed;
+use crate::object_view::{ObjectForm, ObjectView};
+use crate::packed_view::PackedView;
+use crate::pair::{Keyed, Pair};
 use crate::place::Place;
-use crate::text::{Text, TextForm};
-use crate::value::{Object, Pair, Value};
+use crate::text::Text;
+use crate::value::Value;
+use json_doc::{Doc, DocNode, DocPairs};
 use json_text::Result;
 use std::alloc::Global;
+use std::rc::Rc;
+
+/// An object (RFC 8259, section 4). Keys keep their order and may repeat.
+///
+/// ```
+/// use json_value::{Object, Pair, Text, Value};
+/// let mut object = Object::new();
+/// let members = object.pairs_mut(alloc)?;
+/// members.push(Pair::new(Text::from_static("b"), Value::new_bool(true)))?;
+/// members.push(Pair::new(Text::from_static("a"), Value::new_array()))?;
+/// members.push(Pair::new(Text::from_static("b"), Value::new_null()))?;
+/// assert_eq!(rt; object.to_string(alloc)?.as_str(), "{\"b\":true,\"a\":[],\"b\":null}");
+/// ```
+pub type Object = Container<Pair>;
 
 // The members of a packed object, each with a key and a value of its own.
 fn unpack_pairs(alloc: Global, place: &Place) -> Result<Vec<Pair>>
     ensures pairs { IfOk result (λ v. map pair_of v.items ≡ members (place_tree place.now)) }
     ensures children { IfOk result (λ v. PlaceMembers place.now v.items) }
-    ensures only { IfErr result (λ e. e ≡ no_memory) }
+    ensures only { OnlyNoMemory result }
 {
-    let packed = place.view();
-    let len = packed.len();
-    let mut list = Vec::with_capacity(alloc, len)?;
-    for i in 0..len {
-        if let Some(key) = packed.key_view(i) {
-            if let Some(value) = packed.pair_value(i) {
-                let key = Text::at(&place.doc, key.place())?;
-                let value = Value::from_place(alloc, &place.doc, value.place())?;
-                list.push(Keyed { key, value })?;
-            }
-        }
+    match place.view().node() {
+        DocNode::Object(members) => unpack_members(alloc, &place.doc, members),
+        _ => Ok(Vec::new(alloc)),
+    }
+}
+
+// Members of the document, each with a key and a value of its own.
+fn unpack_members(alloc: Global, doc: &Rc<Doc>, mut members: DocPairs<'_>) -> Result<Vec<Pair>>
+    requires { pairs_doc members ≡ doc.now.value }
+    ensures pairs { IfOk result (λ v. map pair_of v.items ≡ pairs_left members.entry) }
+    ensures spots { IfOk result (λ v. map member_spots v.items
+        ≡ map (read_member_spots doc.now.value) (pairs_places members.entry)) }
+    ensures only { OnlyNoMemory result }
+{
+    let mut list = Vec::with_capacity(alloc, members.len())?;
+    while let Some(key) = members.key() {
+        let Some((_, value)) = members.next() else {
+            break;
+        };
+        let key = Text::at(doc, key.place())?;
+        let value = Value::from_place(alloc, doc, value.place())?;
+        list.push(Keyed { key, value })?;
     }
     Ok(list)
+}
+
+#[cycle(copy)]
+pub(crate) fn copy_pairs(alloc: Global, list: &Vec<Pair>) -> Result<Vec<Pair>>
+    ensures pairs { IfOk result (λ v. map pair_of v.items ≡ map pair_of list.now.items) }
+    ensures places { IfOk result (λ v. map member_places v.items
+        ≡ map member_places list.now.items) }
+    ensures only { OnlyNoMemory result }
+{
+    let mut copies = Vec::with_capacity(alloc, list.len())?;
+    for pair in list {
+        let key = pair.key.clone(alloc)?;
+        let value = pair.value.clone(alloc)?;
+        copies.push(Keyed { key, value })?;
+    }
+    Ok(copies)
 }
 
 impl Container<Keyed<Value>> {
@@ -99,7 +147,7 @@ impl Container<Keyed<Value>> {
         ensures err { OnErr result (self.new ≡ self.old) }
         ensures as_it_was { OwnsList self.old → self.new ≡ self.old }
         ensures room { OnOk result (spare_in self.old ≤ spare_in self.new) }
-        ensures only { IfErr result (λ e. e ≡ no_memory) }
+        ensures only { OnlyNoMemory result }
         ensures free { (IsPlace self.old → ⊥) → IsOk result }
     {
         match &self.form {
@@ -114,26 +162,77 @@ impl Container<Keyed<Value>> {
     }
 
     /// The members, to be changed. On a place of a document this is the first write: each key becomes a place of the same
-    /// document, each value a value of its own or a place of the same document, and nothing deeper is copied; `NoMemory`
-    /// comes there alone. What is written through the list is what the object becomes.
+    /// document, each value a value of its own or a place of the same document, and nothing deeper is copied. What
+    /// is written through the list is what the object becomes. Fails with `NoMemory` if memory runs out, which it can for a
+    /// place of a document alone.
     pub fn pairs_mut(&mut self, alloc: Global) -> Result<&mut Vec<Pair>>
-        ensures* writes_back { sem 𝓛 (LendsIfOk object_row (vec_row pair_row) self.entry result owned self.old) }
+        ensures* writes_back { sem 𝓛 (LendsIfOk object_row (vec_row pair_row) self.entry result
+            owned self.old) }
         ensures pairs { IfOk result (λ v. map pair_of v.now.items ≡ pairs_in self.old) }
         ensures children { IfOk result (λ v. FirstMembers self.old v.now.items) }
         ensures as_it_was { IfOk result (λ v. OwnsList self.old → owned v.now ≡ self.old) }
         ensures room { IfOk result (λ v. spare_in self.old ≤ spare_in (owned v.now)) }
-        ensures only { IfErr result (λ e. e ≡ no_memory) }
+        ensures only { OnlyNoMemory result }
         ensures free { (IsPlace self.old → ⊥) → IsOk result }
     {
         self.make_owned(alloc)?;
         Ok(self.form.owned())
     }
-    /// The owned list, to be changed; it has to be there. Takes no memory.
+
+    /// The owned list, to be changed; the object must have one. Takes no memory.
     pub fn owned_mut(&mut self) -> &mut Vec<Pair>
         requires { OwnsList self.old }
-        ensures* writes_back { sem 𝓛 (Lends object_row (vec_row pair_row) self.entry result owned) }
+        ensures* writes_back { sem 𝓛 (Lends object_row (vec_row pair_row) self.entry result
+            owned) }
         ensures value { self.old ≡ owned result.now }
     {
         self.form.owned()
+    }
+
+    /// The whole object.
+    #[inline]
+    pub fn view(&self) -> ObjectView<'_>
+        ensures trees { members_seen result ≡ pairs_in self.now }
+        ensures sights { members_sights result ≡ object_sights self.now }
+    {
+        let form = match &self.form {
+            Form::Empty => ObjectForm::Whole(&[]),
+            Form::Owned(pairs) => ObjectForm::Whole(pairs.as_slice()),
+            Form::Packed(place) => ObjectForm::Packed(PackedView::of_place(place)),
+        };
+        ObjectView { form }
+    }
+
+    /// An object of the same members, which no later write to this one reaches; places stay places of the same document.
+    /// Fails with `NoMemory` if memory runs out.
+    pub fn clone(&self, alloc: Global) -> Result<Object>
+        ensures pairs { IfOk result (λ o. pairs_in o ≡ pairs_in self.now) }
+        ensures places { IfOk result (λ o. object_places o ≡ object_places self.now) }
+        ensures only { OnlyNoMemory result }
+    {
+        match &self.form {
+            Form::Empty => Ok(Container { form: Form::Empty }),
+            Form::Owned(list) => {
+                let list = copy_pairs(alloc, list)?;
+                Ok(Container {
+                    form: Form::Owned(list),
+                })
+            }
+            Form::Packed(place) => {
+                let place = place.copy()?;
+                Ok(Container {
+                    form: Form::Packed(place),
+                })
+            }
+        }
+    }
+}
+
+impl Default for Container<Keyed<Value>> {
+    ghost is_default = { λ o. pairs_in o ≡ [] };
+
+    /// The object without members. Takes no memory.
+    fn default() -> Object {
+        Object::new()
     }
 }

@@ -1,19 +1,19 @@
-// Views of objects.
-ghost use Rattle.std.specs.Prelude.{◌≡◌, ◌↔◌, [], length, map, option_map, slice_get, IsTrue};
+// Views of objects, and their members in order.
+ghost use Rattle.std.specs.Prelude.{◌≡◌, ◌↔◌, [], length, map, option_map, slice_get, IsTrue, ◌≤◌};
+ghost use Rattle.std.proofs.Props.{props};
+ghost use Rattle.json_doc.specs.Left.{pairs_doc, pairs_left};
 ghost use Rattle.json_doc.specs.Seen.{view_doc, view_place, view_tree};
-ghost use Rattle.json_value.specs.Denotes.{tree_of, pair_of, pairs_in};
+ghost use Rattle.json_value.specs.Denotes.{tree_of, pair_of};
 ghost use Rattle.json_value.specs.Readings.{members};
-ghost use Rattle.json_value.specs.Seen.{seen, members_seen, pairs_of, first_of};
-ghost use Rattle.json_value.specs.SightParts.{members_at, member_sight, object_sights};
-ghost use Rattle.json_value.specs.SightParts.{pair_sight, members_of, members_sights};
+ghost use Rattle.json_value.specs.Seen.{seen, members_seen, pairs_of, first_of, member_seen};
+ghost use Rattle.json_value.specs.SightParts.{members_at, member_sight, pair_sight, members_of, members_sights};
 ghost use Rattle.json_value.specs.Sights.{whole_value, place_of, doc_held, sight_of};
 
-use crate::container::{Container, Form};
 use crate::packed_view::PackedView;
-use crate::pair::Keyed;
-use crate::value::{Pair, Value};
+use crate::pair::Pair;
+use crate::value::Value;
 use crate::view::{View, ViewForm};
-use json_doc::{DocView, JsonType};
+use json_doc::{DocNode, DocPairs, DocView, JsonType};
 
 #[derive(Clone, Copy)]
 pub(crate) enum ObjectForm<'a> {
@@ -36,23 +36,9 @@ pub struct ObjectView<'a> {
     pub(crate) form: ObjectForm<'a>,
 }
 
-impl Container<Keyed<Value>> {
-    /// The whole object.
-    #[inline]
-    pub fn view(&self) -> ObjectView<'_>
-        ensures trees { members_seen result ≡ pairs_in self.now }
-        ensures sights { members_sights result ≡ object_sights self.now }
-    {
-        let form = match &self.form {
-            Form::Empty => ObjectForm::Whole(&[]),
-            Form::Owned(pairs) => ObjectForm::Whole(pairs.as_slice()),
-            Form::Packed(place) => ObjectForm::Packed(PackedView::of_place(place)),
-        };
-        ObjectView { form }
-    }
-}
-
 impl<'a> ObjectView<'a> {
+    ghost use Rattle.json_value.specs.Left.{members_left, members_sights_left};
+
     pub(crate) fn of_packed(packed: PackedView<'a>) -> Option<ObjectView<'a>>
         ensures trees { option_map members_seen result ≡ pairs_of (view_tree packed.entry.view) }
         ensures sights { let p = packed.entry in option_map members_sights result
@@ -98,7 +84,7 @@ impl<'a> ObjectView<'a> {
     /// The key and the value of the member `i`, counted from 0; none past the last.
     #[inline]
     pub fn pair(self, i: usize) -> Option<(&'a str, View<'a>)>
-        ensures tree { option_map (λ p. (p.0.now, seen p.1)) result ≡ slice_get (members_seen self.entry) i }
+        ensures tree { option_map member_seen result ≡ slice_get (members_seen self.entry) i }
         ensures sight { option_map member_sight result ≡ slice_get (members_sights self.entry) i }
     {
         match self.form {
@@ -109,19 +95,23 @@ impl<'a> ObjectView<'a> {
 
     /// The key and the value of the first member of the key; none where there is none.
     pub fn get_key_value(self, key: &str) -> Option<(&'a str, View<'a>)>
-        ensures tree { option_map (λ p. (p.0.now, seen p.1)) result ≡ first_of key.now (members_seen self.entry) }
+        ensures tree { option_map member_seen result
+            ≡ first_of key.now (members_seen self.entry) }
         ensures sight { option_map member_sight result
             ≡ first_of key.now (members_sights self.entry) }
     {
-        match self.form {
-            ObjectForm::Packed(packed) => packed_first(packed, key),
-            ObjectForm::Whole(pairs) => whole_first(pairs, key),
+        for (found, value) in self.iter() {
+            if found == key {
+                return Some((found, value));
+            }
         }
+        None
     }
 
     /// The value of the first member of the key; none where there is none.
     pub fn get(self, key: &str) -> Option<View<'a>>
-        ensures tree { option_map seen result ≡ option_map (λ p. p.1) (first_of key.now (members_seen self.entry)) }
+        ensures tree { option_map seen result ≡ option_map (λ p. p.1)
+            (first_of key.now (members_seen self.entry)) }
         ensures sight { option_map sight_of result
             ≡ option_map (λ p. p.1) (first_of key.now (members_sights self.entry)) }
     {
@@ -129,6 +119,19 @@ impl<'a> ObjectView<'a> {
             Some((_, value)) => Some(value),
             None => None,
         }
+    }
+
+    /// The members, each its key and its value, in order.
+    #[inline]
+    pub fn iter(self) -> Iter<'a>
+        ensures trees { members_left result ≡ members_seen self.entry }
+        ensures sights { members_sights_left result ≡ members_sights self.entry }
+    {
+        let left = match self.form {
+            ObjectForm::Packed(packed) => MembersLeft::of_packed(packed),
+            ObjectForm::Whole(pairs) => MembersLeft::Whole(pairs),
+        };
+        Iter { left }
     }
 }
 
@@ -142,7 +145,8 @@ fn packed_len(view: DocView<'_>) -> usize
 }
 
 fn packed_pair(packed: PackedView<'_>, i: usize) -> Option<(&str, View<'_>)>
-    ensures tree { option_map (λ p. (p.0.now, seen p.1)) result ≡ slice_get (members (view_tree packed.entry.view)) i }
+    ensures tree { option_map member_seen result
+        ≡ slice_get (members (view_tree packed.entry.view)) i }
     ensures sight { let p = packed.entry in let ps = members (view_tree p.view) in
         option_map member_sight result
         ≡ slice_get (members_at (view_doc p.view) (doc_held p.holder) (view_place p.view) ps) i }
@@ -160,7 +164,7 @@ fn packed_pair(packed: PackedView<'_>, i: usize) -> Option<(&str, View<'_>)>
 }
 
 fn whole_pair(pairs: &[Pair], i: usize) -> Option<(&str, View<'_>)>
-    ensures tree { option_map (λ p. (p.0.now, seen p.1)) result ≡ slice_get (map pair_of pairs.now) i }
+    ensures tree { option_map member_seen result ≡ slice_get (map pair_of pairs.now) i }
     ensures sight { option_map member_sight result ≡ slice_get (map pair_sight pairs.now) i }
 {
     if i < pairs.len() {
@@ -170,31 +174,109 @@ fn whole_pair(pairs: &[Pair], i: usize) -> Option<(&str, View<'_>)>
     }
 }
 
-fn packed_first<'a>(packed: PackedView<'a>, key: &str) -> Option<(&'a str, View<'a>)>
-    ensures tree { option_map (λ p. (p.0.now, seen p.1)) result ≡ first_of key.now (members (view_tree packed.entry.view)) }
-    ensures sight { let p = packed.entry in let ps = members (view_tree p.view) in
-        option_map member_sight result
-        ≡ first_of key.now
-        (members_at (view_doc p.view) (doc_held p.holder) (view_place p.view) ps) }
-{
-    for i in 0..packed.view.len() {
-        if let Some(found) = packed.view.key(i) {
-            if found == key {
-                return packed_pair(packed, i);
-            }
-        }
-    }
-    None
+/// The members of an object that are still to come, in order.
+///
+/// ```
+/// use json_doc::read_document;
+/// use json_value::View;
+/// let doc = read_document(alloc, "{\"b\": true, \"a\": null}")?;
+/// let mut members = View::packed(doc.view()).as_object().ok_or("no object")?.iter();
+/// let (key, value) = members.next().ok_or("no member")?;
+/// assert_eq!(rt; (key, value.as_bool()), ("b", Some(true)));
+/// assert_eq!(rt; members.len(), 1);
+/// ```
+#[derive(Drop)]
+pub struct Iter<'a> {
+    left: MembersLeft<'a>,
 }
 
-fn whole_first<'a>(pairs: &'a [Pair], key: &str) -> Option<(&'a str, View<'a>)>
-    ensures tree { option_map (λ p. (p.0.now, seen p.1)) result ≡ first_of key.now (map pair_of pairs.now) }
-    ensures sight { option_map member_sight result ≡ first_of key.now (map pair_sight pairs.now) }
-{
-    for pair in pairs {
-        if pair.key.as_str() == key {
-            return Some((pair.key.as_str(), pair.value.view()));
+#[derive(Drop)]
+pub(crate) enum MembersLeft<'a> {
+    Packed(PackedMembers<'a>),
+    Whole(&'a [Pair]),
+}
+
+// The members of a packed object that are still to come.
+#[derive(Drop)]
+pub(crate) struct PackedMembers<'a> {
+    packed: PackedView<'a>,
+    members: DocPairs<'a>,
+    ghost same: { pairs_doc members ≡ view_doc packed.view } by { Prim.hlevel props },
+}
+
+impl<'a> PackedMembers<'a> {
+    ghost use Rattle.std.specs.Iterator.{YieldsFirstBy};
+    ghost use Rattle.json_value.specs.Left.{packed_member_sights};
+
+    #[inline]
+    fn next(&mut self) -> Option<(&'a str, View<'a>)>
+        ensures tree { YieldsFirstBy member_seen (λ p. pairs_left p.members) self.old result self.new }
+        ensures sight { YieldsFirstBy member_sight packed_member_sights self.old result self.new }
+    {
+        match self.members.next() {
+            Some((key, value)) => {
+                let form = ViewForm::Packed(self.packed.beside(value));
+                Some((key, View { form }))
+            }
+            None => None,
         }
     }
-    None
+}
+
+impl<'a> MembersLeft<'a> {
+    ghost use Rattle.json_value.specs.Left.{pairs_to_come, member_sights_to_come};
+
+    // The members of a place of a document; none where that is no object.
+    #[inline]
+    fn of_packed(packed: PackedView<'a>) -> MembersLeft<'a>
+        ensures trees { pairs_to_come result ≡ members (view_tree packed.entry.view) }
+        ensures sights { let p = packed.entry in let ps = members (view_tree p.view) in
+            member_sights_to_come result
+            ≡ members_at (view_doc p.view) (doc_held p.holder) (view_place p.view) ps }
+    {
+        match packed.view.node() {
+            DocNode::Object(members) => MembersLeft::Packed(PackedMembers { packed, members }),
+            _ => MembersLeft::Whole(&[]),
+        }
+    }
+}
+
+impl<'a> Iter<'a> {
+    ghost use Rattle.json_value.specs.Left.{members_left};
+
+    /// How many members are still to come.
+    #[inline]
+    pub fn len(&self) -> usize
+        ensures { result ≡ length (members_left self.now) }
+    {
+        match &self.left {
+            MembersLeft::Packed(packed) => packed.members.len(),
+            MembersLeft::Whole(pairs) => pairs.len(),
+        }
+    }
+}
+
+impl<'a> Iterator for Iter<'a> {
+    ghost use Rattle.std.specs.Iterator.{item_count};
+    ghost use Rattle.json_value.specs.Left.{members_left, GivesMember};
+
+    type Item = (&'a str, View<'a>);
+
+    ghost next_gives = { GivesMember };
+
+    ghost remaining = { item_count members_left };
+
+    #[inline]
+    fn next(&mut self) -> Option<(&'a str, View<'a>)> {
+        match &mut self.left {
+            MembersLeft::Packed(packed) => packed.next(),
+            MembersLeft::Whole(pairs) => match pairs.split_first() {
+                Some((pair, rest)) => {
+                    *pairs = rest;
+                    Some((pair.key.as_str(), pair.value.view()))
+                }
+                None => None,
+            },
+        }
+    }
 }

@@ -1,11 +1,22 @@
 // A place of a document that is seen, and the counted reference to the document where a value holds one.
-ghost use Rattle.std.specs.Prelude.{◌≡◌, None, Some, IfSome};
+ghost use Rattle.std.specs.Prelude.{◌≡◌, None, Some, IfSome, map, IfOk};
 ghost use Rattle.std.proofs.Props.{props};
 ghost use Rattle.json_doc.specs.Docs.{doc_tree};
 ghost use Rattle.json_doc.specs.Seen.{view_doc, view_place, view_tree};
+ghost use Rattle.json_doc.specs.Left.{children_left, pairs_left};
+ghost use Rattle.json_value.specs.Denotes.{tree_of, pair_of};
+ghost use Rattle.json_value.specs.Spots.{spot_of};
+ghost use Rattle.json_value.specs.Failures.{OnlyNoMemory};
 
+use crate::container::{Container, Form};
+use crate::literal::Literal;
+use crate::pair::{Keyed, Pair};
 use crate::place::Place;
-use json_doc::{Doc, DocView};
+use crate::text::Text;
+use crate::value::Value;
+use json_doc::{Doc, DocChildren, DocNode, DocPairs, DocView};
+use json_text::Result;
+use std::alloc::Global;
 use std::rc::Rc;
 
 #[derive(Clone, Copy)]
@@ -17,6 +28,7 @@ pub(crate) struct PackedView<'a> {
 
 impl<'a> PackedView<'a> {
     ghost use Rattle.json_value.specs.Sights.{doc_held};
+    ghost use Rattle.json_value.specs.ViewSpots.{held_spot};
 
     // A place of a document alone.
     #[inline]
@@ -53,4 +65,79 @@ impl<'a> PackedView<'a> {
             holder: self.holder,
         }
     }
+
+    // A value of the tree that is seen: of the same document, if a value holds it, else a copy.
+    pub(crate) fn to_value(self, alloc: Global) -> Result<Value>
+        ensures tree { IfOk result (λ v. tree_of v ≡ view_tree self.entry.view) }
+        ensures spot { IfOk result (λ v. spot_of v
+            ≡ held_spot self.entry.holder (view_place self.entry.view)) }
+        ensures only { OnlyNoMemory result }
+    {
+        match self.holder {
+            Some(doc) => Value::from_place(alloc, doc, self.view.place()),
+            None => copy_document(alloc, self.view),
+        }
+    }
+}
+
+#[cycle(copied)]
+fn copy_document(alloc: Global, view: DocView<'_>) -> Result<Value>
+    ensures tree { IfOk result (λ v. tree_of v ≡ view_tree view.entry) }
+    ensures spot { IfOk result (λ v. spot_of v ≡ None) }
+    ensures only { OnlyNoMemory result }
+{
+    match view.node() {
+        DocNode::Null => Ok(Value::Null),
+        DocNode::Boolean(boolean) => Ok(Value::Bool(boolean)),
+        DocNode::Number(number) => Ok(Value::Number(number)),
+        DocNode::Raw(literal) => {
+            let literal = Literal::copy(alloc, literal)?;
+            Ok(Value::Raw(literal))
+        }
+        DocNode::String(text) => {
+            let text = Text::copy(alloc, text)?;
+            Ok(Value::Text(text))
+        }
+        DocNode::Array(children) => {
+            let list = copy_children(alloc, children, view.len())?;
+            Ok(Value::Array(Container {
+                form: Form::Owned(list),
+            }))
+        }
+        DocNode::Object(members) => {
+            let list = copy_members(alloc, members, view.len())?;
+            Ok(Value::Object(Container {
+                form: Form::Owned(list),
+            }))
+        }
+    }
+}
+
+// The elements, in a list with room for `count`.
+#[cycle(copied)]
+fn copy_children(alloc: Global, children: DocChildren<'_>, count: usize) -> Result<Vec<Value>>
+    ensures list { IfOk result (λ v. map tree_of v.items ≡ children_left children.entry) }
+    ensures only { OnlyNoMemory result }
+{
+    let mut list = Vec::with_capacity(alloc, count)?;
+    for child in children {
+        let value = copy_document(alloc, child)?;
+        list.push(value)?;
+    }
+    Ok(list)
+}
+
+// The members, in a list with room for `count`.
+#[cycle(copied)]
+fn copy_members(alloc: Global, members: DocPairs<'_>, count: usize) -> Result<Vec<Pair>>
+    ensures pairs { IfOk result (λ v. map pair_of v.items ≡ pairs_left members.entry) }
+    ensures only { OnlyNoMemory result }
+{
+    let mut list = Vec::with_capacity(alloc, count)?;
+    for (key, value) in members {
+        let key = Text::copy(alloc, key)?;
+        let value = copy_document(alloc, value)?;
+        list.push(Keyed { key, value })?;
+    }
+    Ok(list)
 }

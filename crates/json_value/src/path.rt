@@ -1,7 +1,7 @@
 // Paths and edits.
-ghost use Rattle.std.specs.Prelude.{◌≡◌, [], ◌∷◌, ◌++◌, OnOk, OnErr, IfErr};
-ghost use Rattle.json_text.specs.Errors.{no_memory};
+ghost use Rattle.std.specs.Prelude.{◌≡◌, [], ◌∷◌, ◌++◌, OnOk, OnErr};
 ghost use Rattle.json_value.specs.Edits.{step_of, steps_of, path_steps, path_of, edit_of, edit_at};
+ghost use Rattle.json_value.specs.Failures.{OnlyNoMemory};
 
 use crate::text::Text;
 use crate::value::Value;
@@ -76,11 +76,12 @@ impl Path {
         }
     }
 
-    /// Appends a step. `NoMemory`, which keeps the path.
+    /// Appends a step. Fails with `NoMemory` if memory runs out; the path is then unchanged.
     pub fn push(&mut self, step: PointerNode) -> Result<()>
-        ensures ok { OnOk result (path_steps self.new ≡ path_steps self.old ++ step_of step ∷ []) }
+        ensures ok { OnOk result (path_steps self.new
+            ≡ path_steps self.old ++ step_of step ∷ []) }
         ensures kept { OnErr result (path_steps self.new ≡ path_steps self.old) }
-        ensures only { IfErr result (λ e. e ≡ no_memory) }
+        ensures only { OnlyNoMemory result }
     {
         self.steps.push(step)?;
         Ok(())

@@ -1,21 +1,21 @@
-// Places by paths, for callers that change what stands there.
-ghost use Rattle.std.specs.Prelude.{◌≡◌, IfOk, IfErr, OnOk, OnErr, Ok, Some};
+// Places by paths, for callers that change the values there.
+ghost use Rattle.std.specs.Prelude.{◌≡◌, ◌<◌, [], ◌∷◌, length, drop, IfOk, OnOk, OnErr, Some};
+ghost use Rattle.std.specs.Bool.{OnTrue, OnFalse};
 ghost use Rattle.std.specs.Borrow.{LendsSoOk, sem};
 ghost use Rattle.std.specs.Fn.{FnOnceReturnsAtMut};
-ghost use Rattle.json_grammar.specs.Tree.{Tree};
-ghost use Rattle.json_model.specs.Edit.{Changed, set_at, edited_once, at_path};
+ghost use Rattle.json_model.specs.Edit.{set_at, edited_once};
 ghost use Rattle.json_value.specs.Denotes.{tree_of};
-ghost use Rattle.json_value.specs.Edits.{steps_of, RefusesChange};
-ghost use Rattle.json_value.specs.Lending.{Puts, PutsNothing, Stands};
+ghost use Rattle.json_value.specs.Edits.{step_of, steps_of, Makes, FailsAs, FailsAlong};
+ghost use Rattle.json_value.specs.Lending.{missing_as_none, Puts, PutsNothing, LeadsTo, LendsAlong, first_node, PutsAt};
 ghost use Rattle.json_value.specs.Rows.{value_row};
 ghost use Rattle.json_value.specs.Steps.{tree_at};
 ghost use Rattle.json_value.specs.Touched.{Along, Same, KeptAlong};
 ghost use Rattle.json_value.specs.declared.value.Value.{Value};
 
-use crate::lending::reach_in;
+use crate::container_mut::{ContainerMut, child_of};
 use crate::path::PointerNode;
 use crate::value::Value;
-use json_text::Result;
+use json_text::{ErrorCode, Result};
 use std::alloc::Global;
 
 /// What has places to which paths lead, and lends them to be changed.
@@ -34,14 +34,14 @@ pub trait Places {
     ghost held: { Self → Value };
 
     /// The place to which the steps lead. What is written there changes that place and no other; a copy of one level is made
-    /// of each packed container on the way. `NotFound` where a step names a key or an index that is not there;
-    /// `TypeUnmatched` where a key meets no object, or an index no array; `NoMemory`. A refusal keeps the tree, and changes
-    /// nothing but that packed containers on the way may have been copied by one level.
+    /// of each packed container on the way. Fails with `NotFound` if a step names a key or an index that is missing, with
+    /// `TypeUnmatched` if a key meets no object or an index no array, and with `NoMemory` if memory runs out. A refusal keeps
+    /// the tree, and changes nothing but that packed containers on the way may have been copied by one level.
     fn place_mut<'v>(&'v mut self, alloc: Global, path: &[PointerNode]) -> Result<&'v mut Value>
         ensures* writes_back { sem 𝓛 (LendsSoOk Self.row value_row self.entry result
             (λ n w. IfOk result (λ v. Puts (steps_of path.now) v.now w (held self.old) (held n)))
             (λ n. PutsNothing (steps_of path.now) (held self.old) (held n))) }
-        ensures stands { Stands (steps_of path.now) (tree_of (held self.old)) result };
+        ensures stands { LeadsTo (steps_of path.now) (tree_of (held self.old)) result };
 }
 
 impl Places for Value {
@@ -52,22 +52,25 @@ impl Places for Value {
     }
 }
 
-/// Puts a value at the place to which the steps lead. `NotFound`, `TypeUnmatched` and `NoMemory` as of `place_mut`. A refusal
-/// keeps the tree.
+/// Puts a value at the place to which the steps lead. Fails as `place_mut` does. A refusal keeps the
+/// tree.
 pub fn put<V: Places>(target: &mut V, alloc: Global, path: &[PointerNode], new: Value) -> Result<()>
-    ensures ok { OnOk result (edited_once (set_at (steps_of path.now) (tree_of new)) (tree_of (V.held target.old)) ≡ Ok (tree_of (V.held target.new))) }
-    ensures children { OnOk result (Along (steps_of path.now) (λ before after. after ≡ new) (V.held target.old) (V.held target.new)) }
+    ensures ok { OnOk result (Makes (edited_once (set_at (steps_of path.now) (tree_of new))
+        (tree_of (V.held target.old))) (V.held target.new)) }
+    ensures children { OnOk result (Along (steps_of path.now) (λ before after. after ≡ new)
+        (V.held target.old) (V.held target.new)) }
     ensures kept { OnErr result (tree_of (V.held target.new) ≡ tree_of (V.held target.old)) }
-    ensures kept_along { OnErr result (KeptAlong (steps_of path.now) Same (V.held target.old) (V.held target.new)) }
-    ensures refused { IfErr result (λ e. RefusesChange (edited_once (set_at (steps_of path.now) (tree_of new)) (tree_of (V.held target.old))) e.code e.place) }
+    ensures kept_along { OnErr result (KeptAlong (steps_of path.now) Same
+        (V.held target.old) (V.held target.new)) }
+    ensures refused { FailsAs (edited_once (set_at (steps_of path.now) (tree_of new))
+        (tree_of (V.held target.old))) result }
 {
     let place = target.place_mut(alloc, path)?;
     *place = new;
     Ok(())
 }
 
-/// Changes what stands at the place to which the steps lead, by a closure. `NotFound`, `TypeUnmatched` and `NoMemory` as of
-/// `place_mut`. A refusal keeps the tree.
+/// Changes the value to which the steps lead, by a closure. Fails as `place_mut` does. A refusal keeps the tree.
 pub fn update<V: Places, F: FnOnce(&mut Value)>(
     target: &mut V,
     alloc: Global,
@@ -75,12 +78,79 @@ pub fn update<V: Places, F: FnOnce(&mut Value)>(
     change: F,
 ) -> Result<()>
     requires { F.IsAlwaysCallable change }
-    ensures ok { OnOk result ((x : Value) × (y : Value) × (tree_at (steps_of path.now) (tree_of (V.held target.old)) ≡ Some (tree_of x)) × (FnOnceReturnsAtMut F.FnOnce change x tt y) × Puts (steps_of path.now) x y (V.held target.old) (V.held target.new)) }
+    ensures ok { OnOk result ((x : Value) × (y : Value)
+        × (tree_at (steps_of path.now) (tree_of (V.held target.old)) ≡ Some (tree_of x))
+        × (FnOnceReturnsAtMut F.FnOnce change x tt y)
+        × Puts (steps_of path.now) x y (V.held target.old) (V.held target.new)) }
     ensures kept { OnErr result (tree_of (V.held target.new) ≡ tree_of (V.held target.old)) }
-    ensures kept_along { OnErr result (KeptAlong (steps_of path.now) Same (V.held target.old) (V.held target.new)) }
-    ensures refused { IfErr result (λ e. (f : Tree → Changed Tree) → RefusesChange (at_path (steps_of path.now) f (tree_of (V.held target.old))) e.code e.place) }
+    ensures kept_along { OnErr result (KeptAlong (steps_of path.now) Same
+        (V.held target.old) (V.held target.new)) }
+    ensures refused { FailsAlong (steps_of path.now) (tree_of (V.held target.old)) result }
 {
     let place = target.place_mut(alloc, path)?;
     change(place);
     Ok(())
+}
+
+fn at_end(path: &[PointerNode]) -> bool
+    ensures end { OnTrue result (path.now ≡ []) }
+    ensures more { OnFalse result (0 < length path.now) }
+{
+    path.is_empty()
+}
+
+fn rest_of(path: &[PointerNode]) -> &[PointerNode]
+    requires { 0 < length path.now }
+    ensures { result.now ≡ drop 1 path.now }
+{
+    &path[1..]
+}
+
+// The place to which the first step of a path leads.
+fn first_place<'v, S: ContainerMut>(
+    container: &'v mut S,
+    alloc: Global,
+    path: &[PointerNode],
+) -> Result<&'v mut Value>
+    requires { 0 < length path.now }
+    ensures* writes_back { sem 𝓛 (LendsSoOk S.row value_row container.entry result
+        (λ n w. PutsAt (step_of (first_node path.now) ∷ []) result w
+        (S.held container.old) (S.held n))
+        (λ n. PutsNothing (step_of (first_node path.now) ∷ []) (S.held container.old) (S.held n))) }
+    ensures stands { LeadsTo (step_of (first_node path.now) ∷ [])
+        (tree_of (S.held container.old)) result }
+{
+    child_of(container, alloc, &path[0])
+}
+
+// The place to which a path leads.
+pub(crate) fn reach_in<'v>(
+    value: &'v mut Value,
+    alloc: Global,
+    path: &[PointerNode],
+) -> Result<&'v mut Value>
+    ensures* writes_back { sem 𝓛 (LendsAlong value.entry (steps_of path.now) result) }
+    ensures stands { LeadsTo (steps_of path.now) (tree_of value.old) result }
+{
+    if at_end(path) {
+        return Ok(value);
+    }
+    match first_place(value, alloc, path) {
+        Ok(child) => reach_in(child, alloc, rest_of(path)),
+        Err(error) => Err(error),
+    }
+}
+
+// A place that is lent, or none where a call found none; only `NoMemory` stays an error. So a search that answers
+// `NotFound` or `TypeUnmatched` becomes one that answers none.
+pub(crate) fn none_if_missing<'a>(r: Result<&'a mut Value>) -> Result<Option<&'a mut Value>>
+    ensures missing_as_none { result ≡ missing_as_none r.entry }
+{
+    match r {
+        Ok(value) => Ok(Some(value)),
+        Err(error) => match error.code {
+            ErrorCode::NoMemory => Err(error),
+            _ => Ok(None),
+        },
+    }
 }

@@ -1,30 +1,44 @@
 // Views of values.
-ghost use Rattle.std.specs.Prelude.{◌≡◌, None, Some, option_map, IfSome};
-ghost use Rattle.json_grammar.specs.Tree.{num};
+ghost use Rattle.std.specs.Prelude.{◌≡◌, None, Some, option_map, IfSome, ◌<◌, length, IfOk};
+ghost use Rattle.json_grammar.specs.Tree.{num, null, tokens};
 ghost use Rattle.json_number.specs.Numbers.{value_of, text_of_number};
 ghost use Rattle.json_doc.specs.Readings.{type_of, bool_of, integer_of, literal_of, string_of};
 ghost use Rattle.json_doc.specs.Seen.{view_doc, view_place, view_tree};
 ghost use Rattle.json_value.specs.Denotes.{tree_of};
 ghost use Rattle.json_value.specs.Places.{places_in};
 ghost use Rattle.json_value.specs.Seen.{seen, elements_seen, members_seen, list_of, pairs_of};
-ghost use Rattle.json_value.specs.SightParts.{elements_of, elements_sights};
-ghost use Rattle.json_value.specs.SightParts.{members_of, members_sights};
-ghost use Rattle.json_value.specs.Sights.{sight_of, whole_value, place_of};
+ghost use Rattle.json_value.specs.SightParts.{elements_of, elements_sights, members_of, members_sights, sight_after, sight_along, or_nowhere};
+ghost use Rattle.json_value.specs.Sights.{sight_of, place_of, nowhere};
 ghost use Rattle.json_value.specs.Spots.{spot_in, spot_of};
-ghost use Rattle.json_value.specs.Standing.{spot_seen, spot_kept, places_kept};
+ghost use Rattle.json_value.specs.ViewSpots.{spot_seen, spot_kept, places_kept};
+ghost use Rattle.json_model.specs.Edit.{key_step, index_step};
+ghost use Rattle.json_value.specs.Edits.{steps_of};
+ghost use Rattle.json_value.specs.Steps.{child, tree_at, tree_or_null};
+ghost use Rattle.json_doc.specs.Docs.{doc_cells, doc_tree};
+ghost use Rattle.json_print.specs.Standing.{TakesValue};
+ghost use Rattle.json_print.specs.Given.{given_tokens};
+ghost use Rattle.json_value.specs.Emitting.{Emits, tree_given};
+ghost use Rattle.json_value.specs.Failures.{OnlyNoMemory};
 
 use crate::array_view::ArrayView;
+use crate::emit::emit_value;
+use crate::emit_packed::emit_document;
+use crate::index::Index;
 use crate::object_view::ObjectView;
 use crate::packed_view::PackedView;
+use crate::path::PointerNode;
 use crate::value::Value;
-use json_doc::{DocView, JsonType};
+use json_doc::{Doc, DocView, JsonType};
 use json_number::Number;
+use json_print::Events;
+use json_text::Result;
+use std::alloc::Global;
 
 #[derive(Clone, Copy)]
 pub(crate) enum ViewForm<'a> {
     Packed(PackedView<'a>),
     Whole(&'a Value),
-    // Null, which stands nowhere.
+    // Null, which is at no place.
     Absent,
 }
 
@@ -44,22 +58,6 @@ pub struct View<'a> {
     pub(crate) form: ViewForm<'a>,
 }
 
-impl Value {
-    /// The whole value.
-    #[inline]
-    pub fn view(&self) -> View<'_>
-        ensures tree { seen result ≡ tree_of self.now }
-        ensures sight { sight_of result ≡ whole_value self.now }
-        ensures spot { spot_seen result ≡ spot_of self.now }
-        ensures kept { spot_kept result ≡ spot_of self.now }
-        ensures places { places_kept result ≡ Some (places_in self.now) }
-    {
-        View {
-            form: ViewForm::Whole(self),
-        }
-    }
-}
-
 impl<'a> View<'a> {
     /// A place of a document.
     #[inline]
@@ -67,7 +65,8 @@ impl<'a> View<'a> {
         ensures tree { seen result ≡ view_tree view.entry }
         ensures sight { sight_of result
             ≡ place_of (view_doc view.entry) None (view_place view.entry) }
-        ensures spot { spot_seen result ≡ Some (spot_in (view_doc view.entry) (view_place view.entry)) }
+        ensures spot { spot_seen result
+            ≡ Some (spot_in (view_doc view.entry) (view_place view.entry)) }
         ensures kept { spot_kept result ≡ None }
     {
         View {
@@ -159,6 +158,125 @@ impl<'a> View<'a> {
             ViewForm::Packed(packed) => ObjectView::of_packed(packed),
             ViewForm::Whole(value) => ObjectView::of_value(value),
             ViewForm::Absent => None,
+        }
+    }
+
+    // Null, which is at no place.
+    fn null() -> View<'a>
+        ensures tree { seen result ≡ null }
+        ensures sight { sight_of result ≡ nowhere }
+    {
+        View {
+            form: ViewForm::Absent,
+        }
+    }
+
+    fn member(self, key: &str) -> Option<View<'a>>
+        ensures tree { option_map seen result ≡ child (key_step key.now) (seen self.entry) }
+        ensures sight { option_map sight_of result
+            ≡ sight_after (key_step key.now) (sight_of self.entry) }
+    {
+        match self.as_object() {
+            Some(object) => object.get(key),
+            None => None,
+        }
+    }
+
+    fn element(self, i: usize) -> Option<View<'a>>
+        ensures tree { option_map seen result ≡ child (index_step i) (seen self.entry) }
+        ensures sight { option_map sight_of result
+            ≡ sight_after (index_step i) (sight_of self.entry) }
+    {
+        match self.as_array() {
+            Some(array) => array.get(i),
+            None => None,
+        }
+    }
+
+    /// The value of the first member of a key, or the element of an index; none where the step leads nowhere.
+    pub fn get<I: Index>(self, index: I) -> Option<View<'a>>
+        ensures tree { option_map seen result ≡ child (I.step index) (seen self.entry) }
+        ensures sight { option_map sight_of result
+            ≡ sight_after (I.step index) (sight_of self.entry) }
+    {
+        if let Some(key) = index.as_key() {
+            return self.member(key);
+        }
+        match index.as_index() {
+            Some(i) => self.element(i),
+            None => None,
+        }
+    }
+
+    /// The value at the end of the steps; none where one of them leads nowhere.
+    pub fn pointer(self, path: &[PointerNode]) -> Option<View<'a>>
+        ensures tree { option_map seen result ≡ tree_at (steps_of path.now) (seen self.entry) }
+        ensures sight { option_map sight_of result
+            ≡ sight_along (steps_of path.now) (sight_of self.entry) }
+    {
+        let mut here = self;
+        for node in path {
+            here = here.get(node)?;
+        }
+        Some(here)
+    }
+
+    /// The value of the first member of a key, or the element of an index; null where the step leads nowhere.
+    pub fn at<I: Index>(self, index: I) -> View<'a>
+        ensures tree { seen result ≡ tree_or_null (child (I.step index) (seen self.entry)) }
+        ensures sight { sight_of result
+            ≡ or_nowhere (sight_after (I.step index) (sight_of self.entry)) }
+    {
+        match self.get(index) {
+            Some(found) => found,
+            None => View::null(),
+        }
+    }
+
+    /// The document and the place in it, where what is seen is a place of a document, or a value that is one; else none. The
+    /// value at that place is what is seen.
+    pub fn place(self) -> Option<(&'a Doc, u32)>
+        ensures spot { option_map (λ p. spot_in p.0.now p.1) result ≡ spot_seen self.entry }
+        ensures within { IfSome result (λ p. p.1 < length (doc_cells p.0.now)) }
+        ensures tree { IfSome result (λ p. doc_tree p.0.now p.1 ≡ seen self.entry) }
+    {
+        match self.form {
+            ViewForm::Packed(packed) => Some((packed.view.doc(), packed.view.place())),
+            ViewForm::Whole(value) => value.place(),
+            ViewForm::Absent => None,
+        }
+    }
+
+    /// A value of the tree that is seen, which no later write to a value that is seen reaches: of a whole value a `clone`, of
+    /// a packed part of a value the value at that place of the same document, of a document alone a copy.
+    /// Fails with `NoMemory` if memory runs out.
+    pub fn to_value(self, alloc: Global) -> Result<Value>
+        ensures tree { IfOk result (λ v. tree_of v ≡ seen self.entry) }
+        ensures spot { IfOk result (λ v. spot_of v ≡ spot_kept self.entry) }
+        ensures places { IfOk result (λ v. IfSome (places_kept self.entry)
+            (λ places. places_in v ≡ places)) }
+        ensures only { OnlyNoMemory result }
+    {
+        match self.form {
+            ViewForm::Packed(packed) => packed.to_value(alloc),
+            ViewForm::Whole(value) => value.clone(alloc),
+            ViewForm::Absent => Ok(Value::Null),
+        }
+    }
+
+    /// Gives the tokens of the tree that is seen to `out`, an integer by value as that, up to the first
+    /// that meets an error, which is answered. Where the events had answered an error it is answered
+    /// again, and nothing changes; else a value may come there.
+    pub fn emit<E: Events>(self, out: &mut E) -> Result<()>
+        requires { E.failed out.old ≡ None → TakesValue (E.stand (E.state out.old)).turn }
+        ensures given { Emits E.after E.stopped (E.state out.old) (E.state out.new)
+            (E.failed out.old) (E.failed out.new) (tree_given (seen self.entry)) result }
+        ensures tokens { given_tokens (tree_given (seen self.entry)) ≡ tokens (seen self.entry) }
+    {
+        match self.form {
+            ViewForm::Packed(packed) => emit_document(packed.view, out),
+            ViewForm::Whole(value) => emit_value(value, out),
+            ViewForm::Absent => out.null(),
         }
     }
 }

@@ -1,11 +1,19 @@
-//! Tests alone: worked examples of documents and numbers, and of what is read, compared and printed of values. They stand here and
-//! not in their libraries, since a library with tests is proved twice; what is written stands in `json_edit_vectors`.
+//! Worked examples: of the top call, which `vectors` runs, and, as tests alone, of documents and numbers and of what is read, compared
+//! and printed of values. They stand here and not in their libraries, since a library with tests is proved twice; what is written
+//! stands in `json_edit_vectors`.
 #![tactic(auto)]
+
+mod rows;
+mod run;
+
+pub use run::vectors;
 
 #[cfg(test)]
 mod documents;
 #[cfg(test)]
 mod equality;
+#[cfg(test)]
+mod hostile;
 #[cfg(test)]
 mod numbers;
 #[cfg(test)]

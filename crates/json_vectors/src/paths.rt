@@ -29,7 +29,7 @@ fn truth_at(value: &Value, name: &str, index: usize) -> Option<bool> {
 fn elements_at(value: &Value, name: &str) -> Option<(usize, bool)> {
     let list = value.get(name)?;
     let elements = list.as_array()?.iter();
-    Some((elements.count(), list.get(name).is_none()))
+    Some((elements.len(), list.get(name).is_none()))
 }
 
 #[test]

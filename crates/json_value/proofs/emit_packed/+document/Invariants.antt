@@ -4,7 +4,7 @@ use Rattle.json_grammar.specs.Tree.{list_trees, list_pairs}
 use Rattle.json_doc.specs.Left.{children_left, pairs_left}
 use Rattle.json_doc.specs.Seen.{view_tree}
 use Rattle.json_print.specs.Taking.{after_all}
-use Rattle.json_value.proofs.Emitting.{array_front, object_front}
+use Rattle.json_value.proofs.TokensGiven.{array_front, object_front}
 use Rattle.json_value.proofs.emit_packed.+document.Given as goal
 
 abbrev pub decreases-emit_document : goal.decreases-emit_document

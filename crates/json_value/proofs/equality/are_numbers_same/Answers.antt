@@ -4,7 +4,7 @@ use Rattle.std.specs.Ordering.{int_eq}
 use Rattle.json_number.specs.Numbers.{value_of}
 use Rattle.json_doc.specs.Readings.{literal_of}
 use Rattle.json_value.specs.Seen.{seen}
-use Rattle.json_value.proofs.Numbering.{seen_proper, option_on, numbers_same}
+use Rattle.json_value.proofs.SameNumbers.{seen_proper, option_on, numbers_same}
 use Rattle.json_value.proofs.equality.are_numbers_same.Goals as goal
 
 pub returns-then-eq : goal.returns-then-eq

@@ -1,8 +1,9 @@
-use Rattle.std.proofs.Common.{◌≡◌, false, bytes_eq, take}
+use Rattle.std.proofs.Common.{◌≡◌, false, bytes_eq, drop, take}
 use Rattle.std.specs.List.{list_any}
-use Rattle.json_value.specs.Agreeing.{keys_in}
+use Rattle.json_value.specs.SameMembers.{keys_in}
+use Rattle.json_value.specs.Left.{members_left}
 use Rattle.json_value.specs.Seen.{members_seen}
 use Rattle.json_value.proofs.equality.has_before.Given as goal
 
-abbrev pub invariant-loop-i : goal.invariant-loop-i
-invariant-loop-i l = list_any (λ k. bytes_eq k l.fn.key) (take l.i (keys_in (members_seen l.fn.object))) ≡ false
+abbrev pub invariant-loop-step : goal.invariant-loop-step
+invariant-loop-step l = (drop l.step (members_seen l.fn.object) ≡ members_left l.members) × (list_any (λ k. bytes_eq k l.fn.key) (take l.step (keys_in (members_seen l.fn.object))) ≡ false)

@@ -3,7 +3,7 @@ use Rattle.json_grammar.specs.Tree.{Tree}
 use Rattle.json_doc.specs.Seen.{view_doc, view_place, view_tree}
 use Rattle.json_value.specs.Readings.{members}
 use Rattle.json_value.specs.Sights.{doc_held}
-use Rattle.json_value.proofs.Emitting.{key_there, value_there}
+use Rattle.json_value.proofs.TokensGiven.{key_there, value_there}
 use Rattle.json_value.proofs.Sights.{member_got, no_member_got, child_shown}
 use Rattle.json_value.proofs.WholeTrees.{member_there, no_item}
 use Rattle.json_value.proofs.object_view.packed_pair.Goals as goal

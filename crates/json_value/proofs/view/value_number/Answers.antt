@@ -1,7 +1,7 @@
 use Rattle.std.proofs.Common.{ap, ◌∙◌}
 use Rattle.json_value.specs.Denotes.{tree_of}
 use Rattle.json_value.proofs.Integers.{integer_read}
-use Rattle.json_value.proofs.Views.{number_tree}
+use Rattle.json_value.proofs.ValueLevels.{number_tree}
 use Rattle.json_value.proofs.view.value_number.Goals as goal
 
 pub returns-in-Number-clause-value : goal.returns-in-Number-clause-value

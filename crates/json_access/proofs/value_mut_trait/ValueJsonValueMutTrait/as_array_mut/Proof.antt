@@ -1,4 +1,4 @@
-use Rattle.json_value.proofs.Walking.{◌≡◌, MutBor, fact, [], ◌∷◌, refl, proved, id⊢, ftrue, named, tables, ‵, raw, ◌⊛◌, some, later, ◌$◌, ◌∵◌, !, qed, done, drop, use1, split, join, pick, await, suffices, group, enter, addr, stop, no_more, and_then, returns, alloc_all, pass_all, free_all, look_at, get, through, sets, lands_as, no, yes, move, peeks, shows, flft, mut_vals, mut_Tells, plain, nothing, calls_at, lasts, Lasts, triple_of, Stays, stay_dropped, Goes-spent_ref, Goes-dropped, ends_at, framed}
+use Rattle.json_value.proofs.HandProofs.{◌≡◌, MutBor, fact, [], ◌∷◌, refl, proved, id⊢, ftrue, named, tables, ‵, raw, ◌⊛◌, some, later, ◌$◌, ◌∵◌, !, qed, done, drop, use1, split, join, pick, await, suffices, group, enter, addr, stop, no_more, and_then, returns, alloc_all, pass_all, free_all, look_at, get, through, sets, lands_as, no, yes, move, peeks, shows, flft, mut_vals, mut_Tells, plain, nothing, calls_at, lasts, Lasts, triple_of, Stays, stay_dropped, Goes-spent_ref, Goes-dropped, ends_at, framed}
 use Rattle.std.specs.contracts.alloc.Global.{the_row as global}
 use Rattle.std.proofs.alloc.Global.TheLaws.{the_row_laws as global_laws, the_told as global_told}
 use Rattle.json_value.specs.contracts.value.Value.{the_row as value}
@@ -18,7 +18,7 @@ use Rattle.json_value.specs.Lending.{lent, name_of, IsLent, UnlessLent}
 use Rattle.json_value.specs.Written.{ArrayOpened}
 use Rattle.json_value.specs.declared.value.Value.{Value, Array}
 use Rattle.json_value.specs.declared.container.Container.{Container}
-use Rattle.json_value.proofs.Follows.{so_weaken}
+use Rattle.json_value.proofs.LenderRelations.{so_weaken}
 use Rattle.json_access.specs.contracts.value_mut_trait.ValueJsonValueMutTrait.as_array_mut as f
 use Rattle.json_access.proofs.value_mut_trait.ValueJsonValueMutTrait.as_array_mut.Statement.{statement}
 use Rattle.json_access.proofs.value_mut_trait.ValueJsonValueMutTrait.as_array_mut.Code as code

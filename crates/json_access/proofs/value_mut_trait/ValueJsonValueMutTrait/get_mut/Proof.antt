@@ -1,4 +1,4 @@
-use Rattle.json_value.proofs.Walking.{subst, Val, fact_i, emp, use0, use2, rewrite, of_opd, keep, heard, MutRef, only, ◌≡◌, [], ◌∷◌, refl, id⊢, ftrue, named, fact, tables, ‵, raw, ◌⊛◌, some, later, ◌$◌, ◌∵◌, !, qed, done, drop, use1, split, join, pick, await, suffices, group, enter, addr, stop, no_more, and_then, returns, alloc_all, pass_all, free_all, look_at, get, through, sets, lands_as, no, yes, move, peeks, shows, flft, mut_vals, mut_Tells, plain, nothing, calls_at, lasts, Lasts, triple_of, Stays, stay_dropped, Goes-spent_ref, Goes-dropped, ends_at, framed}
+use Rattle.json_value.proofs.HandProofs.{subst, Val, fact_i, emp, use0, use2, rewrite, of_opd, keep, heard, MutRef, only, ◌≡◌, [], ◌∷◌, refl, id⊢, ftrue, named, fact, tables, ‵, raw, ◌⊛◌, some, later, ◌$◌, ◌∵◌, !, qed, done, drop, use1, split, join, pick, await, suffices, group, enter, addr, stop, no_more, and_then, returns, alloc_all, pass_all, free_all, look_at, get, through, sets, lands_as, no, yes, move, peeks, shows, flft, mut_vals, mut_Tells, plain, nothing, calls_at, lasts, Lasts, triple_of, Stays, stay_dropped, Goes-spent_ref, Goes-dropped, ends_at, framed}
 use mathlib.Core.List.{List, ◌++◌}
 use denote.RattleType.{RattleType}
 use denote.Param.{param, bounded}
@@ -11,7 +11,7 @@ use mir.MapTy.{inst_fn}
 use prog.Wp.{WpFn}
 use types.Kit.{regoal, prop}
 use Rattle.std.proofs.raw_atomic.Walks.{proved_at}
-use Rattle.json_value.proofs.Loneness.{one_of}
+use Rattle.json_value.proofs.SingleValues.{one_of}
 use Rattle.std.specs.contracts.alloc.Global.{the_row as global}
 use Rattle.std.proofs.alloc.Global.TheLaws.{the_row_laws as global_laws, the_told as global_told}
 use Rattle.json_value.specs.contracts.value.Value.{the_row as value}

@@ -1,4 +1,4 @@
-use Rattle.json_value.proofs.Walking.{[], ◌∷◌, refl, proved, id⊢, emp, ftrue, named, fact, fact_i, tables, full_share, ‵, raw, ◌⊛◌, some, later, ◌$◌, ◌∵◌, !, qed, done, drop, use0, use1, use2, split, join, pick, await, suffices, group, enter, addr, stop, no_more, and_then, returns, alloc_all, pass_all, free_all, look_at, get, through, sets, lands_as, no, yes, move, keep, peeks, shows, flft, heard, mut_vals, mut_Tells, MutRef, plain, nothing, calls_at, lasts, Lasts, triple_of, Stays, stay_dropped, Goes-spent_ref, Goes-dropped, ends_at, framed, ◌≡◌}
+use Rattle.json_value.proofs.HandProofs.{[], ◌∷◌, refl, proved, id⊢, emp, ftrue, named, fact, fact_i, tables, full_share, ‵, raw, ◌⊛◌, some, later, ◌$◌, ◌∵◌, !, qed, done, drop, use0, use1, use2, split, join, pick, await, suffices, group, enter, addr, stop, no_more, and_then, returns, alloc_all, pass_all, free_all, look_at, get, through, sets, lands_as, no, yes, move, keep, peeks, shows, flft, heard, mut_vals, mut_Tells, MutRef, plain, nothing, calls_at, lasts, Lasts, triple_of, Stays, stay_dropped, Goes-spent_ref, Goes-dropped, ends_at, framed, ◌≡◌}
 use mathlib.Core.List.{not-mem-nil}
 use contract.Lifetimes.{Lfts}
 use contract.BorrowLft.{◌⊑◌}
@@ -26,17 +26,17 @@ use Rattle.json_value.specs.Denotes.{tree_of}
 use Rattle.json_value.specs.Edits.{RefusesChange}
 use Rattle.json_value.specs.Lending.{put_or_insert, PutsNothing}
 use Rattle.json_value.specs.Steps.{child, tree_or_null}
-use Rattle.json_value.specs.Touched.{ExchangesOrSeats}
+use Rattle.json_value.specs.Touched.{ExchangesOrUpserts}
 use Rattle.json_value.specs.contracts.value.Value.{the_row as value}
 use Rattle.json_value.proofs.value.Value.TheLaws.{the_row_laws as value_laws}
 use Rattle.json_value.specs.contracts.index.Index.index_or_insert as f
 use Rattle.json_value.proofs.index.Index.index_or_insert.Statement.{statement}
 use Rattle.json_value.proofs.index.Index.index_or_insert.Code as code
 use Rattle.json_value.proofs.index.Index.index_or_insert.Lts.{arg-0-0, arg-0-1, laws-0-0, laws-0-1}
-use Rattle.json_value.specs.contracts.placing.place_or_insert as g
-use Rattle.json_value.proofs.placing.place_or_insert.Met as first-met
-use Rattle.json_value.specs.contracts.slot.ValueSlot.TheImpl as impl
-use Rattle.json_value.proofs.slot.ValueSlot.TheImpl.Met as impl-met
+use Rattle.json_value.specs.contracts.container_mut.place_or_insert as g
+use Rattle.json_value.proofs.container_mut.place_or_insert.Met as first-met
+use Rattle.json_value.specs.contracts.container_mut.ValueContainerMut.TheImpl as impl
+use Rattle.json_value.proofs.container_mut.ValueContainerMut.TheImpl.Met as impl-met
 
 pub index_or_insert_spec : {M : Type 1} → statement M
 index_or_insert_spec {M} 𝓤 𝓛 𝓜 𝓡 wired I L x d dd met glue =
@@ -66,12 +66,12 @@ index_or_insert_spec {M} 𝓤 𝓛 𝓜 𝓡 wired I L x d dd met glue =
     nothing ! $ move ! (4 ∷ 0 ∷ []) $ join ! $ use0 𝓛 (‵ (flft [] full_share)) (𝓛.lfts.lft-nil full_share) $ join ! $ move ! (2 ∷ 0 ∷ []) $ join ! $ move ! (2 ∷ 0 ∷ []) $ join ! $ join ! $
     nothing ! $ use0 𝓛 (raw (fact 𝓤 (κs.1.1.0 ⊑ I.lives))) (fact_i 𝓤 _ (emp 𝓤) lives) $ join ! $ use0 𝓛 (raw (fact 𝓤 (Incl [] value.lives))) (fact_i 𝓤 (Incl [] value.lives) (emp 𝓤) (λ n m. m)) $ join ! $ move ! (1 ∷ 0 ∷ []) $
     use2 𝓛 (raw (G.pre z)) (id⊢ 𝓤 _) $
-    calls_at ! (framed 𝓤 H 𝓜 𝓣) G (first-met.met 𝓤 𝓛 𝓜 𝓡 (code.calls-json_value::placing::place_or_insert 𝓡.env wired) S J' (laws-0-0 I L d dd κs4) (laws-0-1 I L d dd κs4) impl.ghosts impl.dict x d dd (impl-met.passed 𝓡.env (code.calls-json_value::slot::ValueSlot::list 𝓡.env wired) (code.calls-json_value::slot::ValueSlot::pairs 𝓡.env wired) (code.calls-json_value::slot::ValueSlot::pairs_with 𝓡.env wired) M 𝓤 𝓛 𝓜 𝓡) (record { as_key = met.as_key; as_index = met.as_index }) glue) z
+    calls_at ! (framed 𝓤 H 𝓜 𝓣) G (first-met.met 𝓤 𝓛 𝓜 𝓡 (code.calls-json_value::container_mut::place_or_insert 𝓡.env wired) S J' (laws-0-0 I L d dd κs4) (laws-0-1 I L d dd κs4) impl.ghosts impl.dict x d dd (impl-met.passed 𝓡.env (code.calls-json_value::container_mut::ValueContainerMut::list 𝓡.env wired) (code.calls-json_value::container_mut::ValueContainerMut::pairs 𝓡.env wired) (code.calls-json_value::container_mut::ValueContainerMut::pairs_with 𝓡.env wired) M 𝓤 𝓛 𝓜 𝓡) (record { as_key = met.as_key; as_index = met.as_index }) glue) z
     (and_then ! (get ! refl) (and_then ! (get ! refl) (and_then ! (get ! refl) (no_more !)))) (λ u.
     let F = mut_ref_field (record { mir = named 1; lft = κs.1.0 }) value tt in
     let ref-laws = of_field F (mut_ref_laws (record { mir = named 1; lft = κs.1.0 }) value tt) refl (mut_ref_shared (record { mir = named 1; lft = κs.1.0 }) value tt (row_shared value value_laws)) in
     let R = result.the_row F.row refusal in
-    let Lent = λ (r : R.Denot). LendsSoOk value value v r (λ n w. (put_or_insert (x.step i.now) (tree_of w) (tree_of v.now) ≡ Ok (tree_of n)) × IfOk r (λ y. ExchangesOrSeats (x.step i.now) y.now w v.now n)) (PutsNothing (x.step i.now ∷ []) v.now) in
+    let Lent = λ (r : R.Denot). LendsSoOk value value v r (λ n w. (put_or_insert (x.step i.now) (tree_of w) (tree_of v.now) ≡ Ok (tree_of n)) × IfOk r (λ y. ExchangesOrUpserts (x.step i.now) y.now w v.now n)) (PutsNothing (x.step i.now ∷ []) v.now) in
     use1 𝓛 (later (some (λ (r : R.Denot). ((‵ (flft κs.1.0 qs.1.0) ⊛ ‵ (flft κs.0 qs.0) ⊛ ‵ (flft [] full_share) ⊛ ‵ (flft κs.1.1.0 qs.1.1.0) ⊛ ‵ ftrue) ⊛ ‵ (R.own_val r (u ∷ []))) ⊛ some (λ (ws : Lasts (g.ended S J' impl.ghosts impl.dict x d dd) κs4 (v, (alloc, (i, tt)))). ‵ (lasts (g.ended S J' impl.ghosts impl.dict x d dd) κs4 (v, (alloc, (i, tt))) ws) ⊛ (‵ (Lent r) ⊛ (raw (fact 𝓤 (IfOk r (λ y. tree_of y.now ≡ tree_or_null (child (x.step i.now) (tree_of v.now))))) ⊛ raw (fact 𝓤 (IfErr r (λ e. (t : Tree) → RefusesChange (put_or_insert (x.step i.now) t (tree_of v.now)) e.code e.place))))))))) (id⊢ 𝓤 _) $
     await ! tt $ pick ! (λ r. split ! $ split ! $ split ! $ move ! (2 ∷ []) $ peeks ! R _ (shows 𝓛 R) r (u ∷ []) (λ is.
     lands_as ! refl refl ((((result_laws F.row refusal ref-laws refusal_laws).lawful 𝓛).typed r (u ∷ []) is).0) $

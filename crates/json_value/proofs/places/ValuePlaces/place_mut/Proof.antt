@@ -1,4 +1,4 @@
-use Rattle.json_value.proofs.Walking.{[], ◌∷◌, refl, proved, id⊢, ftrue, named, fact, tables, ‵, raw, ◌⊛◌, some, later, ◌$◌, ◌∵◌, !, qed, done, drop, use1, split, join, pick, await, suffices, group, enter, addr, stop, no_more, and_then, returns, alloc_all, pass_all, free_all, look_at, get, through, sets, lands_as, no, yes, move, peeks, shows, flft, heard, mut_vals, mut_Tells, plain, nothing, calls_at, lasts, Lasts, triple_of, Stays, stay_dropped, Goes-spent_ref, Goes-dropped, ends_at, framed, frame, says}
+use Rattle.json_value.proofs.HandProofs.{[], ◌∷◌, refl, proved, id⊢, ftrue, named, fact, tables, ‵, raw, ◌⊛◌, some, later, ◌$◌, ◌∵◌, !, qed, done, drop, use1, split, join, pick, await, suffices, group, enter, addr, stop, no_more, and_then, returns, alloc_all, pass_all, free_all, look_at, get, through, sets, lands_as, no, yes, move, peeks, shows, flft, heard, mut_vals, mut_Tells, plain, nothing, calls_at, lasts, Lasts, triple_of, Stays, stay_dropped, Goes-spent_ref, Goes-dropped, ends_at, framed, frame, says}
 use denote.Slice.{shr_slice_vals, shr_slice_Tells, shr_slice_Lawful}
 use denote.Signature.{shr_slice_of}
 use denote.Struct.Field.{mut_ref_field}
@@ -7,15 +7,15 @@ use denote.Param.Laws.{of_field, row_shared}
 use denote.Param.Shared.{mut_ref_shared}
 use Rattle.std.specs.Prelude.{IfOk}
 use Rattle.std.specs.Borrow.{LendsSoOk}
-use Rattle.json_value.proofs.Follows.{so_weaken}
-use Rattle.json_value.proofs.Named.{ok_place, no_place_on}
+use Rattle.json_value.proofs.LenderRelations.{so_weaken}
+use Rattle.json_value.proofs.LentNames.{ok_place, no_place_on}
 use Rattle.std.specs.contracts.alloc.Global.{the_row as global}
 use Rattle.std.specs.contracts.result.Result as result
 use Rattle.std.proofs.alloc.Global.TheLaws.{the_row_laws as global_laws, the_told as global_told}
 use Rattle.std.proofs.result.Result.TheLaws.{the_row_laws as result_laws}
 use Rattle.json_value.specs.Denotes.{tree_of}
 use Rattle.json_value.specs.Edits.{steps_of}
-use Rattle.json_value.specs.Lending.{LendsAlong, Puts, PutsNothing, Stands, name_of_ok}
+use Rattle.json_value.specs.Lending.{LendsAlong, Puts, PutsNothing, LeadsTo, name_of_ok}
 use Rattle.json_value.specs.contracts.value.Value.{the_row as value}
 use Rattle.json_text.specs.contracts.error.Error.{the_row as refusal}
 use Rattle.json_value.specs.contracts.path.PointerNode.{the_row as node}
@@ -24,8 +24,8 @@ use Rattle.json_value.proofs.value.Value.TheLaws.{the_row_laws as value_laws}
 use Rattle.json_value.specs.contracts.places.ValuePlaces.place_mut as f
 use Rattle.json_value.proofs.places.ValuePlaces.place_mut.Statement.{statement}
 use Rattle.json_value.proofs.places.ValuePlaces.place_mut.Code as code
-use Rattle.json_value.specs.contracts.lending.reach_in as g
-use Rattle.json_value.proofs.lending.reach_in.Met as first-met
+use Rattle.json_value.specs.contracts.places.reach_in as g
+use Rattle.json_value.proofs.places.reach_in.Met as first-met
 
 abbrev stayed : Stays f.ended.signature.params f.ended.kept
 stayed = (stay_dropped _ no, (stay_dropped _ yes, (stay_dropped _ yes, tt)))
@@ -45,9 +45,9 @@ place_mut_spec 𝓤 𝓛 𝓜 𝓡 wired =
     qed 𝓛 (raw (G.pre z) ∷ []) ∵
     enter ! _ _ _ _ _ $ alloc_all ! (λ l. pass_all ! refl ((tt, tt), (((global_laws.lawful 𝓛).typed alloc _ are.1.0).0, (((shr_slice_Lawful 𝓛 (named 1) κs.1.0 node).typed path _ are.1.1.0).0, tt))) $
     sets ! (addr ! (through ! refl (stop !))) refl (tt, tt) $
-    calls_at ! (framed 𝓤 𝓛.H 𝓜 (tables 𝓤 𝓛.H 𝓜 𝓡 𝓡.env)) G (first-met.met 𝓤 𝓛 𝓜 𝓡 (code.calls-json_value::lending::reach_in 𝓡.env wired)) z
+    calls_at ! (framed 𝓤 𝓛.H 𝓜 (tables 𝓤 𝓛.H 𝓜 𝓡 𝓡.env)) G (first-met.met 𝓤 𝓛 𝓜 𝓡 (code.calls-json_value::places::reach_in 𝓡.env wired)) z
     (and_then ! (get ! refl) (and_then ! (get ! refl) (and_then ! (get ! refl) (no_more !)))) (λ u.
-    use1 𝓛 (later (some (λ (r : R.Denot). ((‵ (flft κs.0 qs.0) ⊛ ‵ (flft κs.1.0 qs.1.0) ⊛ ‵ ftrue) ⊛ ‵ (R.own_val r (u ∷ []))) ⊛ some (λ (ws : Lasts g.ended κs a). ‵ (lasts g.ended κs a ws) ⊛ (‵ (LendsAlong v (steps_of path.now) r) ⊛ raw (fact 𝓤 (Stands (steps_of path.now) (tree_of v.now) r))))))) (id⊢ 𝓤 _) $
+    use1 𝓛 (later (some (λ (r : R.Denot). ((‵ (flft κs.0 qs.0) ⊛ ‵ (flft κs.1.0 qs.1.0) ⊛ ‵ ftrue) ⊛ ‵ (R.own_val r (u ∷ []))) ⊛ some (λ (ws : Lasts g.ended κs a). ‵ (lasts g.ended κs a ws) ⊛ (‵ (LendsAlong v (steps_of path.now) r) ⊛ raw (fact 𝓤 (LeadsTo (steps_of path.now) (tree_of v.now) r))))))) (id⊢ 𝓤 _) $
     await ! tt $ pick ! (λ r. split ! $ split ! $ split ! $ move ! (2 ∷ []) $ peeks ! R _ (shows 𝓛 R) r (u ∷ []) (λ is.
     lands_as ! refl refl ((((result_laws F.row refusal ref-laws refusal_laws).lawful 𝓛).typed r (u ∷ []) is).0) $
     returns ! (look_at ! 0 refl) $ free_all ! refl $

@@ -1,7 +1,7 @@
 use Rattle.std.proofs.Common.{refl, inr}
 use Rattle.json_value.specs.Denotes.{tree_of}
-use Rattle.json_value.proofs.Opened.{list_read, list_none}
-use Rattle.json_value.proofs.Views.{array_tree}
+use Rattle.json_value.proofs.ContainerKinds.{list_read, list_none}
+use Rattle.json_value.proofs.ValueLevels.{array_tree}
 use Rattle.json_value.proofs.value.Value.array_open.Goals as goal
 
 pub returns-in_ok-make_owned-in-Some : goal.returns-in_ok-make_owned-in-Some

@@ -1,4 +1,4 @@
-use Rattle.json_value.proofs.Walking.{◌≡◌, [], ◌∷◌, refl, sym, ap, ◌∙◌, subst, proved, id⊢, emp, fact_i, use0, ftrue, named, fact, tables, ‵, raw, ◌⊛◌, some, later, ◌$◌, ◌∵◌, !, qed, done, drop, use1, use2, split, join, pick, await, suffices, group, frame, rewrite, enter, addr, stop, no_more, and_then, returns, alloc_all, pass_all, free_all, look_at, get, through, sets, lands_as, no, yes, move, keep, peeks, shows, flft, heard, mut_vals, mut_Tells, plain, nothing, calls_at, lasts, Lasts, triple_of, Stays, stay_dropped, Goes-spent_ref, Goes-dropped, ends_at, framed, MutBor, GName}
+use Rattle.json_value.proofs.HandProofs.{◌≡◌, [], ◌∷◌, refl, sym, ap, ◌∙◌, subst, proved, id⊢, emp, fact_i, use0, ftrue, named, fact, tables, ‵, raw, ◌⊛◌, some, later, ◌$◌, ◌∵◌, !, qed, done, drop, use1, use2, split, join, pick, await, suffices, group, frame, rewrite, enter, addr, stop, no_more, and_then, returns, alloc_all, pass_all, free_all, look_at, get, through, sets, lands_as, no, yes, move, keep, peeks, shows, flft, heard, mut_vals, mut_Tells, plain, nothing, calls_at, lasts, Lasts, triple_of, Stays, stay_dropped, Goes-spent_ref, Goes-dropped, ends_at, framed, MutBor, GName}
 use mathlib.Core.Option as maybe
 use denote.Struct.Field.{mut_ref_field}
 use denote.Struct.Laws.{mut_ref_laws}
@@ -18,7 +18,7 @@ use Rattle.json_text.specs.contracts.error.Error.{the_row as refusal}
 use Rattle.json_text.proofs.error.Error.TheLaws.{the_row_laws as refusal_laws}
 use Rattle.json_value.specs.Denotes.{tree_of, pairs_in}
 use Rattle.json_value.specs.Seen.{pairs_of}
-use Rattle.json_value.specs.Lending.{Opens, settled, lent, name_of, name_of_ok, IsLent, UnlessLent}
+use Rattle.json_value.specs.Lending.{Opens, missing_as_none, lent, name_of, name_of_ok, IsLent, UnlessLent}
 use Rattle.json_value.specs.Rows.{object_row, pair_row}
 use Rattle.json_value.specs.Written.{ObjectOpened}
 use Rattle.json_value.specs.declared.value.Value.{Value, Object}
@@ -26,9 +26,9 @@ use Rattle.json_value.specs.declared.container.Container.{Container}
 use Rattle.json_value.specs.declared.pair.Keyed.{Keyed}
 use Rattle.json_value.proofs.pair.Keyed.TheLaws.{the_row_laws as keyed_laws}
 use Rattle.json_value.specs.contracts.value.Value.{the_row as value}
-use Rattle.json_value.proofs.Follows.{so_weaken}
-use Rattle.json_value.proofs.Named.{place_ok, on_no_place}
-use Rattle.json_value.proofs.Settling.{settled_name, settled_opens, settled_opened, settled_opens_only}
+use Rattle.json_value.proofs.LenderRelations.{so_weaken}
+use Rattle.json_value.proofs.LentNames.{place_ok, on_no_place}
+use Rattle.json_value.proofs.MissingPlaces.{missing_name, missing_opens, missing_opened, missing_opens_only}
 use Rattle.json_value.proofs.container.Container.TheLaws.{the_row_laws as container_laws}
 use Rattle.json_value.proofs.value.Value.TheLaws.{the_row_laws as value_laws}
 use Rattle.json_value.specs.contracts.value.Value.as_object_mut as f
@@ -36,8 +36,8 @@ use Rattle.json_value.proofs.value.Value.as_object_mut.Statement.{statement}
 use Rattle.json_value.proofs.value.Value.as_object_mut.Code as code
 use Rattle.json_value.specs.contracts.value.Value.object_open as g
 use Rattle.json_value.proofs.value.Value.object_open.Met as first-met
-use Rattle.json_value.specs.contracts.opening.settle_object as h
-use Rattle.json_value.proofs.opening.settle_object.Met as second-met
+use Rattle.json_value.specs.contracts.value.lending.none_if_no_object as h
+use Rattle.json_value.proofs.value.lending.none_if_no_object.Met as second-met
 
 abbrev stayed : Stays f.ended.signature.params f.ended.kept
 stayed = (stay_dropped _ no, (stay_dropped _ yes, tt))
@@ -68,20 +68,20 @@ as_object_mut_spec 𝓤 𝓛 𝓜 𝓡 wired =
     -- [r; the token and nothing; what was lent]
     nothing ! $ move ! (1 ∷ 0 ∷ []) $ join ! $ move ! (1 ∷ 0 ∷ []) $ join ! $ nothing ! $ move ! (1 ∷ 0 ∷ []) $
     use2 𝓛 (raw (G2.pre z2)) (id⊢ 𝓤 _) $
-    calls_at ! (framed 𝓤 𝓛.H 𝓜 (tables 𝓤 𝓛.H 𝓜 𝓡 𝓡.env)) G2 (second-met.met 𝓤 𝓛 𝓜 𝓡 (code.calls-json_value::opening::settle_object 𝓡.env wired)) z2
+    calls_at ! (framed 𝓤 𝓛.H 𝓜 (tables 𝓤 𝓛.H 𝓜 𝓡 𝓡.env)) G2 (second-met.met 𝓤 𝓛 𝓜 𝓡 (code.calls-json_value::value::lending::none_if_no_object 𝓡.env wired)) z2
     (and_then ! (get ! refl) (no_more !)) (λ o.
-    use1 𝓛 (later (some (λ (s : O.Denot). ((‵ (flft κs.0 qs.0) ⊛ ‵ ftrue) ⊛ ‵ (O.own_val s (o ∷ []))) ⊛ some (λ (ws : Lasts h.ended κs (r, tt)). ‵ (lasts h.ended κs (r, tt) ws) ⊛ raw (fact 𝓤 (s ≡ settled r)))))) (id⊢ 𝓤 _) $
+    use1 𝓛 (later (some (λ (s : O.Denot). ((‵ (flft κs.0 qs.0) ⊛ ‵ ftrue) ⊛ ‵ (O.own_val s (o ∷ []))) ⊛ some (λ (ws : Lasts h.ended κs (r, tt)). ‵ (lasts h.ended κs (r, tt) ws) ⊛ raw (fact 𝓤 (s ≡ missing_as_none r)))))) (id⊢ 𝓤 _) $
     await ! tt $ pick ! (λ s. split ! $ split ! $ move ! (1 ∷ []) $ peeks ! O _ (shows 𝓛 O) s (o ∷ []) (λ is2.
     lands_as ! refl refl ((((result_laws (option.the_row F.row) refusal (option_laws F.row ref-laws) refusal_laws).lawful 𝓛).typed s (o ∷ []) is2).0) $
     returns ! (look_at ! 0 refl) $ free_all ! refl $
-    -- [the result; the token and nothing; what settle says; what was lent]
+    -- [the result; the token and nothing; what none_if_missing says; what was lent]
     move ! (2 ∷ []) $ pick ! (λ ws2. split ! $ drop ! $ heard ! _ (λ same.
     move ! (2 ∷ []) $ pick ! (λ ws. split ! $ drop ! $ split ! $ move ! (1 ∷ []) $ heard ! _ (λ seen. keep ! (0 ∷ 1 ∷ 2 ∷ []) $
     let Named = λ (m : maybe.Option GName). follows_so value object_row v.ghost_name m (λ w n. IsLent m → (tree_of n ≡ pairs (list_pairs (pairs_in w))) × (n ≡ Object w)) (λ n. UnlessLent m (n ≡ v.now)) in
     use1 𝓛 (‵ (Named (name_of_ok r))) (so_weaken 𝓛 value object_row v.ghost_name (name_of_ok r) _ _ _ _ (λ w n p at. p (place_ok r at)) (λ n p. on_no_place r _ p)) $
-    rewrite ! 0 (λ (m : maybe.Option GName). ‵ (Named m)) (sym (ap name_of same ∙ settled_name r)) refl $
+    rewrite ! 0 (λ (m : maybe.Option GName). ‵ (Named m)) (sym (ap name_of same ∙ missing_name r)) refl $
     suffices ! _ (ends_at 𝓛 f.ended stayed c z o s (tt, (tt, tt)) (tt, (tt, tt))) $
     nothing ! $ nothing ! $ join ! $ nothing ! $ join ! $ move ! (3 ∷ 0 ∷ 2 ∷ 1 ∷ []) $ group ! 3 $ frame ! $ frame ! $
-    use0 𝓛 (raw (fact 𝓤 (IfErr s (λ e. e ≡ no_memory)))) (fact_i 𝓤 _ (emp 𝓤) (subst (λ (s : O.Denot). IfErr s (λ e. e ≡ no_memory)) (sym same) (settled_opens_only pairs_in (pairs_of (tree_of v.now)) (ObjectOpened v.now) r seen))) $
-    use0 𝓛 (raw (fact 𝓤 (IfSome (lent s) (ObjectOpened v.now)))) (fact_i 𝓤 _ (emp 𝓤) (subst (λ (s : O.Denot). IfSome (lent s) (ObjectOpened v.now)) (sym same) (settled_opened pairs_in (pairs_of (tree_of v.now)) (ObjectOpened v.now) r seen))) $
-    use0 𝓛 (raw (fact 𝓤 (IfOk s (λ o. option_map (λ (x : MutBor (Container (Keyed Value))). pairs_in x.now) o ≡ pairs_of (tree_of v.now))))) (fact_i 𝓤 _ (emp 𝓤) (subst (λ (s : O.Denot). IfOk s (λ o. option_map (λ (x : MutBor (Container (Keyed Value))). pairs_in x.now) o ≡ pairs_of (tree_of v.now))) (sym same) (settled_opens pairs_in (pairs_of (tree_of v.now)) (ObjectOpened v.now) r seen))) $ done !))))))))))))
+    use0 𝓛 (raw (fact 𝓤 (IfErr s (λ e. e ≡ no_memory)))) (fact_i 𝓤 _ (emp 𝓤) (subst (λ (s : O.Denot). IfErr s (λ e. e ≡ no_memory)) (sym same) (missing_opens_only pairs_in (pairs_of (tree_of v.now)) (ObjectOpened v.now) r seen))) $
+    use0 𝓛 (raw (fact 𝓤 (IfSome (lent s) (ObjectOpened v.now)))) (fact_i 𝓤 _ (emp 𝓤) (subst (λ (s : O.Denot). IfSome (lent s) (ObjectOpened v.now)) (sym same) (missing_opened pairs_in (pairs_of (tree_of v.now)) (ObjectOpened v.now) r seen))) $
+    use0 𝓛 (raw (fact 𝓤 (IfOk s (λ o. option_map (λ (x : MutBor (Container (Keyed Value))). pairs_in x.now) o ≡ pairs_of (tree_of v.now))))) (fact_i 𝓤 _ (emp 𝓤) (subst (λ (s : O.Denot). IfOk s (λ o. option_map (λ (x : MutBor (Container (Keyed Value))). pairs_in x.now) o ≡ pairs_of (tree_of v.now))) (sym same) (missing_opens pairs_in (pairs_of (tree_of v.now)) (ObjectOpened v.now) r seen))) $ done !))))))))))))

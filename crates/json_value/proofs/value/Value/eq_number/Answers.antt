@@ -4,7 +4,7 @@ use Rattle.std.specs.Ordering.{int_eq}
 use Rattle.json_number.specs.Numbers.{value_of}
 use Rattle.json_doc.specs.Readings.{integer_of}
 use Rattle.json_value.specs.Denotes.{tree_of}
-use Rattle.json_value.proofs.Numbering.{option_on, integer_same}
+use Rattle.json_value.proofs.SameNumbers.{option_on, integer_same}
 use Rattle.json_value.proofs.ProperValues.{value_proper}
 use Rattle.json_value.proofs.value.Value.eq_number.Goals as goal
 

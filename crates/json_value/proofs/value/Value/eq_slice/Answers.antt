@@ -3,7 +3,7 @@ use Rattle.json_grammar.specs.Tree.{list, list_trees}
 use Rattle.json_model.specs.Same.{same}
 use Rattle.json_value.specs.Denotes.{tree_of}
 use Rattle.json_value.specs.Seen.{list_of}
-use Rattle.json_value.proofs.Agreeing.{array_seen}
+use Rattle.json_value.proofs.SameViews.{array_seen}
 use Rattle.json_value.proofs.value.Value.eq_slice.Goals as goal
 
 pub returns-in-Some : goal.returns-in-Some

@@ -3,12 +3,13 @@ use Rattle.std.proofs.lemmas.Iterator.Consumers.{YieldsList-end}
 use Rattle.std.proofs.lemmas.Iterator.Adapters.{YieldsList-from_vec}
 use Rattle.json_grammar.specs.Tree.{Pairs, pairs, no_pairs}
 use Rattle.json_value.specs.Denotes.{pair_of}
-use Rattle.json_value.specs.Merged.{inserted_all, with_members}
+use Rattle.json_model.specs.Merged.{inserted_all}
+use Rattle.json_value.specs.Merged.{with_members}
 use Rattle.json_value.specs.Rows.{owned}
 use Rattle.json_value.specs.declared.pair.Keyed.{Keyed}
 use Rattle.json_value.specs.declared.value.Value.{Value}
 use Rattle.json_value.proofs.Merging.{put_one_more, member_one_more, as_given}
-use Rattle.json_value.proofs.Views.{object_tree}
+use Rattle.json_value.proofs.ValueLevels.{object_tree}
 use Rattle.json_value.proofs.value.Value.from_pairs.Goals as goal
 
 pub loop-pair-preserved : goal.loop-pair-preserved

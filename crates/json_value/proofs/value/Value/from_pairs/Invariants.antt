@@ -1,7 +1,8 @@
 use Rattle.std.proofs.Common.{◌≡◌, [], map}
 use Rattle.json_grammar.specs.Tree.{no_pairs, list_pairs}
 use Rattle.json_value.specs.Denotes.{pair_of}
-use Rattle.json_value.specs.Merged.{inserted_all, with_members}
+use Rattle.json_model.specs.Merged.{inserted_all}
+use Rattle.json_value.specs.Merged.{with_members}
 use Rattle.json_value.proofs.value.Value.from_pairs.Given as goal
 
 abbrev pub invariant-loop-pair : goal.invariant-loop-pair

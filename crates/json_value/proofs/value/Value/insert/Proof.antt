@@ -1,4 +1,4 @@
-use Rattle.json_value.proofs.Walking.{Val, subst, only, rewrite, ◌≡◌, [], ◌∷◌, refl, id⊢, emp, ftrue, named, fact, fact_i, tables, full_share, ‵, raw, ◌⊛◌, some, later, ◌$◌, ◌∵◌, !, qed, done, drop, use0, use1, use2, split, join, pick, await, suffices, group, enter, of_opd, addr, stop, no_more, and_then, returns, alloc_all, pass_all, free_all, look_at, get, through, sets, lands_as, no, yes, move, keep, peeks, shows, flft, mut_vals, mut_Tells, MutRef, plain, nothing, heard, calls_at, lasts, Lasts, triple_of, Stays, stay_dropped, Goes-spent_ref, Goes-dropped, ends_at, framed, fsplit}
+use Rattle.json_value.proofs.HandProofs.{Val, subst, only, rewrite, ◌≡◌, [], ◌∷◌, refl, id⊢, emp, ftrue, named, fact, fact_i, tables, full_share, ‵, raw, ◌⊛◌, some, later, ◌$◌, ◌∵◌, !, qed, done, drop, use0, use1, use2, split, join, pick, await, suffices, group, enter, of_opd, addr, stop, no_more, and_then, returns, alloc_all, pass_all, free_all, look_at, get, through, sets, lands_as, no, yes, move, keep, peeks, shows, flft, mut_vals, mut_Tells, MutRef, plain, nothing, heard, calls_at, lasts, Lasts, triple_of, Stays, stay_dropped, Goes-spent_ref, Goes-dropped, ends_at, framed, fsplit}
 use mathlib.Core.List.{List, not-mem-nil, ◌++◌}
 use contract.Lifetimes.{Lfts}
 use base.Fml.{Incl}
@@ -13,7 +13,7 @@ use prog.Wp.{WpFn}
 use types.Kit.{regoal, prop}
 use Rattle.std.proofs.raw_atomic.Walks.{proved_at}
 use denote.Triple.Walked.{walk_of}
-use Rattle.json_value.proofs.Loneness.{one_of}
+use Rattle.json_value.proofs.SingleValues.{one_of}
 use denote.Struct.Field.{mut_ref_field}
 use denote.Struct.Laws.{mut_ref_laws}
 use denote.Param.Laws.{of_field, row_shared}
@@ -23,14 +23,14 @@ use Rattle.json_text.specs.contracts.error.Error.{the_row as refusal}
 use Rattle.std.specs.contracts.alloc.Global.{the_row as global}
 use Rattle.std.specs.contracts.result.Result as result
 use Rattle.json_value.specs.Denotes.{tree_of}
-use Rattle.json_value.specs.Lending.{SeatsNothing}
-use Rattle.json_value.specs.Touched.{SeatsValue}
+use Rattle.json_value.specs.Lending.{UpsertsNothing}
+use Rattle.json_value.specs.Touched.{UpsertsValue}
 use Rattle.json_model.specs.Edit.{on_pairs, inserted}
 use Rattle.json_doc.specs.Readings.{type_of}
 use Rattle.json_doc.specs.declared.json_type.JsonType.TheVariants as kind
 use Rattle.json_text.specs.Errors.{no_memory}
 use Rattle.std.specs.Prelude.{IfOk, IfErr, Ok}
-use Rattle.json_value.proofs.Gave.{gave, Goes-gave}
+use Rattle.json_value.proofs.HandedOn.{gave, Goes-gave}
 use Rattle.std.specs.Borrow.{LendsSoOk}
 use Rattle.std.proofs.alloc.Global.TheLaws.{the_row_laws as global_laws, the_told as global_told}
 use Rattle.std.proofs.result.Result.TheLaws.{the_row_laws as result_laws}
@@ -40,10 +40,10 @@ use Rattle.json_value.specs.contracts.value.Value.insert as f
 use Rattle.json_value.proofs.value.Value.insert.Statement.{statement}
 use Rattle.json_value.proofs.value.Value.insert.Code as code
 use Rattle.json_value.proofs.value.Value.insert.Lts.{arg-0-0, laws-0-0}
-use Rattle.json_value.specs.contracts.placing.insert_of as g
-use Rattle.json_value.proofs.placing.insert_of.Met as first-met
-use Rattle.json_value.specs.contracts.slot.ValueSlot.TheImpl as impl
-use Rattle.json_value.proofs.slot.ValueSlot.TheImpl.Met as impl-met
+use Rattle.json_value.specs.contracts.container_mut.insert_of as g
+use Rattle.json_value.proofs.container_mut.insert_of.Met as first-met
+use Rattle.json_value.specs.contracts.container_mut.ValueContainerMut.TheImpl as impl
+use Rattle.json_value.proofs.container_mut.ValueContainerMut.TheImpl.Met as impl-met
 
 abbrev stayed : Stays f.ended.signature.params f.ended.kept
 stayed = (stay_dropped _ no, (stay_dropped _ yes, (stay_dropped _ yes, (gave _ yes, tt))))
@@ -84,12 +84,12 @@ insert_spec {M} 𝓤 𝓛 𝓜 𝓡 wired =
     nothing ! $ use0 𝓛 (‵ (flft [] full_share)) (𝓛.lfts.lft-nil full_share) $ join ! $ move ! (3 ∷ 0 ∷ []) $ join ! $ move ! (2 ∷ 0 ∷ []) $ join ! $ join ! $
     use0 𝓛 (raw (fact 𝓤 (type_of (tree_of v.now) ≡ kind.Object))) (fact_i 𝓤 _ (emp 𝓤) kind_is) $ use0 𝓛 (raw (fact 𝓤 (Incl [] value.lives))) (fact_i 𝓤 (Incl [] value.lives) (emp 𝓤) (λ n m. m)) $ join ! $ move ! (1 ∷ 0 ∷ []) $
     use2 𝓛 (raw (G.pre z1)) (id⊢ 𝓤 _) $
-    calls_at ! (framed 𝓤 H 𝓜 𝓣) G (first-met.met 𝓤 𝓛 𝓜 𝓡 (code.calls-json_value::placing::insert_of 𝓡.env wired) S (laws-0-0 κs3) impl.ghosts impl.dict (impl-met.passed 𝓡.env (code.calls-json_value::slot::ValueSlot::list 𝓡.env wired) (code.calls-json_value::slot::ValueSlot::pairs 𝓡.env wired) (code.calls-json_value::slot::ValueSlot::pairs_with 𝓡.env wired) M 𝓤 𝓛 𝓜 𝓡)) z1
+    calls_at ! (framed 𝓤 H 𝓜 𝓣) G (first-met.met 𝓤 𝓛 𝓜 𝓡 (code.calls-json_value::container_mut::insert_of 𝓡.env wired) S (laws-0-0 κs3) impl.ghosts impl.dict (impl-met.passed 𝓡.env (code.calls-json_value::container_mut::ValueContainerMut::list 𝓡.env wired) (code.calls-json_value::container_mut::ValueContainerMut::pairs 𝓡.env wired) (code.calls-json_value::container_mut::ValueContainerMut::pairs_with 𝓡.env wired) M 𝓤 𝓛 𝓜 𝓡)) z1
     (and_then ! (get ! refl) (and_then ! (get ! refl) (and_then ! (get ! refl) (and_then ! (get ! refl) (no_more !))))) (λ u.
     let F = mut_ref_field (record { mir = named 0; lft = κs.0 }) value tt in
     let ref-laws = of_field F (mut_ref_laws (record { mir = named 0; lft = κs.0 }) value tt) refl (mut_ref_shared (record { mir = named 0; lft = κs.0 }) value tt (row_shared value value_laws)) in
     let R = result.the_row F.row refusal in
-    let Lent = λ (r : R.Denot). LendsSoOk value value v r (λ n w. (on_pairs (λ ps. Ok (inserted key.now (tree_of w) ps)) (tree_of v.now) ≡ Ok (tree_of n)) × SeatsValue key.now w v.now n) (SeatsNothing v.now) in
+    let Lent = λ (r : R.Denot). LendsSoOk value value v r (λ n w. (on_pairs (λ ps. Ok (inserted key.now (tree_of w) ps)) (tree_of v.now) ≡ Ok (tree_of n)) × UpsertsValue key.now w v.now n) (UpsertsNothing v.now) in
     use1 𝓛 (later (some (λ (r : R.Denot). ((‵ (flft κs.0 qs.0) ⊛ ‵ (flft κs.1.0 qs.1.0) ⊛ ‵ (flft [] full_share) ⊛ ‵ ftrue) ⊛ ‵ (R.own_val r (u ∷ []))) ⊛ some (λ (ws : Lasts (g.ended S impl.ghosts impl.dict) κs3 a). ‵ (lasts (g.ended S impl.ghosts impl.dict) κs3 a ws) ⊛ (‵ (Lent r) ⊛ (raw (fact 𝓤 (IfOk r (λ x. x.now ≡ new))) ⊛ raw (fact 𝓤 (IfErr r (λ e. e ≡ no_memory))))))))) (id⊢ 𝓤 _) $
     await ! tt $ pick ! (λ r. split ! $ split ! $ split ! $ move ! (2 ∷ []) $ peeks ! R _ (shows 𝓛 R) r (u ∷ []) (λ is.
     lands_as ! refl refl ((((result_laws F.row refusal ref-laws refusal_laws).lawful 𝓛).typed r (u ∷ []) is).0) $

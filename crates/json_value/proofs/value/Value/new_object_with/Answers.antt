@@ -4,7 +4,7 @@ use Rattle.json_value.specs.Denotes.{pair_of}
 use Rattle.json_value.specs.Rows.{owned}
 use Rattle.json_value.specs.declared.pair.Keyed.{Keyed}
 use Rattle.json_value.specs.declared.value.Value.{Value}
-use Rattle.json_value.proofs.Views.{object_tree}
+use Rattle.json_value.proofs.ValueLevels.{object_tree}
 use Rattle.json_value.proofs.value.Value.new_object_with.Goals as goal
 
 pub returns-clause-tree : goal.returns-clause-tree

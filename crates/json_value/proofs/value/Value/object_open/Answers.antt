@@ -1,7 +1,7 @@
 use Rattle.std.proofs.Common.{refl, inr}
 use Rattle.json_value.specs.Denotes.{tree_of}
-use Rattle.json_value.proofs.Opened.{pairs_read, pairs_none}
-use Rattle.json_value.proofs.Views.{object_tree}
+use Rattle.json_value.proofs.ContainerKinds.{pairs_read, pairs_none}
+use Rattle.json_value.proofs.ValueLevels.{object_tree}
 use Rattle.json_value.proofs.value.Value.object_open.Goals as goal
 
 pub returns-in_ok-make_owned-in-Some : goal.returns-in_ok-make_owned-in-Some

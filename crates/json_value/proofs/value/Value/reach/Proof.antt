@@ -1,4 +1,4 @@
-use Rattle.json_value.proofs.Walking.{◌≡◌, [], ◌∷◌, refl, sym, ap, ◌∙◌, subst, proved, id⊢, emp, fact_i, use0, ftrue, named, fact, tables, ‵, raw, ◌⊛◌, some, later, ◌$◌, ◌∵◌, !, qed, done, drop, use1, use2, split, join, pick, await, suffices, group, frame, rewrite, enter, addr, stop, no_more, and_then, returns, alloc_all, pass_all, free_all, look_at, get, through, sets, lands_as, no, yes, move, keep, peeks, shows, flft, heard, mut_vals, mut_Tells, plain, nothing, calls_at, lasts, Lasts, triple_of, Stays, stay_dropped, Goes-spent_ref, Goes-dropped, ends_at, framed}
+use Rattle.json_value.proofs.HandProofs.{◌≡◌, [], ◌∷◌, refl, sym, ap, ◌∙◌, subst, proved, id⊢, emp, fact_i, use0, ftrue, named, fact, tables, ‵, raw, ◌⊛◌, some, later, ◌$◌, ◌∵◌, !, qed, done, drop, use1, use2, split, join, pick, await, suffices, group, frame, rewrite, enter, addr, stop, no_more, and_then, returns, alloc_all, pass_all, free_all, look_at, get, through, sets, lands_as, no, yes, move, keep, peeks, shows, flft, heard, mut_vals, mut_Tells, plain, nothing, calls_at, lasts, Lasts, triple_of, Stays, stay_dropped, Goes-spent_ref, Goes-dropped, ends_at, framed}
 use mathlib.Core.Option as maybe
 use base.Fml.{GName}
 use denote.Slice.{shr_slice_vals, shr_slice_Tells, shr_slice_Lawful}
@@ -18,9 +18,9 @@ use Rattle.json_value.specs.Denotes.{tree_of}
 use Rattle.json_value.specs.Edits.{steps_of}
 use Rattle.json_value.specs.Steps.{tree_at}
 use Rattle.json_text.specs.Errors.{no_memory}
-use Rattle.json_value.specs.Lending.{LendsAlong, LendsNamed, Puts, PutsNothing, Stands, settled, lent, name_of, name_of_ok}
-use Rattle.json_value.proofs.Follows.{so_weaken}
-use Rattle.json_value.proofs.Settling.{settled_name, settled_lent, settled_stands, settled_only}
+use Rattle.json_value.specs.Lending.{LendsAlong, LendsNamed, Puts, PutsNothing, LeadsTo, missing_as_none, lent, name_of, name_of_ok}
+use Rattle.json_value.proofs.LenderRelations.{so_weaken}
+use Rattle.json_value.proofs.MissingPlaces.{missing_name, missing_lent, missing_stands, missing_only}
 use Rattle.json_value.specs.declared.value.Value.{Value}
 use Rattle.json_value.specs.contracts.value.Value.{the_row as value}
 use Rattle.json_text.specs.contracts.error.Error.{the_row as refusal}
@@ -30,10 +30,10 @@ use Rattle.json_value.proofs.value.Value.TheLaws.{the_row_laws as value_laws}
 use Rattle.json_value.specs.contracts.value.Value.reach as f
 use Rattle.json_value.proofs.value.Value.reach.Statement.{statement}
 use Rattle.json_value.proofs.value.Value.reach.Code as code
-use Rattle.json_value.specs.contracts.lending.reach_in as g
-use Rattle.json_value.proofs.lending.reach_in.Met as first-met
-use Rattle.json_value.specs.contracts.lending.settle as h
-use Rattle.json_value.proofs.lending.settle.Met as second-met
+use Rattle.json_value.specs.contracts.places.reach_in as g
+use Rattle.json_value.proofs.places.reach_in.Met as first-met
+use Rattle.json_value.specs.contracts.places.none_if_missing as h
+use Rattle.json_value.proofs.places.none_if_missing.Met as second-met
 
 abbrev stayed : Stays f.ended.signature.params f.ended.kept
 stayed = (stay_dropped _ no, (stay_dropped _ yes, (stay_dropped _ yes, tt)))
@@ -53,9 +53,9 @@ reach_spec 𝓤 𝓛 𝓜 𝓡 wired =
     qed 𝓛 (raw (G.pre z) ∷ []) ∵
     enter ! _ _ _ _ _ $ alloc_all ! (λ l. pass_all ! refl ((tt, tt), (((global_laws.lawful 𝓛).typed alloc _ are.1.0).0, (((shr_slice_Lawful 𝓛 (named 1) κs.1.0 node).typed path _ are.1.1.0).0, tt))) $
     sets ! (addr ! (through ! refl (stop !))) refl (tt, tt) $
-    calls_at ! (framed 𝓤 𝓛.H 𝓜 (tables 𝓤 𝓛.H 𝓜 𝓡 𝓡.env)) G (first-met.met 𝓤 𝓛 𝓜 𝓡 (code.calls-json_value::lending::reach_in 𝓡.env wired)) z
+    calls_at ! (framed 𝓤 𝓛.H 𝓜 (tables 𝓤 𝓛.H 𝓜 𝓡 𝓡.env)) G (first-met.met 𝓤 𝓛 𝓜 𝓡 (code.calls-json_value::places::reach_in 𝓡.env wired)) z
     (and_then ! (get ! refl) (and_then ! (get ! refl) (and_then ! (get ! refl) (no_more !)))) (λ u.
-    use1 𝓛 (later (some (λ (r : R.Denot). ((‵ (flft κs.0 qs.0) ⊛ ‵ (flft κs.1.0 qs.1.0) ⊛ ‵ ftrue) ⊛ ‵ (R.own_val r (u ∷ []))) ⊛ some (λ (ws : Lasts g.ended κs a). ‵ (lasts g.ended κs a ws) ⊛ (‵ (LendsAlong v (steps_of path.now) r) ⊛ raw (fact 𝓤 (Stands (steps_of path.now) (tree_of v.now) r))))))) (id⊢ 𝓤 _) $
+    use1 𝓛 (later (some (λ (r : R.Denot). ((‵ (flft κs.0 qs.0) ⊛ ‵ (flft κs.1.0 qs.1.0) ⊛ ‵ ftrue) ⊛ ‵ (R.own_val r (u ∷ []))) ⊛ some (λ (ws : Lasts g.ended κs a). ‵ (lasts g.ended κs a ws) ⊛ (‵ (LendsAlong v (steps_of path.now) r) ⊛ raw (fact 𝓤 (LeadsTo (steps_of path.now) (tree_of v.now) r))))))) (id⊢ 𝓤 _) $
     await ! tt $ pick ! (λ r. split ! $ split ! $ split ! $ move ! (2 ∷ []) $ peeks ! R _ (shows 𝓛 R) r (u ∷ []) (λ is.
     lands_as ! refl refl ((((result_laws F.row refusal ref-laws refusal_laws).lawful 𝓛).typed r (u ∷ []) is).0) $
     let G2 = triple_of 𝓛 h.signature (h.spec 𝓛 𝓜.mem 𝓡.returns) in
@@ -63,19 +63,19 @@ reach_spec 𝓤 𝓛 𝓜 𝓡 wired =
     -- [r; the two tokens; what was lent]
     nothing ! $ move ! (1 ∷ 0 ∷ []) $ join ! $ nothing ! $ move ! (2 ∷ 0 ∷ []) $ join ! $ join ! $ nothing ! $ move ! (1 ∷ 0 ∷ []) $
     use2 𝓛 (raw (G2.pre z2)) (id⊢ 𝓤 _) $
-    calls_at ! (framed 𝓤 𝓛.H 𝓜 (tables 𝓤 𝓛.H 𝓜 𝓡 𝓡.env)) G2 (second-met.met 𝓤 𝓛 𝓜 𝓡 (code.calls-json_value::lending::settle 𝓡.env wired)) z2
+    calls_at ! (framed 𝓤 𝓛.H 𝓜 (tables 𝓤 𝓛.H 𝓜 𝓡 𝓡.env)) G2 (second-met.met 𝓤 𝓛 𝓜 𝓡 (code.calls-json_value::places::none_if_missing 𝓡.env wired)) z2
     (and_then ! (get ! refl) (no_more !)) (λ o.
-    use1 𝓛 (later (some (λ (s : O.Denot). ((‵ (flft κs.0 qs.0) ⊛ ‵ ftrue) ⊛ ‵ (O.own_val s (o ∷ []))) ⊛ some (λ (ws : Lasts h.ended (κs.0, tt) (r, tt)). ‵ (lasts h.ended (κs.0, tt) (r, tt) ws) ⊛ raw (fact 𝓤 (s ≡ settled r)))))) (id⊢ 𝓤 _) $
+    use1 𝓛 (later (some (λ (s : O.Denot). ((‵ (flft κs.0 qs.0) ⊛ ‵ ftrue) ⊛ ‵ (O.own_val s (o ∷ []))) ⊛ some (λ (ws : Lasts h.ended (κs.0, tt) (r, tt)). ‵ (lasts h.ended (κs.0, tt) (r, tt) ws) ⊛ raw (fact 𝓤 (s ≡ missing_as_none r)))))) (id⊢ 𝓤 _) $
     await ! tt $ pick ! (λ s. split ! $ split ! $ split ! $ move ! (2 ∷ []) $ peeks ! O _ (shows 𝓛 O) s (o ∷ []) (λ is2.
     lands_as ! refl refl ((((result_laws (option.the_row F.row) refusal (option_laws F.row ref-laws) refusal_laws).lawful 𝓛).typed s (o ∷ []) is2).0) $
     returns ! (look_at ! 0 refl) $ free_all ! refl $
-    -- [the result; the first token; nothing; what settle says; the second token and nothing; what was lent]
+    -- [the result; the first token; nothing; what none_if_missing says; the second token and nothing; what was lent]
     move ! (3 ∷ []) $ pick ! (λ ws2. split ! $ drop ! $ heard ! _ (λ same.
     move ! (4 ∷ []) $ pick ! (λ ws. split ! $ drop ! $ split ! $ move ! (1 ∷ []) $ heard ! _ (λ seen. keep ! (0 ∷ 1 ∷ 2 ∷ 4 ∷ []) $
     let Put : Value → Value → Type 0 = λ n w. IfSome (lent s) (λ x. Puts (steps_of path.now) x w v.now n) in
     use1 𝓛 (‵ (LendsNamed v (name_of_ok r) Put (PutsNothing (steps_of path.now) v.now))) (so_weaken 𝓛 value value v.ghost_name (name_of_ok r) _ _ _ _
-    (λ w n p at. subst (λ (q : O.Denot). IfSome (lent q) (λ x. Puts (steps_of path.now) x w v.now n)) (sym same) (settled_lent r (λ x. Puts (steps_of path.now) x w v.now n) (p at))) (λ n p. p)) $
-    rewrite ! 0 (λ (m : maybe.Option GName). ‵ (LendsNamed v m Put (PutsNothing (steps_of path.now) v.now))) (sym (ap name_of same ∙ settled_name r)) refl $
+    (λ w n p at. subst (λ (q : O.Denot). IfSome (lent q) (λ x. Puts (steps_of path.now) x w v.now n)) (sym same) (missing_lent r (λ x. Puts (steps_of path.now) x w v.now n) (p at))) (λ n p. p)) $
+    rewrite ! 0 (λ (m : maybe.Option GName). ‵ (LendsNamed v m Put (PutsNothing (steps_of path.now) v.now))) (sym (ap name_of same ∙ missing_name r)) refl $
     suffices ! _ (ends_at 𝓛 f.ended stayed c z o s (tt, (tt, (tt, tt))) (tt, (tt, (tt, tt)))) $
     -- [what is lent; the result; the first token; the second token and nothing]
-    move ! (2 ∷ 3 ∷ []) $ join ! $ nothing ! $ nothing ! $ join ! $ nothing ! $ join ! $ nothing ! $ join ! $ move ! (1 ∷ 0 ∷ 3 ∷ 2 ∷ []) $ group ! 3 $ frame ! $ frame ! $ use0 𝓛 (raw (fact 𝓤 (IfErr s (λ e. e ≡ no_memory)))) (fact_i 𝓤 _ (emp 𝓤) (subst (λ (s : O.Denot). IfErr s (λ e. e ≡ no_memory)) (sym same) (settled_only (steps_of path.now) (tree_of v.now) r seen))) $ use0 𝓛 (raw (fact 𝓤 (IfOk s (λ o. option_map (λ x. tree_of x.now) o ≡ tree_at (steps_of path.now) (tree_of v.now))))) (fact_i 𝓤 _ (emp 𝓤) (subst (λ (s : O.Denot). IfOk s (λ o. option_map (λ x. tree_of x.now) o ≡ tree_at (steps_of path.now) (tree_of v.now))) (sym same) (settled_stands (steps_of path.now) (tree_of v.now) r seen))) $ done !))))))))))))
+    move ! (2 ∷ 3 ∷ []) $ join ! $ nothing ! $ nothing ! $ join ! $ nothing ! $ join ! $ nothing ! $ join ! $ move ! (1 ∷ 0 ∷ 3 ∷ 2 ∷ []) $ group ! 3 $ frame ! $ frame ! $ use0 𝓛 (raw (fact 𝓤 (IfErr s (λ e. e ≡ no_memory)))) (fact_i 𝓤 _ (emp 𝓤) (subst (λ (s : O.Denot). IfErr s (λ e. e ≡ no_memory)) (sym same) (missing_only (steps_of path.now) (tree_of v.now) r seen))) $ use0 𝓛 (raw (fact 𝓤 (IfOk s (λ o. option_map (λ x. tree_of x.now) o ≡ tree_at (steps_of path.now) (tree_of v.now))))) (fact_i 𝓤 _ (emp 𝓤) (subst (λ (s : O.Denot). IfOk s (λ o. option_map (λ x. tree_of x.now) o ≡ tree_at (steps_of path.now) (tree_of v.now))) (sym same) (missing_stands (steps_of path.now) (tree_of v.now) r seen))) $ done !))))))))))))

@@ -7,8 +7,8 @@ use Rattle.json_value.specs.Denotes.{tree_of, pair_of}
 use Rattle.json_value.specs.Edits.{step_of}
 use Rattle.json_value.proofs.AppliedTrees.{removal, remove_key, remove_index, object_changed, object_kept, object_missed, array_changed, array_kept, array_missed, element_removed, removal_missed, refused_as}
 use Rattle.json_value.specs.Touched.{unkeyed, Same}
-use Rattle.json_value.proofs.Touching.{array_touched, object_touched, removal_touches_key, removal_touches_index}
-use Rattle.json_value.proofs.Keeping.{removal_keeps_key, removal_keeps_index}
+use Rattle.json_value.proofs.EditedValues.{array_touched, object_touched, removal_touches_key, removal_touches_index}
+use Rattle.json_value.proofs.RefusedCalls.{removal_keeps_key, removal_keeps_index}
 use Rattle.json_value.proofs.value.Value.remove.Goals as goal
 
 pub returns-then-remove_pairs-clause-ok : goal.returns-then-remove_pairs-clause-ok

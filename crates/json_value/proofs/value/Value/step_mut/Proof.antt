@@ -1,4 +1,4 @@
-use Rattle.json_value.proofs.Walking.{MutBor, subst, ◌≡◌, [], ◌∷◌, refl, sym, ap, ◌∙◌, frame, id⊢, emp, ftrue, named, Val, fact, fact_i, tables, full_share, ‵, raw, ◌⊛◌, some, later, ◌$◌, ◌∵◌, !, qed, done, drop, use0, use1, use2, split, join, pick, await, suffices, group, rewrite, enter, of_opd, addr, stop, no_more, and_then, returns, alloc_all, pass_all, free_all, look_at, get, through, sets, lands_as, no, yes, move, keep, peeks, shows, flft, heard, mut_vals, mut_Tells, MutRef, plain, nothing, only, calls_at, lasts, Lasts, triple_of, Stays, stay_dropped, Goes-spent_ref, Goes-dropped, ends_at, framed, GName}
+use Rattle.json_value.proofs.HandProofs.{MutBor, subst, ◌≡◌, [], ◌∷◌, refl, sym, ap, ◌∙◌, frame, id⊢, emp, ftrue, named, Val, fact, fact_i, tables, full_share, ‵, raw, ◌⊛◌, some, later, ◌$◌, ◌∵◌, !, qed, done, drop, use0, use1, use2, split, join, pick, await, suffices, group, rewrite, enter, of_opd, addr, stop, no_more, and_then, returns, alloc_all, pass_all, free_all, look_at, get, through, sets, lands_as, no, yes, move, keep, peeks, shows, flft, heard, mut_vals, mut_Tells, MutRef, plain, nothing, only, calls_at, lasts, Lasts, triple_of, Stays, stay_dropped, Goes-spent_ref, Goes-dropped, ends_at, framed, GName}
 use mathlib.Core.Option as maybe
 use mathlib.Core.List.{not-mem-nil}
 use contract.Lifetimes.{Lfts}
@@ -6,7 +6,7 @@ use base.Fml.{Incl}
 use denote.RattleType.{RattleType}
 use denote.Param.{param, bounded}
 use denote.Param.Laws.{param_laws}
-use Rattle.json_value.proofs.Loneness.{one_of}
+use Rattle.json_value.proofs.SingleValues.{one_of}
 use denote.Laws.{Is}
 use contract.BorrowLft.{◌⊑◌}
 use mir.Syntax.{Args, Fn, a_type, dcons, dnil}
@@ -20,9 +20,9 @@ use denote.Struct.Field.{mut_ref_field}
 use denote.Struct.Laws.{mut_ref_laws}
 use denote.Param.Laws.{of_field, row_shared}
 use denote.Param.Shared.{mut_ref_shared}
-use Rattle.json_value.specs.Lending.{LendsStep, LendsNamed, Puts, PutsNothing, Stands, settled, lent, name_of, name_of_ok}
+use Rattle.json_value.specs.Lending.{LendsStep, LendsNamed, Puts, PutsNothing, LeadsTo, missing_as_none, lent, name_of, name_of_ok}
 use Rattle.json_value.specs.Steps.{child}
-use Rattle.json_value.proofs.Settling.{settled_lent, one_step, settled_name, settled_stands, settled_only}
+use Rattle.json_value.proofs.MissingPlaces.{missing_lent, one_step, missing_name, missing_stands, missing_only}
 use Rattle.json_text.specs.Errors.{no_memory}
 use Rattle.json_value.specs.contracts.value.Value.{the_row as value}
 use Rattle.json_text.specs.contracts.error.Error.{the_row as refusal}
@@ -33,8 +33,8 @@ use Rattle.std.specs.Prelude.{IfOk, IfErr, Option, option_map, IfSome}
 use Rattle.json_grammar.specs.Tree.{Tree}
 use Rattle.json_value.specs.Denotes.{tree_of}
 use Rattle.json_value.specs.declared.value.Value.{Value}
-use Rattle.json_value.proofs.Follows.{so_weaken}
-use Rattle.json_value.proofs.Named.{place_ok, on_no_place}
+use Rattle.json_value.proofs.LenderRelations.{so_weaken}
+use Rattle.json_value.proofs.LentNames.{place_ok, on_no_place}
 use Rattle.std.proofs.alloc.Global.TheLaws.{the_row_laws as global_laws, the_told as global_told}
 use Rattle.std.proofs.result.Result.TheLaws.{the_row_laws as result_laws}
 use Rattle.std.proofs.option.Option.TheLaws.{the_row_laws as option_laws}
@@ -44,12 +44,12 @@ use Rattle.json_value.specs.contracts.value.Value.step_mut as f
 use Rattle.json_value.proofs.value.Value.step_mut.Statement.{statement}
 use Rattle.json_value.proofs.value.Value.step_mut.Code as code
 use Rattle.json_value.proofs.value.Value.step_mut.Lts.{arg-0-0, arg-0-1, laws-0-0, laws-0-1}
-use Rattle.json_value.specs.contracts.child.step_of as g
-use Rattle.json_value.proofs.child.step_of.Met as first-met
-use Rattle.json_value.specs.contracts.slot.ValueSlot.TheImpl as impl
-use Rattle.json_value.proofs.slot.ValueSlot.TheImpl.Met as impl-met
-use Rattle.json_value.specs.contracts.lending.settle as h
-use Rattle.json_value.proofs.lending.settle.Met as second-met
+use Rattle.json_value.specs.contracts.container_mut.step_of as g
+use Rattle.json_value.proofs.container_mut.step_of.Met as first-met
+use Rattle.json_value.specs.contracts.container_mut.ValueContainerMut.TheImpl as impl
+use Rattle.json_value.proofs.container_mut.ValueContainerMut.TheImpl.Met as impl-met
+use Rattle.json_value.specs.contracts.places.none_if_missing as h
+use Rattle.json_value.proofs.places.none_if_missing.Met as second-met
 
 pub step_mut_spec : {M : Type 1} → statement M
 step_mut_spec {M} 𝓤 𝓛 𝓜 𝓡 wired I L x d dd met glue =
@@ -89,12 +89,12 @@ step_mut_spec {M} 𝓤 𝓛 𝓜 𝓡 wired I L x d dd met glue =
     nothing ! $ move ! (3 ∷ 0 ∷ []) $ join ! $ use0 𝓛 (‵ (flft [] full_share)) (𝓛.lfts.lft-nil full_share) $ join ! $ move ! (2 ∷ 0 ∷ []) $ join ! $ join ! $
     nothing ! $ use0 𝓛 (raw (fact 𝓤 (κs.1.0 ⊑ I.lives))) (fact_i 𝓤 _ (emp 𝓤) lives) $ join ! $ use0 𝓛 (raw (fact 𝓤 (Incl [] value.lives))) (fact_i 𝓤 (Incl [] value.lives) (emp 𝓤) (λ n m. m)) $ join ! $ move ! (1 ∷ 0 ∷ []) $
     use2 𝓛 (raw (G.pre z1)) (id⊢ 𝓤 _) $
-    calls_at ! (framed 𝓤 H 𝓜 𝓣) G (first-met.met 𝓤 𝓛 𝓜 𝓡 (code.calls-json_value::child::step_of 𝓡.env wired) S J' (laws-0-0 I L d dd κs3) (laws-0-1 I L d dd κs3) impl.ghosts impl.dict x d dd (impl-met.passed 𝓡.env (code.calls-json_value::slot::ValueSlot::list 𝓡.env wired) (code.calls-json_value::slot::ValueSlot::pairs 𝓡.env wired) (code.calls-json_value::slot::ValueSlot::pairs_with 𝓡.env wired) M 𝓤 𝓛 𝓜 𝓡) (record { as_key = met.as_key; as_index = met.as_index }) glue) z1
+    calls_at ! (framed 𝓤 H 𝓜 𝓣) G (first-met.met 𝓤 𝓛 𝓜 𝓡 (code.calls-json_value::container_mut::step_of 𝓡.env wired) S J' (laws-0-0 I L d dd κs3) (laws-0-1 I L d dd κs3) impl.ghosts impl.dict x d dd (impl-met.passed 𝓡.env (code.calls-json_value::container_mut::ValueContainerMut::list 𝓡.env wired) (code.calls-json_value::container_mut::ValueContainerMut::pairs 𝓡.env wired) (code.calls-json_value::container_mut::ValueContainerMut::pairs_with 𝓡.env wired) M 𝓤 𝓛 𝓜 𝓡) (record { as_key = met.as_key; as_index = met.as_index }) glue) z1
     (and_then ! (get ! refl) (and_then ! (get ! refl) (and_then ! (get ! refl) (no_more !)))) (λ u.
     let F = mut_ref_field (record { mir = named 0; lft = κs.0 }) value tt in
     let ref-laws = of_field F (mut_ref_laws (record { mir = named 0; lft = κs.0 }) value tt) refl (mut_ref_shared (record { mir = named 0; lft = κs.0 }) value tt (row_shared value value_laws)) in
     let R = result.the_row F.row refusal in let O = result.the_row (option.the_row F.row) refusal in
-    use1 𝓛 (later (some (λ (r : R.Denot). ((‵ (flft κs.0 qs.0) ⊛ ‵ (flft [] full_share) ⊛ ‵ (flft κs.1.0 qs.1.0) ⊛ ‵ ftrue) ⊛ ‵ (R.own_val r (u ∷ []))) ⊛ some (λ (ws : Lasts (g.ended S J' impl.ghosts impl.dict x d dd) κs3 a). ‵ (lasts (g.ended S J' impl.ghosts impl.dict x d dd) κs3 a ws) ⊛ (‵ (LendsStep v (x.step i) r) ⊛ raw (fact 𝓤 (Stands (x.step i ∷ []) (tree_of v.now) r))))))) (id⊢ 𝓤 _) $
+    use1 𝓛 (later (some (λ (r : R.Denot). ((‵ (flft κs.0 qs.0) ⊛ ‵ (flft [] full_share) ⊛ ‵ (flft κs.1.0 qs.1.0) ⊛ ‵ ftrue) ⊛ ‵ (R.own_val r (u ∷ []))) ⊛ some (λ (ws : Lasts (g.ended S J' impl.ghosts impl.dict x d dd) κs3 a). ‵ (lasts (g.ended S J' impl.ghosts impl.dict x d dd) κs3 a ws) ⊛ (‵ (LendsStep v (x.step i) r) ⊛ raw (fact 𝓤 (LeadsTo (x.step i ∷ []) (tree_of v.now) r))))))) (id⊢ 𝓤 _) $
     await ! tt $ pick ! (λ r. split ! $ split ! $ split ! $ move ! (2 ∷ []) $ peeks ! R _ (shows 𝓛 R) r (u ∷ []) (λ is.
     lands_as ! refl refl ((((result_laws F.row refusal ref-laws refusal_laws).lawful 𝓛).typed r (u ∷ []) is).0) $
     let G2 = triple_of 𝓛 h.signature (h.spec 𝓛 𝓜.mem 𝓡.returns) in
@@ -102,18 +102,18 @@ step_mut_spec {M} 𝓤 𝓛 𝓜 𝓡 wired I L x d dd met glue =
     -- [r; the token; the other tokens; what was lent]
     nothing ! $ move ! (1 ∷ 0 ∷ []) $ join ! $ nothing ! $ move ! (2 ∷ 0 ∷ []) $ join ! $ join ! $ nothing ! $ move ! (1 ∷ 0 ∷ []) $
     use2 𝓛 (raw (G2.pre z2)) (id⊢ 𝓤 _) $
-    calls_at ! (framed 𝓤 H 𝓜 𝓣) G2 (second-met.met 𝓤 𝓛 𝓜 𝓡 (code.calls-json_value::lending::settle 𝓡.env wired)) z2 (and_then ! (get ! refl) (no_more !)) (λ o.
-    use1 𝓛 (later (some (λ (s : O.Denot). ((‵ (flft κs.0 qs.0) ⊛ ‵ ftrue) ⊛ ‵ (O.own_val s (o ∷ []))) ⊛ some (λ (ws : Lasts h.ended (κs.0, tt) (r, tt)). ‵ (lasts h.ended (κs.0, tt) (r, tt) ws) ⊛ raw (fact 𝓤 (s ≡ settled r)))))) (id⊢ 𝓤 _) $
+    calls_at ! (framed 𝓤 H 𝓜 𝓣) G2 (second-met.met 𝓤 𝓛 𝓜 𝓡 (code.calls-json_value::places::none_if_missing 𝓡.env wired)) z2 (and_then ! (get ! refl) (no_more !)) (λ o.
+    use1 𝓛 (later (some (λ (s : O.Denot). ((‵ (flft κs.0 qs.0) ⊛ ‵ ftrue) ⊛ ‵ (O.own_val s (o ∷ []))) ⊛ some (λ (ws : Lasts h.ended (κs.0, tt) (r, tt)). ‵ (lasts h.ended (κs.0, tt) (r, tt) ws) ⊛ raw (fact 𝓤 (s ≡ missing_as_none r)))))) (id⊢ 𝓤 _) $
     await ! tt $ pick ! (λ s. split ! $ split ! $ split ! $ move ! (2 ∷ []) $ peeks ! O _ (shows 𝓛 O) s (o ∷ []) (λ is2.
     lands_as ! refl refl ((((result_laws (option.the_row F.row) refusal (option_laws F.row ref-laws) refusal_laws).lawful 𝓛).typed s (o ∷ []) is2).0) $
     returns ! (look_at ! 0 refl) $ free_all ! refl $
-    -- [the result; the token; nothing; what settle says; the other tokens; what was lent]
+    -- [the result; the token; nothing; what none_if_missing says; the other tokens; what was lent]
     move ! (3 ∷ []) $ pick ! (λ ws2. split ! $ drop ! $ heard ! _ (λ same.
     move ! (4 ∷ []) $ pick ! (λ ws. split ! $ drop ! $ split ! $ move ! (1 ∷ []) $ heard ! _ (λ seen. move ! (4 ∷ []) $ split ! $ keep ! (2 ∷ 3 ∷ 4 ∷ 1 ∷ []) $
     let Put : Value → Value → Type 0 = λ n w. IfSome (lent s) (λ y. Puts (x.step i ∷ []) y w v.now n) in
     use1 𝓛 (‵ (LendsNamed v (name_of_ok r) Put (PutsNothing (x.step i ∷ []) v.now))) (so_weaken 𝓛 value value v.ghost_name (name_of_ok r) _ _ _ _
-    (λ w n p at. subst (λ (q : O.Denot). IfSome (lent q) (λ y. Puts (x.step i ∷ []) y w v.now n)) (sym same) (settled_lent r (λ y. Puts (x.step i ∷ []) y w v.now n) (p (place_ok r at)))) (λ n p. on_no_place r _ p)) $
-    rewrite ! 0 (λ (m : maybe.Option GName). ‵ (LendsNamed v m Put (PutsNothing (x.step i ∷ []) v.now))) (sym (ap name_of same ∙ settled_name r)) refl $
+    (λ w n p at. subst (λ (q : O.Denot). IfSome (lent q) (λ y. Puts (x.step i ∷ []) y w v.now n)) (sym same) (missing_lent r (λ y. Puts (x.step i ∷ []) y w v.now n) (p (place_ok r at)))) (λ n p. on_no_place r _ p)) $
+    rewrite ! 0 (λ (m : maybe.Option GName). ‵ (LendsNamed v m Put (PutsNothing (x.step i ∷ []) v.now))) (sym (ap name_of same ∙ missing_name r)) refl $
     suffices ! _ (ends_at 𝓛 En stays c z o s (tt, (tt, (tt, tt))) (tt, (tt, (tt, tt)))) $
     -- [what is lent; the result; the first token; the second and nothing]
-    move ! (2 ∷ 3 ∷ []) $ join ! $ nothing ! $ nothing ! $ join ! $ nothing ! $ join ! $ nothing ! $ join ! $ move ! (1 ∷ 0 ∷ 3 ∷ 2 ∷ []) $ group ! 3 $ frame ! $ frame ! $ use0 𝓛 (raw (fact 𝓤 (IfErr s (λ e. e ≡ no_memory)))) (fact_i 𝓤 _ (emp 𝓤) (subst (λ (s : O.Denot). IfErr s (λ e. e ≡ no_memory)) (sym same) (settled_only (x.step i ∷ []) (tree_of v.now) r seen))) $ use0 𝓛 (raw (fact 𝓤 (IfOk s (λ o. option_map (λ (y : MutBor Value). tree_of y.now) o ≡ child (x.step i) (tree_of v.now))))) (fact_i 𝓤 _ (emp 𝓤) (subst (λ (s : O.Denot). IfOk s (λ o. option_map (λ (y : MutBor Value). tree_of y.now) o ≡ child (x.step i) (tree_of v.now))) (sym same) (subst (λ (o : Option Tree). IfOk (settled r) (λ p. option_map (λ (y : MutBor Value). tree_of y.now) p ≡ o)) (one_step (x.step i) (tree_of v.now)) (settled_stands (x.step i ∷ []) (tree_of v.now) r seen)))) $ done !)))))))))))))
+    move ! (2 ∷ 3 ∷ []) $ join ! $ nothing ! $ nothing ! $ join ! $ nothing ! $ join ! $ nothing ! $ join ! $ move ! (1 ∷ 0 ∷ 3 ∷ 2 ∷ []) $ group ! 3 $ frame ! $ frame ! $ use0 𝓛 (raw (fact 𝓤 (IfErr s (λ e. e ≡ no_memory)))) (fact_i 𝓤 _ (emp 𝓤) (subst (λ (s : O.Denot). IfErr s (λ e. e ≡ no_memory)) (sym same) (missing_only (x.step i ∷ []) (tree_of v.now) r seen))) $ use0 𝓛 (raw (fact 𝓤 (IfOk s (λ o. option_map (λ (y : MutBor Value). tree_of y.now) o ≡ child (x.step i) (tree_of v.now))))) (fact_i 𝓤 _ (emp 𝓤) (subst (λ (s : O.Denot). IfOk s (λ o. option_map (λ (y : MutBor Value). tree_of y.now) o ≡ child (x.step i) (tree_of v.now))) (sym same) (subst (λ (o : Option Tree). IfOk (missing_as_none r) (λ p. option_map (λ (y : MutBor Value). tree_of y.now) p ≡ o)) (one_step (x.step i) (tree_of v.now)) (missing_stands (x.step i ∷ []) (tree_of v.now) r seen)))) $ done !)))))))))))))

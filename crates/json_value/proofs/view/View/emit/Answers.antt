@@ -1,8 +1,15 @@
 use Rattle.std.proofs.Common.{ap}
-use Rattle.json_grammar.specs.Tree.{tokens}
-use Rattle.json_value.specs.Seen.{form_seen}
-use Rattle.json_value.proofs.Emitting.{emits_one}
+use Rattle.json_value.specs.Emitting.{tree_given}
+use Rattle.json_value.specs.Seen.{form_seen, seen}
+use Rattle.json_value.proofs.TokensGiven.{emits_one}
+use Rattle.json_value.proofs.GivenTrees.{seen_proper, tokens_given}
 use Rattle.json_value.proofs.view.View.emit.Goals as goal
 
-pub returns-in-Absent : goal.returns-in-Absent
-returns-in-Absent g c = emits_one _ _ _ _ _ _ _ _ _ (ap (λ f. tokens (form_seen f)) c.in-Absent.is) c.null.ensures
+pub returns-in-Absent-clause-given : goal.returns-in-Absent-clause-given
+returns-in-Absent-clause-given g c = emits_one _ _ _ _ _ _ _ _ _ (ap (λ f. tree_given (form_seen f)) c.in-Absent.is) c.null.ensures
+
+pub returns-in-Packed-clause-tokens : goal.returns-in-Packed-clause-tokens
+returns-in-Packed-clause-tokens g c = tokens_given (seen c.args.self) (seen_proper c.args.self)
+
+pub returns-in-Whole-clause-tokens : goal.returns-in-Whole-clause-tokens
+returns-in-Whole-clause-tokens g c = tokens_given (seen c.args.self) (seen_proper c.args.self)

@@ -1,0 +1,169 @@
+// Places of a value, and the array and the object that it is, lent.
+ghost use Rattle.std.specs.Prelude.{◌≡◌, [], ◌∷◌, option_map, IfOk, IfSome};
+ghost use Rattle.std.specs.Borrow.{LendsSoOk, sem};
+ghost use Rattle.json_doc.specs.Readings.{type_of};
+ghost use Rattle.json_doc.specs.declared.json_type.JsonType.{JsonType};
+ghost use Rattle.json_value.specs.Denotes.{tree_of, list_in, pairs_in};
+ghost use Rattle.json_value.specs.Edits.{steps_of};
+ghost use Rattle.json_value.specs.Lending.{missing_as_none, Puts, PutsNothing, AddsNothing, UpsertsNothing, LendsPlace, lent, Opens, LendsPart, Appends, PutsMember};
+ghost use Rattle.json_value.specs.Rows.{value_row, array_row, object_row};
+ghost use Rattle.json_value.specs.Steps.{child, tree_at};
+ghost use Rattle.json_grammar.specs.Tree.{list, pairs, list_trees, list_pairs};
+ghost use Rattle.json_value.specs.Seen.{list_of, pairs_of};
+ghost use Rattle.json_value.specs.Written.{ArrayOpened, ObjectOpened};
+ghost use Rattle.json_value.specs.declared.value.Value.{Array as ArrayValue, Object as ObjectValue};
+ghost use Rattle.json_value.specs.Failures.{OnlyNoMemory};
+
+use crate::array::Array;
+use crate::container_mut::{append_of, insert_of, step_of, type_unmatched};
+use crate::index::Index;
+use crate::object::Object;
+use crate::path::PointerNode;
+use crate::places::{none_if_missing, reach_in};
+use crate::value::Value;
+use json_text::{ErrorCode, Result};
+use std::alloc::Global;
+
+// An array, or none where there was no array; only want of memory stays an error.
+fn none_if_no_array<'a>(r: Result<&'a mut Array>) -> Result<Option<&'a mut Array>>
+    ensures missing_as_none { result ≡ missing_as_none r.entry }
+{
+    match r {
+        Ok(array) => Ok(Some(array)),
+        Err(error) => match error.code {
+            ErrorCode::NoMemory => Err(error),
+            _ => Ok(None),
+        },
+    }
+}
+
+// The same of an object.
+fn none_if_no_object<'a>(r: Result<&'a mut Object>) -> Result<Option<&'a mut Object>>
+    ensures missing_as_none { result ≡ missing_as_none r.entry }
+{
+    match r {
+        Ok(object) => Ok(Some(object)),
+        Err(error) => match error.code {
+            ErrorCode::NoMemory => Err(error),
+            _ => Ok(None),
+        },
+    }
+}
+
+impl Value {
+    /// The place to which the steps lead; none where they lead nowhere. What is written there changes that place and no
+    /// other; a copy of one level is made of each packed container on the way, and nothing more changes on None and on a
+    /// refusal. Fails with `NoMemory` if memory runs out.
+    pub fn reach(&mut self, alloc: Global, path: &[PointerNode]) -> Result<Option<&mut Value>>
+        ensures* writes_back { sem 𝓛 (LendsPlace self.entry result
+            (λ x w n. Puts (steps_of path.now) x w self.old n)
+            (PutsNothing (steps_of path.now) self.old)) }
+        ensures stands { IfOk result (λ o. option_map (λ x. tree_of x.now) o
+            ≡ tree_at (steps_of path.now) (tree_of self.old)) }
+        ensures only { OnlyNoMemory result }
+    {
+        none_if_missing(reach_in(self, alloc, path))
+    }
+
+    /// The place to which the step leads; none where it leads nowhere. What is written there changes that place and no
+    /// other; a packed container is copied by one level, and nothing more changes on None and on a refusal.
+    /// Fails with `NoMemory` if memory runs out.
+    pub fn step_mut<I: Index>(&mut self, alloc: Global, index: I) -> Result<Option<&mut Value>>
+        ensures* writes_back { sem 𝓛 (LendsPlace self.entry result
+            (λ x w n. Puts (I.step index ∷ []) x w self.old n)
+            (PutsNothing (I.step index ∷ []) self.old)) }
+        ensures stands { IfOk result (λ o. option_map (λ x. tree_of x.now) o
+            ≡ child (I.step index) (tree_of self.old)) }
+        ensures only { OnlyNoMemory result }
+    {
+        none_if_missing(step_of(self, alloc, index))
+    }
+
+    /// Appends the value to the array, and lends its place. The value must be an array; a packed one is copied by one level.
+    /// A refusal keeps the tree, and copies no more than that level. Fails with `NoMemory` if memory runs out.
+    pub fn append_value(&mut self, alloc: Global, val: Value) -> Result<&mut Value>
+        requires { type_of (tree_of self.old) ≡ JsonType.Array }
+        ensures* writes_back { sem 𝓛 (LendsSoOk value_row value_row self.entry result
+            (λ n w. Appends w self.old n) (AddsNothing self.old)) }
+        ensures value { IfOk result (λ v. v.now ≡ val) }
+        ensures only { OnlyNoMemory result }
+    {
+        append_of(self, alloc, val)
+    }
+
+    /// Puts the value at the first member of the key, or appends such a member, and lends its place. The value must be an
+    /// object; a packed one is copied by one level. A refusal keeps the tree, and copies no more than that level.
+    /// Fails with `NoMemory` if memory runs out.
+    pub fn insert(&mut self, alloc: Global, key: &str, val: Value) -> Result<&mut Value>
+        requires { type_of (tree_of self.old) ≡ JsonType.Object }
+        ensures* writes_back { sem 𝓛 (LendsSoOk value_row value_row self.entry result
+            (λ n w. PutsMember key.now w self.old n) (UpsertsNothing self.old)) }
+        ensures value { IfOk result (λ v. v.now ≡ val) }
+        ensures only { OnlyNoMemory result }
+    {
+        insert_of(self, alloc, key, val)
+    }
+
+    // The array with an owned list.
+    fn array_open(&mut self, alloc: Global) -> Result<&mut Array>
+        ensures* writes_back { sem 𝓛 (LendsSoOk value_row array_row self.entry result
+            (λ n w. (tree_of n ≡ list (list_trees (list_in w))) × (n ≡ ArrayValue w))
+            (λ n. n ≡ self.old)) }
+        ensures opens { Opens list_in (list_of (tree_of self.old)) (ArrayOpened self.old) result }
+    {
+        match self.array_mut() {
+            Some(array) => {
+                array.make_owned(alloc)?;
+                Ok(array)
+            }
+            None => Err(type_unmatched()),
+        }
+    }
+
+    // The object with an owned list.
+    fn object_open(&mut self, alloc: Global) -> Result<&mut Object>
+        ensures* writes_back { sem 𝓛 (LendsSoOk value_row object_row self.entry result
+            (λ n w. (tree_of n ≡ pairs (list_pairs (pairs_in w))) × (n ≡ ObjectValue w))
+            (λ n. n ≡ self.old)) }
+        ensures opens { Opens pairs_in (pairs_of (tree_of self.old)) (ObjectOpened self.old)
+            result }
+    {
+        match self.object_mut() {
+            Some(object) => {
+                object.make_owned(alloc)?;
+                Ok(object)
+            }
+            None => Err(type_unmatched()),
+        }
+    }
+
+    /// The array, to be changed; none exactly for another kind. What is written there is the array that the value then is. A
+    /// packed array is copied by one level. None and a refusal change nothing.
+    /// Fails with `NoMemory` if memory runs out.
+    pub fn as_array_mut(&mut self, alloc: Global) -> Result<Option<&mut Array>>
+        ensures* writes_back { sem 𝓛 (LendsPart value_row array_row self.entry result
+            (λ n w. (tree_of n ≡ list (list_trees (list_in w))) × (n ≡ ArrayValue w))
+            (λ n. n ≡ self.old)) }
+        ensures array { IfOk result (λ o. option_map (λ a. list_in a.now) o
+            ≡ list_of (tree_of self.old)) }
+        ensures children { IfSome (lent result) (ArrayOpened self.old) }
+        ensures only { OnlyNoMemory result }
+    {
+        none_if_no_array(self.array_open(alloc))
+    }
+
+    /// The object, to be changed; none exactly for another kind. What is written there is the object that the value then is. A
+    /// packed object is copied by one level. None and a refusal change nothing.
+    /// Fails with `NoMemory` if memory runs out.
+    pub fn as_object_mut(&mut self, alloc: Global) -> Result<Option<&mut Object>>
+        ensures* writes_back { sem 𝓛 (LendsPart value_row object_row self.entry result
+            (λ n w. (tree_of n ≡ pairs (list_pairs (pairs_in w))) × (n ≡ ObjectValue w))
+            (λ n. n ≡ self.old)) }
+        ensures object { IfOk result (λ o. option_map (λ a. pairs_in a.now) o
+            ≡ pairs_of (tree_of self.old)) }
+        ensures children { IfSome (lent result) (ObjectOpened self.old) }
+        ensures only { OnlyNoMemory result }
+    {
+        none_if_no_object(self.object_open(alloc))
+    }
+}

@@ -1,0 +1,220 @@
+// Values of their own, and values from what is none yet.
+ghost use Rattle.std.specs.Prelude.{◌≡◌, [], ◌∷◌, None, map, IfOk, ◌≤◌, option_map, unwrap_or};
+ghost use Rattle.std.specs.Fmt.{decimal, signed_decimal};
+ghost use Rattle.json_grammar.specs.Tree.{null, boolean, num, text, list, pairs as object, no_trees, no_pairs, list_trees};
+ghost use Rattle.json_number.specs.Literals.{raw_literal};
+ghost use Rattle.json_number.specs.Numbers.{text_of_number};
+ghost use Rattle.json_value.specs.Denotes.{tree_of, pair_of};
+ghost use Rattle.json_value.specs.Places.{places_in};
+ghost use Rattle.json_value.specs.Rows.{owned};
+ghost use Rattle.json_value.specs.declared.value.Value.{Array as ArrayValue, Null};
+ghost use Rattle.std.specs.Char.{encode_utf8};
+ghost use Rattle.json_value.specs.Made.{IsArrayOf, IsObjectOf};
+ghost use Rattle.json_model.specs.Merged.{inserted_all};
+ghost use Rattle.json_value.specs.Merged.{with_members};
+ghost use Rattle.json_value.specs.Room.{room_in};
+ghost use Rattle.json_value.specs.Steps.{tree_or_null};
+ghost use Rattle.json_value.specs.Failures.{OnlyNoMemory};
+
+use crate::container::{Container, Form};
+use crate::literal::Literal;
+use crate::pair::{Pair, put_pair};
+use crate::text::{Text, TextForm};
+use crate::value::Value;
+use json_number::{Number, RawNumber};
+use json_text::Result;
+use std::alloc::Global;
+
+impl Value {
+    /// Null. Takes no memory.
+    pub fn new() -> Value
+        ensures { tree_of result ≡ null }
+    {
+        Value::Null
+    }
+
+    /// Null. Takes no memory.
+    pub fn new_null() -> Value
+        ensures { tree_of result ≡ null }
+    {
+        Value::Null
+    }
+
+    /// The boolean. Takes no memory.
+    pub fn new_bool(value: bool) -> Value
+        ensures { tree_of result ≡ boolean value }
+    {
+        Value::Bool(value)
+    }
+
+    /// The integer. Takes no memory.
+    pub fn new_u64(value: u64) -> Value
+        ensures { tree_of result ≡ num (decimal value) }
+    {
+        Value::Number(Number::from(value))
+    }
+
+    /// The integer. Takes no memory.
+    pub fn new_i64(value: i64) -> Value
+        ensures { tree_of result ≡ num (signed_decimal value) }
+    {
+        Value::Number(Number::from(value))
+    }
+
+    /// The number. Takes no memory.
+    pub fn from_number(number: Number) -> Value
+        ensures { tree_of result ≡ num (text_of_number number) }
+    {
+        Value::Number(number)
+    }
+
+    /// The number: by value where it is an integer of `u64` or `i64`, else as its literal. Takes no memory.
+    pub fn from_raw_number(number: RawNumber) -> Value
+        ensures tree { tree_of result ≡ num (raw_literal number) }
+        ensures places { places_in result ≡ None ∷ [] }
+    {
+        match number.to_number() {
+            Some(integer) => Value::Number(integer),
+            None => Value::Raw(Literal::new(number.into_string())),
+        }
+    }
+
+    /// The array without elements. Takes no memory.
+    pub fn new_array() -> Value
+        ensures { tree_of result ≡ list no_trees }
+    {
+        Value::Array(Container { form: Form::Empty })
+    }
+
+    /// The object without members. Takes no memory.
+    pub fn new_object() -> Value
+        ensures { tree_of result ≡ object no_pairs }
+    {
+        Value::Object(Container { form: Form::Empty })
+    }
+
+    /// The static string. Takes no memory.
+    pub fn from_static_str(s: &'static str) -> Value
+        ensures tree { tree_of result ≡ text s.now }
+        ensures places { places_in result ≡ None ∷ [] }
+    {
+        Value::Text(Text::from_static(s))
+    }
+
+    /// The array of these elements. Takes no memory.
+    pub fn from_vec(items: Vec<Value>) -> Value
+        ensures tree { tree_of result ≡ list (list_trees (map tree_of items.items)) }
+        ensures value { result ≡ ArrayValue (owned items) }
+    {
+        Value::Array(Container {
+            form: Form::Owned(items),
+        })
+    }
+
+    /// A string of these characters, of its own. Fails with `NoMemory` if memory runs out.
+    pub fn copy_str(alloc: Global, s: &str) -> Result<Value>
+        ensures tree { IfOk result (λ v. tree_of v ≡ text s.now) }
+        ensures places { IfOk result (λ v. places_in v ≡ None ∷ []) }
+        ensures only { OnlyNoMemory result }
+    {
+        let copied = Text::copy(alloc, s)?;
+        Ok(Value::Text(copied))
+    }
+
+    /// The value; null for none. Takes no memory.
+    pub fn from_option(value: Option<Value>) -> Value
+        ensures tree { tree_of result ≡ tree_or_null (option_map tree_of value) }
+        ensures value { result ≡ unwrap_or value Null }
+    {
+        match value {
+            Some(value) => value,
+            None => Value::Null,
+        }
+    }
+
+    /// Null. Takes no memory.
+    pub fn from_unit() -> Value
+        ensures { tree_of result ≡ null }
+    {
+        Value::Null
+    }
+
+    /// A string of these characters, of its own: nothing is parsed. Fails with `NoMemory` if memory runs out.
+    pub fn from_str(alloc: Global, val: &str) -> Result<Value>
+        ensures tree { IfOk result (λ v. tree_of v ≡ text val.now) }
+        ensures places { IfOk result (λ v. places_in v ≡ None ∷ []) }
+        ensures only { OnlyNoMemory result }
+    {
+        Value::copy_str(alloc, val)
+    }
+
+    /// A string of this character. Fails with `NoMemory` if memory runs out.
+    pub fn from_char(alloc: Global, c: char) -> Result<Value>
+        ensures tree { IfOk result (λ v. tree_of v ≡ text (encode_utf8 c)) }
+        ensures places { IfOk result (λ v. places_in v ≡ None ∷ []) }
+        ensures only { OnlyNoMemory result }
+    {
+        let mut copied = String::new(alloc);
+        copied.push(c)?;
+        Ok(Value::Text(Text {
+            form: TextForm::Copied(copied),
+        }))
+    }
+
+    /// An array without elements, which takes `capacity` of them before it asks for memory again.
+    /// Fails with `NoMemory` if memory runs out.
+    pub fn new_array_with(alloc: Global, capacity: usize) -> Result<Value>
+        ensures tree { IfOk result (λ v. tree_of v ≡ list no_trees) }
+        ensures room { IfOk result (λ v. capacity ≤ room_in v) }
+        ensures only { OnlyNoMemory result }
+    {
+        let items = Vec::with_capacity(alloc, capacity)?;
+        Ok(Value::Array(Container {
+            form: Form::Owned(items),
+        }))
+    }
+
+    /// An object without members, which takes `capacity` of them before it asks for memory again.
+    /// Fails with `NoMemory` if memory runs out.
+    pub fn new_object_with(alloc: Global, capacity: usize) -> Result<Value>
+        ensures tree { IfOk result (λ v. tree_of v ≡ object no_pairs) }
+        ensures room { IfOk result (λ v. capacity ≤ room_in v) }
+        ensures only { OnlyNoMemory result }
+    {
+        let members = Vec::with_capacity(alloc, capacity)?;
+        Ok(Value::Object(Container {
+            form: Form::Owned(members),
+        }))
+    }
+
+    /// An array of clones of the items. Fails with `NoMemory` if memory runs out.
+    pub fn from_slice_of(alloc: Global, items: &[Value]) -> Result<Value>
+        ensures tree { IfOk result (λ v. tree_of v ≡ list (list_trees (map tree_of items.now))) }
+        ensures places { IfOk result (IsArrayOf (λ vs. map places_in vs
+            ≡ map places_in items.now)) }
+        ensures only { OnlyNoMemory result }
+    {
+        let mut copies = Vec::with_capacity(alloc, items.len())?;
+        for item in items {
+            copies.push(item.clone(alloc)?)?;
+        }
+        Ok(Value::from_vec(copies))
+    }
+
+    /// The object into which the pairs are put in turn, from the first on: a pair whose key is there gives the member its
+    /// value, another is appended. Fails with `NoMemory` if memory runs out.
+    pub fn from_pairs(alloc: Global, pairs: Vec<Pair>) -> Result<Value>
+        ensures tree { IfOk result (λ v. tree_of v
+            ≡ object (inserted_all (map pair_of pairs.items) no_pairs)) }
+        ensures members { IfOk result (IsObjectOf (λ ms. ms ≡ with_members pairs.items [])) }
+        ensures only { OnlyNoMemory result }
+    {
+        let mut members = Vec::with_capacity(alloc, pairs.len())?;
+        for pair in pairs {
+            put_pair(&mut members, pair)?;
+        }
+        Ok(Value::Object(Container {
+            form: Form::Owned(members),
+        }))
+    }
+}
