@@ -31,9 +31,9 @@ fn resizes(
     value: &mut Value,
     alloc: Global,
     len: usize,
-    text: &'static str,
+    element: &Value,
 ) -> json_text::Result<bool> {
-    array(value)?.resize(alloc, len, &Value::from_static_str(text))?;
+    array(value)?.resize(alloc, len, element)?;
     Ok(true)
 }
 
@@ -49,10 +49,12 @@ fn doubles(value: &mut Value, alloc: Global) -> json_text::Result<bool> {
 #[test]
 fn lengths_are_changed(rt: HostRuntime) -> Result<(), Fail> {
     let alloc = rt.alloc();
-    let longer = |value: &mut Value, alloc| resizes(value, alloc, 3, "world");
+    let world = Value::from_static_str("world");
+    let longer = |value: &mut Value, alloc| resizes(value, alloc, 3, &world);
     let then = "[\"hello\",\"world\",\"world\"]";
     assert!(rt; becomes(alloc, "[\"hello\"]", longer, then)?);
-    let shorter = |value: &mut Value, alloc| resizes(value, alloc, 2, "other");
+    let zero = Value::new_u64(0);
+    let shorter = |value: &mut Value, alloc| resizes(value, alloc, 2, &zero);
     assert!(rt; becomes(alloc, then, shorter, "[\"hello\",\"world\"]")?);
     assert!(rt; becomes(alloc, "[]", doubles, "[2,4,8,16]")?);
     Ok(())
@@ -168,11 +170,15 @@ fn pops_none(value: &mut Value, alloc: Global) -> json_text::Result<bool> {
     Ok(array(value)?.pop(alloc)?.is_none())
 }
 
-fn pushes_and_pops(value: &mut Value, alloc: Global) -> json_text::Result<bool> {
+fn pushes(value: &mut Value, alloc: Global) -> json_text::Result<bool> {
     let array = array(value)?;
     array.push(alloc, Value::new_u64(3))?;
     array.push(alloc, Value::from_static_str("hi"))?;
-    gave(alloc, array.pop(alloc)?, "\"hi\"")
+    Ok(true)
+}
+
+fn pops(value: &mut Value, alloc: Global) -> json_text::Result<bool> {
+    gave(alloc, array(value)?.pop(alloc)?, "\"hi\"")
 }
 
 fn clears(value: &mut Value, _alloc: Global) -> json_text::Result<bool> {
@@ -185,7 +191,9 @@ fn clears(value: &mut Value, _alloc: Global) -> json_text::Result<bool> {
 fn the_end_is_changed(rt: HostRuntime) -> Result<(), Fail> {
     let alloc = rt.alloc();
     assert!(rt; becomes(alloc, "[]", pops_none, "[]")?);
-    assert!(rt; becomes(alloc, "[1,2]", pushes_and_pops, "[1,2,3]")?);
+    let longer = "[1,2,3,\"hi\"]";
+    assert!(rt; becomes(alloc, "[1,2]", pushes, longer)?);
+    assert!(rt; becomes(alloc, longer, pops, "[1,2,3]")?);
     assert!(rt; becomes(alloc, "[1,2]", clears, "[]")?);
     Ok(())
 }
@@ -237,7 +245,7 @@ fn inserts(
 }
 
 fn inserts_twice(value: &mut Value, alloc: Global) -> json_text::Result<bool> {
-    Ok(inserts(value, alloc, 1, "one")? && inserts(value, alloc, 4, "two")?)
+    Ok(inserts(value, alloc, 1, "inserted1")? && inserts(value, alloc, 4, "inserted2")?)
 }
 
 fn sets_first(value: &mut Value, alloc: Global) -> json_text::Result<bool> {
@@ -253,7 +261,8 @@ fn sets_first(value: &mut Value, alloc: Global) -> json_text::Result<bool> {
 #[test]
 fn elements_are_put_in(rt: HostRuntime) -> Result<(), Fail> {
     let alloc = rt.alloc();
-    assert!(rt; becomes(alloc, "[1,2,3]", inserts_twice, "[1,\"one\",2,3,\"two\"]")?);
+    let then = "[1,\"inserted1\",2,3,\"inserted2\"]";
+    assert!(rt; becomes(alloc, "[1,2,3]", inserts_twice, then)?);
     assert!(rt; becomes(alloc, "[1,2]", sets_first, "[9,2]")?);
     Ok(())
 }
@@ -266,19 +275,36 @@ fn taken(value: &mut Value) -> Array {
     }
 }
 
+fn is_null(value: &Value) -> bool {
+    value.view().get_type() == JsonType::Null
+}
+
+// Whether these are null, the number 2, and null.
+fn shows_second(items: &[Value]) -> bool {
+    match items {
+        [first, second, third] => {
+            is_null(first) && is_number(second.view(), 2) && is_null(third)
+        }
+        _ => false,
+    }
+}
+
 fn gives_from_both_ends(value: &mut Value, alloc: Global) -> json_text::Result<bool> {
     let mut items = taken(value).into_iter(alloc)?;
     let ends = gave(alloc, items.next(), "1")? && gave(alloc, items.next_back(), "3")?;
-    let shown = match items.as_slice().first() {
-        Some(first) => items.as_slice().len() == 3 && first.view().get_type() == JsonType::Null,
-        None => false,
-    };
+    let shown = shows_second(items.as_slice());
     let left = items.len() == 1 && items.as_mut_slice().len() == 3;
     Ok(ends && shown && left && gave(alloc, items.next(), "2")? && items.next().is_none())
+}
+
+fn gives_nothing(_value: &mut Value, alloc: Global) -> json_text::Result<bool> {
+    let mut items = Array::new().into_iter(alloc)?;
+    Ok(items.as_slice().is_empty() && items.next_back().is_none())
 }
 
 #[test]
 fn elements_are_given_from_both_ends(rt: HostRuntime) -> Result<(), Fail> {
     assert!(rt; becomes(rt.alloc(), "[1,2,3]", gives_from_both_ends, "null")?);
+    assert!(rt; becomes(rt.alloc(), "[]", gives_nothing, "[]")?);
     Ok(())
 }

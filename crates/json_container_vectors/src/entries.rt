@@ -34,8 +34,8 @@ fn makes_where_missing(value: &mut Value, alloc: Global) -> json_text::Result<bo
     put(one, 4);
     let two = object
         .entry(alloc, "b")?
-        .or_insert_with_key(|key: &str| Value::new_bool(key == "b"));
-    let made = two.view().as_bool() == Some(true);
+        .or_insert_with_key(|key: &str| Value::new_u64(key.len() as u64));
+    let made = is_number(two.view(), 1);
     let three = object.entry(alloc, "c")?.or_default();
     Ok(made && three.view().as_bool().is_none())
 }
@@ -44,7 +44,7 @@ fn makes_where_missing(value: &mut Value, alloc: Global) -> json_text::Result<bo
 fn a_missing_key_is_put_in(rt: HostRuntime) -> Result<(), Fail> {
     let alloc = rt.alloc();
     assert!(rt; becomes(alloc, "{}", inserts_or_keeps, "{\"hello\":1}")?);
-    let then = "{\"a\":4,\"b\":true,\"c\":null}";
+    let then = "{\"a\":4,\"b\":1,\"c\":null}";
     assert!(rt; becomes(alloc, "{}", makes_where_missing, then)?);
     Ok(())
 }

@@ -43,15 +43,15 @@ fn sets_first_pair(value: &mut Value, alloc: Global) -> json_text::Result<bool> 
     if object.is_empty() {
         return Ok(false);
     }
-    put(object.pair_mut(alloc, 0)?.value_mut(), 6);
+    *object.pair_mut(alloc, 0)?.value_mut() = Value::from_static_str("x");
     Ok(true)
 }
 
 #[test]
 fn the_first_of_equal_keys_is_written(rt: HostRuntime) -> Result<(), Fail> {
-    let (json, then) = ("{\"a\":1,\"a\":true}", "{\"a\":5,\"a\":true}");
-    assert!(rt; becomes(rt.alloc(), json, sets_a, then)?);
-    assert!(rt; becomes(rt.alloc(), "{\"a\":1}", sets_first_pair, "{\"a\":6}")?);
+    let json = "{\"a\":1,\"a\":true,\"a\":null}";
+    assert!(rt; becomes(rt.alloc(), json, sets_a, "{\"a\":5,\"a\":true,\"a\":null}")?);
+    assert!(rt; becomes(rt.alloc(), "{\"a\":1}", sets_first_pair, "{\"a\":\"x\"}")?);
     Ok(())
 }
 
@@ -61,7 +61,7 @@ fn inserts_d(value: &mut Value, alloc: Global) -> json_text::Result<bool> {
         .insert(alloc, "d", Value::from_static_str("e"))?
         .is_none();
     let second = object.insert(alloc, "d", Value::from_static_str("f"))?;
-    Ok(first && gave(alloc, second, "\"e\"")? && object.len() == 2)
+    Ok(first && gave(alloc, second, "\"e\"")? && object.len() == 4)
 }
 
 fn has_room(alloc: Global) -> json_text::Result<bool> {
@@ -69,6 +69,12 @@ fn has_room(alloc: Global) -> json_text::Result<bool> {
     let held = object.capacity() >= 3;
     object.reserve(alloc, 5)?;
     Ok(held && object.is_empty() && object.capacity() >= 5)
+}
+
+fn reserves_one(value: &mut Value, alloc: Global) -> json_text::Result<bool> {
+    let object = object(value)?;
+    object.reserve(alloc, 1)?;
+    Ok(object.capacity() > object.len())
 }
 
 fn clears(value: &mut Value, _alloc: Global) -> json_text::Result<bool> {
@@ -79,7 +85,10 @@ fn clears(value: &mut Value, _alloc: Global) -> json_text::Result<bool> {
 #[test]
 fn members_are_inserted(rt: HostRuntime) -> Result<(), Fail> {
     let alloc = rt.alloc();
-    assert!(rt; becomes(alloc, "{\"a\":1}", inserts_d, "{\"a\":1,\"d\":\"f\"}")?);
+    let json = "{\"a\":1,\"b\":true,\"c\":null}";
+    let then = "{\"a\":1,\"b\":true,\"c\":null,\"d\":\"f\"}";
+    assert!(rt; becomes(alloc, json, inserts_d, then)?);
+    assert!(rt; becomes(alloc, json, reserves_one, json)?);
     assert!(rt; becomes(alloc, "{\"a\":1}", clears, "{}")?);
     assert!(rt; has_room(alloc)?);
     Ok(())
@@ -130,7 +139,7 @@ fn members_are_appended_and_kept(rt: HostRuntime) -> Result<(), Fail> {
     let alloc = rt.alloc();
     let appended = |value: &mut Value, alloc| appends(value, alloc, "{\"a\":null,\"b\":1}");
     assert!(rt; becomes(alloc, "{\"a\":1}", appended, "{\"a\":null,\"b\":1}")?);
-    assert!(rt; becomes(alloc, "{\"a\":1}", extends, "{\"a\":1,\"b\":2}")?);
+    assert!(rt; becomes(alloc, "{\"a\":\"x\"}", extends, "{\"a\":\"x\",\"b\":2}")?);
     assert!(rt; becomes(alloc, "{\"a\":1,\"b\":true}", keeps_a, "{\"a\":1}")?);
     Ok(())
 }

@@ -2,6 +2,9 @@ pub mod Mapped
 pub mod Rooms
 pub mod Entries
 pub mod Keys
+pub mod Put
 pub mod Ranges
+pub mod FoundBehind
+pub mod Turns
 pub mod Kept
 pub mod Found

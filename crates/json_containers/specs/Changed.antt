@@ -1,12 +1,14 @@
 -- What calls leave of an array and of an object: the members after the first write, changed in one way.
 use denote.RattleType.{RattleType}
 use denote.Array.{Array}
-use Rattle.std.specs.Prelude.{◌≡◌, ◌+◌, ◌≤◌, Bool, List, length, map, Vec}
+use Rattle.std.specs.Prelude.{◌≡◌, ℕ, ◌+◌, ◌≤◌, Bool, List, ◌++◌, length, map, Vec}
 use Rattle.std.specs.List.{items_where_true}
 use Rattle.std.specs.declared.alloc.Global.{Global}
 use Rattle.json_value.specs.Denotes.{tree_of, pair_of, list_in, pairs_in}
+use Rattle.json_value.specs.Places.{origin_of}
 use Rattle.json_value.specs.Room.{spare_in}
 use Rattle.json_value.specs.Rows.{owned, owned_items_of}
+use Rattle.json_value.specs.Spots.{IsPlace}
 use Rattle.json_value.specs.Written.{FirstElements, FirstMembers}
 use Rattle.json_value.specs.declared.container.Container.{Container}
 use Rattle.json_value.specs.declared.pair.Keyed.{Keyed}
@@ -44,6 +46,14 @@ Keeps old new = (answers : List Bool) × (length answers ≡ length old) × (new
 -- room for one is taken at most
 abbrev pub TakesOne : {T : Type 0} → (old new : Container T) → Type 0
 TakesOne old new = spare_in old ≤ spare_in new + 1
+
+-- n were taken out, and an owned or empty container keeps their room
+abbrev pub KeepsRoom : {T : Type 0} → ℕ → (old new : Container T) → Type 0
+KeepsRoom n old new = (IsPlace old → ⊥) → spare_in new ≡ n + spare_in old
+
+-- copies of these came behind the others: they stand where these do, and so do their parts
+abbrev pub AppendsCopies : List Value → (items now : List Value) → Type 0
+AppendsCopies copied items now = (more : List Value) × (map origin_of more ≡ map origin_of copied) × (now ≡ items ++ more)
 
 -- a slice of these, lent
 abbrev pub slice_row : RattleType → RattleType

@@ -1,23 +1,19 @@
 -- The members of an object with an owned list, and what a write at one of them, or behind them, leaves.
-use Rattle.std.specs.Prelude.{◌≡◌, ◌+◌, ◌-◌, ◌<◌, ℕ, Bool, List, [], ◌∷◌, ◌++◌, Option, Some, None, slice_get, Vec, filter, not, bytes_eq, map, option_map, set}
-use Rattle.json_grammar.specs.Tree.{Tree, Pairs}
-use Rattle.json_model.specs.Edit.{inserted}
+use Rattle.std.specs.Prelude.{◌≡◌, ◌+◌, ◌-◌, ◌<◌, ℕ, Bool, List, [], ◌∷◌, ◌++◌, Option, Some, None, slice_get, Vec, option_map}
 use denote.Ref.{Bor, MutBor}
 use denote.Param.Members.{Mut}
 use Rattle.std.specs.Fn.{Called}
 use Rattle.std.specs.Vec.{with_item}
 use Rattle.std.specs.declared.alloc.Global.{Global}
-use Rattle.std.proofs.Common.{arith, ◌∙◌, sym, ap}
+use Rattle.std.proofs.Common.{arith, ◌∙◌, sym, ap, subst}
 use Rattle.std.proofs.lemmas.List.{length-append}
-use Rattle.json_value.specs.Denotes.{text_bytes, pair_of}
-use Rattle.json_value.specs.FirstMember.{IsFirstOf}
-use Rattle.json_value.specs.Room.{form_spare}
+use Rattle.json_value.specs.Denotes.{text_bytes}
+use Rattle.json_value.specs.OwnLists.{with_list}
+use Rattle.json_value.specs.Room.{spare_in}
 use Rattle.json_value.specs.Rows.{owned, owned_items_of}
 use Rattle.json_value.specs.Seen.{first_of}
 use Rattle.json_value.specs.Written.{value_in, with_value}
 use Rattle.json_value.specs.declared.container.Container.{Container}
-use Rattle.json_value.specs.declared.container.Form.{Form}
-use Rattle.json_value.specs.declared.container.Form.TheVariants.{Empty, Owned, Packed}
 use Rattle.json_value.specs.declared.pair.Keyed.{Keyed}
 use Rattle.json_value.specs.declared.value.Value.{Value}
 
@@ -38,14 +34,9 @@ abbrev pub with_value_of : Vec (Keyed Value) Global → ℕ → Value → Option
 with_value_of v i w (Some m) = with_item v i (with_value m w)
 with_value_of v i w None = v
 
-abbrev pub form_with : Form (Keyed Value) → ℕ → Value → Container (Keyed Value)
-form_with Empty i w = record { form = Empty }
-form_with (Owned v) i w = owned (with_value_of v i w (slice_get v.items i))
-form_with (Packed p) i w = record { form = Packed p }
-
 -- the object with w as the value of the member at the index
 abbrev pub object_with : Container (Keyed Value) → ℕ → Value → Container (Keyed Value)
-object_with o i w = form_with o.form i w
+object_with o i w = with_list o (λ v _. with_value_of v i w (slice_get v.items i))
 
 -- a list with one member more, for which it has room
 abbrev pub one_more : (v : Vec (Keyed Value) Global) → v.len < v.cap → Keyed Value → Vec (Keyed Value) Global
@@ -54,21 +45,16 @@ one_more v room m = record { ptr = v.ptr; len = v.len + 1; cap = v.cap; alloc = 
 pub room_for : (n m : ℕ) → 0 < m - n → n < m
 room_for n m h = omega (arith, h)
 
-abbrev pub form_more : (f : Form (Keyed Value)) → 0 < form_spare f → Keyed Value → Container (Keyed Value)
-form_more Empty room m = record { form = Empty }
-form_more (Owned v) room m = owned (one_more v (room_for v.len v.cap room) m)
-form_more (Packed p) room m = record { form = Packed p }
+-- so where the list is that of a container with room
+pub room_in_list : (o : Container (Keyed Value)) (v : Vec (Keyed Value) Global) → o ≡ owned v → 0 < spare_in o → v.len < v.cap
+room_in_list o v is room = room_for v.len v.cap (subst (λ (c : Container (Keyed Value)). 0 < spare_in c) is room)
 
 -- the object with one member more, for which it has room
-abbrev pub object_more : (o : Container (Keyed Value)) → 0 < form_spare o.form → Keyed Value → Container (Keyed Value)
-object_more o room m = form_more o.form room m
-
--- the members but those of the key
-abbrev pub unkeyed : List ℕ → List (Keyed Value) → List (Keyed Value)
-unkeyed k ms = filter (λ m. not (bytes_eq (text_bytes m.key) k)) ms
+abbrev pub object_more : (o : Container (Keyed Value)) → 0 < spare_in o → Keyed Value → Container (Keyed Value)
+object_more o room m = with_list o (λ v is. one_more v (room_in_list o v is room) m)
 
 -- the value of the first member of the key
-abbrev pub found : List ℕ → List (List ℕ × Tree) → Option Tree
+abbrev pub found : {X : Type 0} → List ℕ → List (List ℕ × X) → Option X
 found k ps = option_map (λ p. p.1) (first_of k ps)
 
 -- a call of f at the key and at the value of m may give r, and leave f' and m'
@@ -79,13 +65,3 @@ pub record CalledAtMember {F : Type 0} (g : Mut F (Bor (List ℕ) × (MutBor Val
   pub shows : (key.now ≡ text_bytes m.key) × (value.now ≡ value_in m)
   pub called : Called g f (key, (value, tt)) (r, (left, tt)) f'
   pub leaves : m' ≡ with_value m left.now
-
--- the value of the first member of the key was changed so, and nothing else
-pub record AtMember (k : List ℕ) (Changes : Value → Value → Type 0) (items now : List (Keyed Value)) : Type 0 where
-  pub at : ℕ
-  pub before : Keyed Value
-  pub after : Value
-  pub is_first : IsFirstOf k (map pair_of items) at
-  pub there : slice_get items at ≡ Some before
-  pub exchanged : now ≡ set items at (with_value before after)
-  pub changed : Changes (value_in before) after

@@ -1,5 +1,7 @@
 // The calls of arrays.
-ghost use Rattle.std.specs.Prelude.{◌≡◌, ◌+◌, ◌-◌, ◌≤◌, ◌<◌, ◌↔◌, List, [], ◌∷◌, ◌++◌, length, map, take, drop, replicate, IfOk, IfErr, OnOk, OnErr, IsOk, IsNone, IsTrue, Some, slice_get, slice_range, option_map};
+ghost use Rattle.std.specs.Prelude.{◌≡◌, ◌+◌, ◌-◌, ◌≤◌, ◌<◌, ◌↔◌, List, [], ◌∷◌, ◌++◌, length, map};
+ghost use Rattle.std.specs.Prelude.{IfOk, IfErr, OnOk, OnErr, IsOk, IsNone, IsTrue, Some};
+ghost use Rattle.std.specs.Prelude.{take, drop, replicate, slice_get, slice_range, option_map};
 ghost use Rattle.std.specs.Option.{option_to_list};
 ghost use Rattle.std.specs.Vec.{vec_len, vec_capacity};
 ghost use Rattle.std.specs.Fn.{CalledAt, CalledAtMut};
@@ -7,13 +9,15 @@ ghost use Rattle.std.specs.List.{insert, remove, remove_range, swap_remove, Appe
 ghost use Rattle.std.specs.List.Retain.{IsFiltered, RetainsInTurn};
 ghost use Rattle.json_text.specs.Errors.{no_memory};
 ghost use Rattle.json_value.specs.Denotes.{tree_of, list_in};
+ghost use Rattle.json_value.specs.Places.{origin_of};
 ghost use Rattle.json_value.specs.Room.{spare_in};
-ghost use Rattle.json_value.specs.Spots.{IsPlace, spot_of};
+ghost use Rattle.json_value.specs.Spots.{IsPlace};
 ghost use Rattle.json_value.specs.Written.{FirstElements};
 ghost use Rattle.json_value.specs.declared.container.Container.{Container};
 ghost use Rattle.json_value.specs.declared.value.Value.{Value};
 ghost use Rattle.json_containers.specs.IntoIter.{values_left, values_shown};
-ghost use Rattle.json_containers.specs.Changed.{ArrayChanged, ArrayBecame, own_elements, Keeps, TakesOne};
+ghost use Rattle.json_containers.specs.Changed.{ArrayChanged, ArrayBecame, own_elements, Keeps};
+ghost use Rattle.json_containers.specs.Changed.{TakesOne, KeepsRoom, AppendsCopies};
 
 use crate::into_iter::IntoIter;
 use json_text::Result;
@@ -23,7 +27,7 @@ use std::alloc::Global;
 // Copies of these.
 fn copy_all(alloc: Global, items: &[Value]) -> Result<Vec<Value>>
     ensures list { IfOk result (λ v. map tree_of v.items ≡ map tree_of items.now) }
-    ensures spots { IfOk result (λ v. map spot_of v.items ≡ map spot_of items.now) }
+    ensures stands { IfOk result (λ v. map origin_of v.items ≡ map origin_of items.now) }
     ensures only { IfErr result (λ e. e ≡ no_memory) }
 {
     let mut copies = Vec::with_capacity(alloc, items.len())?;
@@ -36,6 +40,8 @@ fn copy_all(alloc: Global, items: &[Value]) -> Result<Vec<Value>>
 // So many copies of the value.
 fn copies_of(alloc: Global, value: &Value, count: usize) -> Result<Vec<Value>>
     ensures list { IfOk result (λ v. map tree_of v.items ≡ replicate count (tree_of value.now)) }
+    ensures stands { IfOk result (λ v. map origin_of v.items
+        ≡ replicate count (origin_of value.now)) }
     ensures only { IfErr result (λ e. e ≡ no_memory) }
 {
     let mut copies = Vec::with_capacity(alloc, count)?;
@@ -78,8 +84,9 @@ fn take_range(list: &mut Vec<Value>, from: usize, to: usize) -> Result<Vec<Value
     }
 }
 
-/// The calls of an array that are those of a list. The first write to a place of a document copies one
-/// level of it: each element becomes a value of its own, or a place of the same document.
+/// The calls of an array that are those of a list. The first write to a place of a document copies
+/// one level of it: each element becomes a value of its own, or a place of the same document.
+/// `NoMemory` comes where memory runs out, and then the array has the elements that it had.
 ///
 /// ```
 /// use json_containers::ArrayCalls;
@@ -111,21 +118,26 @@ pub trait ArrayCalls {
     fn reserve(&mut self, alloc: Global, additional: usize) -> Result<()>
         ensures room { OnOk result (additional ≤ spare_in (held self.new)) }
         ensures same { list_in (held self.new) ≡ list_in (held self.old) }
-        ensures free { additional ≤ spare_in (held self.old) → IsOk result × (held self.new ≡ held self.old) }
+        ensures free { additional ≤ spare_in (held self.old)
+            → IsOk result × (held self.new ≡ held self.old) }
         ensures only { IfErr result (λ e. e ≡ no_memory) };
 
     /// Puts the element before the one at the index.
     fn insert(&mut self, alloc: Global, index: usize, element: Value) -> Result<()>
         requires { index ≤ length (list_in (held self.old)) }
-        ensures ok { OnOk result (list_in (held self.new) ≡ insert (list_in (held self.old)) index (tree_of element)) }
-        ensures children { OnOk result (ArrayBecame (λ items. insert items index element) (held self.old) (held self.new)) }
+        ensures ok { OnOk result (list_in (held self.new)
+            ≡ insert (list_in (held self.old)) index (tree_of element)) }
+        ensures children { OnOk result (ArrayBecame (λ items. insert items index element)
+            (held self.old) (held self.new)) }
         ensures kept { OnErr result (list_in (held self.new) ≡ list_in (held self.old)) }
         ensures only { IfErr result (λ e. e ≡ no_memory) };
 
     /// Appends the element.
     fn push(&mut self, alloc: Global, element: Value) -> Result<()>
-        ensures ok { OnOk result (list_in (held self.new) ≡ list_in (held self.old) ++ tree_of element ∷ []) }
-        ensures children { OnOk result (ArrayBecame (λ items. items ++ element ∷ []) (held self.old) (held self.new)) }
+        ensures ok { OnOk result (list_in (held self.new)
+            ≡ list_in (held self.old) ++ tree_of element ∷ []) }
+        ensures children { OnOk result (ArrayBecame (λ items. items ++ element ∷ [])
+            (held self.old) (held self.new)) }
         ensures kept { OnErr result (list_in (held self.new) ≡ list_in (held self.old)) }
         ensures free { 0 < spare_in (held self.old) → IsOk result }
         ensures room { TakesOne (held self.old) (held self.new) }
@@ -134,8 +146,11 @@ pub trait ArrayCalls {
     /// Takes the element out; the others close up.
     fn remove(&mut self, alloc: Global, index: usize) -> Result<Value>
         requires { index < length (list_in (held self.old)) }
-        ensures ok { OnOk result (list_in (held self.new) ≡ remove (list_in (held self.old)) index) }
-        ensures children { IfOk result (λ v. ArrayChanged (λ items now. (now ≡ remove items index) × (slice_get items index ≡ Some v)) (held self.old) (held self.new)) }
+        ensures ok { OnOk result (list_in (held self.new)
+            ≡ remove (list_in (held self.old)) index) }
+        ensures children { IfOk result (λ v. ArrayChanged
+            (λ items now. (now ≡ remove items index) × (slice_get items index ≡ Some v))
+            (held self.old) (held self.new)) }
         ensures kept { OnErr result (list_in (held self.new) ≡ list_in (held self.old)) }
         ensures free { (IsPlace (held self.old) → ⊥) → IsOk result }
         ensures only { IfErr result (λ e. e ≡ no_memory) };
@@ -150,8 +165,11 @@ pub trait ArrayCalls {
     /// Takes the element out; the last one takes its place.
     fn swap_remove(&mut self, alloc: Global, index: usize) -> Result<Value>
         requires { index < length (list_in (held self.old)) }
-        ensures ok { IfOk result (λ v. list_in (held self.new) ≡ swap_remove (list_in (held self.old)) index (tree_of v)) }
-        ensures children { IfOk result (λ v. ArrayChanged (λ items now. (now ≡ swap_remove items index v) × (slice_get items index ≡ Some v)) (held self.old) (held self.new)) }
+        ensures ok { IfOk result (λ v. list_in (held self.new)
+            ≡ swap_remove (list_in (held self.old)) index (tree_of v)) }
+        ensures children { IfOk result (λ v. ArrayChanged
+            (λ items now. (now ≡ swap_remove items index v) × (slice_get items index ≡ Some v))
+            (held self.old) (held self.new)) }
         ensures kept { OnErr result (list_in (held self.new) ≡ list_in (held self.old)) }
         ensures free { (IsPlace (held self.old) → ⊥) → IsOk result }
         ensures only { IfErr result (λ e. e ≡ no_memory) };
@@ -166,23 +184,30 @@ pub trait ArrayCalls {
 
     /// The last element, taken out; none exactly of an array without elements.
     fn pop(&mut self, alloc: Global) -> Result<Option<Value>>
-        ensures ok { IfOk result (λ o. list_in (held self.old) ≡ list_in (held self.new) ++ option_to_list (option_map tree_of o)) }
+        ensures ok { IfOk result (λ o. list_in (held self.old)
+            ≡ list_in (held self.new) ++ option_to_list (option_map tree_of o)) }
         ensures none { IfOk result (λ o. IsNone o → list_in (held self.old) ≡ []) }
-        ensures children { IfOk result (λ o. ArrayChanged (λ items now. items ≡ now ++ option_to_list o) (held self.old) (held self.new)) }
+        ensures children { IfOk result (λ o. ArrayChanged
+            (λ items now. items ≡ now ++ option_to_list o)
+            (held self.old) (held self.new)) }
         ensures kept { OnErr result (list_in (held self.new) ≡ list_in (held self.old)) }
         ensures free { (IsPlace (held self.old) → ⊥) → IsOk result }
         ensures only { IfErr result (λ e. e ≡ no_memory) };
 
-    /// No elements. Takes no memory.
+    /// No elements. An owned list keeps its room. Takes no memory.
     fn clear(&mut self)
-        ensures { list_in (held self.new) ≡ [] };
+        ensures empty { list_in (held self.new) ≡ [] }
+        ensures room { KeepsRoom (length (list_in (held self.old)))
+            (held self.old) (held self.new) };
 
     /// The elements from the index on, taken out.
     fn split_off(&mut self, alloc: Global, at: usize) -> Result<Array>
         requires { at ≤ length (list_in (held self.old)) }
         ensures ok { OnOk result (list_in (held self.new) ≡ take at (list_in (held self.old))) }
         ensures rest { IfOk result (λ a. list_in a ≡ drop at (list_in (held self.old))) }
-        ensures children { IfOk result (λ a. ArrayChanged (λ items now. (now ≡ take at items) × (own_elements a ≡ drop at items)) (held self.old) (held self.new)) }
+        ensures children { IfOk result (λ a. ArrayChanged
+            (λ items now. (now ≡ take at items) × (own_elements a ≡ drop at items))
+            (held self.old) (held self.new)) }
         ensures kept { OnErr result (list_in (held self.new) ≡ list_in (held self.old)) }
         ensures only { IfErr result (λ e. e ≡ no_memory) };
 
@@ -190,23 +215,34 @@ pub trait ArrayCalls {
     fn drain(&mut self, alloc: Global, from: usize, to: usize) -> Result<Array>
         requires order { from ≤ to }
         requires within { to ≤ length (list_in (held self.old)) }
-        ensures ok { OnOk result (list_in (held self.new) ≡ remove_range (list_in (held self.old)) from to) }
-        ensures taken { IfOk result (λ a. list_in a ≡ slice_range (list_in (held self.old)) from to) }
-        ensures children { IfOk result (λ a. ArrayChanged (λ items now. (now ≡ remove_range items from to) × (own_elements a ≡ slice_range items from to)) (held self.old) (held self.new)) }
+        ensures ok { OnOk result (list_in (held self.new)
+            ≡ remove_range (list_in (held self.old)) from to) }
+        ensures taken { IfOk result (λ a. list_in a
+            ≡ slice_range (list_in (held self.old)) from to) }
+        ensures children { IfOk result (λ a. ArrayChanged (λ items now.
+            (now ≡ remove_range items from to) × (own_elements a ≡ slice_range items from to))
+            (held self.old) (held self.new)) }
         ensures kept { OnErr result (list_in (held self.new) ≡ list_in (held self.old)) }
         ensures only { IfErr result (λ e. e ≡ no_memory) };
 
     /// The other's elements, appended; the other has none then.
     fn append(&mut self, alloc: Global, other: &mut Array) -> Result<()>
-        ensures ok { OnOk result (list_in (held self.new) ≡ list_in (held self.old) ++ list_in other.old) }
-        ensures children { OnOk result (ArrayChanged (λ items now. (more : List Value) × FirstElements other.old more × (now ≡ items ++ more)) (held self.old) (held self.new)) }
+        ensures ok { OnOk result (list_in (held self.new)
+            ≡ list_in (held self.old) ++ list_in other.old) }
+        ensures children { OnOk result (ArrayChanged (λ items now.
+            (more : List Value) × FirstElements other.old more × (now ≡ items ++ more))
+            (held self.old) (held self.new)) }
         ensures emptied { OnOk result (list_in other.new ≡ []) }
-        ensures kept { OnErr result ((list_in (held self.new) ≡ list_in (held self.old)) × (list_in other.new ≡ list_in other.old)) }
+        ensures kept { OnErr result ((list_in (held self.new) ≡ list_in (held self.old))
+            × (list_in other.new ≡ list_in other.old)) }
         ensures only { IfErr result (λ e. e ≡ no_memory) };
 
     /// Appends copies of these.
     fn extend(&mut self, alloc: Global, items: &[Value]) -> Result<()>
-        ensures ok { OnOk result (list_in (held self.new) ≡ list_in (held self.old) ++ map tree_of items.now) }
+        ensures ok { OnOk result (list_in (held self.new)
+            ≡ list_in (held self.old) ++ map tree_of items.now) }
+        ensures children { OnOk result (ArrayChanged (AppendsCopies items.now)
+            (held self.old) (held self.new)) }
         ensures kept { OnErr result (list_in (held self.new) ≡ list_in (held self.old)) }
         ensures only { IfErr result (λ e. e ≡ no_memory) };
 
@@ -214,13 +250,22 @@ pub trait ArrayCalls {
     fn extend_from_within(&mut self, alloc: Global, from: usize, to: usize) -> Result<()>
         requires order { from ≤ to }
         requires within { to ≤ length (list_in (held self.old)) }
-        ensures ok { OnOk result (list_in (held self.new) ≡ list_in (held self.old) ++ slice_range (list_in (held self.old)) from to) }
+        ensures ok { OnOk result (list_in (held self.new)
+            ≡ list_in (held self.old) ++ slice_range (list_in (held self.old)) from to) }
+        ensures children { OnOk result (ArrayChanged
+            (λ items now. AppendsCopies (slice_range items from to) items now)
+            (held self.old) (held self.new)) }
         ensures kept { OnErr result (list_in (held self.new) ≡ list_in (held self.old)) }
         ensures only { IfErr result (λ e. e ≡ no_memory) };
 
     /// Cut to this length, or filled up with copies of the value.
     fn resize(&mut self, alloc: Global, new_len: usize, value: &Value) -> Result<()>
-        ensures ok { OnOk result (list_in (held self.new) ≡ take new_len (list_in (held self.old)) ++ replicate (new_len - length (list_in (held self.old))) (tree_of value.now)) }
+        ensures ok { OnOk result (list_in (held self.new)
+            ≡ take new_len (list_in (held self.old))
+            ++ replicate (new_len - length (list_in (held self.old))) (tree_of value.now)) }
+        ensures children { OnOk result (ArrayChanged (λ items now.
+            AppendsCopies (replicate (new_len - length items) value.now) (take new_len items) now)
+            (held self.old) (held self.new)) }
         ensures kept { OnErr result (list_in (held self.new) ≡ list_in (held self.old)) }
         ensures only { IfErr result (λ e. e ≡ no_memory) };
 
@@ -228,14 +273,16 @@ pub trait ArrayCalls {
     fn retain<F: FnMut(&Value) -> bool>(&mut self, alloc: Global, f: F) -> Result<()>
         requires { F.IsAlwaysCallable f }
         ensures ok { OnOk result (Keeps (list_in (held self.old)) (list_in (held self.new))) }
-        ensures children { OnOk result (ArrayChanged (IsFiltered (CalledAt F.FnMut) f) (held self.old) (held self.new)) }
+        ensures children { OnOk result (ArrayChanged (IsFiltered (CalledAt F.FnMut) f)
+            (held self.old) (held self.new)) }
         ensures kept { OnErr result (list_in (held self.new) ≡ list_in (held self.old)) }
         ensures only { IfErr result (λ e. e ≡ no_memory) };
 
     /// The same, with what `f` writes.
     fn retain_mut<F: FnMut(&mut Value) -> bool>(&mut self, alloc: Global, f: F) -> Result<()>
         requires { F.IsAlwaysCallable f }
-        ensures children { OnOk result (ArrayChanged (RetainsInTurn (CalledAtMut F.FnMut) f) (held self.old) (held self.new)) }
+        ensures children { OnOk result (ArrayChanged (RetainsInTurn (CalledAtMut F.FnMut) f)
+            (held self.old) (held self.new)) }
         ensures kept { OnErr result (list_in (held self.new) ≡ list_in (held self.old)) }
         ensures only { IfErr result (λ e. e ≡ no_memory) };
 
@@ -248,7 +295,9 @@ pub trait ArrayCalls {
     ) -> Result<()>
         requires { F.IsAlwaysCallable f }
         ensures len { OnOk result (length (list_in (held self.new)) ≡ new_len) }
-        ensures children { OnOk result (ArrayChanged (λ items now. AppendsResults F.step (take new_len items) now f) (held self.old) (held self.new)) }
+        ensures children { OnOk result (ArrayChanged
+            (λ items now. AppendsResults F.step (take new_len items) now f)
+            (held self.old) (held self.new)) }
         ensures kept { OnErr result (list_in (held self.new) ≡ list_in (held self.old)) }
         ensures only { IfErr result (λ e. e ≡ no_memory) };
 
@@ -259,7 +308,8 @@ pub trait ArrayCalls {
         ensures free { (IsPlace (held self) → ⊥) → IsOk result }
         ensures only { IfErr result (λ e. e ≡ no_memory) };
 
-    /// All elements, to be changed.
+    /// All elements, to be changed. No clause says what the array becomes: a caller that has to
+    /// know it takes `array.list_mut(alloc)?.as_mut_slice()`, which says it.
     fn as_mut_slice(&mut self, alloc: Global) -> Result<&mut [Value]>
         ensures list { IfOk result (λ s. map tree_of s.now ≡ list_in (held self.old)) }
         ensures free { (IsPlace (held self.old) → ⊥) → IsOk result }
@@ -329,7 +379,11 @@ impl ArrayCalls for Array {
     }
 
     fn clear(&mut self) {
-        *self = Array::new();
+        match self.list() {
+            Some(list) if list.is_empty() => {}
+            Some(_) => self.owned_mut().clear(),
+            None => *self = Array::new(),
+        }
     }
 
     fn split_off(&mut self, alloc: Global, at: usize) -> Result<Array> {

@@ -1,14 +1,16 @@
 // The entry of a key in an object.
-ghost use Rattle.std.specs.Prelude.{◌≡◌, ◌+◌, ◌<◌, ◌++◌, ◌∷◌, [], length, map, take, option_map, slice_get, false, Some};
+ghost use Rattle.std.specs.Prelude.{◌≡◌, ◌+◌, ◌<◌, ◌++◌, ◌∷◌, [], length, map, take, false, Some};
+ghost use Rattle.std.specs.Prelude.{option_map, slice_get};
 ghost use Rattle.std.specs.Borrow.{Lends, sem};
 ghost use Rattle.std.specs.Vec.{vec_len, vec_capacity, SameBlock};
 ghost use Rattle.json_grammar.specs.Tree.{list_pairs};
-ghost use Rattle.json_model.specs.Edit.{has_key};
+ghost use Rattle.json_model.specs.Edit.{has_key, without_key};
 ghost use Rattle.json_value.specs.Denotes.{pair_of, pairs_in, text_bytes};
 ghost use Rattle.json_value.specs.Room.{spare_in};
 ghost use Rattle.json_value.specs.Rows.{object_row, value_row};
 ghost use Rattle.json_value.specs.Written.{value_in};
-ghost use Rattle.json_containers.specs.Members.{own_members, key_at, object_with, unkeyed};
+ghost use Rattle.json_value.specs.Touched.{unkeyed};
+ghost use Rattle.json_containers.specs.Members.{own_members, key_at, object_with};
 
 use json_value::{Object, Pair, Text, Value};
 use std::mem::replace;
@@ -47,7 +49,8 @@ pub struct OccupiedEntry<'a> {
     pub(crate) object: &'a mut Object,
     pub(crate) at: usize,
     ghost within: { at < length (own_members object.now) },
-    ghost first: { has_key (key_at (own_members object.now) at) (list_pairs (map pair_of (take at (own_members object.now)))) ≡ false },
+    ghost first: { has_key (key_at (own_members object.now) at)
+        (list_pairs (map pair_of (take at (own_members object.now)))) ≡ false },
 }
 
 /// The entry of a key that is missing, with the key and with room for a member.
@@ -73,7 +76,8 @@ pub struct VacantEntry<'a> {
 // The value of the member at the index.
 fn value_at(object: &mut Object, at: usize) -> &mut Value
     requires { at < length (own_members object.old) }
-    ensures* writes_back { sem 𝓛 (Lends object_row value_row object.entry result (object_with object.old at)) }
+    ensures* writes_back { sem 𝓛 (Lends object_row value_row object.entry result
+        (object_with object.old at)) }
     ensures value { option_map value_in (slice_get (own_members object.old) at) ≡ Some result.now }
 {
     let pairs = object.owned_mut();
@@ -106,7 +110,9 @@ pub(crate) fn take_all(pairs: &mut Vec<Pair>, at: usize) -> Value
 }
 
 impl<'a> OccupiedEntry<'a> {
-    ghost use Rattle.json_containers.specs.Entry.{Occupied, entry_key, entry_object, entry_value, entry_lends, occupied_lends, with_entry_value, IsWritten};
+    ghost use Rattle.json_containers.specs.Entry.{Occupied, entry_key, entry_object, entry_value};
+    ghost use Rattle.json_containers.specs.Entry.{entry_lends, occupied_lends, with_entry_value};
+    ghost use Rattle.json_containers.specs.Entry.{IsWritten};
     ghost use Rattle.json_value.specs.Denotes.{tree_of};
     ghost use Rattle.json_value.specs.declared.value.Value.{Value};
     ghost use Rattle.json_value.specs.Rows.{OwnsList};
@@ -124,7 +130,8 @@ impl<'a> OccupiedEntry<'a> {
     pub fn get_mut(&mut self) -> &mut Value
         ensures* writes_back { sem 𝓛 (occupied_lends self.entry result) }
         ensures value { entry_value (Occupied self.old) ≡ Some result.now }
-        ensures written { (w : Value) → IsWritten (Occupied self.old) w (Occupied (with_entry_value self.old w)) }
+        ensures written { (w : Value) → IsWritten (Occupied self.old) w
+            (Occupied (with_entry_value self.old w)) }
     {
         let at = self.at;
         value_at(self.object, at)
@@ -161,8 +168,13 @@ impl<'a> OccupiedEntry<'a> {
     /// Takes out all members of the key. The value of the first.
     pub fn remove(self) -> Value
         ensures value { entry_value (Occupied self.entry) ≡ Some result }
-        ensures removed { own_members self.exit.0.now ≡ unkeyed (entry_key (Occupied self.entry)) (own_members (entry_object (Occupied self.entry))) }
+        ensures removed { own_members self.exit.0.now
+            ≡ unkeyed (entry_key (Occupied self.entry))
+            (own_members (entry_object (Occupied self.entry))) }
         ensures owned { OwnsList self.exit.0.now }
+        ensures removal { list_pairs (pairs_in self.exit.0.now)
+            ≡ without_key (entry_key (Occupied self.entry))
+            (list_pairs (pairs_in (entry_object (Occupied self.entry)))) }
     {
         let at = self.at;
         let pairs = self.object.owned_mut();
@@ -201,7 +213,8 @@ impl<'a> Entry<'a> {
     ghost use Rattle.std.specs.Option.{UnwrapsOrElse};
     ghost use Rattle.json_value.specs.declared.value.Value.{Value};
     ghost use Rattle.json_value.specs.declared.value.Value.{Null as NullValue};
-    ghost use Rattle.json_containers.specs.Entry.{entry_ref, entry_key, entry_value, entry_with, entry_lends};
+    ghost use Rattle.json_containers.specs.Entry.{entry_ref, entry_key, entry_value, entry_with};
+    ghost use Rattle.json_containers.specs.Entry.{entry_lends};
 
     /// The value there, or the default, appended.
     pub fn or_insert(self, default: Value) -> &'a mut Value
@@ -227,23 +240,25 @@ impl<'a> Entry<'a> {
         }
     }
 
-    /// The value there, or what `default` answers, appended. It is called only for a missing key.
+    /// The value there, or what `default` answers, appended. It is called for a missing key alone.
     pub fn or_insert_with<F: FnOnce() -> Value>(self, default: F) -> &'a mut Value
         requires { entry_value self ≡ None → F.pre default }
         ensures* writes_back { sem 𝓛 (entry_lends self.entry result) }
         ensures value { UnwrapsOrElse (entry_value self.entry) (F.post default) result.now }
     {
         match self {
-            Entry::Occupied(entry) => entry.into_mut(),
-            Entry::Vacant(entry) => entry.insert(default()),
+            Entry::Occupied(present) => present.into_mut(),
+            Entry::Vacant(missing) => missing.insert(default()),
         }
     }
 
     /// The same, with the key.
     pub fn or_insert_with_key<F: FnOnce(&str) -> Value>(self, default: F) -> &'a mut Value
-        requires { entry_value self ≡ None → (p : Bor (List ℕ)) → p.now ≡ entry_key self → F.pre default p }
+        requires { entry_value self ≡ None
+            → (p : Bor (List ℕ)) → p.now ≡ entry_key self → F.pre default p }
         ensures* writes_back { sem 𝓛 (entry_lends self.entry result) }
-        ensures value { UnwrapsOrElse (entry_value self.entry) (FnOnceReturnsAt F.FnOnce default (entry_key self.entry)) result.now }
+        ensures value { UnwrapsOrElse (entry_value self.entry)
+            (FnOnceReturnsAt F.FnOnce default (entry_key self.entry)) result.now }
     {
         match self {
             Entry::Occupied(entry) => entry.into_mut(),

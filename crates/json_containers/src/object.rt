@@ -1,58 +1,53 @@
 // The calls of objects.
-ghost use Rattle.std.specs.Prelude.{◌≡◌, ◌+◌, ◌<◌, ◌≤◌, [], length, map, set, option_map, slice_get, Some, IfOk, IfErr, IfSome, IfNone, OnOk, OnErr, IsOk, IsTrue, ◌↔◌, false};
+ghost use Rattle.std.specs.Prelude.{◌≡◌, ◌+◌, ◌<◌, ◌≤◌, ◌↔◌, List, [], length, map, set, false};
+ghost use Rattle.std.specs.Prelude.{IfOk, IfErr, IfSome, IfNone, OnOk, OnErr, IsOk, IsTrue, Some};
+ghost use Rattle.std.specs.Prelude.{slice_get, option_map};
 ghost use Rattle.std.specs.Borrow.{LendsSoOk, RestsIfErr, sem};
 ghost use Rattle.std.specs.Vec.{vec_len, vec_capacity};
 ghost use Rattle.std.specs.List.Retain.{RetainsInTurn};
 ghost use Rattle.json_grammar.specs.Tree.{list_pairs};
 ghost use Rattle.json_model.specs.Edit.{has_key, inserted, without_key};
+ghost use Rattle.json_model.specs.Merged.{inserted_all};
 ghost use Rattle.json_text.specs.Errors.{no_memory};
 ghost use Rattle.json_value.specs.Denotes.{tree_of, pair_of, pairs_in};
 ghost use Rattle.json_value.specs.FirstMember.{IsFirstOf};
-ghost use Rattle.json_value.specs.Rows.{pair_row, object_row, value_row};
+ghost use Rattle.json_value.specs.Left.{members_left, members_sights_left};
+ghost use Rattle.json_value.specs.Lending.{missing_as_none, LendsPart};
+ghost use Rattle.json_value.specs.Merged.{with_member, with_members};
+ghost use Rattle.json_value.specs.Rows.{pair_row, object_row, value_row, OwnsList};
 ghost use Rattle.json_value.specs.Room.{spare_in};
+ghost use Rattle.json_value.specs.Seen.{seen, first_of};
+ghost use Rattle.json_value.specs.SightParts.{member_sight, object_sights};
+ghost use Rattle.json_value.specs.Sights.{sight_of};
 ghost use Rattle.json_value.specs.Spots.{IsPlace};
 ghost use Rattle.json_value.specs.Written.{FirstMembers};
 ghost use Rattle.json_value.specs.declared.container.Container.{Container};
 ghost use Rattle.json_value.specs.declared.pair.Keyed.{Keyed};
 ghost use Rattle.json_value.specs.declared.value.Value.{Value};
-ghost use Rattle.json_containers.specs.Changed.{ObjectChanged, ObjectBecame};
-ghost use Rattle.json_containers.specs.Entry.{entry_ref, entry_object, entry_key, entry_value, entry_with};
-ghost use Rattle.json_value.specs.Lending.{settled, LendsPart};
+ghost use Rattle.json_containers.specs.Changed.{ObjectChanged, ObjectBecame, KeepsRoom};
+ghost use Rattle.json_containers.specs.Entry.{entry_ref, entry_object, entry_key};
+ghost use Rattle.json_containers.specs.Entry.{entry_value, entry_with};
 ghost use Rattle.json_containers.specs.Found.{Finds};
-ghost use Rattle.json_containers.specs.Members.{own_members, found, AtMember, CalledAtMember};
-ghost use Rattle.json_value.specs.Left.{members_left, members_sights_left};
-ghost use Rattle.json_value.specs.Merged.{inserted_all};
-ghost use Rattle.json_value.specs.Rows.{OwnsList};
-ghost use Rattle.json_value.specs.Seen.{seen, first_of};
-ghost use Rattle.json_value.specs.SightParts.{member_sight, object_sights};
-ghost use Rattle.json_value.specs.Sights.{sight_of};
+ghost use Rattle.json_value.specs.Touched.{AtMember};
+ghost use Rattle.json_containers.specs.Members.{own_members, found, CalledAtMember};
+ghost use Rattle.json_containers.specs.Put.{PutsValue, TakesOut, AreCopies};
+ghost use Rattle.json_containers.specs.Put.{copied_member, stood_member};
 
 use crate::entry::{Entry, OccupiedEntry, VacantEntry, add, take_all};
 use json_text::{Error, ErrorCode, Place, Result};
-use json_value::{Iter, Object, Pair, Text, Value, View};
+use json_value::{Iter, Object, Pair, Text, Value, View, find_key};
 use std::alloc::Global;
 use std::mem::replace;
-
-// The place of the first member of the key.
-fn find_key(pairs: &[Pair], key: &str) -> Option<usize>
-    ensures first { IfSome result (λ i. IsFirstOf key.now (map pair_of pairs.now) i) }
-    ensures none { IfNone result (has_key key.now (list_pairs (map pair_of pairs.now)) ≡ false) }
-{
-    for (i, pair) in pairs.iter().enumerate() {
-        if pair.key() == key {
-            return Some(i);
-        }
-    }
-    None
-}
 
 // Makes the list an owned one. The place of the first member of the key in it.
 fn seek(object: &mut Object, alloc: Global, key: &str) -> Result<Option<usize>>
     ensures same { pairs_in object.new ≡ pairs_in object.old }
     ensures owned { OnOk result (OwnsList object.new) }
     ensures children { OnOk result (FirstMembers object.old (own_members object.new)) }
-    ensures first { IfOk result (λ o. IfSome o (λ i. IsFirstOf key.now (map pair_of (own_members object.new)) i)) }
-    ensures none { IfOk result (λ o. IfNone o (has_key key.now (list_pairs (map pair_of (own_members object.new))) ≡ false)) }
+    ensures first { IfOk result (λ o. IfSome o
+        (λ i. IsFirstOf key.now (map pair_of (own_members object.new)) i)) }
+    ensures none { IfOk result (λ o. IfNone o
+        (has_key key.now (list_pairs (map pair_of (own_members object.new))) ≡ false)) }
     ensures only { IfErr result (λ e. e ≡ no_memory) }
     ensures free { (IsPlace object.old → ⊥) → IsOk result }
 {
@@ -76,8 +71,11 @@ fn make_room(object: &mut Object) -> Result<()>
 
 // The value of the first member of the key.
 fn value_of<'o>(object: &'o mut Object, alloc: Global, key: &str) -> Result<&'o mut Value>
-    ensures* writes_back { sem 𝓛 (LendsSoOk object_row value_row object.entry result (λ n w. ObjectChanged (AtMember key.now (λ before after. after ≡ w)) object.old n) (λ n. pairs_in n ≡ pairs_in object.old)) }
-    ensures stands { Finds ((IsPlace object.old → ⊥) → ⊥) (found key.now (pairs_in object.old)) result }
+    ensures* writes_back { sem 𝓛 (LendsSoOk object_row value_row object.entry result
+        (λ n w. ObjectChanged (AtMember key.now (λ before after. after ≡ w)) object.old n)
+        (λ n. pairs_in n ≡ pairs_in object.old)) }
+    ensures stands { Finds ((IsPlace object.old → ⊥) → ⊥)
+        (found key.now (pairs_in object.old)) result }
 {
     let pairs = match object.pairs_mut(alloc) {
         Ok(pairs) => pairs,
@@ -92,9 +90,10 @@ fn value_of<'o>(object: &'o mut Object, alloc: Global, key: &str) -> Result<&'o 
     }
 }
 
-// A place, or none where there was none; only want of memory stays an error.
-fn settle<'a>(r: Result<&'a mut Value>) -> Result<Option<&'a mut Value>>
-    ensures settled { result ≡ settled r.entry }
+// A place that is lent, or none where there was none; only want of memory stays an error. The walk of `get_mut` can name
+// the contract of a function of its own crate alone, so this one stands here too.
+fn none_if_missing<'a>(r: Result<&'a mut Value>) -> Result<Option<&'a mut Value>>
+    ensures missing_as_none { result ≡ missing_as_none r.entry }
 {
     match r {
         Ok(value) => Ok(Some(value)),
@@ -108,6 +107,7 @@ fn settle<'a>(r: Result<&'a mut Value>) -> Result<Option<&'a mut Value>>
 // Copies of these.
 fn copy_pairs(alloc: Global, pairs: &[Pair]) -> Result<Vec<Pair>>
     ensures pairs { IfOk result (λ v. map pair_of v.items ≡ map pair_of pairs.now) }
+    ensures copies { IfOk result (λ v. map stood_member v.items ≡ map copied_member pairs.now) }
     ensures only { IfErr result (λ e. e ≡ no_memory) }
 {
     let mut copies = Vec::with_capacity(alloc, pairs.len())?;
@@ -119,10 +119,13 @@ fn copy_pairs(alloc: Global, pairs: &[Pair]) -> Result<Vec<Pair>>
     Ok(copies)
 }
 
-// Puts the member's value at the first member of its key, or the member behind the others, for which there is room.
+// Puts the member's value at the first member of its key, or the member behind the others, for
+// which there is room.
 fn put_pair(pairs: &mut Vec<Pair>, mut pair: Pair)
     requires { vec_len pairs.old < vec_capacity pairs.old }
-    ensures pairs { list_pairs (map pair_of pairs.new.items) ≡ inserted (pair_of pair).0 (pair_of pair).1 (list_pairs (map pair_of pairs.old.items)) }
+    ensures pairs { list_pairs (map pair_of pairs.new.items)
+        ≡ inserted (pair_of pair).0 (pair_of pair).1 (list_pairs (map pair_of pairs.old.items)) }
+    ensures members { pairs.new.items ≡ with_member pair pairs.old.items }
     ensures len { vec_len pairs.new ≤ vec_len pairs.old + 1 }
     ensures capacity { vec_capacity pairs.new ≡ vec_capacity pairs.old }
 {
@@ -135,7 +138,9 @@ fn put_pair(pairs: &mut Vec<Pair>, mut pair: Pair)
 // Puts these in turn, for which there is room.
 fn put_pairs(pairs: &mut Vec<Pair>, more: Vec<Pair>)
     requires { vec_len pairs.old + vec_len more ≤ vec_capacity pairs.old }
-    ensures { list_pairs (map pair_of pairs.new.items) ≡ inserted_all (map pair_of more.items) (list_pairs (map pair_of pairs.old.items)) }
+    ensures pairs { list_pairs (map pair_of pairs.new.items)
+        ≡ inserted_all (map pair_of more.items) (list_pairs (map pair_of pairs.old.items)) }
+    ensures members { pairs.new.items ≡ with_members more.items pairs.old.items }
 {
     for pair in more {
         put_pair(pairs, pair);
@@ -172,8 +177,9 @@ fn keep_members<F: FnMut(&str, &mut Value) -> bool>(pairs: &mut Vec<Pair>, mut f
     pairs.truncate(kept);
 }
 
-/// The calls of an object that are those of a list of members. The first of equal keys is read and set, and
-/// a removal takes out all.
+/// The calls of an object that are those of a list of members. The first of equal keys is read and
+/// set, and a removal takes out all. The first write to a place of a document copies one level of
+/// it. `NoMemory` comes where memory runs out, and then the object has the members that it had.
 ///
 /// ```
 /// use json_containers::ObjectCalls;
@@ -223,32 +229,46 @@ pub trait ObjectCalls {
         ensures trees { members_left result ≡ pairs_in (held self.now) }
         ensures sights { members_sights_left result ≡ object_sights (held self.now) };
 
-    /// The value of the first member of the key, to be changed; none exactly where the key is missing.
+    /// The value of the first member of the key, to be changed; none exactly where the key is
+    /// missing.
     fn get_mut(&mut self, alloc: Global, key: &str) -> Result<Option<&mut Value>>
-        ensures* writes_back { sem 𝓛 (LendsPart Self.row value_row self.entry result (λ n w. ObjectChanged (AtMember key.now (λ before after. after ≡ w)) (held self.old) (held n)) (λ n. pairs_in (held n) ≡ pairs_in (held self.old))) }
-        ensures found { IfOk result (λ o. option_map (λ x. tree_of x.now) o ≡ found key.now (pairs_in (held self.old))) }
+        ensures* writes_back { sem 𝓛 (LendsPart Self.row value_row self.entry result
+            (λ n w. ObjectChanged (AtMember key.now (λ before after. after ≡ w))
+            (held self.old) (held n))
+            (λ n. pairs_in (held n) ≡ pairs_in (held self.old))) }
+        ensures found { IfOk result (λ o. option_map (λ x. tree_of x.now) o
+            ≡ found key.now (pairs_in (held self.old))) }
         ensures free { (IsPlace (held self.old) → ⊥) → IsOk result }
         ensures only { IfErr result (λ e. e ≡ no_memory) };
 
     /// The member at the index, to be changed.
     fn pair_mut(&mut self, alloc: Global, i: usize) -> Result<&mut Pair>
         requires { i < length (pairs_in (held self.old)) }
-        ensures* writes_back { sem 𝓛 (LendsSoOk Self.row pair_row self.entry result (λ n w. ObjectBecame (λ items. set items i w) (held self.old) (held n)) (λ n. pairs_in (held n) ≡ pairs_in (held self.old))) }
-        ensures pair { IfOk result (λ p. slice_get (pairs_in (held self.old)) i ≡ Some (pair_of p.now)) }
+        ensures* writes_back { sem 𝓛 (LendsSoOk Self.row pair_row self.entry result
+            (λ n w. ObjectBecame (λ items. set items i w) (held self.old) (held n))
+            (λ n. pairs_in (held n) ≡ pairs_in (held self.old))) }
+        ensures pair { IfOk result (λ p. slice_get (pairs_in (held self.old)) i
+            ≡ Some (pair_of p.now)) }
         ensures free { (IsPlace (held self.old) → ⊥) → IsOk result }
         ensures only { IfErr result (λ e. e ≡ no_memory) };
 
-    /// Sets the value of the first member of the key, and answers the old one; or appends such a member.
+    /// Sets the value of the first member of the key, and answers the old one; or appends such a
+    /// member.
     fn insert(&mut self, alloc: Global, key: &str, value: Value) -> Result<Option<Value>>
-        ensures ok { OnOk result (list_pairs (pairs_in (held self.new)) ≡ inserted key.now (tree_of value) (list_pairs (pairs_in (held self.old)))) }
-        ensures before { IfOk result (λ o. option_map tree_of o ≡ found key.now (pairs_in (held self.old))) }
+        ensures ok { OnOk result (list_pairs (pairs_in (held self.new))
+            ≡ inserted key.now (tree_of value) (list_pairs (pairs_in (held self.old)))) }
+        ensures before { IfOk result (λ o. option_map tree_of o
+            ≡ found key.now (pairs_in (held self.old))) }
+        ensures children { IfOk result (λ o. ObjectChanged (PutsValue key.now value o)
+            (held self.old) (held self.new)) }
         ensures kept { OnErr result (pairs_in (held self.new) ≡ pairs_in (held self.old)) }
         ensures only { IfErr result (λ e. e ≡ no_memory) };
 
     /// Keeps the members for which `f` is true, in order, with what it writes.
     fn retain<F: FnMut(&str, &mut Value) -> bool>(&mut self, alloc: Global, f: F) -> Result<()>
         requires { F.IsAlwaysCallable f }
-        ensures children { OnOk result (ObjectChanged (RetainsInTurn (CalledAtMember F.FnMut) f) (held self.old) (held self.new)) }
+        ensures children { OnOk result (ObjectChanged (RetainsInTurn (CalledAtMember F.FnMut) f)
+            (held self.old) (held self.new)) }
         ensures kept { OnErr result (pairs_in (held self.new) ≡ pairs_in (held self.old)) }
         ensures only { IfErr result (λ e. e ≡ no_memory) };
 
@@ -262,17 +282,24 @@ pub trait ObjectCalls {
     fn reserve(&mut self, alloc: Global, additional: usize) -> Result<()>
         ensures room { OnOk result (additional ≤ spare_in (held self.new)) }
         ensures same { pairs_in (held self.new) ≡ pairs_in (held self.old) }
-        ensures free { additional ≤ spare_in (held self.old) → IsOk result × (held self.new ≡ held self.old) }
+        ensures free { additional ≤ spare_in (held self.old)
+            → IsOk result × (held self.new ≡ held self.old) }
         ensures only { IfErr result (λ e. e ≡ no_memory) };
 
-    /// No members. Takes no memory.
+    /// No members. An owned list keeps its room. Takes no memory.
     fn clear(&mut self)
-        ensures { pairs_in (held self.new) ≡ [] };
+        ensures empty { pairs_in (held self.new) ≡ [] }
+        ensures room { KeepsRoom (length (pairs_in (held self.old)))
+            (held self.old) (held self.new) };
 
     /// Takes out all members of the key. The key, and the value of the first.
     fn remove_entry<'k>(&mut self, alloc: Global, key: &'k str) -> Result<Option<(&'k str, Value)>>
-        ensures ok { OnOk result (list_pairs (pairs_in (held self.new)) ≡ without_key key.now (list_pairs (pairs_in (held self.old)))) }
-        ensures value { IfOk result (λ o. option_map (λ p. tree_of p.1) o ≡ found key.now (pairs_in (held self.old))) }
+        ensures ok { OnOk result (list_pairs (pairs_in (held self.new))
+            ≡ without_key key.now (list_pairs (pairs_in (held self.old)))) }
+        ensures value { IfOk result (λ o. option_map (λ p. tree_of p.1) o
+            ≡ found key.now (pairs_in (held self.old))) }
+        ensures children { IfOk result (λ o. ObjectChanged
+            (TakesOut key.now (option_map (λ p. p.1) o)) (held self.old) (held self.new)) }
         ensures key { IfOk result (λ o. IfSome o (λ p. p.0.now ≡ key.now)) }
         ensures kept { OnErr result (pairs_in (held self.new) ≡ pairs_in (held self.old)) }
         ensures free { (IsPlace (held self.old) → ⊥) → IsOk result }
@@ -280,34 +307,53 @@ pub trait ObjectCalls {
 
     /// Copies of these, inserted in turn.
     fn extend(&mut self, alloc: Global, pairs: &[Pair]) -> Result<()>
-        ensures ok { OnOk result (list_pairs (pairs_in (held self.new)) ≡ inserted_all (map pair_of pairs.now) (list_pairs (pairs_in (held self.old)))) }
+        ensures ok { OnOk result (list_pairs (pairs_in (held self.new))
+            ≡ inserted_all (map pair_of pairs.now) (list_pairs (pairs_in (held self.old)))) }
+        ensures children { OnOk result (ObjectChanged (λ items now. (more : List (Keyed Value))
+            × AreCopies pairs.now more × (now ≡ with_members more items))
+            (held self.old) (held self.new)) }
         ensures kept { OnErr result (pairs_in (held self.new) ≡ pairs_in (held self.old)) }
         ensures only { IfErr result (λ e. e ≡ no_memory) };
 
     /// The other's members, inserted in turn; the other has none then.
     fn append(&mut self, alloc: Global, other: &mut Object) -> Result<()>
-        ensures ok { OnOk result (list_pairs (pairs_in (held self.new)) ≡ inserted_all (pairs_in other.old) (list_pairs (pairs_in (held self.old)))) }
+        ensures ok { OnOk result (list_pairs (pairs_in (held self.new))
+            ≡ inserted_all (pairs_in other.old) (list_pairs (pairs_in (held self.old)))) }
+        ensures children { OnOk result (ObjectChanged (λ items now. (more : List (Keyed Value))
+            × FirstMembers other.old more × (now ≡ with_members more items))
+            (held self.old) (held self.new)) }
         ensures emptied { OnOk result (pairs_in other.new ≡ []) }
-        ensures kept { OnErr result ((pairs_in (held self.new) ≡ pairs_in (held self.old)) × (pairs_in other.new ≡ pairs_in other.old)) }
+        ensures kept { OnErr result ((pairs_in (held self.new) ≡ pairs_in (held self.old))
+            × (pairs_in other.new ≡ pairs_in other.old)) }
         ensures only { IfErr result (λ e. e ≡ no_memory) };
 
     /// Takes out all members of the key. The value of the first.
     fn remove(&mut self, alloc: Global, key: &str) -> Result<Option<Value>>
-        ensures ok { OnOk result (list_pairs (pairs_in (held self.new)) ≡ without_key key.now (list_pairs (pairs_in (held self.old)))) }
-        ensures value { IfOk result (λ o. option_map tree_of o ≡ found key.now (pairs_in (held self.old))) }
+        ensures ok { OnOk result (list_pairs (pairs_in (held self.new))
+            ≡ without_key key.now (list_pairs (pairs_in (held self.old)))) }
+        ensures value { IfOk result (λ o. option_map tree_of o
+            ≡ found key.now (pairs_in (held self.old))) }
+        ensures children { IfOk result (λ o. ObjectChanged (TakesOut key.now o)
+            (held self.old) (held self.new)) }
         ensures kept { OnErr result (pairs_in (held self.new) ≡ pairs_in (held self.old)) }
         ensures free { (IsPlace (held self.old) → ⊥) → IsOk result }
         ensures only { IfErr result (λ e. e ≡ no_memory) };
 
     /// The entry of the key.
     fn entry(&mut self, alloc: Global, key: &str) -> Result<Entry<'_>>
-        ensures* rests { sem 𝓛 (RestsIfErr Self.row self.entry (λ e. (entry_ref e).ghost_name) result (λ n. pairs_in (held n) ≡ pairs_in (held self.old))) }
+        ensures* rests { sem 𝓛 (RestsIfErr Self.row self.entry
+            (λ e. (entry_ref e).ghost_name) result
+            (λ n. pairs_in (held n) ≡ pairs_in (held self.old))) }
         ensures same_object { IfOk result (λ e. (entry_ref e).ghost_name ≡ self.entry.ghost_name) }
-        ensures unchanged { IfOk result (λ e. pairs_in (entry_object e) ≡ pairs_in (held self.old)) }
-        ensures children { IfOk result (λ e. FirstMembers (held self.old) (own_members (entry_object e))) }
+        ensures unchanged { IfOk result (λ e. pairs_in (entry_object e)
+            ≡ pairs_in (held self.old)) }
+        ensures children { IfOk result (λ e. FirstMembers (held self.old)
+            (own_members (entry_object e))) }
         ensures key { IfOk result (λ e. entry_key e ≡ key.now) }
-        ensures value { IfOk result (λ e. option_map tree_of (entry_value e) ≡ found key.now (pairs_in (held self.old))) }
-        ensures update { IfOk result (λ e. (w : Value) → list_pairs (pairs_in (entry_with e w)) ≡ inserted key.now (tree_of w) (list_pairs (pairs_in (held self.old)))) }
+        ensures value { IfOk result (λ e. option_map tree_of (entry_value e)
+            ≡ found key.now (pairs_in (held self.old))) }
+        ensures update { IfOk result (λ e. (w : Value) → list_pairs (pairs_in (entry_with e w))
+            ≡ inserted key.now (tree_of w) (list_pairs (pairs_in (held self.old)))) }
         ensures only { IfErr result (λ e. e ≡ no_memory) };
 }
 
@@ -346,7 +392,7 @@ impl ObjectCalls for Object {
     }
 
     fn get_mut(&mut self, alloc: Global, key: &str) -> Result<Option<&mut Value>> {
-        settle(value_of(self, alloc, key))
+        none_if_missing(value_of(self, alloc, key))
     }
 
     fn pair_mut(&mut self, alloc: Global, i: usize) -> Result<&mut Pair> {
@@ -387,7 +433,11 @@ impl ObjectCalls for Object {
     }
 
     fn clear(&mut self) {
-        *self = Object::new();
+        match self.pairs() {
+            Some(pairs) if pairs.is_empty() => {}
+            Some(_) => self.owned_mut().clear(),
+            None => *self = Object::new(),
+        }
     }
 
     fn remove_entry<'k>(

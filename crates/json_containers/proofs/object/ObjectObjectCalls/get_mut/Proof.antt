@@ -1,4 +1,4 @@
-use Rattle.json_value.proofs.Walking.{MutBor, ◌≡◌, [], ◌∷◌, refl, sym, ap, ◌∙◌, subst, proved, id⊢, emp, fact_i, use0, ftrue, named, fact, tables, ‵, raw, ◌⊛◌, some, later, ◌$◌, ◌∵◌, !, qed, done, drop, use1, use2, split, join, pick, await, suffices, group, frame, rewrite, enter, addr, stop, no_more, and_then, returns, alloc_all, pass_all, free_all, look_at, get, through, sets, lands_as, no, yes, move, keep, peeks, shows, flft, heard, mut_vals, mut_Tells, plain, nothing, calls_at, lasts, Lasts, triple_of, Stays, stay_dropped, Goes-spent_ref, Goes-dropped, ends_at, framed}
+use Rattle.json_value.proofs.HandProofs.{MutBor, ◌≡◌, [], ◌∷◌, refl, sym, ap, ◌∙◌, subst, proved, id⊢, emp, fact_i, use0, ftrue, named, fact, tables, ‵, raw, ◌⊛◌, some, later, ◌$◌, ◌∵◌, !, qed, done, drop, use1, use2, split, join, pick, await, suffices, group, frame, rewrite, enter, addr, stop, no_more, and_then, returns, alloc_all, pass_all, free_all, look_at, get, through, sets, lands_as, no, yes, move, keep, peeks, shows, flft, heard, mut_vals, mut_Tells, plain, nothing, calls_at, lasts, Lasts, triple_of, Stays, stay_dropped, Goes-spent_ref, Goes-dropped, ends_at, framed}
 use mathlib.Core.Option as maybe
 use base.Fml.{GName}
 use denote.Slice.{shr_slice_vals, shr_slice_Tells, shr_slice_Lawful}
@@ -20,18 +20,19 @@ use Rattle.json_value.specs.Rows.{object_row}
 use Rattle.json_value.specs.Spots.{IsPlace}
 use Rattle.std.specs.Borrow.{LendsSoOk, follows_so}
 use Rattle.json_containers.specs.Changed.{ObjectChanged}
-use Rattle.json_containers.specs.Members.{AtMember, found}
-use Rattle.json_value.specs.Lending.{settled, name_of, name_of_ok, IsLent, UnlessLent}
+use Rattle.json_value.specs.Touched.{AtMember}
+use Rattle.json_containers.specs.Members.{found}
+use Rattle.json_value.specs.Lending.{missing_as_none, name_of, name_of_ok, IsLent, UnlessLent}
 use Rattle.json_containers.specs.Found.{Finds}
-use Rattle.json_value.proofs.Named.{place_ok, on_no_place}
-use Rattle.json_value.proofs.Settling.{settled_name}
-use Rattle.json_containers.proofs.Found.{settled_found, settled_only, settled_free}
+use Rattle.json_value.proofs.LentNames.{place_ok, on_no_place}
+use Rattle.json_value.proofs.MissingPlaces.{missing_name}
+use Rattle.json_containers.proofs.Found.{missing_found, missing_only, missing_free}
 use denote.Such.{such_Tells, such_Lawful}
 use denote.Text.{StrRefOf, Utf8}
 use denote.Slice.{ShrSlice}
 use denote.Plain.{UInt}
 use mir.Syntax.{w8}
-use Rattle.json_value.proofs.Follows.{so_weaken}
+use Rattle.json_value.proofs.LenderRelations.{so_weaken}
 use Rattle.json_value.specs.declared.value.Value.{Value}
 use Rattle.json_value.specs.contracts.value.Value.{the_row as value}
 use Rattle.json_text.specs.contracts.error.Error.{the_row as refusal}
@@ -42,8 +43,8 @@ use Rattle.json_containers.proofs.object.ObjectObjectCalls.get_mut.Statement.{st
 use Rattle.json_containers.proofs.object.ObjectObjectCalls.get_mut.Code as code
 use Rattle.json_containers.specs.contracts.object.value_of as g
 use Rattle.json_containers.proofs.object.value_of.Met as first-met
-use Rattle.json_containers.specs.contracts.object.settle as h
-use Rattle.json_containers.proofs.object.settle.Met as second-met
+use Rattle.json_containers.specs.contracts.object.none_if_missing as h
+use Rattle.json_containers.proofs.object.none_if_missing.Met as second-met
 
 abbrev stayed : Stays f.ended.signature.params f.ended.kept
 stayed = (stay_dropped _ no, (stay_dropped _ yes, (stay_dropped _ yes, tt)))
@@ -73,18 +74,18 @@ get_mut_spec 𝓤 𝓛 𝓜 𝓡 wired =
     -- [r; the two tokens; what was lent]
     nothing ! $ move ! (1 ∷ 0 ∷ []) $ join ! $ nothing ! $ move ! (2 ∷ 0 ∷ []) $ join ! $ join ! $ nothing ! $ move ! (1 ∷ 0 ∷ []) $
     use2 𝓛 (raw (G2.pre z2)) (id⊢ 𝓤 _) $
-    calls_at ! (framed 𝓤 𝓛.H 𝓜 (tables 𝓤 𝓛.H 𝓜 𝓡 𝓡.env)) G2 (second-met.met 𝓤 𝓛 𝓜 𝓡 (code.calls-json_containers::object::settle 𝓡.env wired)) z2
+    calls_at ! (framed 𝓤 𝓛.H 𝓜 (tables 𝓤 𝓛.H 𝓜 𝓡 𝓡.env)) G2 (second-met.met 𝓤 𝓛 𝓜 𝓡 (code.calls-json_containers::object::none_if_missing 𝓡.env wired)) z2
     (and_then ! (get ! refl) (no_more !)) (λ o.
-    use1 𝓛 (later (some (λ (s : O.Denot). ((‵ (flft κs.0 qs.0) ⊛ ‵ ftrue) ⊛ ‵ (O.own_val s (o ∷ []))) ⊛ some (λ (ws : Lasts h.ended (κs.0, tt) (r, tt)). ‵ (lasts h.ended (κs.0, tt) (r, tt) ws) ⊛ raw (fact 𝓤 (s ≡ settled r)))))) (id⊢ 𝓤 _) $
+    use1 𝓛 (later (some (λ (s : O.Denot). ((‵ (flft κs.0 qs.0) ⊛ ‵ ftrue) ⊛ ‵ (O.own_val s (o ∷ []))) ⊛ some (λ (ws : Lasts h.ended (κs.0, tt) (r, tt)). ‵ (lasts h.ended (κs.0, tt) (r, tt) ws) ⊛ raw (fact 𝓤 (s ≡ missing_as_none r)))))) (id⊢ 𝓤 _) $
     await ! tt $ pick ! (λ s. split ! $ split ! $ split ! $ move ! (2 ∷ []) $ peeks ! O _ (shows 𝓛 O) s (o ∷ []) (λ is2.
     lands_as ! refl refl ((((result_laws (option.the_row F.row) refusal (option_laws F.row ref-laws) refusal_laws).lawful 𝓛).typed s (o ∷ []) is2).0) $
     returns ! (look_at ! 0 refl) $ free_all ! refl $
-    -- [the result; the first token; nothing; what settle says; the second token and nothing; what was lent]
+    -- [the result; the first token; nothing; what none_if_missing says; the second token and nothing; what was lent]
     move ! (3 ∷ []) $ pick ! (λ ws2. split ! $ drop ! $ heard ! _ (λ same.
     move ! (4 ∷ []) $ pick ! (λ ws. split ! $ drop ! $ split ! $ move ! (1 ∷ []) $ heard ! _ (λ seen. keep ! (0 ∷ 1 ∷ 2 ∷ 4 ∷ []) $
     let Named = λ (m : maybe.Option GName). follows_so object_row value v.ghost_name m (λ w n. IsLent m → ObjectChanged (AtMember path.now (λ before after. after ≡ w)) v.now n) (λ n. UnlessLent m (pairs_in n ≡ pairs_in v.now)) in
     use1 𝓛 (‵ (Named (name_of_ok r))) (so_weaken 𝓛 object_row value v.ghost_name (name_of_ok r) _ _ _ _ (λ w n p at. p (place_ok r at)) (λ n p. on_no_place r _ p)) $
-    rewrite ! 0 (λ (m : maybe.Option GName). ‵ (Named m)) (sym (ap name_of same ∙ settled_name r)) refl $
+    rewrite ! 0 (λ (m : maybe.Option GName). ‵ (Named m)) (sym (ap name_of same ∙ missing_name r)) refl $
     suffices ! _ (ends_at 𝓛 f.ended stayed c z o s (tt, (tt, (tt, tt))) (tt, (tt, (tt, tt)))) $
     -- [what is lent; the result; the first token; the second token and nothing]
-    move ! (2 ∷ 3 ∷ []) $ join ! $ nothing ! $ nothing ! $ join ! $ nothing ! $ join ! $ nothing ! $ join ! $ move ! (1 ∷ 0 ∷ 3 ∷ 2 ∷ []) $ group ! 3 $ frame ! $ frame ! $ use0 𝓛 (raw (fact 𝓤 (IfErr s (λ e. e ≡ no_memory)))) (fact_i 𝓤 _ (emp 𝓤) (subst (λ (s : O.Denot). IfErr s (λ e. e ≡ no_memory)) (sym same) (settled_only ((IsPlace v.now → ⊥) → ⊥) r (found path.now (pairs_in v.now)) seen))) $ use0 𝓛 (raw (fact 𝓤 ((IsPlace v.now → ⊥) → IsOk s))) (fact_i 𝓤 _ (emp 𝓤) (subst (λ (s : O.Denot). (IsPlace v.now → ⊥) → IsOk s) (sym same) (settled_free (IsPlace v.now → ⊥) r (found path.now (pairs_in v.now)) seen))) $ use0 𝓛 (raw (fact 𝓤 (IfOk s (λ o. option_map (λ (x : MutBor Value). tree_of x.now) o ≡ found path.now (pairs_in v.now))))) (fact_i 𝓤 _ (emp 𝓤) (subst (λ (s : O.Denot). IfOk s (λ o. option_map (λ (x : MutBor Value). tree_of x.now) o ≡ found path.now (pairs_in v.now))) (sym same) (settled_found ((IsPlace v.now → ⊥) → ⊥) r (found path.now (pairs_in v.now)) seen))) $ done !))))))))))))
+    move ! (2 ∷ 3 ∷ []) $ join ! $ nothing ! $ nothing ! $ join ! $ nothing ! $ join ! $ nothing ! $ join ! $ move ! (1 ∷ 0 ∷ 3 ∷ 2 ∷ []) $ group ! 3 $ frame ! $ frame ! $ use0 𝓛 (raw (fact 𝓤 (IfErr s (λ e. e ≡ no_memory)))) (fact_i 𝓤 _ (emp 𝓤) (subst (λ (s : O.Denot). IfErr s (λ e. e ≡ no_memory)) (sym same) (missing_only ((IsPlace v.now → ⊥) → ⊥) r (found path.now (pairs_in v.now)) seen))) $ use0 𝓛 (raw (fact 𝓤 ((IsPlace v.now → ⊥) → IsOk s))) (fact_i 𝓤 _ (emp 𝓤) (subst (λ (s : O.Denot). (IsPlace v.now → ⊥) → IsOk s) (sym same) (missing_free (IsPlace v.now → ⊥) r (found path.now (pairs_in v.now)) seen))) $ use0 𝓛 (raw (fact 𝓤 (IfOk s (λ o. option_map (λ (x : MutBor Value). tree_of x.now) o ≡ found path.now (pairs_in v.now))))) (fact_i 𝓤 _ (emp 𝓤) (subst (λ (s : O.Denot). IfOk s (λ o. option_map (λ (x : MutBor Value). tree_of x.now) o ≡ found path.now (pairs_in v.now))) (sym same) (missing_found ((IsPlace v.now → ⊥) → ⊥) r (found path.now (pairs_in v.now)) seen))) $ done !))))))))))))

@@ -1,0 +1,11 @@
+use Rattle.std.proofs.Common.{Vec, Global, refl, ap, ◌∙◌}
+use Rattle.json_value.specs.Merged.{with_members}
+use Rattle.json_value.specs.declared.pair.Keyed.{Keyed}
+use Rattle.json_value.specs.declared.value.Value.{Value}
+use Rattle.json_containers.proofs.object.ObjectObjectCalls.append.Goals as goal
+
+pub returns-clause-children : goal.returns-clause-children
+returns-clause-children c =
+    let more = c.in_ok-more.more.now in
+    let put = c.put_pairs.ensures.members ∙ ap (λ (v : Vec (Keyed Value) Global). with_members v.items c.reserve.new.self.items) c.replace.ensures.value ∙ ap (with_members more.items) c.reserve.ensures.items in
+    record { first = c.in_ok-pairs.pairs.now.items; list = c.put_pairs.new.pairs; same = c.in_ok-pairs.ensures.pairs; unpacked = c.in_ok-pairs.ensures.children; is = refl; changed = (more.items, c.in_ok-more.ensures.children, put) }
