@@ -1,0 +1,13 @@
+pub mod Parts
+pub mod Decimals
+pub mod Turns
+pub mod Members
+pub mod Rows
+pub mod Refused
+pub mod Proper
+pub mod Printing
+pub mod Testing
+pub mod Sending
+pub mod Building
+pub mod TreeData
+pub mod FieldRows

@@ -1,0 +1,7 @@
+pub mod Writing
+pub mod Nesting
+pub mod Testing
+pub mod Sending
+pub mod Building
+pub mod TreeDatum
+pub mod FieldRows

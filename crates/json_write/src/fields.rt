@@ -1,0 +1,63 @@
+// The members of a program's own type.
+ghost use Rattle.std.specs.Prelude.{◌≡◌, None};
+ghost use Rattle.json_model.specs.Datum.{Rows, no_rows, row_and, rows_datum, text_datum};
+ghost use Rattle.json_print.specs.Data.{parts, rows_parts};
+ghost use Rattle.json_print.specs.Standing.{TakesValue};
+ghost use Rattle.json_write.specs.FieldRows.{rows_append, AtKey};
+ghost use Rattle.json_write.specs.Writing.{Writes};
+
+use crate::Serialize;
+use crate::giving::{begin_rows, end_rows, give_key};
+use json_print::Events;
+use json_text::Result;
+
+/// Members of an object in their order: a [`Field`], or a pair of members and those behind them.
+pub trait Fields {
+    /// Their keys and values.
+    ghost rows: { Self → Rows };
+
+    /// Gives the members to `out`, up to the first that is refused or meets an error, which is answered. A key may come
+    /// there.
+    fn give<E: Events>(&self, out: &mut E) -> Result<()>
+        requires { E.failed out.old ≡ None → AtKey (E.stand (E.state out.old)) }
+        ensures { Writes E.after E.stopped (E.state out.old) (E.state out.new)
+            (E.failed out.old) (E.failed out.new) (rows_parts (rows self.now)) result };
+}
+
+/// A member of an object: its key, and what its value is written from.
+#[derive(Clone, Copy)]
+pub struct Field<'k, 'v, V> {
+    /// The key.
+    pub name: &'k str,
+    /// The value.
+    pub value: &'v V,
+}
+
+impl<'k, 'v, V: Serialize> Fields for Field<'k, 'v, V> {
+    ghost rows = { λ f. row_and (text_datum f.name.now) (V.datum f.value.now) no_rows };
+
+    fn give<E: Events>(&self, out: &mut E) -> Result<()> {
+        give_key(self.name, out)?;
+        self.value.serialize(out)
+    }
+}
+
+impl<A: Fields, B: Fields> Fields for (A, B) {
+    ghost rows = { λ p. rows_append (A.rows p.0) (B.rows p.1) };
+
+    fn give<E: Events>(&self, out: &mut E) -> Result<()> {
+        self.0.give(out)?;
+        self.1.give(out)
+    }
+}
+
+/// Gives an object of these members: the body of [`Serialize::serialize`] of a type with fields.
+pub fn give_fields<F: Fields, E: Events>(fields: &F, out: &mut E) -> Result<()>
+    requires { E.failed out.old ≡ None → TakesValue (E.stand (E.state out.old)).turn }
+    ensures { Writes E.after E.stopped (E.state out.old) (E.state out.new)
+        (E.failed out.old) (E.failed out.new) (parts (rows_datum (F.rows fields.now))) result }
+{
+    begin_rows(None, out)?;
+    fields.give(out)?;
+    end_rows(out)
+}

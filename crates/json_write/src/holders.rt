@@ -1,0 +1,37 @@
+// What stands for another value.
+ghost use Rattle.json_model.specs.Datum.{option_datum};
+
+use crate::giving::give_null;
+use crate::{KeyRoom, Serialize};
+use json_print::Events;
+use json_text::Result;
+
+impl<T: Serialize> Serialize for &T {
+    ghost datum = { λ s. T.datum s.now };
+
+    fn serialize<E: Events>(&self, out: &mut E) -> Result<()> {
+        (**self).serialize(out)
+    }
+
+    fn key<'k>(&'k self, room: &'k mut KeyRoom) -> Option<&'k str> {
+        (**self).key(room)
+    }
+}
+
+impl<T: Serialize> Serialize for Option<T> {
+    ghost datum = { λ s. option_datum T.datum s };
+
+    fn serialize<E: Events>(&self, out: &mut E) -> Result<()> {
+        match self {
+            None => give_null(out),
+            Some(x) => x.serialize(out),
+        }
+    }
+
+    fn key<'k>(&'k self, room: &'k mut KeyRoom) -> Option<&'k str> {
+        match self {
+            None => None,
+            Some(x) => x.key(room),
+        }
+    }
+}

@@ -1,0 +1,152 @@
+// Events that write nothing: they tell whether each key has a text.
+ghost use Rattle.std.specs.Prelude.{◌≡◌, ◌⊎◌, None, Some, OnOk, IfErr, refl};
+ghost use Rattle.json_grammar.specs.Tree.{Tree, null_token, begin, end};
+ghost use Rattle.json_text.specs.Errors.{no_memory, key_refused};
+ghost use Rattle.json_model.specs.Datum.{tree_of};
+ghost use Rattle.json_print.specs.Given.{given};
+ghost use Rattle.json_print.specs.Standing as standing;
+ghost use Rattle.json_write.specs.Nesting.{at_first};
+ghost use Rattle.json_write.specs.Testing as testing;
+ghost use Rattle.json_write.specs.Testing.{Tests, stand_of};
+
+use crate::Serialize;
+use crate::nesting::Nesting;
+use json_grammar::Kind;
+use json_print::Events;
+use json_text::{Error, Result};
+use std::alloc::Global;
+
+#[derive(Drop)]
+pub(crate) struct KeyTest {
+    nesting: Nesting,
+    failed: Option<Error>,
+}
+
+impl KeyTest {
+    fn new(alloc: Global) -> KeyTest
+        ensures fresh { result.failed ≡ None }
+        ensures stand { stand_of result ≡ at_first }
+    {
+        KeyTest {
+            nesting: Nesting::new(alloc),
+            failed: None,
+        }
+    }
+
+    // A value is behind.
+    fn pass(&mut self) -> Result<()>
+        ensures { Tests testing.passed self.old self.new (given null_token) result }
+    {
+        if let Some(error) = self.failed {
+            return Err(error);
+        }
+        self.nesting.pass();
+        Ok(())
+    }
+
+    fn begin(&mut self, kind: Kind) -> Result<()>
+        ensures { Tests testing.stand_given self.old self.new (given (begin kind)) result }
+    {
+        if let Some(error) = self.failed {
+            return Err(error);
+        }
+        match self.nesting.begin(kind) {
+            Ok(()) => Ok(()),
+            Err(error) => {
+                self.failed = Some(error);
+                Err(error)
+            }
+        }
+    }
+
+    fn end(&mut self, kind: Kind) -> Result<()>
+        ensures { Tests testing.stand_given self.old self.new (given (end kind)) result }
+    {
+        if let Some(error) = self.failed {
+            return Err(error);
+        }
+        self.nesting.end(kind);
+        Ok(())
+    }
+}
+
+impl Events for KeyTest {
+    ghost State = { standing.Stand };
+
+    ghost state = { stand_of };
+
+    ghost after = { testing.stand_given };
+
+    ghost stand = { λ s. s };
+
+    ghost stopped = { testing.StopsTest };
+
+    ghost failed = { λ s. s.failed };
+
+    ghost moves = { λ s t. refl };
+
+    fn null(&mut self) -> Result<()> {
+        self.pass()
+    }
+
+    fn boolean(&mut self, b: bool) -> Result<()> {
+        let _ = b;
+        self.pass()
+    }
+
+    fn int(&mut self, n: i128) -> Result<()> {
+        let _ = n;
+        self.pass()
+    }
+
+    fn uint(&mut self, n: u128) -> Result<()> {
+        let _ = n;
+        self.pass()
+    }
+
+    fn raw_number(&mut self, literal: &str) -> Result<()> {
+        let _ = literal;
+        self.pass()
+    }
+
+    fn text(&mut self, s: &str) -> Result<()> {
+        let _ = s;
+        self.pass()
+    }
+
+    fn begin_array(&mut self, hint: Option<usize>) -> Result<()> {
+        let _ = hint;
+        self.begin(Kind::Array)
+    }
+
+    fn end_array(&mut self) -> Result<()> {
+        self.end(Kind::Array)
+    }
+
+    fn begin_object(&mut self, hint: Option<usize>) -> Result<()> {
+        let _ = hint;
+        self.begin(Kind::Object)
+    }
+
+    fn key(&mut self, s: &str) -> Result<()> {
+        if let Some(error) = self.failed {
+            return Err(error);
+        }
+        self.nesting.key(s);
+        Ok(())
+    }
+
+    fn end_object(&mut self) -> Result<()> {
+        self.end(Kind::Object)
+    }
+}
+
+// Whether each key of the value has a text.
+pub(crate) fn test_keys<T: Serialize>(alloc: Global, value: &T) -> Result<()>
+    ensures ok { OnOk result ((t : Tree) × (tree_of (T.datum value.now) ≡ Some t)) }
+    ensures err { IfErr result (λ e. (e ≡ no_memory)
+        ⊎ ((e ≡ key_refused) × (tree_of (T.datum value.now) ≡ None))) }
+{
+    let mut test = KeyTest::new(alloc);
+    value.serialize(&mut test)
+}

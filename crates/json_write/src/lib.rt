@@ -1,0 +1,45 @@
+//! Writes data of a program's own types as JSON (RFC 8259): as a text in memory, to any sink, or as a value.
+//!
+//! What implements [`Serialize`] means a datum: null, a boolean, an integer, a text, a number's literal, a list, or
+//! rows of keys and values. Its tree has a member for each row, whose name is the text of the row's key: a text is its
+//! own, an integer has its decimal text, a boolean `true` or `false`.
+//!
+//! ```
+//! use json_write::to_string;
+//! let mut ages = std::collections::BTreeMap::new(alloc);
+//! ages.insert("Ada", 36_u8)?;
+//! ages.insert("Bo", 7)?;
+//! assert_eq!(rt; to_string(alloc, &ages)?.as_str(), "{\"Ada\":36,\"Bo\":7}");
+//! ```
+#![tactic(auto)]
+
+mod builder;
+mod fields;
+mod giving;
+mod holders;
+mod integers;
+mod key_room;
+mod key_test;
+mod level;
+mod lists;
+mod maps;
+mod nesting;
+mod numbers;
+mod refusal;
+mod scalars;
+mod serialize;
+mod texts;
+mod values;
+mod writing;
+
+pub use builder::to_value;
+pub use fields::{Field, Fields, give_fields};
+pub use giving::{
+    begin_list, begin_rows, end_list, end_rows, give_boolean, give_int, give_key, give_literal,
+    give_null, give_text, give_uint,
+};
+pub use key_room::KeyRoom;
+pub use refusal::refused_key;
+pub use serialize::Serialize;
+pub use texts::{to_string, to_string_pretty, to_vec, to_vec_pretty};
+pub use writing::{to_writer, to_writer_pretty};

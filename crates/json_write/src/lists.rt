@@ -1,0 +1,66 @@
+// Lists.
+ghost use Rattle.std.specs.Prelude.{◌≡◌, [], ◌∷◌, None, map};
+ghost use Rattle.json_print.specs.Standing.{TakesValue};
+ghost use Rattle.json_model.specs.Datum.{list_datum, list_data};
+ghost use Rattle.json_print.specs.Data.{parts};
+ghost use Rattle.json_write.specs.Writing.{Writes};
+
+use crate::giving::{begin_list, end_list};
+use crate::{KeyRoom, Serialize};
+use json_print::Events;
+use json_text::Result;
+
+fn serialize_list<T: Serialize, E: Events>(items: &[T], out: &mut E) -> Result<()>
+    requires { E.failed out.old ≡ None → TakesValue (E.stand (E.state out.old)).turn }
+    ensures { Writes E.after E.stopped (E.state out.old) (E.state out.new)
+        (E.failed out.old) (E.failed out.new)
+        (parts (list_datum (list_data (map T.datum items.now)))) result }
+{
+    begin_list(Some(items.len()), out)?;
+    for item in items {
+        item.serialize(out)?;
+    }
+    end_list(out)
+}
+
+impl<T: Serialize> Serialize for &[T] {
+    ghost datum = { λ s. list_datum (list_data (map T.datum s.now)) };
+
+    fn serialize<E: Events>(&self, out: &mut E) -> Result<()> {
+        serialize_list(*self, out)
+    }
+
+    fn key<'k>(&'k self, room: &'k mut KeyRoom) -> Option<&'k str> {
+        let _ = room;
+        None
+    }
+}
+
+impl<T: Serialize> Serialize for Vec<T> {
+    ghost datum = { λ s. list_datum (list_data (map T.datum s.items)) };
+
+    fn serialize<E: Events>(&self, out: &mut E) -> Result<()> {
+        serialize_list(self.as_slice(), out)
+    }
+
+    fn key<'k>(&'k self, room: &'k mut KeyRoom) -> Option<&'k str> {
+        let _ = room;
+        None
+    }
+}
+
+impl<A: Serialize, B: Serialize> Serialize for (A, B) {
+    ghost datum = { λ s. list_datum (list_data (A.datum s.0 ∷ B.datum s.1 ∷ [])) };
+
+    fn serialize<E: Events>(&self, out: &mut E) -> Result<()> {
+        begin_list(Some(2), out)?;
+        self.0.serialize(out)?;
+        self.1.serialize(out)?;
+        end_list(out)
+    }
+
+    fn key<'k>(&'k self, room: &'k mut KeyRoom) -> Option<&'k str> {
+        let _ = room;
+        None
+    }
+}

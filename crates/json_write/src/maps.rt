@@ -1,0 +1,35 @@
+// Maps.
+ghost use Rattle.std.specs.Prelude.{◌≡◌, None, map};
+ghost use Rattle.json_print.specs.Standing.{TakesValue};
+ghost use Rattle.json_model.specs.Datum.{rows_datum, list_rows, row_of};
+ghost use Rattle.json_print.specs.Data.{parts};
+ghost use Rattle.json_write.specs.Writing.{Writes};
+
+use crate::giving::{begin_rows, end_rows, give_key};
+use crate::refusal::refused_key;
+use crate::{KeyRoom, Serialize};
+use json_print::Events;
+use json_text::Result;
+use std::collections::BTreeMap;
+
+impl<K: Serialize + Ord, V: Serialize> Serialize for BTreeMap<K, V> {
+    ghost datum = { λ m. rows_datum (list_rows (map (row_of K.datum V.datum) m.entries)) };
+
+    fn serialize<E: Events>(&self, out: &mut E) -> Result<()> {
+        let mut room = KeyRoom::new();
+        begin_rows(Some(self.len()), out)?;
+        for (key, value) in self {
+            match key.key(&mut room) {
+                None => return Err(refused_key()),
+                Some(text) => give_key(text, out)?,
+            }
+            value.serialize(out)?;
+        }
+        end_rows(out)
+    }
+
+    fn key<'k>(&'k self, room: &'k mut KeyRoom) -> Option<&'k str> {
+        let _ = room;
+        None
+    }
+}

@@ -1,0 +1,69 @@
+// What may come next of tokens.
+ghost use Rattle.std.specs.Prelude.{◌≡◌, OnOk, IfErr};
+ghost use Rattle.json_grammar.specs.Tree.{null_token, begin, end, key_token};
+ghost use Rattle.json_text.specs.Errors.{no_memory};
+ghost use Rattle.json_print.specs.Standing.{stand_after};
+ghost use Rattle.json_write.specs.Nesting.{nesting_stand, at_first};
+
+use json_grammar::Kind;
+use json_print::Turn;
+use json_text::Result;
+use std::alloc::Global;
+
+#[derive(Drop)]
+pub(crate) struct Nesting {
+    turn: Turn,
+    // The open containers, the innermost last.
+    opened: Vec<Kind>,
+}
+
+impl Nesting {
+    pub(crate) fn new(alloc: Global) -> Nesting
+        ensures { nesting_stand result ≡ at_first }
+    {
+        Nesting {
+            turn: Turn::Value,
+            opened: Vec::new(alloc),
+        }
+    }
+
+    // A value is behind.
+    pub(crate) fn pass(&mut self)
+        ensures { nesting_stand self.new ≡ stand_after (nesting_stand self.old) null_token }
+    {
+        self.turn = match self.opened.last() {
+            None => Turn::Done,
+            Some(Kind::Array) => Turn::Element(false),
+            Some(Kind::Object) => Turn::Key(false),
+        };
+    }
+
+    pub(crate) fn begin(&mut self, kind: Kind) -> Result<()>
+        ensures ok { OnOk result (nesting_stand self.new
+            ≡ stand_after (nesting_stand self.old) (begin kind)) }
+        ensures err { IfErr result (λ e. e ≡ no_memory) }
+    {
+        self.opened.push(kind)?;
+        self.turn = match kind {
+            Kind::Array => Turn::Element(true),
+            Kind::Object => Turn::Key(true),
+        };
+        Ok(())
+    }
+
+    pub(crate) fn end(&mut self, kind: Kind)
+        ensures { nesting_stand self.new ≡ stand_after (nesting_stand self.old) (end kind) }
+    {
+        let _ = kind;
+        let _ = self.opened.pop();
+        self.pass();
+    }
+
+    pub(crate) fn key(&mut self, key: &str)
+        ensures { nesting_stand self.new
+            ≡ stand_after (nesting_stand self.old) (key_token key.now) }
+    {
+        let _ = key;
+        self.turn = Turn::Member;
+    }
+}

@@ -1,0 +1,15 @@
+// The refusal of a key.
+ghost use Rattle.std.specs.Prelude.{◌≡◌};
+ghost use Rattle.json_text.specs.Errors.{key_refused};
+
+use json_text::{Error, ErrorCode, Place};
+
+/// What a body answers where a key has no text: `SerExpectKeyIsStrOrNum`, without a place.
+pub fn refused_key() -> Error
+    ensures { result ≡ key_refused }
+{
+    Error {
+        code: ErrorCode::SerExpectKeyIsStrOrNum,
+        place: Place::None,
+    }
+}

@@ -1,0 +1,57 @@
+// Texts in memory.
+ghost use Rattle.std.specs.Prelude.{◌≡◌, ◌⊎◌, None, Some, IfOk, IfErr, IsUtf8, string_bytes};
+ghost use Rattle.json_text.specs.Errors.{no_memory, key_refused};
+ghost use Rattle.json_model.specs.Datum.{tree_of};
+ghost use Rattle.json_write.specs.Sending.{datum_text, two_spaces};
+
+use crate::Serialize;
+use json_print::Serializer;
+use json_text::{Result, VecSink};
+use std::alloc::Global;
+
+/// The compact text of the value's tree. A refusal comes exactly where a key has no text, but for `NoMemory`.
+pub fn to_vec<T: Serialize>(alloc: Global, value: &T) -> Result<Vec<u8>>
+    ensures ok { IfOk result (λ v. datum_text None (T.datum value.now) ≡ Some v.items) }
+    ensures utf8 { IfOk result (λ v. IsUtf8 v.items) }
+    ensures err { IfErr result (λ e. (e ≡ no_memory)
+        ⊎ ((e ≡ key_refused) × (tree_of (T.datum value.now) ≡ None))) }
+{
+    let mut out = Serializer::new(alloc, VecSink::new(alloc));
+    value.serialize(&mut out)?;
+    Ok(out.into_inner().into_vec())
+}
+
+/// The text of the value's tree, indented by two spaces. A refusal comes exactly where a key has no text, but for
+/// `NoMemory`.
+pub fn to_vec_pretty<T: Serialize>(alloc: Global, value: &T) -> Result<Vec<u8>>
+    ensures ok { IfOk result (λ v. datum_text two_spaces (T.datum value.now) ≡ Some v.items) }
+    ensures utf8 { IfOk result (λ v. IsUtf8 v.items) }
+    ensures err { IfErr result (λ e. (e ≡ no_memory)
+        ⊎ ((e ≡ key_refused) × (tree_of (T.datum value.now) ≡ None))) }
+{
+    let mut out = Serializer::pretty(alloc, VecSink::new(alloc));
+    value.serialize(&mut out)?;
+    Ok(out.into_inner().into_vec())
+}
+
+/// The compact text of the value's tree. A refusal comes exactly where a key has no text, but for `NoMemory`.
+pub fn to_string<T: Serialize>(alloc: Global, value: &T) -> Result<String>
+    ensures ok { IfOk result (λ s. datum_text None (T.datum value.now) ≡ Some (string_bytes s)) }
+    ensures err { IfErr result (λ e. (e ≡ no_memory)
+        ⊎ ((e ≡ key_refused) × (tree_of (T.datum value.now) ≡ None))) }
+{
+    let bytes = to_vec(alloc, value)?;
+    Ok(unsafe { String::from_utf8_unchecked(bytes) })
+}
+
+/// The text of the value's tree, indented by two spaces. A refusal comes exactly where a key has no text, but for
+/// `NoMemory`.
+pub fn to_string_pretty<T: Serialize>(alloc: Global, value: &T) -> Result<String>
+    ensures ok { IfOk result (λ s.
+        datum_text two_spaces (T.datum value.now) ≡ Some (string_bytes s)) }
+    ensures err { IfErr result (λ e. (e ≡ no_memory)
+        ⊎ ((e ≡ key_refused) × (tree_of (T.datum value.now) ≡ None))) }
+{
+    let bytes = to_vec_pretty(alloc, value)?;
+    Ok(unsafe { String::from_utf8_unchecked(bytes) })
+}
