@@ -1,0 +1,261 @@
+-- The pairs of an object, taken one after another.
+use Rattle.std.proofs.Common.{◌≡◌, ◌<◌, ◌⊎◌, inl, inr, ℕ, ℤ, Bool, true, false, List, [], ◌∷◌, ◌++◌, Option, Some, None, refl, sym, ◌∙◌, ap, subst, append_assoc, arith}
+use Rattle.std.proofs.lemmas.List.{append-nil}
+use Rattle.json_grammar.specs.declared.Kind.TheVariants.{Array as array, Object as object}
+use Rattle.json_grammar.specs.Tree.{Tree, Pairs, pairs, no_pairs, pair_and, tokens, pairs_tokens, Token as Tok, null_token, boolean_token, num_token, text_token, begin, end, key_token}
+use Rattle.json_number.specs.Integers.{integer_in}
+use Rattle.json_text.specs.declared.error.Error.{Error}
+use Rattle.json_text.specs.declared.error.ErrorCode.{ErrorCode}
+use Rattle.json_data.specs.declared.token.TokenKind.{TokenKind}
+use Rattle.json_data.specs.declared.token.TokenKind.TheVariants.{BeginObject, EndObject}
+use Rattle.json_data.specs.Kinds.{kind_of, number_kind}
+use Rattle.json_data.specs.Reading.{Reading, refuses}
+use Rattle.json_data.specs.Refusals.{refusal, is_refusal}
+use Rattle.json_data.specs.Reader.{Reads, Stops, KeyRefused}
+use Rattle.json_data.specs.Spots.{Spot, member, opened_of, behind_value, within, around, after}
+use Rattle.json_data.specs.Stand.{Stand, Takes, Peeks, AsTold, TakesTree, TakesOne, Leaves, Rest, Fails}
+use Rattle.json_data.proofs.Steps.{joins}
+use Rattle.json_data.proofs.Exits.{refusing, giving_up}
+
+abbrev pub join_pairs : Pairs → Pairs → Pairs
+join_pairs no_pairs qs = qs
+join_pairs (pair_and k t ps) qs = pair_and k t (join_pairs ps qs)
+
+pub tokens-join_pairs : (ps qs : Pairs) → pairs_tokens (join_pairs ps qs) ≡ pairs_tokens ps ++ pairs_tokens qs
+tokens-join_pairs no_pairs qs = refl
+tokens-join_pairs (pair_and k t ps) qs = ap (λ (xs : List Tok). key_token k ∷ (tokens t ++ xs)) (tokens-join_pairs ps qs) ∙ ap (λ (xs : List Tok). key_token k ∷ xs) (sym (append_assoc (tokens t) (pairs_tokens ps) (pairs_tokens qs)))
+
+pub join-join_pairs : (ps qs rs : Pairs) → join_pairs (join_pairs ps qs) rs ≡ join_pairs ps (join_pairs qs rs)
+join-join_pairs no_pairs qs rs = refl
+join-join_pairs (pair_and k t ps) qs rs = ap (λ (us : Pairs). pair_and k t us) (join-join_pairs ps qs rs)
+
+no_brace : (o : Option ℤ) (k : TokenKind) → number_kind o ≡ k → (k ≡ BeginObject) ⊎ (k ≡ EndObject) → ⊥
+no_brace None k e (inl h) = cc
+no_brace None k e (inr h) = cc
+no_brace (Some n) k e (inl h) = cc
+no_brace (Some n) k e (inr h) = cc
+
+is_begin : (x : Tok) → kind_of x ≡ BeginObject → x ≡ begin object
+is_begin null_token e = cc
+is_begin (boolean_token b) e = cc
+is_begin (num_token l) e = absurd (no_brace (integer_in l) BeginObject e (inl refl))
+is_begin (text_token s) e = cc
+is_begin (key_token s) e = cc
+is_begin (begin array) e = cc
+is_begin (begin object) e = refl
+is_begin (end array) e = cc
+is_begin (end object) e = cc
+
+is_end : (x : Tok) → kind_of x ≡ EndObject → x ≡ end object
+is_end null_token e = cc
+is_end (boolean_token b) e = cc
+is_end (num_token l) e = absurd (no_brace (integer_in l) EndObject e (inr refl))
+is_end (text_token s) e = cc
+is_end (key_token s) e = cc
+is_end (begin array) e = cc
+is_end (begin object) e = cc
+is_end (end array) e = cc
+is_end (end object) e = refl
+
+-- the source stands in an object, behind the pairs ps
+pub record InPairs {S : Type 0} (taken : S → List Tok → Type 0) (stand : S → Stand) (a b : S) (ps : Pairs) : Type 0 where
+  pub takes : Takes taken a (begin object ∷ pairs_tokens ps) b
+  pub input : (stand b).input ≡ (stand a).input
+  pub spot : (stand b).spot ≡ within object (stand a).spot
+  pub left : (stand b).left < (stand a).left
+  pub as_told : AsTold (stand a) BeginObject
+
+-- and behind a key more
+pub record InMember {S : Type 0} (taken : S → List Tok → Type 0) (stand : S → Stand) (a b : S) (ps : Pairs) (k : List ℕ) : Type 0 where
+  pub takes : Takes taken a (begin object ∷ (pairs_tokens ps ++ key_token k ∷ [])) b
+  pub input : (stand b).input ≡ (stand a).input
+  pub spot : (stand b).spot ≡ member (opened_of (stand a).spot)
+  pub left : (stand b).left < (stand a).left
+  pub as_told : AsTold (stand a) BeginObject
+
+pub opens_pairs : {S : Type 0} {taken : S → List Tok → Type 0} {stand : S → Stand} {a b c : S} {x : Tok} {k : TokenKind}
+    → k ≡ BeginObject → Peeks (stand a) (stand b) k → Takes taken a [] b → TakesOne taken stand b c x → InPairs taken stand a c no_pairs
+opens_pairs {taken = taken} {stand = stand} {a = a} {b = b} {c = c} {x = x} i y z r =
+    let h = subst (λ (j : TokenKind). Peeks (stand a) (stand b) j) i y in
+    let e : x ≡ begin object = is_begin x (r.as_told.told BeginObject h.told) in
+    record {
+      takes = subst (λ (y : Tok). Takes taken a (y ∷ []) c) e (joins z r.takes);
+      input = r.moves.input ∙ h.input;
+      spot = r.moves.spot ∙ ap (λ (y : Tok). after (stand b).spot y) e ∙ ap (within object) h.spot;
+      left = omega (arith, h.left, r.moves.left);
+      as_told = record { may = h.may; told = h.again };
+    }
+
+pub peeks_pairs : {S : Type 0} {taken : S → List Tok → Type 0} {stand : S → Stand} {a b c : S} {k : TokenKind} {ps : Pairs}
+    → InPairs taken stand a b ps → Peeks (stand b) (stand c) k → Takes taken b [] c → InPairs taken stand a c ps
+peeks_pairs {taken = taken} {a = a} {c = c} {ps = ps} w h z = record {
+  takes = subst (λ (xs : List Tok). Takes taken a xs c) (append-nil (begin object ∷ pairs_tokens ps)) (joins w.takes z);
+  input = h.input ∙ w.input;
+  spot = h.spot ∙ w.spot;
+  left = omega (arith, w.left, h.left);
+  as_told = w.as_told;
+}
+
+pub one_key : {S : Type 0} {taken : S → List Tok → Type 0} {stand : S → Stand} {a b c : S} {ps : Pairs} {k : List ℕ}
+    → InPairs taken stand a b ps → TakesOne taken stand b c (key_token k) → InMember taken stand a c ps k
+one_key {k = k} w r = record {
+  takes = joins w.takes r.takes;
+  input = r.moves.input ∙ w.input;
+  spot = r.moves.spot ∙ ap (λ (p : Spot). after p (key_token k)) w.spot;
+  left = omega (arith, w.left, r.moves.left);
+  as_told = w.as_told;
+}
+
+member-row : (ps : Pairs) (k : List ℕ) (t : Tree) → (pairs_tokens ps ++ key_token k ∷ []) ++ tokens t ≡ pairs_tokens (join_pairs ps (pair_and k t no_pairs))
+member-row ps k t = append_assoc (pairs_tokens ps) (key_token k ∷ []) (tokens t) ∙ ap (λ (xs : List Tok). pairs_tokens ps ++ key_token k ∷ xs) (sym (append-nil (tokens t))) ∙ sym (tokens-join_pairs ps (pair_and k t no_pairs))
+
+pub one_member : {S : Type 0} {taken : S → List Tok → Type 0} {stand : S → Stand} {a b c : S} {ps : Pairs} {k : List ℕ} {t : Tree}
+    → InMember taken stand a b ps k → TakesTree taken stand b c t → InPairs taken stand a c (join_pairs ps (pair_and k t no_pairs))
+one_member {taken = taken} {a = a} {c = c} {ps = ps} {k = k} {t = t} w r = record {
+  takes = subst (λ (xs : List Tok). Takes taken a (begin object ∷ xs) c) (member-row ps k t) (joins w.takes r.takes);
+  input = r.moves.input ∙ w.input;
+  spot = r.moves.spot ∙ ap behind_value w.spot;
+  left = omega (arith, w.left, r.moves.left);
+  as_told = w.as_told;
+}
+
+pub closes_pairs : {S : Type 0} {taken : S → List Tok → Type 0} {stand : S → Stand} {a b c d : S} {ps : Pairs} {x : Tok} {k : TokenKind}
+    → k ≡ EndObject → InPairs taken stand a b ps → Peeks (stand b) (stand c) k → Takes taken b [] c → TakesOne taken stand c d x → TakesTree taken stand a d (pairs ps)
+closes_pairs {taken = taken} {stand = stand} {a = a} {b = b} {c = c} {d = d} {ps = ps} {x = x} i w y z r =
+    let h = subst (λ (j : TokenKind). Peeks (stand b) (stand c) j) i y in
+    let v = peeks_pairs w h z in
+    let e : x ≡ end object = is_end x (r.as_told.told EndObject h.told) in
+    record {
+      takes = subst (λ (y : Tok). Takes taken a (begin object ∷ (pairs_tokens ps ++ y ∷ [])) d) e (joins v.takes r.takes);
+      moves = record {
+        input = r.moves.input ∙ v.input;
+        spot = r.moves.spot ∙ ap (λ (y : Tok). after (stand c).spot y) e ∙ ap around v.spot;
+        told = r.moves.told;
+        left = omega (arith, v.left, r.moves.left);
+      };
+      as_told = w.as_told;
+    }
+
+pub leaves_pairs : {S : Type 0} {taken : S → List Tok → Type 0} {stand : S → Stand} {a b c : S} {ps : Pairs}
+    → InPairs taken stand a b ps → Leaves taken stand b c → (qs : Pairs) × TakesTree taken stand a c (pairs (join_pairs ps qs))
+leaves_pairs {taken = taken} {stand = stand} {a = a} {b = b} {c = c} {ps = ps} w r =
+    let rest : (qs : Pairs) × (r.rest ≡ pairs_tokens qs ++ end object ∷ []) = subst (λ (p : Spot). Rest p r.rest) w.spot r.is_rest in
+    let qs = rest.0 in
+    let e : pairs_tokens ps ++ r.rest ≡ pairs_tokens (join_pairs ps qs) ++ end object ∷ [] =
+    ap (λ (xs : List Tok). pairs_tokens ps ++ xs) rest.1 ∙ sym (append_assoc (pairs_tokens ps) (pairs_tokens qs) (end object ∷ []))
+    ∙ ap (λ (xs : List Tok). xs ++ end object ∷ []) (sym (tokens-join_pairs ps qs)) in (
+      qs,
+      record {
+        takes = subst (λ (xs : List Tok). Takes taken a (begin object ∷ xs) c) e (joins w.takes r.takes);
+        moves = record {
+          input = r.moves.input ∙ w.input;
+          spot = r.moves.spot ∙ ap around w.spot;
+          told = r.moves.told;
+          left = omega (arith, w.left, r.moves.left);
+        };
+        as_told = w.as_told;
+      },
+    )
+
+pub leaves_member : {S : Type 0} {taken : S → List Tok → Type 0} {stand : S → Stand} {a b c : S} {ps : Pairs} {k : List ℕ}
+    → InMember taken stand a b ps k → Leaves taken stand b c → (t : Tree) × (qs : Pairs) × TakesTree taken stand a c (pairs (join_pairs ps (pair_and k t qs)))
+leaves_member {taken = taken} {stand = stand} {a = a} {b = b} {c = c} {ps = ps} {k = k} w r =
+    let rest : (t : Tree) × (qs : Pairs) × (r.rest ≡ (tokens t ++ pairs_tokens qs) ++ end object ∷ []) = subst (λ (p : Spot). Rest p r.rest) w.spot r.is_rest in
+    let t = rest.0 in
+    let qs = rest.1 in
+    let e : (pairs_tokens ps ++ key_token k ∷ []) ++ r.rest ≡ pairs_tokens (join_pairs ps (pair_and k t qs)) ++ end object ∷ [] =
+    append_assoc (pairs_tokens ps) (key_token k ∷ []) r.rest ∙ ap (λ (xs : List Tok). pairs_tokens ps ++ key_token k ∷ xs) rest.2
+    ∙ sym (append_assoc (pairs_tokens ps) (pairs_tokens (pair_and k t qs)) (end object ∷ []))
+    ∙ ap (λ (xs : List Tok). xs ++ end object ∷ []) (sym (tokens-join_pairs ps (pair_and k t qs))) in (
+      t,
+      qs,
+      record {
+        takes = subst (λ (xs : List Tok). Takes taken a (begin object ∷ xs) c) e (joins w.takes r.takes);
+        moves = record {
+          input = r.moves.input ∙ w.input;
+          spot = r.moves.spot ∙ ap around w.spot;
+          told = r.moves.told;
+          left = omega (arith, w.left, r.moves.left);
+        };
+        as_told = w.as_told;
+      },
+    )
+
+-- ---- refusals
+
+abbrev Left : {S : Type 0} → (S → List Tok → Type 0) → (S → Stand) → S → S → Error → Error → Type 0
+Left taken stand c d e r = is_refusal e.code ≡ true → ((r ≡ e) × Leaves taken stand c d) ⊎ Fails (stand c) (stand d) r
+
+-- a key was refused, and then the object was left
+stop_key_at : {S : Type 0} {taken : S → List Tok → Type 0} {stand : S → Stand} {h : Tree → Reading} {a b d : S} {ps : Pairs} {k : List ℕ} {e r : Error}
+    → is_refusal e.code ≡ true → e ≡ refusal e.code → InMember taken stand a b ps k
+    → (((r ≡ e) × Leaves taken stand b d) ⊎ Fails (stand b) (stand d) r)
+    → ((t : Tree) (qs : Pairs) → h (pairs (join_pairs ps (pair_and k t qs))) ≡ refuses e.code)
+    → Stops taken stand h a d r
+stop_key_at {taken = taken} {stand = stand} {h = h} {a = a} {d = d} p i w (inl y) q =
+    let l = leaves_member w y.1 in
+    subst (λ (z : Error). Stops taken stand h a d z) (sym y.0) (refusing p i (record { tree = pairs (join_pairs _ (pair_and _ l.0 l.1)); takes = l.2; answer = q l.0 l.1 }))
+stop_key_at p i w (inr y) q = giving_up (record { input = y.input ∙ w.input; no_refusal = y.no_refusal; cause = inr y.failed })
+
+pub stop_key : {S : Type 0} {taken : S → List Tok → Type 0} {stand : S → Stand} {h : Tree → Reading} {a b d : S} {ps : Pairs} {k : List ℕ} {e r : Error}
+    → is_refusal e.code ≡ true → e ≡ refusal e.code → InMember taken stand a b ps k → Left taken stand b d e r
+    → ((t : Tree) (qs : Pairs) → h (pairs (join_pairs ps (pair_and k t qs))) ≡ refuses e.code)
+    → Stops taken stand h a d r
+stop_key p i w l q = stop_key_at p i w (l p) q
+
+-- a value was refused, or the source failed, and then the object was left
+pub refused_member : {S : Type 0} {taken : S → List Tok → Type 0} {stand : S → Stand} {f h : Tree → Reading} {a b c d : S} {ps : Pairs} {k : List ℕ} {x : ErrorCode}
+    → InMember taken stand a b ps k → Reads taken stand f b c (refuses x) → Leaves taken stand c d
+    → ((t : Tree) (qs : Pairs) → f t ≡ refuses x → h (pairs (join_pairs ps (pair_and k t qs))) ≡ refuses x)
+    → Reads taken stand h a d (refuses x)
+refused_member {taken = taken} {stand = stand} {a = a} {d = d} {ps = ps} {k = k} w r l q =
+    let p = leaves_pairs (one_member w r.takes) l in
+    let e : join_pairs (join_pairs ps (pair_and k r.tree no_pairs)) p.0 ≡ join_pairs ps (pair_and k r.tree p.0) = join-join_pairs ps (pair_and k r.tree no_pairs) p.0 in
+    record {
+      tree = pairs (join_pairs ps (pair_and k r.tree p.0));
+      takes = subst (λ (us : Pairs). TakesTree taken stand a d (pairs us)) e p.1;
+      answer = q r.tree p.0 r.answer;
+    }
+
+stop_member_at : {S : Type 0} {taken : S → List Tok → Type 0} {stand : S → Stand} {f h : Tree → Reading} {a b c d : S} {ps : Pairs} {k : List ℕ} {e r : Error}
+    → (v : Bool) → is_refusal e.code ≡ v → InMember taken stand a b ps k → Stops taken stand f b c e → Left taken stand c d e r
+    → (is_refusal e.code ≡ false → (r ≡ e) × (d ≡ c))
+    → ((t : Tree) (qs : Pairs) → f t ≡ refuses e.code → h (pairs (join_pairs ps (pair_and k t qs))) ≡ refuses e.code)
+    → Stops taken stand h a d r
+stop_member_at {taken = taken} {stand = stand} {h = h} {a = a} {c = c} {d = d} {e = e} {r = r} true p w s l k q =
+    let x = s.refused p in
+    elim (l p) [
+      | inl y ↦ subst (λ (z : Error). Stops taken stand h a d z) (sym y.0) (refusing p x.0 (refused_member w x.1 y.1 q))
+      | inr y ↦ giving_up (record { input = y.input ∙ x.1.takes.moves.input ∙ w.input; no_refusal = y.no_refusal; cause = inr y.failed })
+    ]
+stop_member_at {S = S} {taken = taken} {stand = stand} {h = h} {a = a} {c = c} {d = d} {e = e} {r = r} false p w s l k q =
+    let x = s.gave_up p in
+    let y = k p in
+    let u : Stops taken stand h a c e = giving_up (record { input = x.input ∙ w.input; no_refusal = x.no_refusal; cause = x.cause }) in
+    subst (λ (z : Error). Stops taken stand h a d z) (sym y.0) (subst (λ (z : S). Stops taken stand h a z e) (sym y.1) u)
+
+pub stop_member : {S : Type 0} {taken : S → List Tok → Type 0} {stand : S → Stand} {f h : Tree → Reading} {a b c d : S} {ps : Pairs} {k : List ℕ} {e r : Error}
+    → InMember taken stand a b ps k → Stops taken stand f b c e → Left taken stand c d e r
+    → (is_refusal e.code ≡ false → (r ≡ e) × (d ≡ c))
+    → ((t : Tree) (qs : Pairs) → f t ≡ refuses e.code → h (pairs (join_pairs ps (pair_and k t qs))) ≡ refuses e.code)
+    → Stops taken stand h a d r
+stop_member {e = e} = stop_member_at (is_refusal e.code) refl
+
+stop_key_when : {S : Type 0} {taken : S → List Tok → Type 0} {stand : S → Stand} {says : List ℕ → Type 0} {f : List ℕ → Reading} {h : Tree → Reading} {a b d : S} {ps : Pairs} {k : List ℕ} {e r : Error}
+    → (v : Bool) → is_refusal e.code ≡ v → InMember taken stand a b ps k → KeyRefused says f e → says k → Left taken stand b d e r
+    → (is_refusal e.code ≡ false → (r ≡ e) × (d ≡ b))
+    → ((t : Tree) (qs : Pairs) → f k ≡ refuses e.code → h (pairs (join_pairs ps (pair_and k t qs))) ≡ refuses e.code)
+    → Stops taken stand h a d r
+stop_key_when {k = k} true p w s y l i q = let x = s.refused p in stop_key p x.0 w l (λ t qs. q t qs (x.1 k y))
+stop_key_when {S = S} {taken = taken} {stand = stand} {h = h} {a = a} {b = b} {d = d} {e = e} {r = r} false p w s y l i q =
+    let x = i p in
+    let u : Stops taken stand h a b e = giving_up (record { input = w.input; no_refusal = p; cause = inl (s.gave_up p) }) in
+    subst (λ (z : Error). Stops taken stand h a d z) (sym x.0) (subst (λ (z : S). Stops taken stand h a z e) (sym x.1) u)
+
+-- no key was made, and then the object was left
+pub stop_key_of : {S : Type 0} {taken : S → List Tok → Type 0} {stand : S → Stand} {says : List ℕ → Type 0} {f : List ℕ → Reading} {h : Tree → Reading} {a b d : S} {ps : Pairs} {k : List ℕ} {e r : Error}
+    → InMember taken stand a b ps k → KeyRefused says f e → says k → Left taken stand b d e r
+    → (is_refusal e.code ≡ false → (r ≡ e) × (d ≡ b))
+    → ((t : Tree) (qs : Pairs) → f k ≡ refuses e.code → h (pairs (join_pairs ps (pair_and k t qs))) ≡ refuses e.code)
+    → Stops taken stand h a d r
+stop_key_of {e = e} = stop_key_when (is_refusal e.code) refl

@@ -1,0 +1,6 @@
+use Rattle.std.proofs.Common.{[], refl}
+use Rattle.json_data.proofs.Events.{place_is}
+use Rattle.json_data.proofs.text_tokens.TextTokens.new.Goals as goal
+
+pub returns-clause-fresh : goal.returns-clause-fresh
+returns-clause-fresh c = let h = c.new.ensures.fresh.0 in record { none = h; taken = h; spot = place_is c.new.result [] h; ahead = refl; failed = refl }

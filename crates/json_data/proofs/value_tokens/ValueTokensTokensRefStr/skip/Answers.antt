@@ -1,0 +1,7 @@
+use Rattle.std.proofs.Common.{refl}
+use Rattle.json_data.specs.Values.{value_state}
+use Rattle.json_data.proofs.ValueSteps.{skips}
+use Rattle.json_data.proofs.value_tokens.ValueTokensTokensRefStr.skip.Goals as goal
+
+pub returns-clause-ok : goal.returns-clause-ok
+returns-clause-ok c = skips c.args.self.now _ (value_state c.settle.new.self) c.settle.ensures c.requires refl

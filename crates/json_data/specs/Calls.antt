@@ -1,0 +1,78 @@
+-- What the calls that read a value answer.
+use Rattle.std.specs.Prelude.{◌≡◌, ◌⊎◌, ℕ, ◌^◌, ◌<◌, ◌≤◌, List, length, get_or, false, IsUtf8}
+use Rattle.json_grammar.specs.Grammar.{IsWhitespace, ws, is_text}
+use Rattle.json_grammar.specs.Given.{piece}
+use Rattle.json_grammar.specs.Rules.{Rules, fits}
+use Rattle.json_grammar.specs.Tree.{Tree, depth}
+use Rattle.json_text.specs.declared.error.ErrorCode.{ErrorCode}
+use Rattle.json_text.specs.declared.error.ErrorCode.TheVariants as code
+use Rattle.json_text.specs.declared.error.Place.{Place}
+use Rattle.json_text.specs.declared.error.Place.TheVariants as place
+use Rattle.json_text.specs.Faults.{FaultAt, FaultWithAt}
+use Rattle.json_text.specs.Outside.{SourceState}
+use Rattle.json_text.specs.Positions.{place_at}
+use Rattle.json_text.specs.Transfer.{ReadsWithin, ReadingCause}
+use Rattle.json_text.specs.Utf8.{IsUtf8Fault}
+use Rattle.json_data.specs.Reading.{Reading, refuses}
+
+-- the bytes are a text of a tree of so many levels at most, of which r is the reading
+abbrev pub ReadsText : ℕ → (Tree → Reading) → List ℕ → Reading → Type 0
+ReadsText limit f b r = (t : Tree) × is_text false t b × (depth t ≤ limit) × (f t ≡ r)
+
+-- the value of the text begins there
+abbrev pub ValueBegins : List ℕ → Place → Type 0
+ValueBegins b p = (k : ℕ) × ws (piece b 0 k) × (k < length b → ¬ (IsWhitespace (get_or b k 0))) × (p ≡ place_at b k)
+
+-- the tree of the text is refused, at the beginning of its value
+abbrev pub TreeRefused : ℕ → (Tree → Reading) → List ℕ → ErrorCode → Place → Type 0
+TreeRefused limit f b c p = ReadsText limit f b (refuses c) × ValueBegins b p
+
+-- why no value of so many levels at most is read of bytes: memory ran out, there are more than 4,294,967,295, they are no UTF-8, they are no text,
+-- or its tree is refused
+abbrev pub ReadingFails : ℕ → (Tree → Reading) → List ℕ → ErrorCode → Place → Type 0
+ReadingFails limit f b code.NoMemory place.None = Unit {0}
+ReadingFails limit f b code.TooLarge place.None = 2 ^ 32 ≤ length b
+ReadingFails limit f b code.InvalidUTF8 p = (k : ℕ) × IsUtf8Fault b k × (p ≡ place_at b k)
+ReadingFails limit f b code.TypeUnmatched p = TreeRefused limit f b code.TypeUnmatched p
+ReadingFails limit f b code.NumberOutOfRange p = TreeRefused limit f b code.NumberOutOfRange p
+ReadingFails limit f b code.ExpectedNumericKey p = TreeRefused limit f b code.ExpectedNumericKey p
+ReadingFails limit f b c p = IsUtf8 b × FaultAt limit b c p
+
+-- why bytes are not looked at as a text: there are more than 4,294,967,295, or they are no UTF-8
+abbrev pub TextFails : List ℕ → ErrorCode → Place → Type 0
+TextFails b code.TooLarge place.None = 2 ^ 32 ≤ length b
+TextFails b code.InvalidUTF8 p = (k : ℕ) × IsUtf8Fault b k × (p ≡ place_at b k)
+TextFails b c p = ⊥
+
+-- ---- by rules
+
+-- the bytes are a text of a tree that fits the rules, of which r is the reading
+abbrev pub ReadsTextWith : Rules → (Tree → Reading) → List ℕ → Reading → Type 0
+ReadsTextWith rules f b r = (t : Tree) × is_text false t b × fits t rules × (f t ≡ r)
+
+abbrev pub TreeRefusedWith : Rules → (Tree → Reading) → List ℕ → ErrorCode → Place → Type 0
+TreeRefusedWith rules f b c p = ReadsTextWith rules f b (refuses c) × ValueBegins b p
+
+-- why no value that fits the rules is read of bytes
+abbrev pub ReadingFailsWith : Rules → (Tree → Reading) → List ℕ → ErrorCode → Place → Type 0
+ReadingFailsWith rules f b code.NoMemory place.None = Unit {0}
+ReadingFailsWith rules f b code.TooLarge place.None = 2 ^ 32 ≤ length b
+ReadingFailsWith rules f b code.InvalidUTF8 p = (k : ℕ) × IsUtf8Fault b k × (p ≡ place_at b k)
+ReadingFailsWith rules f b code.TypeUnmatched p = TreeRefusedWith rules f b code.TypeUnmatched p
+ReadingFailsWith rules f b code.NumberOutOfRange p = TreeRefusedWith rules f b code.NumberOutOfRange p
+ReadingFailsWith rules f b code.ExpectedNumericKey p = TreeRefusedWith rules f b code.ExpectedNumericKey p
+ReadingFailsWith rules f b c p = IsUtf8 b × FaultWithAt rules b c p
+
+-- ---- from a source
+
+-- the most bytes that are read
+abbrev pub most : ℕ
+most = 4294967295
+
+-- all bytes that the source had left are a text of a tree of at most 254 levels, of which r is the reading
+abbrev pub ReadsSource : SourceState → SourceState → (Tree → Reading) → Reading → Type 0
+ReadsSource old new f r = (b : List ℕ) × ReadsWithin most old new b × ReadsText 254 f b r
+
+-- why no value is read of a source: its bytes were not had, or no value is read of them
+abbrev pub SourceFails : SourceState → SourceState → (Tree → Reading) → ErrorCode → Place → Type 0
+SourceFails old new f c p = ReadingCause most old new c p ⊎ ((b : List ℕ) × ReadsWithin most old new b × ReadingFails 254 f b c p)

@@ -1,0 +1,15 @@
+pub mod Pieces
+pub mod Kinds
+pub mod Refusals
+pub mod Reading
+pub mod Keys
+pub mod CharKeys
+pub mod Members
+pub mod Spots
+pub mod Stand
+pub mod Reader
+pub mod Text
+pub mod Calls
+pub mod Wholes
+pub mod Values
+pub mod ValueCalls

@@ -1,0 +1,107 @@
+-- What a call of a source of tokens takes.
+use Rattle.std.specs.Prelude.{◌≡◌, ◌<◌, ◌≤◌, ℕ, List, [], ◌∷◌, ◌++◌, Option, Some, None, true, false}
+use Rattle.json_grammar.specs.declared.Kind.TheVariants.{Array as array, Object as object}
+use Rattle.json_grammar.specs.Tree.{Tree, Trees, Pairs, tokens, trees_tokens, pairs_tokens, Token as Tok, end}
+use Rattle.json_text.specs.declared.error.Error.{Error}
+use Rattle.json_data.specs.declared.token.TokenKind.{TokenKind}
+use Rattle.json_data.specs.Kinds.{kind_of, first_kind}
+use Rattle.json_data.specs.Refusals.{is_refusal}
+use Rattle.json_data.specs.Spots.{Spot, top, over, element, key_or_end, member, MayCome, begins_value, behind_value, around, after}
+
+-- what is read: a text from a place on, with so many levels at most, or a tree
+pub data Input : Type 0 where
+  over_text : List ℕ → ℕ → ℕ → Input
+  over_tree : Tree → Input
+
+pub record Stand : Type 0 where
+  pub input : Input
+  pub spot : Spot
+  -- the kind that was told since the last token was taken
+  pub told : Option TokenKind
+  -- falls with each token that is taken
+  pub left : ℕ
+  -- what was answered in the place of a token
+  pub failed : Option Error
+
+-- the tokens taken so far are not those of a whole tree
+abbrev pub NotWhole : Stand → Type 0
+NotWhole s = ¬ (s.spot ≡ over)
+
+abbrev pub ToldValue : Option TokenKind → Type 0
+ToldValue (Some k) = begins_value k ≡ true
+ToldValue None = ⊥
+
+-- the next token is no key and no end
+abbrev pub WantsValueAt : Spot → Option TokenKind → Type 0
+WantsValueAt top o = Unit {0}
+WantsValueAt over o = ⊥
+WantsValueAt (element c) o = ToldValue o
+WantsValueAt (key_or_end c) o = ⊥
+WantsValueAt (member c) o = Unit {0}
+
+abbrev pub WantsValue : Stand → Type 0
+WantsValue s = WantsValueAt s.spot s.told
+
+-- the tokens xs were taken between a and b
+pub record Takes {S : Type 0} (taken : S → List Tok → Type 0) (a : S) (xs : List Tok) (b : S) : Type 0 where
+  pub on : (ts : List Tok) → taken a ts → taken b (ts ++ xs)
+
+-- the kind k was told
+pub record Peeks (a b : Stand) (k : TokenKind) : Type 0 where
+  pub input : b.input ≡ a.input
+  pub spot : b.spot ≡ a.spot
+  pub told : b.told ≡ Some k
+  pub left : b.left ≤ a.left
+  pub may : MayCome a.spot k
+  pub again : (j : TokenKind) → a.told ≡ Some j → k ≡ j
+
+-- tokens were taken, and it stands at p
+pub record Moves (a b : Stand) (p : Spot) : Type 0 where
+  pub input : b.input ≡ a.input
+  pub spot : b.spot ≡ p
+  pub told : b.told ≡ None
+  pub left : b.left < a.left
+
+-- the kind told was that of the token taken
+pub record AsTold (a : Stand) (k : TokenKind) : Type 0 where
+  pub may : MayCome a.spot k
+  pub told : (j : TokenKind) → a.told ≡ Some j → k ≡ j
+
+-- the tokens of a tree were taken
+pub record TakesTree {S : Type 0} (taken : S → List Tok → Type 0) (stand : S → Stand) (a b : S) (t : Tree) : Type 0 where
+  pub takes : Takes taken a (tokens t) b
+  pub moves : Moves (stand a) (stand b) (behind_value (stand a).spot)
+  pub as_told : AsTold (stand a) (first_kind t)
+
+-- what is left of the innermost open container, its end included
+abbrev pub Rest : Spot → List Tok → Type 0
+Rest top xs = ⊥
+Rest over xs = ⊥
+Rest (element c) xs = (ts : Trees) × (xs ≡ trees_tokens ts ++ end array ∷ [])
+Rest (key_or_end c) xs = (ps : Pairs) × (xs ≡ pairs_tokens ps ++ end object ∷ [])
+Rest (member c) xs = (t : Tree) × (ps : Pairs) × (xs ≡ (tokens t ++ pairs_tokens ps) ++ end object ∷ [])
+
+-- the first of them has the kind k
+abbrev pub FirstIs : List Tok → TokenKind → Type 0
+FirstIs [] k = ⊥
+FirstIs (x ∷ xs) k = kind_of x ≡ k
+
+-- what is left of the innermost container was taken
+pub record Leaves {S : Type 0} (taken : S → List Tok → Type 0) (stand : S → Stand) (a b : S) : Type 0 where
+  pub rest : List Tok
+  pub is_rest : Rest (stand a).spot rest
+  pub as_told : (k : TokenKind) → (stand a).told ≡ Some k → FirstIs rest k
+  pub takes : Takes taken a rest b
+  pub moves : Moves (stand a) (stand b) (around (stand a).spot)
+
+-- one token was taken
+pub record TakesOne {S : Type 0} (taken : S → List Tok → Type 0) (stand : S → Stand) (a b : S) (x : Tok) : Type 0 where
+  pub takes : Takes taken a (x ∷ []) b
+  pub moves : Moves (stand a) (stand b) (after (stand a).spot x)
+  pub as_told : AsTold (stand a) (kind_of x)
+
+-- it answered e, which is no refusal of a tree
+pub record Fails (a b : Stand) (e : Error) : Type 0 where
+  pub input : b.input ≡ a.input
+  pub no_refusal : is_refusal e.code ≡ false
+  pub failed : b.failed ≡ Some e

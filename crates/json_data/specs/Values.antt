@@ -1,0 +1,153 @@
+-- What the tokens of a value are.
+use Rattle.std.specs.Prelude.{◌≡◌, ℕ, List, [], ◌∷◌, ◌++◌, length, map, Bool, true, false, if◌then◌else◌, Option, Some, None, option_map}
+use Rattle.json_grammar.specs.declared.Kind.{Kind}
+use Rattle.json_grammar.specs.declared.Kind.TheVariants.{Array as array, Object as object}
+use Rattle.json_grammar.specs.Tree.{Tree, Token as Tok, tokens, trees_tokens, pairs_tokens, list_trees, list_pairs, end}
+use Rattle.json_text.specs.Errors.{no_memory}
+use Rattle.json_value.specs.Seen.{seen}
+use Rattle.json_value.specs.Left.{elements_left, members_left}
+use Rattle.json_data.specs.declared.level.Level.{Level}
+use Rattle.json_data.specs.declared.level.Level.TheVariants as level
+use Rattle.json_data.specs.declared.token.TokenKind.{TokenKind}
+use Rattle.json_data.specs.declared.token.TokenKind.TheVariants as kind
+use Rattle.json_data.specs.declared.value_tokens.ValueTokens.{ValueTokens}
+use Rattle.json_data.specs.Kinds.{kind_of}
+use Rattle.json_data.specs.Spots.{Spot, top, over, element, key_or_end, member}
+use Rattle.json_data.specs.Stand.{Stand, over_tree}
+
+-- what is left of an open container: its elements, or its members
+pub data Left : Type 0 where
+  elements_of : List Tree → Left
+  members_of : List (List ℕ × Tree) → Left
+
+-- a container within the open ones, the innermost first
+abbrev pub opened : Level → List Left → List Left
+opened level.Root c = []
+opened (level.List s) c = elements_of (elements_left s) ∷ c
+opened (level.Pairs s) c = members_of (members_left s) ∷ c
+
+-- so each of them, the outermost first
+abbrev pub opened_in : List Left → List Level → List Left
+opened_in c [] = c
+opened_in c (l ∷ ls) = opened_in (opened l c) ls
+
+abbrev pub kind_left : Left → Kind
+kind_left (elements_of ts) = array
+kind_left (members_of ps) = object
+
+-- the tokens that are left of a container, its end included
+abbrev pub left_tokens : Left → List Tok
+left_tokens (elements_of ts) = trees_tokens (list_trees ts) ++ end array ∷ []
+left_tokens (members_of ps) = pairs_tokens (list_pairs ps) ++ end object ∷ []
+
+abbrev pub open_tokens : List Left → List Tok
+open_tokens [] = []
+open_tokens (l ∷ ls) = left_tokens l ++ open_tokens ls
+
+abbrev pub next_tokens : Option Tree → List Tok
+next_tokens None = []
+next_tokens (Some t) = tokens t
+
+-- the spot within open containers, by whether a value of the innermost comes next
+abbrev pub spot_in : List Left → Option Tree → Spot
+spot_in [] None = over
+spot_in [] (Some t) = top
+spot_in (elements_of ts ∷ ls) o = element (map kind_left ls)
+spot_in (members_of ps ∷ ls) None = key_or_end (map kind_left ls)
+spot_in (members_of ps ∷ ls) (Some t) = member (map kind_left ls)
+
+-- a value whose tokens are taken
+pub record ValueState : Type 0 where
+  pub tree : Tree
+  -- the value that comes next, if it was reached
+  pub next : Option Tree
+  -- what the open containers have left behind it, the innermost first
+  pub levels : List Left
+  -- whether the kind of the next token was told, and whether memory ran out
+  pub told : Bool
+  pub failed : Bool
+
+abbrev pub value_state : ValueTokens → ValueState
+value_state s = record {
+  tree = seen s.whole;
+  next = option_map seen s.next;
+  levels = opened s.inner (opened_in [] s.outer.items);
+  told = s.told;
+  failed = s.failed;
+}
+
+-- the tokens that are left
+abbrev pub rest_of : ValueState → List Tok
+rest_of s = next_tokens s.next ++ open_tokens s.levels
+
+abbrev pub head_kind : List Tok → Option TokenKind
+head_kind [] = None
+head_kind (x ∷ xs) = Some (kind_of x)
+
+abbrev pub state_taken : ValueState → List Tok → Type 0
+state_taken s ts = ts ++ rest_of s ≡ tokens s.tree
+
+abbrev pub state_stand : ValueState → Stand
+state_stand s = record {
+  input = over_tree s.tree;
+  spot = spot_in s.levels s.next;
+  told = if s.told then head_kind (rest_of s) else None;
+  left = length (rest_of s);
+  failed = if s.failed then Some no_memory else None;
+}
+
+-- the tokens that were taken are those of the value, before those that are left
+abbrev pub value_taken : ValueTokens → List Tok → Type 0
+value_taken s ts = state_taken (value_state s) ts
+
+abbrev pub value_stand : ValueTokens → Stand
+value_stand s = state_stand (value_state s)
+
+-- no token of the tree was told, taken or refused
+abbrev pub at_begin : Tree → ValueState
+at_begin t = record { tree = t; next = Some t; levels = []; told = false; failed = false }
+
+-- ---- steps
+
+-- the first element, if one is left, comes next
+abbrev pub PullsElement : List Left → Option Tree → List Left → Type 0
+PullsElement (elements_of (t ∷ ts) ∷ c) o ls = (o ≡ Some t) × (ls ≡ elements_of ts ∷ c)
+PullsElement c o ls = (o ≡ None) × (ls ≡ c)
+
+-- the first member, if one is left, was taken
+abbrev pub PullsMember : List Left → Option (List ℕ × Tree) → List Left → Type 0
+PullsMember (members_of (p ∷ ps) ∷ c) o ls = (o ≡ Some p) × (ls ≡ members_of ps ∷ c)
+PullsMember c o ls = (o ≡ None) × (ls ≡ c)
+
+-- no element is left of the innermost container
+abbrev pub NoElement : List Left → Type 0
+NoElement (elements_of ts ∷ c) = ts ≡ []
+NoElement _ = Unit {0}
+
+-- where no element is left, the token of a key or of the end that comes has the kind
+abbrev pub FrontIs : List Left → TokenKind → Type 0
+FrontIs [] k = Unit {0}
+FrontIs (elements_of ts ∷ c) k = k ≡ kind.EndArray
+FrontIs (members_of [] ∷ c) k = k ≡ kind.EndObject
+FrontIs (members_of (p ∷ ps) ∷ c) k = k ≡ kind.Key
+
+-- an element that comes next was reached; nothing else changed
+pub record Settles (a b : ValueState) : Type 0 where
+  pub tree : b.tree ≡ a.tree
+  pub rest : rest_of b ≡ rest_of a
+  pub spot : spot_in b.levels b.next ≡ spot_in a.levels a.next
+  pub reached : b.next ≡ None → NoElement b.levels
+  pub told : b.told ≡ a.told
+  pub failed : b.failed ≡ a.failed
+
+-- the tokens xs were taken, and it stands at p
+pub record Steps (a b : ValueState) (xs : List Tok) (p : Spot) : Type 0 where
+  pub tree : b.tree ≡ a.tree
+  pub rest : rest_of a ≡ xs ++ rest_of b
+  pub spot : spot_in b.levels b.next ≡ p
+  pub told : b.told ≡ false
+
+-- memory ran out
+pub record Breaks (a b : ValueState) : Type 0 where
+  pub tree : b.tree ≡ a.tree
+  pub failed : b.failed ≡ true

@@ -1,0 +1,176 @@
+// Values read from texts and sources.
+ghost use Rattle.std.specs.Prelude.{◌≡◌, ◌+◌, ◌<◌, ◌≤◌, ◌^◌, length, true, IfOk, IfErr, IsErrOf, IsUtf8};
+ghost use Rattle.json_text.specs.Errors.{reading_failed, too_large as spec_too_large};
+ghost use Rattle.json_text.specs.Ruled.{rules_of};
+ghost use Rattle.json_text.specs.Transfer.{TakesAtMost};
+ghost use Rattle.json_data.specs.Reading.{gives};
+ghost use Rattle.json_data.specs.Calls.{most, TextFails};
+ghost use Rattle.json_data.specs.Calls.{ReadsText, ReadingFails, ReadsTextWith, ReadingFailsWith, ReadsSource, SourceFails};
+
+use crate::deserialize::{Deserialize, DeserializeFrom};
+use crate::refusals::is_refusal;
+use crate::text_tokens::TextTokens;
+use json_doc::read_document_with;
+use json_text::{
+    Error, ErrorCode, Place, Result, Rules, Source, check_utf8, place_of, read_all, ws_run,
+};
+use std::alloc::Global;
+use std::str::from_utf8_unchecked;
+
+/// The most bytes of a text.
+const MOST: usize = 4_294_967_295;
+
+/// The most levels of a tree, where the caller chooses none (RFC 8259, section 9).
+const LEVELS: u32 = 254;
+
+// More bytes than a text may have.
+fn too_large() -> Error
+    ensures { result ≡ spec_too_large }
+{
+    Error {
+        code: ErrorCode::TooLarge,
+        place: Place::None,
+    }
+}
+
+// The bytes as a text.
+fn text_of(json: &[u8]) -> Result<&str>
+    ensures same { IfOk result (λ text. text.now ≡ json.now) }
+    ensures valid { IfOk result (λ _. IsUtf8 json.now) }
+    ensures size { IfOk result (λ _. length json.now < 2 ^ 32) }
+    ensures cause { IfErr result (λ e. TextFails json.now e.code e.place) }
+    ensures large { 2 ^ 32 ≤ length json.now → IsErrOf result spec_too_large }
+{
+    if json.len() > MOST {
+        return Err(too_large());
+    }
+    check_utf8(json)
+}
+
+// The value of a text of so many levels at most.
+fn read_text<'a, T: Deserialize<'a> + Drop>(alloc: Global, text: &'a str, depth: u32) -> Result<T>
+    requires { depth ≤ 1024 }
+    ensures ok { IfOk result (λ v. ReadsText depth T.from_tree text.now (gives (T.datum v))) }
+    ensures err { IfErr result (λ e. ReadingFails depth T.from_tree text.now e.code e.place) }
+{
+    let mut tokens = TextTokens::new(text).depth(depth);
+    match T::deserialize(alloc, &mut tokens) {
+        Ok(value) => {
+            tokens.finish()?;
+            Ok(value)
+        }
+        Err(error) => {
+            if !is_refusal(error.code) {
+                let _failure = tokens.failure();
+                return Err(error);
+            }
+            tokens.finish()?;
+            let begin = ws_run(text.as_bytes(), 0);
+            Err(Error {
+                code: error.code,
+                place: place_of(text.as_bytes(), begin),
+            })
+        }
+    }
+}
+
+/// The value of a JSON text of at most 254 levels.
+///
+/// `TooLarge` comes exactly above 4,294,967,295 bytes, and then the fault of the whole text, if it has one. Only of a
+/// text that has none a refusal of its tree is told, at the beginning of its value: `TypeUnmatched`,
+/// `NumberOutOfRange`, `ExpectedNumericKey`. Or memory runs out.
+pub fn from_str<'a, T: Deserialize<'a> + Drop>(alloc: Global, s: &'a str) -> Result<T>
+    ensures ok { IfOk result (λ v. ReadsText 254 T.from_tree s.now (gives (T.datum v))) }
+    ensures err { IfErr result (λ e. ReadingFails 254 T.from_tree s.now e.code e.place) }
+    ensures large { 2 ^ 32 ≤ length s.now → IsErrOf result spec_too_large }
+{
+    if s.len() > MOST {
+        return Err(too_large());
+    }
+    read_text(alloc, s, LEVELS)
+}
+
+/// The value of the bytes of a JSON text, as [`from_str`]. `InvalidUTF8` comes where they are no UTF-8, before any
+/// fault of the text.
+pub fn from_slice<'a, T: Deserialize<'a> + Drop>(alloc: Global, json: &'a [u8]) -> Result<T>
+    ensures ok { IfOk result (λ v. ReadsText 254 T.from_tree json.now (gives (T.datum v))) }
+    ensures err { IfErr result (λ e. ReadingFails 254 T.from_tree json.now e.code e.place) }
+    ensures large { 2 ^ 32 ≤ length json.now → IsErrOf result spec_too_large }
+{
+    read_text(alloc, text_of(json)?, LEVELS)
+}
+
+/// The value of bytes that are UTF-8, as [`from_slice`], without a test of that.
+pub fn from_slice_unchecked<'a, T: Deserialize<'a> + Drop>(
+    alloc: Global,
+    json: &'a [u8],
+) -> Result<T>
+    requires { IsUtf8 json.now }
+    ensures ok { IfOk result (λ v. ReadsText 254 T.from_tree json.now (gives (T.datum v))) }
+    ensures err { IfErr result (λ e. ReadingFails 254 T.from_tree json.now e.code e.place) }
+    ensures large { 2 ^ 32 ≤ length json.now → IsErrOf result spec_too_large }
+{
+    from_str(alloc, unsafe { from_utf8_unchecked(json) })
+}
+
+// The value of a text in which the names of each object have to differ. They are compared in a pass of its own, which
+// packs a document.
+fn read_unique<'a, T: Deserialize<'a> + Drop>(
+    alloc: Global,
+    text: &'a str,
+    rules: Rules,
+) -> Result<T>
+    requires unique { (rules_of rules).unique ≡ true }
+    requires size { length text.now < 2 ^ 32 }
+    ensures ok { IfOk result (λ v.
+        ReadsTextWith (rules_of rules) T.from_tree text.now (gives (T.datum v))) }
+    ensures err { IfErr result (λ e.
+        ReadingFailsWith (rules_of rules) T.from_tree text.now e.code e.place) }
+{
+    let _document = read_document_with(alloc, text, rules)?;
+    read_text(alloc, text, rules.depth())
+}
+
+/// The value of the bytes of a JSON text that fits the rules, as [`from_slice`]: it has no more levels, and where the
+/// names of each object have to differ none repeats (RFC 8259, sections 9 and 4). Of a bracket that opens a level too
+/// many and a name that repeats the one that comes first is told, and either before every other fault.
+pub fn from_slice_with<'a, T: Deserialize<'a> + Drop>(
+    alloc: Global,
+    json: &'a [u8],
+    rules: Rules,
+) -> Result<T>
+    ensures ok { IfOk result (λ v.
+        ReadsTextWith (rules_of rules) T.from_tree json.now (gives (T.datum v))) }
+    ensures err { IfErr result (λ e.
+        ReadingFailsWith (rules_of rules) T.from_tree json.now e.code e.place) }
+    ensures large { 2 ^ 32 ≤ length json.now → IsErrOf result spec_too_large }
+{
+    let text = text_of(json)?;
+    if rules.unique() {
+        read_unique(alloc, text, rules)
+    } else {
+        read_text(alloc, text, rules.depth())
+    }
+}
+
+/// The value of all that the source has left, as [`from_slice`]. The bytes go into `room`, from which the value may
+/// borrow; those that it had are dropped.
+///
+/// `Io` at `Reading` comes where the source failed, and `TooLarge` where it has more than 4,294,967,295 bytes: `room` is
+/// as it was then.
+pub fn from_reader<'a, S: Source, T: Deserialize<'a> + Drop>(
+    alloc: Global,
+    source: &mut S,
+    room: &'a mut Vec<u8>,
+) -> Result<T>
+    ensures ok { IfOk result (λ v.
+        ReadsSource (S.state source.old) (S.state source.new) T.from_tree (gives (T.datum v))) }
+    ensures err { IfErr result (λ e.
+        SourceFails (S.state source.old) (S.state source.new) T.from_tree e.code e.place) }
+    ensures told { (S.state source.old).faults < (S.state source.new).faults → IsErrOf result reading_failed }
+    ensures taken { TakesAtMost (most + 1) (S.state source.old) (S.state source.new) }
+{
+    let bytes = read_all(alloc, source, MOST)?;
+    *room = bytes;
+    from_slice(alloc, room.as_slice())
+}

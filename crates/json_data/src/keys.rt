@@ -1,0 +1,126 @@
+// Keys of maps.
+ghost use Rattle.std.specs.Prelude.{◌≡◌, ℕ, List, Some, IfOk, IfErr, string_bytes, refl};
+ghost use Rattle.std.specs.Cow.{cow_str_bytes};
+ghost use Rattle.json_grammar.specs.Tree.{key_token};
+ghost use Rattle.json_model.specs.Datum.{Datum, boolean_datum, text_datum, option_datum};
+ghost use Rattle.json_data.specs.declared.token.TokenKind.TheVariants as TokenKind;
+ghost use Rattle.json_data.specs.Keys.{text_key, boolean_key, IsNamed, boolean_named, option_orders};
+ghost use Rattle.json_data.specs.Pieces.{Says};
+ghost use Rattle.json_data.specs.Reading.{Reading, gives, key_cmp};
+ghost use Rattle.json_data.specs.Reader.{KeyRefused};
+ghost use Rattle.json_data.specs.Stand.{NotWhole, TakesOne, Fails};
+
+use crate::lent::Lent;
+use crate::piece::Piece;
+use crate::refusals::refusal;
+use crate::token::Token;
+use crate::tokens::Tokens;
+use json_text::{ErrorCode, Result};
+use std::alloc::Global;
+use std::borrow::CowStr;
+
+/// A key of a map, read from the text of a name.
+pub trait FromKey<S: Lent>: Sized + Ord {
+    /// What a key means.
+    ghost key_datum: { Self → Datum };
+
+    /// What is answered of a text.
+    ghost from_text: { List ℕ → Reading };
+
+    /// The key of a text. A refusal of it tells no place; or memory runs out.
+    fn from_key(alloc: Global, key: &Piece<S>) -> Result<Self>
+        ensures ok { IfOk result (λ k. (s : List ℕ) → Says s key.now.escaped (S.bytes key.now.text)
+            → from_text s ≡ gives (key_datum k)) }
+        ensures err { IfErr result (λ e.
+            KeyRefused (λ s. Says s key.now.escaped (S.bytes key.now.text)) from_text e) };
+
+    /// No key means null.
+    ghost named: { (s : List ℕ) → IsNamed (from_text s) };
+
+    /// Keys of texts are ordered by what they mean.
+    ghost orders: { (a b : Self) (s r : List ℕ) → from_text s ≡ gives (key_datum a)
+        → from_text r ≡ gives (key_datum b) → Self.cmp a b ≡ key_cmp (key_datum a) (key_datum b) };
+}
+
+impl<S: Lent> FromKey<S> for String {
+    ghost key_datum = { λ s. text_datum (string_bytes s) };
+
+    ghost from_text = { text_key };
+
+    ghost named = { λ s. tt };
+
+    ghost orders = { λ a b s r h k. refl };
+
+    fn from_key(alloc: Global, key: &Piece<S>) -> Result<String> {
+        let piece = *key;
+        piece.copy(alloc)
+    }
+}
+
+impl<'de> FromKey<&'de str> for CowStr<'de> {
+    ghost key_datum = { λ s. text_datum (cow_str_bytes s) };
+
+    ghost from_text = { text_key };
+
+    ghost named = { λ s. tt };
+
+    ghost orders = { λ a b s r h k. refl };
+
+    fn from_key(alloc: Global, key: &Piece<&'de str>) -> Result<CowStr<'de>> {
+        let piece = *key;
+        match piece.lent() {
+            Some(text) => Ok(CowStr::Borrowed(text)),
+            None => Ok(CowStr::Owned(piece.copy(alloc)?)),
+        }
+    }
+}
+
+impl<S: Lent> FromKey<S> for bool {
+    ghost key_datum = { λ b. boolean_datum b };
+
+    ghost from_text = { boolean_key };
+
+    ghost named = { boolean_named };
+
+    ghost orders = { λ a b s r h k. refl };
+
+    fn from_key(alloc: Global, key: &Piece<S>) -> Result<bool> {
+        let piece = *key;
+        let text = piece.copy(alloc)?;
+        if text.as_str() == "true" {
+            return Ok(true);
+        }
+        if text.as_str() == "false" {
+            return Ok(false);
+        }
+        Err(refusal(ErrorCode::TypeUnmatched))
+    }
+}
+
+impl<S: Lent, K: FromKey<S>> FromKey<S> for Option<K> {
+    ghost key_datum = { λ o. option_datum K.key_datum o };
+
+    ghost from_text = { K.from_text };
+
+    ghost named = { K.named };
+
+    ghost orders = { option_orders K.cmp K.key_datum K.from_text K.named K.orders };
+
+    fn from_key(alloc: Global, key: &Piece<S>) -> Result<Option<K>> {
+        Ok(Some(K::from_key(alloc, key)?))
+    }
+}
+
+// The key that comes next.
+pub(crate) fn next_key<S: Lent, T: Tokens<S>>(tokens: &mut T) -> Result<Piece<S>>
+    requires whole { NotWhole (T.stand tokens.old) }
+    requires told { (T.stand tokens.old).told ≡ Some TokenKind.Key }
+    ensures ok { IfOk result (λ p. (s : List ℕ) × Says s p.escaped (S.bytes p.text)
+        × TakesOne T.taken T.stand tokens.old tokens.new (key_token s)) }
+    ensures err { IfErr result (λ e. Fails (T.stand tokens.old) (T.stand tokens.new) e) }
+{
+    match tokens.next()? {
+        Token::Key(piece) => Ok(piece),
+        _ => unreachable!(),
+    }
+}

@@ -1,0 +1,65 @@
+// Objects as types of a program's own.
+ghost use Rattle.std.specs.Prelude.{ℕ, List, OnOk, IfErr};
+ghost use Rattle.json_grammar.specs.Tree.{Tree};
+ghost use Rattle.json_model.specs.Datum.{Datum};
+ghost use Rattle.json_data.specs.Members.{read_members as spec_read_members};
+ghost use Rattle.json_data.specs.Reader.{Reads, Stops};
+ghost use Rattle.json_data.specs.Reading.{Reading, gives};
+ghost use Rattle.json_data.specs.Stand.{WantsValue};
+
+use crate::keys::next_key;
+use crate::lent::Lent;
+use crate::readers::leave_after;
+use crate::refusals::refusal;
+use crate::token::TokenKind;
+use crate::tokens::Tokens;
+use json_text::{ErrorCode, Result};
+use std::alloc::Global;
+
+/// What is read so far of the members of an object.
+pub trait Members<S: Lent>: Sized {
+    /// What it means.
+    ghost so_far: { Self → Datum };
+
+    /// What is read behind that, of a name and its value.
+    ghost step: { Datum → List ℕ → Tree → Reading };
+
+    /// Takes the value of the member of that name: it is read, or skipped where the name is unknown. A refusal of the
+    /// value comes after the whole of it was taken.
+    fn member<T: Tokens<S>>(&mut self, alloc: Global, name: &str, tokens: &mut T) -> Result<()>
+        requires { WantsValue (T.stand tokens.old) }
+        ensures ok { OnOk result (Reads T.taken T.stand (step (so_far self.old) name.now)
+            tokens.old tokens.new (gives (so_far self.new))) }
+        ensures err { IfErr result (λ e.
+            Stops T.taken T.stand (step (so_far self.old) name.now) tokens.old tokens.new e) };
+}
+
+/// Takes an object, each member in its order. `TypeUnmatched` comes where another value comes; a refusal of a member,
+/// after the whole object was taken. `NoMemory` comes where a name cannot be copied.
+pub fn read_members<S: Lent, M: Members<S>, T: Tokens<S>>(
+    alloc: Global,
+    members: &mut M,
+    tokens: &mut T,
+) -> Result<()>
+    requires { WantsValue (T.stand tokens.old) }
+    ensures ok { OnOk result (Reads T.taken T.stand (spec_read_members M.step (M.so_far members.old))
+        tokens.old tokens.new (gives (M.so_far members.new))) }
+    ensures err { IfErr result (λ e. Stops T.taken T.stand
+        (spec_read_members M.step (M.so_far members.old)) tokens.old tokens.new e) }
+{
+    if tokens.peek()? != TokenKind::BeginObject {
+        tokens.skip()?;
+        return Err(refusal(ErrorCode::TypeUnmatched));
+    }
+    let _begin = tokens.next()?;
+    'each: while tokens.peek()? != TokenKind::EndObject {
+        let key = next_key(tokens)?;
+        let name = key.copy(alloc)?;
+        match members.member(alloc, name.as_str(), tokens) {
+            Ok(()) => {}
+            Err(e) => return Err(leave_after(tokens, e)),
+        }
+    }
+    let _end = tokens.next()?;
+    Ok(())
+}

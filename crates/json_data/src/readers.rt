@@ -1,0 +1,211 @@
+// What can be read.
+ghost use Rattle.std.specs.Prelude.{◌≡◌, ℕ, List, [], ◌∷◌, ◌⊎◌, Option, Some, None, true, false, IfOk, IfErr, IfSome, string_bytes, map};
+ghost use Rattle.std.specs.Cow.{cow_str_bytes};
+ghost use Rattle.json_grammar.specs.Tree.{text};
+ghost use Rattle.json_data.specs.declared.token.TokenKind.TheVariants as TokenKind;
+ghost use Rattle.json_data.specs.Pieces.{Says};
+ghost use Rattle.json_model.specs.Datum.{null_datum, boolean_datum, text_datum, list_datum, list_data, option_datum};
+ghost use Rattle.json_data.specs.Reading.{read_boolean, read_unit, read_text, read_option, read_list, read_pair, read_any};
+ghost use Rattle.json_data.specs.Refusals.{is_refusal as spec_is_refusal};
+ghost use Rattle.json_data.specs.Spots.{IsOpen};
+ghost use Rattle.json_data.specs.Stand.{NotWhole, TakesTree, Leaves, Fails};
+
+use crate::deserialize::DeserializeFrom;
+use crate::lent::Lent;
+use crate::piece::Piece;
+use crate::refusals::{is_refusal, refusal};
+use crate::token::{Token, TokenKind};
+use crate::tokens::Tokens;
+use json_text::{Error, ErrorCode, Result};
+use std::alloc::Global;
+use std::borrow::CowStr;
+
+impl<S: Lent> DeserializeFrom<S> for bool {
+    ghost datum = { λ b. boolean_datum b };
+
+    ghost from_tree = { read_boolean };
+
+    fn deserialize<T: Tokens<S>>(alloc: Global, tokens: &mut T) -> Result<bool> {
+        let _ = alloc;
+        if tokens.peek()? != TokenKind::Bool {
+            tokens.skip()?;
+            return Err(refusal(ErrorCode::TypeUnmatched));
+        }
+        match tokens.next()? {
+            Token::Bool(b) => Ok(b),
+            _ => unreachable!(),
+        }
+    }
+}
+
+// The text that comes next.
+pub(crate) fn next_text<S: Lent, T: Tokens<S>>(tokens: &mut T) -> Result<Piece<S>>
+    requires whole { NotWhole (T.stand tokens.old) }
+    requires told { (T.stand tokens.old).told ≡ Some TokenKind.Text }
+    ensures ok { IfOk result (λ p. (s : List ℕ) × Says s p.escaped (S.bytes p.text)
+        × TakesTree T.taken T.stand tokens.old tokens.new (text s)) }
+    ensures err { IfErr result (λ e. Fails (T.stand tokens.old) (T.stand tokens.new) e) }
+{
+    match tokens.next()? {
+        Token::Text(piece) => Ok(piece),
+        _ => unreachable!(),
+    }
+}
+
+impl<S: Lent> DeserializeFrom<S> for String {
+    ghost datum = { λ s. text_datum (string_bytes s) };
+
+    ghost from_tree = { read_text };
+
+    fn deserialize<T: Tokens<S>>(alloc: Global, tokens: &mut T) -> Result<String> {
+        if tokens.peek()? != TokenKind::Text {
+            tokens.skip()?;
+            return Err(refusal(ErrorCode::TypeUnmatched));
+        }
+        next_text(tokens)?.copy(alloc)
+    }
+}
+
+impl<'de> DeserializeFrom<&'de str> for CowStr<'de> {
+    ghost datum = { λ s. text_datum (cow_str_bytes s) };
+
+    ghost from_tree = { read_text };
+
+    fn deserialize<T: Tokens<&'de str>>(alloc: Global, tokens: &mut T) -> Result<CowStr<'de>> {
+        if tokens.peek()? != TokenKind::Text {
+            tokens.skip()?;
+            return Err(refusal(ErrorCode::TypeUnmatched));
+        }
+        let piece = next_text(tokens)?;
+        match piece.lent() {
+            Some(text) => Ok(CowStr::Borrowed(text)),
+            None => Ok(CowStr::Owned(piece.copy(alloc)?)),
+        }
+    }
+}
+
+impl<S: Lent, V: DeserializeFrom<S>> DeserializeFrom<S> for Option<V> {
+    ghost datum = { λ o. option_datum V.datum o };
+
+    ghost from_tree = { read_option V.from_tree };
+
+    fn deserialize<T: Tokens<S>>(alloc: Global, tokens: &mut T) -> Result<Option<V>> {
+        if tokens.peek()? == TokenKind::Null {
+            tokens.skip()?;
+            return Ok(None);
+        }
+        Ok(Some(V::deserialize(alloc, tokens)?))
+    }
+}
+
+impl<S: Lent> DeserializeFrom<S> for () {
+    ghost datum = { λ _. null_datum };
+
+    ghost from_tree = { read_unit };
+
+    fn deserialize<T: Tokens<S>>(alloc: Global, tokens: &mut T) -> Result<()> {
+        let _ = alloc;
+        let told = tokens.peek()?;
+        tokens.skip()?;
+        if told != TokenKind::Null {
+            return Err(refusal(ErrorCode::TypeUnmatched));
+        }
+        Ok(())
+    }
+}
+
+/// Any value, which is thrown away.
+#[derive(Clone, Copy, PartialEq, Eq, Debug)]
+pub struct IgnoredAny;
+
+impl<S: Lent> DeserializeFrom<S> for IgnoredAny {
+    ghost datum = { λ _. null_datum };
+
+    ghost from_tree = { read_any };
+
+    fn deserialize<T: Tokens<S>>(alloc: Global, tokens: &mut T) -> Result<IgnoredAny> {
+        let _ = alloc;
+        tokens.skip()?;
+        Ok(IgnoredAny)
+    }
+}
+
+// Where a refusal e was met within a list, what is left of the list is taken too.
+pub fn leave_after<S: Lent, T: Tokens<S>>(tokens: &mut T, e: Error) -> Error
+    requires { spec_is_refusal e.code ≡ true → IsOpen (T.stand tokens.old).spot }
+    ensures left { spec_is_refusal e.code ≡ true → ((result ≡ e) × Leaves T.taken T.stand tokens.old tokens.new) ⊎ Fails (T.stand tokens.old) (T.stand tokens.new) result }
+    ensures as_was { spec_is_refusal e.code ≡ false → (result ≡ e) × (tokens.new ≡ tokens.old) }
+{
+    if is_refusal(e.code) {
+        match tokens.leave() {
+            Ok(()) => e,
+            Err(fault) => fault,
+        }
+    } else {
+        e
+    }
+}
+
+impl<S: Lent, V: DeserializeFrom<S> + Drop> DeserializeFrom<S> for Vec<V> {
+    ghost datum = { λ v. list_datum (list_data (map V.datum v.items)) };
+
+    ghost from_tree = { read_list V.from_tree };
+
+    fn deserialize<T: Tokens<S>>(alloc: Global, tokens: &mut T) -> Result<Vec<V>> {
+        if tokens.peek()? != TokenKind::BeginArray {
+            tokens.skip()?;
+            return Err(refusal(ErrorCode::TypeUnmatched));
+        }
+        let _begin = tokens.next()?;
+        let mut all = Vec::new(alloc);
+        while tokens.peek()? != TokenKind::EndArray {
+            match V::deserialize(alloc, tokens) {
+                Ok(item) => {
+                    if all.push(item).is_err() {
+                        return Err(refusal(ErrorCode::NoMemory));
+                    }
+                }
+                Err(e) => return Err(leave_after(tokens, e)),
+            }
+        }
+        let _end = tokens.next()?;
+        Ok(all)
+    }
+}
+
+impl<S: Lent, A: DeserializeFrom<S> + Drop, B: DeserializeFrom<S> + Drop> DeserializeFrom<S>
+    for (A, B) {
+    ghost datum = { λ p. list_datum (list_data (A.datum p.0 ∷ B.datum p.1 ∷ [])) };
+
+    ghost from_tree = { read_pair A.from_tree B.from_tree };
+
+    fn deserialize<T: Tokens<S>>(alloc: Global, tokens: &mut T) -> Result<(A, B)> {
+        if tokens.peek()? != TokenKind::BeginArray {
+            tokens.skip()?;
+            return Err(refusal(ErrorCode::TypeUnmatched));
+        }
+        let _begin = tokens.next()?;
+        if tokens.peek()? == TokenKind::EndArray {
+            let _end = tokens.next()?;
+            return Err(refusal(ErrorCode::TypeUnmatched));
+        }
+        let first = match A::deserialize(alloc, tokens) {
+            Ok(first) => first,
+            Err(e) => return Err(leave_after(tokens, e)),
+        };
+        if tokens.peek()? == TokenKind::EndArray {
+            let _end = tokens.next()?;
+            return Err(refusal(ErrorCode::TypeUnmatched));
+        }
+        let second = match B::deserialize(alloc, tokens) {
+            Ok(second) => second,
+            Err(e) => return Err(leave_after(tokens, e)),
+        };
+        if tokens.peek()? != TokenKind::EndArray {
+            tokens.leave()?;
+            return Err(refusal(ErrorCode::TypeUnmatched));
+        }
+        let _end = tokens.next()?;
+        Ok((first, second))
+    }
+}

@@ -1,0 +1,195 @@
+// The tokens of a text.
+ghost use Rattle.std.specs.Prelude.{◌≡◌, ◌≤◌, ◌^◌, length, List, [], false, Err, None, OnOk, IfOk, IfErr, IfSome};
+ghost use Rattle.json_grammar.specs.Tree.{Tree, Token as Tok, tokens, depth};
+ghost use Rattle.json_data.specs.Kinds.{StandsFor};
+ghost use Rattle.json_data.specs.Spots.{IsOpen, over};
+ghost use Rattle.json_data.specs.Stand.{NotWhole, WantsValue, Takes, Peeks, TakesOne, TakesTree, Leaves, Fails};
+ghost use Rattle.json_data.specs.Text.{IsFresh, text_taken, text_stand, TextFails};
+ghost use Rattle.json_text.specs.Faults.{FaultFrom};
+ghost use Rattle.json_text.specs.Parsing.{input};
+ghost use Rattle.json_grammar.specs.Grammar.{is_text};
+
+use crate::ahead::{event_kind, event_token, read_ahead};
+use crate::token::{TokenKind, TokenOf};
+use crate::tokens::Tokens;
+use json_text::{Error, Event, Parser, Result};
+use std::marker::Model;
+
+/// The tokens of a text that begins with a value. What stands behind the value is not looked at.
+#[derive(Drop)]
+pub struct TextTokens<'a> {
+    parser: Parser<'a>,
+    // an event that was read and not taken yet
+    ahead: Option<Event<'a>>,
+    failed: Option<Error>,
+}
+
+impl<'a> Model for TextTokens<'a> {
+    ghost use Rattle.json_data.specs.Text.{TextState, IsReading};
+
+    ghost Value = { TextState };
+
+    ghost view = { λ a. record { parser = a.parser; ahead = a.ahead; failed = a.failed } };
+
+    ghost invariant = { λ a. IsReading (record { parser = a.parser; ahead = a.ahead; failed = a.failed }) };
+}
+
+impl<'a> TextTokens<'a> {
+    /// Stands at the beginning of the text. A value of at most 254 levels is read, where `depth` chooses none.
+    pub fn new(text: &'a str) -> TextTokens<'a>
+        ensures text { result.parser.text ≡ text.now }
+        ensures start { (result.parser.start ≡ 0) × (result.parser.limit ≡ 254) }
+        ensures fresh { IsFresh result }
+    {
+        TextTokens {
+            parser: Parser::new(text),
+            ahead: None,
+            failed: None,
+        }
+    }
+
+    /// The same tokens, where a value of so many levels at most is read, which are at most 1,024. None was told, taken or
+    /// refused.
+    pub fn depth(self, depth: u32) -> TextTokens<'a>
+        requires most { depth ≤ 1024 }
+        requires fresh { IsFresh self }
+        ensures text { result.parser.text ≡ self.entry.parser.text }
+        ensures start { (result.parser.start ≡ self.entry.parser.start) × (result.parser.limit ≡ depth) }
+        ensures fresh { IsFresh result }
+    {
+        TextTokens {
+            parser: self.parser.depth(depth),
+            ahead: None,
+            failed: None,
+        }
+    }
+
+    /// What was answered in the place of a token: `NoMemory`, or a fault of the value, which comes at the first token
+    /// that needs the byte of its place.
+    pub fn failure(&self) -> Option<Error>
+        ensures same { result ≡ self.now.failed }
+        ensures cause { IfSome self.now.failed (TextFails self.now.parser) }
+    {
+        self.failed
+    }
+
+    /// Whether only whitespace is left behind the value, which was taken.
+    pub(crate) fn finish(self) -> Result<()>
+        requires over { (text_stand self).spot ≡ over }
+        requires told { (text_stand self).told ≡ None }
+        ensures ok { OnOk result ((ts : List Tok) → text_taken self.entry ts
+            → (t : Tree) × is_text false t (input self.entry.parser) × (ts ≡ tokens t) × (depth t ≤ self.entry.parser.limit)) }
+        ensures err { IfErr result (λ e. FaultFrom self.entry.parser.limit self.entry.parser.start self.entry.parser.text e.code e.place) }
+    {
+        let mut parser = self.parser;
+        let event = match parser.next() {
+            Ok(event) => event,
+            Err(error) => return Err(error),
+        };
+        match event {
+            Event::End => Ok(()),
+            _ => unreachable!(),
+        }
+    }
+
+    /// The kind of the next token.
+    fn look(&mut self) -> Result<TokenKind>
+        requires { NotWhole (text_stand self.old) }
+        ensures ok { IfOk result (λ k. Peeks (text_stand self.old) (text_stand self.new) k) }
+        ensures none { OnOk result (Takes text_taken self.old [] self.new) }
+        ensures err { IfErr result (λ e. Fails (text_stand self.old) (text_stand self.new) e) }
+        ensures again { IfSome self.old.failed (λ e. result ≡ Err e) }
+    {
+        if let Some(error) = self.failed {
+            return Err(error);
+        }
+        if let Some(event) = self.ahead {
+            return Ok(event_kind(event));
+        }
+        match read_ahead(&mut self.parser) {
+            Ok(event) => {
+                self.ahead = Some(event);
+                Ok(event_kind(event))
+            }
+            Err(error) => {
+                self.failed = Some(error);
+                Err(error)
+            }
+        }
+    }
+
+    /// Takes the next token.
+    fn take(&mut self) -> Result<TokenOf<&'a str>>
+        requires { NotWhole (text_stand self.old) }
+        ensures ok { IfOk result (λ y. (x : Tok) × StandsFor (λ s. s.now) y x × TakesOne text_taken text_stand self.old self.new x) }
+        ensures err { IfErr result (λ e. Fails (text_stand self.old) (text_stand self.new) e) }
+        ensures again { IfSome self.old.failed (λ e. result ≡ Err e) }
+    {
+        self.look()?;
+        match self.ahead {
+            Some(event) => {
+                self.ahead = None;
+                Ok(event_token(event))
+            }
+            None => unreachable!(),
+        }
+    }
+
+    /// Takes what is left of the innermost open container.
+    fn close(&mut self) -> Result<()>
+        requires { IsOpen (text_stand self.old).spot }
+        ensures ok { OnOk result (Leaves text_taken text_stand self.old self.new) }
+        ensures err { IfErr result (λ e. Fails (text_stand self.old) (text_stand self.new) e) }
+        ensures again { IfSome self.old.failed (λ e. result ≡ Err e) }
+    {
+        if let Some(error) = self.failed {
+            return Err(error);
+        }
+        'rest: loop {
+            let kind = self.look()?;
+            self.take()?;
+            match kind {
+                TokenKind::EndArray | TokenKind::EndObject => return Ok(()),
+                TokenKind::BeginArray | TokenKind::BeginObject => self.close()?,
+                _ => {}
+            }
+        }
+    }
+
+    /// Takes the tokens of one tree.
+    fn pass(&mut self) -> Result<()>
+        requires { WantsValue (text_stand self.old) }
+        ensures ok { OnOk result ((t : Tree) × TakesTree text_taken text_stand self.old self.new t) }
+        ensures err { IfErr result (λ e. Fails (text_stand self.old) (text_stand self.new) e) }
+        ensures again { IfSome self.old.failed (λ e. result ≡ Err e) }
+    {
+        let kind = self.look()?;
+        self.take()?;
+        match kind {
+            TokenKind::BeginArray | TokenKind::BeginObject => self.close(),
+            _ => Ok(()),
+        }
+    }
+}
+
+impl<'a> Tokens<&'a str> for TextTokens<'a> {
+    ghost taken = { text_taken };
+
+    ghost stand = { text_stand };
+
+    fn peek(&mut self) -> Result<TokenKind> {
+        self.look()
+    }
+
+    fn next(&mut self) -> Result<TokenOf<&'a str>> {
+        self.take()
+    }
+
+    fn skip(&mut self) -> Result<()> {
+        self.pass()
+    }
+
+    fn leave(&mut self) -> Result<()> {
+        self.close()
+    }
+}

@@ -1,0 +1,21 @@
+// Values read from a value.
+ghost use Rattle.std.specs.Prelude.{◌≡◌, IfOk, IfErr};
+ghost use Rattle.json_value.specs.Denotes.{tree_of};
+ghost use Rattle.json_data.specs.Reading.{gives};
+ghost use Rattle.json_data.specs.ValueCalls.{TreeReadingFails};
+
+use crate::deserialize::{Deserialize, DeserializeFrom};
+use crate::value_tokens::ValueTokens;
+use json_text::Result;
+use json_value::Value;
+use std::alloc::Global;
+
+/// The value of the tree of another value. A refusal of the tree tells no place: `TypeUnmatched`, `NumberOutOfRange`,
+/// `ExpectedNumericKey`. Or memory runs out.
+pub fn from_value<'a, T: Deserialize<'a>>(alloc: Global, value: &'a Value) -> Result<T>
+    ensures ok { IfOk result (λ v. T.from_tree (tree_of value.now) ≡ gives (T.datum v)) }
+    ensures err { IfErr result (λ e. TreeReadingFails T.from_tree (tree_of value.now) e.code e.place) }
+{
+    let mut tokens = ValueTokens::new(alloc, value.view());
+    T::deserialize(alloc, &mut tokens)
+}

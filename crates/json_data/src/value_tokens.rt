@@ -1,0 +1,191 @@
+// The tokens of a value.
+ghost use Rattle.std.specs.Prelude.{◌≡◌, List, [], ◌∷◌, false, Some, None, OnOk, IfOk, IfErr};
+ghost use Rattle.json_grammar.specs.Tree.{Token as Tok};
+ghost use Rattle.json_text.specs.Errors.{no_memory};
+ghost use Rattle.json_value.specs.Seen.{seen};
+ghost use Rattle.json_data.specs.Kinds.{StandsFor};
+ghost use Rattle.json_data.specs.Spots.{after};
+ghost use Rattle.json_data.specs.Stand.{NotWhole};
+ghost use Rattle.json_data.specs.Values.{Left, opened, value_state, value_taken, value_stand, at_begin, NoElement, Settles, Steps, Breaks};
+
+use crate::level::Level;
+use crate::piece::Piece;
+use crate::refusals::refusal;
+use crate::token::{Token, TokenKind, TokenOf};
+use crate::tokens::Tokens;
+use crate::view_tokens::{scalar_token, view_kind};
+use json_doc::JsonType;
+use json_text::{ErrorCode, Result};
+use json_value::View;
+use std::alloc::Global;
+use std::mem;
+
+/// The tokens of a value. Its calls answer no error but `NoMemory`.
+#[derive(Drop)]
+pub struct ValueTokens<'a> {
+    whole: View<'a>,
+    // the value that comes next, if it was reached
+    next: Option<View<'a>>,
+    // the innermost open container, and those around it, the outermost first
+    inner: Level<'a>,
+    outer: Vec<Level<'a>>,
+    // whether the kind of the next token was told
+    told: bool,
+    // whether memory ran out
+    failed: bool,
+}
+
+impl<'a> ValueTokens<'a> {
+    /// Stands before the value.
+    pub fn new(alloc: Global, view: View<'a>) -> ValueTokens<'a>
+        ensures { value_state result ≡ at_begin (seen view.entry) }
+    {
+        ValueTokens {
+            whole: view,
+            next: Some(view),
+            inner: Level::Root,
+            outer: Vec::new(alloc),
+            told: false,
+            failed: false,
+        }
+    }
+
+    // Reaches an element that comes next.
+    fn settle(&mut self)
+        ensures { Settles (value_state self.old) (value_state self.new) }
+    {
+        if self.next.is_none() {
+            self.next = self.inner.element();
+        }
+    }
+
+    // Goes from the value that comes next into what is left of it.
+    fn enter(&mut self, level: Level<'a>) -> Result<()>
+        ensures ok { let s = value_state self.old in OnOk result (value_state self.new
+            ≡ record s { next = None; levels = opened level.entry s.levels; told = false }) }
+        ensures err { IfErr result (λ e. (e ≡ no_memory)
+            × Breaks (value_state self.old) (value_state self.new)) }
+    {
+        let outer = mem::replace(&mut self.inner, level);
+        match self.outer.push(outer) {
+            Ok(()) => {
+                self.next = None;
+                self.told = false;
+                Ok(())
+            }
+            Err(_) => {
+                self.failed = true;
+                Err(refusal(ErrorCode::NoMemory))
+            }
+        }
+    }
+
+    // Goes behind the innermost container.
+    fn exit(&mut self)
+        ensures { let s = value_state self.old in (l : Left) (ls : List Left) → s.levels ≡ l ∷ ls
+            → value_state self.new ≡ record s { next = None; levels = ls; told = false } }
+    {
+        self.next = None;
+        self.told = false;
+        match self.outer.pop() {
+            Some(level) => self.inner = level,
+            None => self.inner = Level::Root,
+        }
+    }
+
+    // Takes the first token of the value that comes next.
+    fn take_value(&mut self, view: View<'a>) -> Result<TokenOf<&'a str>>
+        requires { (value_state self.old).next ≡ Some (seen view) }
+        ensures ok { IfOk result (λ y. (x : Tok) × StandsFor (λ s. s.now) y x
+            × Steps (value_state self.old) (value_state self.new) (x ∷ [])
+            (after (value_stand self.old).spot x)) }
+        ensures err { IfErr result (λ e. (e ≡ no_memory)
+            × Breaks (value_state self.old) (value_state self.new)) }
+    {
+        match view.get_type() {
+            JsonType::Array => {
+                self.enter(Level::elements(view))?;
+                Ok(Token::BeginArray)
+            }
+            JsonType::Object => {
+                self.enter(Level::members(view))?;
+                Ok(Token::BeginObject)
+            }
+            _ => {
+                self.next = None;
+                self.told = false;
+                Ok(scalar_token(view))
+            }
+        }
+    }
+
+    // Takes a key or the end of a container, where no value comes next.
+    fn take_front(&mut self) -> TokenOf<&'a str>
+        requires open { NotWhole (value_stand self.old) }
+        requires next { (value_state self.old).next ≡ None }
+        requires reached { NoElement (value_state self.old).levels }
+        ensures { (x : Tok) × StandsFor (λ s. s.now) result x
+            × Steps (value_state self.old) (value_state self.new) (x ∷ [])
+            (after (value_stand self.old).spot x) }
+    {
+        let front = self.inner.front();
+        if let Some((key, value)) = self.inner.member() {
+            self.next = Some(value);
+            self.told = false;
+            return Token::Key(Piece::plain(key));
+        }
+        self.exit();
+        if front == TokenKind::EndObject {
+            Token::EndObject
+        } else {
+            Token::EndArray
+        }
+    }
+}
+
+impl<'a> Tokens<&'a str> for ValueTokens<'a> {
+    ghost taken = { value_taken };
+
+    ghost stand = { value_stand };
+
+    fn peek(&mut self) -> Result<TokenKind> {
+        if self.failed {
+            return Err(refusal(ErrorCode::NoMemory));
+        }
+        self.settle();
+        self.told = true;
+        match self.next {
+            Some(view) => Ok(view_kind(view)),
+            None => Ok(self.inner.front()),
+        }
+    }
+
+    fn next(&mut self) -> Result<TokenOf<&'a str>> {
+        if self.failed {
+            return Err(refusal(ErrorCode::NoMemory));
+        }
+        self.settle();
+        match self.next {
+            Some(view) => self.take_value(view),
+            None => Ok(self.take_front()),
+        }
+    }
+
+    fn skip(&mut self) -> Result<()> {
+        if self.failed {
+            return Err(refusal(ErrorCode::NoMemory));
+        }
+        self.settle();
+        self.next = None;
+        self.told = false;
+        Ok(())
+    }
+
+    fn leave(&mut self) -> Result<()> {
+        if self.failed {
+            return Err(refusal(ErrorCode::NoMemory));
+        }
+        self.exit();
+        Ok(())
+    }
+}
