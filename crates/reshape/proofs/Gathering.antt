@@ -1,15 +1,17 @@
 -- What one more word makes of what was gathered.
-use Rattle.std.proofs.Common.{◌≡◌, inl, inr, ℕ, zero, suc, ◌+◌, List, [], ◌∷◌, ◌++◌, length, Bool, true, false, cond, not, ◌&&◌, ◌||◌, Option, Some, None, is_some, option_map, option_to_list, slice_get, take, drop, filter, filter_map, refl, sym, subst, ap, ◌∙◌, arith, length-append, take-append-drop, bytes_eq, codes, Bor}
+use Rattle.std.proofs.Common.{◌≡◌, inl, inr, ℕ, zero, suc, ◌+◌, ◌≤◌, List, [], ◌∷◌, ◌++◌, length, Bool, true, false, cond, not, ◌&&◌, ◌||◌, Option, Some, None, is_some, option_map, option_to_list, slice_get, take, drop, filter, filter_map, refl, sym, subst, ap, ◌∙◌, arith, length-append, take-append-drop, bytes_eq, codes, Bor}
 use Rattle.std.specs.List.{list_all, cons_option}
+use Rattle.std.specs.Option.{ForSome}
 use Rattle.std.proofs.lemmas.List.{drop_more, take_more}
 use Rattle.std.proofs.lemmas.Option.{slice_get_within, get_or_from_slice_get}
 use Rattle.json_grammar.specs.Grammar.{ws}
 use Rattle.json_model.specs.Print.{IsIndent}
 use Rattle.reshape.specs.Words.{AsksEdits}
-use Rattle.reshape.specs.Options.{spaces, width_in, is_option, is_edits_word, indent_in, is_sorting, is_known, IsAsked}
+use Rattle.reshape.specs.Options.{spaces, width_in, is_option, is_edits_word, indent_in, is_sorting, is_unique, depth_in, is_known, IsReshaping}
 use Rattle.reshape.specs.Gathering.{IsRole, HasRole, Holds}
+use Rattle.reshape.proofs.Numerals.{depth_few}
 use Rattle.reshape.specs.declared.options.Role.{Role}
-use Rattle.reshape.specs.declared.options.Role.TheVariants.{Indent, SortKeys, EditsWord}
+use Rattle.reshape.specs.declared.options.Role.TheVariants.{Indent, SortKeys, UniqueKeys, Depth, EditsWord}
 
 -- ---- one more element
 
@@ -55,17 +57,30 @@ picks_take f (z ∷ xs) x y more e = by (f z) _ (filter_map f xs) (y ∷ filter_
 
 -- ---- a word that is taken
 
-known_edits : (o : Bool) (n : Bool) (s : Bool) → o ≡ false → (not o || (n || s)) ≡ true
-known_edits o n s e = rw e refl
+known_edits : (o n s u d : Bool) → o ≡ false → (not o || (n || (s || (u || d)))) ≡ true
+known_edits o n s u d e = rw e refl
 
-known_indent : {A : Type 0} (b : Bool) (o : Option A) (s : Bool) (i : A) → o ≡ Some i → (b || (is_some o || s)) ≡ true
-known_indent true o s i e = refl
-known_indent false o s i e = rw e refl
+known_indent : {A : Type 0} (b : Bool) (o : Option A) (s u d : Bool) (i : A) → o ≡ Some i → (b || (is_some o || (s || (u || d)))) ≡ true
+known_indent true o s u d i e = refl
+known_indent false o s u d i e = rw e refl
 
-known_sorting : (b n s : Bool) → s ≡ true → (b || (n || s)) ≡ true
-known_sorting true n s e = refl
-known_sorting false true s e = refl
-known_sorting false false s e = e
+known_sorting : (b n s u d : Bool) → s ≡ true → (b || (n || (s || (u || d)))) ≡ true
+known_sorting true n s u d e = refl
+known_sorting false true s u d e = refl
+known_sorting false false s u d e = rw e refl
+
+known_unique : (b n s u d : Bool) → u ≡ true → (b || (n || (s || (u || d)))) ≡ true
+known_unique true n s u d e = refl
+known_unique false true s u d e = refl
+known_unique false false true u d e = refl
+known_unique false false false u d e = rw e refl
+
+known_depth : {A : Type 0} (b n s u : Bool) (o : Option A) (i : A) → o ≡ Some i → (b || (n || (s || (u || is_some o)))) ≡ true
+known_depth true n s u o i e = refl
+known_depth false true s u o i e = refl
+known_depth false false true u o i e = refl
+known_depth false false false true o i e = refl
+known_depth false false false false o i e = rw e refl
 
 not_true : (b : Bool) → b ≡ true → not b ≡ false
 not_true b e = rw e refl
@@ -73,40 +88,72 @@ not_true b e = rw e refl
 not_false : (b : Bool) → b ≡ false → not b ≡ true
 not_false b e = rw e refl
 
-more_indent : (ws : List (List ℕ)) (w i : List ℕ) (s : Bool) (e : Option (List ℕ)) → IsRole w true (Some i) false → Holds ws None s e → Holds (ws ++ w ∷ []) (Some i) s e
-more_indent ws w i s e r h =
-    record {
-      known = all_last is_known ws w h.known (known_indent (is_edits_word w) (indent_in w) (is_sorting w) i r.indent_is);
-      indent_is = picks_take indent_in ws w i [] r.indent_is ∙ ap (λ l. l ++ i ∷ []) h.indent_is;
-      sorting = ap length (filter_skips is_sorting ws w r.sorting) ∙ h.sorting;
-      edits = filter_skips is_edits_word ws w (not_true (is_option w) r.option) ∙ h.edits;
-    }
+one_more : (xs : List (List ℕ)) (x : List ℕ) (ys : List (List ℕ)) → ys ≡ xs ++ x ∷ [] → length xs ≡ 0 → length ys ≡ 1
+one_more [] x ys e n = ap length e
+one_more (z ∷ xs) x ys e n = absurd (omega arith)
 
-more_sorting : (ws : List (List ℕ)) (w : List ℕ) (i e : Option (List ℕ)) → IsRole w true None true → Holds ws i false e → Holds (ws ++ w ∷ []) i true e
-more_sorting ws w i e r h =
-    record {
-      known = all_last is_known ws w h.known (known_sorting (is_edits_word w) (is_some (indent_in w)) (is_sorting w) r.sorting);
-      indent_is = picks_skip indent_in ws w r.indent_is ∙ h.indent_is;
-      sorting = one_more (filter is_sorting ws) w _ (filter_takes is_sorting ws w [] r.sorting) h.sorting;
-      edits = filter_skips is_edits_word ws w (not_true (is_option w) r.option) ∙ h.edits;
-    }
-  where
-    one_more : (xs : List (List ℕ)) (x : List ℕ) (ys : List (List ℕ)) → ys ≡ xs ++ x ∷ [] → length xs ≡ 0 → length ys ≡ 1
-    one_more [] x ys e n = ap length e
-    one_more (z ∷ xs) x ys e n = absurd (omega arith)
+abbrev pub Word : Type 0
+Word = Option (List ℕ)
 
-more_edits : (ws : List (List ℕ)) (w : List ℕ) (i : Option (List ℕ)) (s : Bool) → IsRole w false None false → Holds ws i s None → Holds (ws ++ w ∷ []) i s (Some w)
-more_edits ws w i s r h =
-    record {
-      known = all_last is_known ws w h.known (known_edits (is_option w) (is_some (indent_in w)) (is_sorting w) r.option);
-      indent_is = picks_skip indent_in ws w r.indent_is ∙ h.indent_is;
-      sorting = ap length (filter_skips is_sorting ws w r.sorting) ∙ h.sorting;
-      edits = filter_takes is_edits_word ws w [] (not_false (is_option w) r.option) ∙ ap (λ l. l ++ w ∷ []) h.edits;
-    }
+module _ (ws : List (List ℕ)) (w : List ℕ) where
+  more_indent : (i : List ℕ) (s u : Bool) (d : Option ℕ) (e : Word) → IsRole w true (Some i) false false None → Holds ws None s u d e → Holds (ws ++ w ∷ []) (Some i) s u d e
+  more_indent i s u d e r h =
+      record {
+        known = all_last is_known ws w h.known (known_indent (is_edits_word w) (indent_in w) (is_sorting w) (is_unique w) (is_some (depth_in w)) i r.indent_is);
+        indent_is = picks_take indent_in ws w i [] r.indent_is ∙ ap (λ l. l ++ i ∷ []) h.indent_is;
+        sorting = ap length (filter_skips is_sorting ws w r.sorting) ∙ h.sorting;
+        differing = ap length (filter_skips is_unique ws w r.differing) ∙ h.differing;
+        depth_is = picks_skip depth_in ws w r.depth_is ∙ h.depth_is;
+        edits = filter_skips is_edits_word ws w (not_true (is_option w) r.option) ∙ h.edits;
+      }
+
+  more_sorting : (i : Word) (u : Bool) (d : Option ℕ) (e : Word) → IsRole w true None true false None → Holds ws i false u d e → Holds (ws ++ w ∷ []) i true u d e
+  more_sorting i u d e r h =
+      record {
+        known = all_last is_known ws w h.known (known_sorting (is_edits_word w) (is_some (indent_in w)) (is_sorting w) (is_unique w) (is_some (depth_in w)) r.sorting);
+        indent_is = picks_skip indent_in ws w r.indent_is ∙ h.indent_is;
+        sorting = one_more (filter is_sorting ws) w _ (filter_takes is_sorting ws w [] r.sorting) h.sorting;
+        differing = ap length (filter_skips is_unique ws w r.differing) ∙ h.differing;
+        depth_is = picks_skip depth_in ws w r.depth_is ∙ h.depth_is;
+        edits = filter_skips is_edits_word ws w (not_true (is_option w) r.option) ∙ h.edits;
+      }
+
+  more_unique : (i : Word) (s : Bool) (d : Option ℕ) (e : Word) → IsRole w true None false true None → Holds ws i s false d e → Holds (ws ++ w ∷ []) i s true d e
+  more_unique i s d e r h =
+      record {
+        known = all_last is_known ws w h.known (known_unique (is_edits_word w) (is_some (indent_in w)) (is_sorting w) (is_unique w) (is_some (depth_in w)) r.differing);
+        indent_is = picks_skip indent_in ws w r.indent_is ∙ h.indent_is;
+        sorting = ap length (filter_skips is_sorting ws w r.sorting) ∙ h.sorting;
+        differing = one_more (filter is_unique ws) w _ (filter_takes is_unique ws w [] r.differing) h.differing;
+        depth_is = picks_skip depth_in ws w r.depth_is ∙ h.depth_is;
+        edits = filter_skips is_edits_word ws w (not_true (is_option w) r.option) ∙ h.edits;
+      }
+
+  more_depth : (i : Word) (s u : Bool) (n : ℕ) (e : Word) → IsRole w true None false false (Some n) → Holds ws i s u None e → Holds (ws ++ w ∷ []) i s u (Some n) e
+  more_depth i s u n e r h =
+      record {
+        known = all_last is_known ws w h.known (known_depth (is_edits_word w) (is_some (indent_in w)) (is_sorting w) (is_unique w) (depth_in w) n r.depth_is);
+        indent_is = picks_skip indent_in ws w r.indent_is ∙ h.indent_is;
+        sorting = ap length (filter_skips is_sorting ws w r.sorting) ∙ h.sorting;
+        differing = ap length (filter_skips is_unique ws w r.differing) ∙ h.differing;
+        depth_is = picks_take depth_in ws w n [] r.depth_is ∙ ap (λ l. l ++ n ∷ []) h.depth_is;
+        edits = filter_skips is_edits_word ws w (not_true (is_option w) r.option) ∙ h.edits;
+      }
+
+  more_edits : (i : Word) (s u : Bool) (d : Option ℕ) → IsRole w false None false false None → Holds ws i s u d None → Holds (ws ++ w ∷ []) i s u d (Some w)
+  more_edits i s u d r h =
+      record {
+        known = all_last is_known ws w h.known (known_edits (is_option w) (is_some (indent_in w)) (is_sorting w) (is_unique w) (is_some (depth_in w)) r.option);
+        indent_is = picks_skip indent_in ws w r.indent_is ∙ h.indent_is;
+        sorting = ap length (filter_skips is_sorting ws w r.sorting) ∙ h.sorting;
+        differing = ap length (filter_skips is_unique ws w r.differing) ∙ h.differing;
+        depth_is = picks_skip depth_in ws w r.depth_is ∙ h.depth_is;
+        edits = filter_takes is_edits_word ws w [] (not_false (is_option w) r.option) ∙ ap (λ l. l ++ w ∷ []) h.edits;
+      }
 
 -- ---- a word that is refused
 
-pub unknown : (ws : List (List ℕ)) (w : List ℕ) (more : List (List ℕ)) → is_known w ≡ false → ¬ (IsAsked (ws ++ w ∷ more))
+pub unknown : (ws : List (List ℕ)) (w : List ℕ) (more : List (List ℕ)) → is_known w ≡ false → ¬ (IsReshaping (ws ++ w ∷ more))
 unknown ws w more e (c, a) = differ (sym (all_fails is_known ws w more e) ∙ a.known)
   where
     differ : false ≡ true → ⊥
@@ -116,56 +163,93 @@ two_picked : {A : Type 0} (o : Option A) (x y : A) (xs : List A) → x ∷ y ∷
 two_picked None x y xs e = cc
 two_picked (Some z) x y xs e = cc
 
-indent_again : (ws : List (List ℕ)) (w i j : List ℕ) (more : List (List ℕ)) (s : Bool) (e : Option (List ℕ)) → IsRole w true (Some i) false → Holds ws (Some j) s e → ¬ (IsAsked (ws ++ w ∷ more))
-indent_again ws w i j more s e r h (c, a) =
-    two_picked c.layout.indent j i (filter_map indent_in more) (sym (picks_take indent_in ws w i more r.indent_is ∙ ap (λ l. l ++ i ∷ filter_map indent_in more) h.indent_is) ∙ a.indent)
+two_long : (xs : List (List ℕ)) (x : List ℕ) (ys : List (List ℕ)) (b : Bool) → length xs ≡ 1 → length (xs ++ x ∷ ys) ≡ cond b 1 0 → ⊥
+two_long [] x ys b n e = omega arith
+two_long (z ∷ xs) x ys true n e = omega (arith, length-append xs (x ∷ ys))
+two_long (z ∷ xs) x ys false n e = omega arith
 
-sorting_again : (ws : List (List ℕ)) (w : List ℕ) (more : List (List ℕ)) (i e : Option (List ℕ)) → IsRole w true None true → Holds ws i true e → ¬ (IsAsked (ws ++ w ∷ more))
-sorting_again ws w more i e r h (c, a) = two_long (filter is_sorting ws) w (filter is_sorting more) c.layout.sorts h.sorting (sym (ap length (filter_takes is_sorting ws w more r.sorting)) ∙ a.sorting)
-  where
-    two_long : (xs : List (List ℕ)) (x : List ℕ) (ys : List (List ℕ)) (b : Bool) → length xs ≡ 1 → length (xs ++ x ∷ ys) ≡ cond b 1 0 → ⊥
-    two_long [] x ys b n e = omega arith
-    two_long (z ∷ xs) x ys true n e = omega (arith, length-append xs (x ∷ ys))
-    two_long (z ∷ xs) x ys false n e = omega arith
+module _ (ws : List (List ℕ)) (w : List ℕ) (more : List (List ℕ)) where
+  indent_again : (i j : List ℕ) (s u : Bool) (d : Option ℕ) (e : Word) → IsRole w true (Some i) false false None → Holds ws (Some j) s u d e → ¬ (IsReshaping (ws ++ w ∷ more))
+  indent_again i j s u d e r h (c, a) =
+      two_picked c.layout.indent j i (filter_map indent_in more) (sym (picks_take indent_in ws w i more r.indent_is ∙ ap (λ l. l ++ i ∷ filter_map indent_in more) h.indent_is) ∙ a.indent)
 
-edits_again : (ws : List (List ℕ)) (w v : List ℕ) (more : List (List ℕ)) (i : Option (List ℕ)) (s : Bool) → IsRole w false None false → Holds ws i s (Some v) → ¬ (IsAsked (ws ++ w ∷ more))
-edits_again ws w v more i s r h (c, a) =
-    subst (λ l. AsksEdits l c.es) (filter_takes is_edits_word ws w more (not_false (is_option w) r.option) ∙ ap (λ l. l ++ w ∷ filter is_edits_word more) h.edits) a.edits
+  sorting_again : (i : Word) (u : Bool) (d : Option ℕ) (e : Word) → IsRole w true None true false None → Holds ws i true u d e → ¬ (IsReshaping (ws ++ w ∷ more))
+  sorting_again i u d e r h (c, a) = two_long (filter is_sorting ws) w (filter is_sorting more) c.layout.sorts h.sorting (sym (ap length (filter_takes is_sorting ws w more r.sorting)) ∙ a.sorting)
+
+  unique_again : (i : Word) (s : Bool) (d : Option ℕ) (e : Word) → IsRole w true None false true None → Holds ws i s true d e → ¬ (IsReshaping (ws ++ w ∷ more))
+  unique_again i s d e r h (c, a) = two_long (filter is_unique ws) w (filter is_unique more) c.rules.unique h.differing (sym (ap length (filter_takes is_unique ws w more r.differing)) ∙ a.unique)
+
+  depth_again : (i : Word) (s u : Bool) (n m : ℕ) (e : Word) → IsRole w true None false false (Some n) → Holds ws i s u (Some m) e → ¬ (IsReshaping (ws ++ w ∷ more))
+  depth_again i s u n m e r h (c, a) =
+      two_picked a.depth m n (filter_map depth_in more) (sym (picks_take depth_in ws w n more r.depth_is ∙ ap (λ l. l ++ n ∷ filter_map depth_in more) h.depth_is) ∙ a.depth_is)
+
+  edits_again : (v : List ℕ) (i : Word) (s u : Bool) (d : Option ℕ) → IsRole w false None false false None → Holds ws i s u d (Some v) → ¬ (IsReshaping (ws ++ w ∷ more))
+  edits_again v i s u d r h (c, a) =
+      subst (λ l. AsksEdits l c.es) (filter_takes is_edits_word ws w more (not_false (is_option w) r.option) ∙ ap (λ l. l ++ w ∷ filter is_edits_word more) h.edits) a.edits
 
 -- ---- as the code tests it
 
 abbrev texts : Option (Bor (List ℕ)) → Option (List ℕ)
 texts o = option_map (λ s. s.now) o
 
-none_there : (o : Option (Bor (List ℕ))) → is_some o ≡ false → texts o ≡ None
-none_there None e = refl
-none_there (Some x) e = cc
+nothing_there : {A : Type 0} (o : Option A) → is_some o ≡ false → o ≡ None
+nothing_there None e = refl
+nothing_there (Some x) e = cc
 
-pub indent_taken : (ws : List (List ℕ)) (w : List ℕ) (r : Role) (i : Bor (List ℕ)) (o e : Option (Bor (List ℕ))) (s : Bool) → HasRole w r → r ≡ Indent i → is_some o ≡ false → Holds ws (texts o) s (texts e)
-    → Holds (ws ++ w ∷ []) (Some i.now) s (texts e)
-indent_taken ws w r i o e s h k n g = more_indent ws w i.now s (texts e) (subst (HasRole w) k h) (subst (λ o. Holds ws o s (texts e)) (none_there o n) g)
+module _ (ws : List (List ℕ)) (w : List ℕ) (r : Role) (o e : Option (Bor (List ℕ))) (s u : Bool) (d : Option ℕ) (h : HasRole w r) where
+  abbrev Has : Option (Bor (List ℕ)) → Bool → Bool → Option ℕ → Option (Bor (List ℕ)) → Type 0
+  Has o s u d e = Holds ws (texts o) s u d (texts e)
 
-pub sorting_taken : (ws : List (List ℕ)) (w : List ℕ) (r : Role) (i e : Option (List ℕ)) (s : Bool) → HasRole w r → r ≡ SortKeys → s ≡ false → Holds ws i s e → Holds (ws ++ w ∷ []) i true e
-sorting_taken ws w r i e s h k n g = more_sorting ws w i e (subst (HasRole w) k h) (subst (λ s. Holds ws i s e) n g)
+  abbrev HasNow : Word → Bool → Bool → Option ℕ → Word → Type 0
+  HasNow i s u d e = Holds (ws ++ w ∷ []) i s u d e
 
-pub edits_taken : (ws : List (List ℕ)) (w : List ℕ) (r : Role) (v : Bor (List ℕ)) (i o : Option (Bor (List ℕ))) (s : Bool) → HasRole w r → r ≡ EditsWord v → is_some o ≡ false → Holds ws (texts i) s (texts o)
-    → Holds (ws ++ w ∷ []) (texts i) s (Some v.now)
-edits_taken ws w r v i o s h k n g =
-    let f : HasRole w (EditsWord v) = subst (HasRole w) k h in
-    subst (λ u. Holds (ws ++ w ∷ []) (texts i) s (Some u)) (sym f.1) (more_edits ws w (texts i) s f.0 (subst (λ o. Holds ws (texts i) s o) (none_there o n) g))
+  pub indent_taken : (i : Bor (List ℕ)) → r ≡ Indent i → is_some o ≡ false → Has o s u d e → HasNow (Some i.now) s u d (texts e)
+  indent_taken i k n g = more_indent ws w i.now s u d (texts e) (subst (HasRole w) k h) (subst (λ o. Has o s u d e) (nothing_there o n) g)
 
-pub indent_refused : (ws : List (List ℕ)) (w : List ℕ) (more : List (List ℕ)) (r : Role) (i : Bor (List ℕ)) (o e : Option (Bor (List ℕ))) (s : Bool) → HasRole w r → r ≡ Indent i → is_some o ≡ true → Holds ws (texts o) s (texts e)
-    → ¬ (IsAsked (ws ++ w ∷ more))
-indent_refused ws w more r i None e s h k n g = absurd cc
-indent_refused ws w more r i (Some j) e s h k n g = indent_again ws w i.now j.now more s (texts e) (subst (HasRole w) k h) g
+  pub sorting_taken : r ≡ SortKeys → s ≡ false → Has o s u d e → HasNow (texts o) true u d (texts e)
+  sorting_taken k n g = more_sorting ws w (texts o) u d (texts e) (subst (HasRole w) k h) (subst (λ s. Has o s u d e) n g)
 
-pub sorting_refused : (ws : List (List ℕ)) (w : List ℕ) (more : List (List ℕ)) (r : Role) (i e : Option (List ℕ)) (s : Bool) → HasRole w r → r ≡ SortKeys → s ≡ true → Holds ws i s e → ¬ (IsAsked (ws ++ w ∷ more))
-sorting_refused ws w more r i e s h k n g = sorting_again ws w more i e (subst (HasRole w) k h) (subst (λ s. Holds ws i s e) n g)
+  pub unique_taken : r ≡ UniqueKeys → u ≡ false → Has o s u d e → HasNow (texts o) s true d (texts e)
+  unique_taken k n g = more_unique ws w (texts o) s d (texts e) (subst (HasRole w) k h) (subst (λ u. Has o s u d e) n g)
 
-pub edits_refused : (ws : List (List ℕ)) (w : List ℕ) (more : List (List ℕ)) (r : Role) (v : Bor (List ℕ)) (i o : Option (Bor (List ℕ))) (s : Bool) → HasRole w r → r ≡ EditsWord v → is_some o ≡ true → Holds ws (texts i) s (texts o)
-    → ¬ (IsAsked (ws ++ w ∷ more))
-edits_refused ws w more r v i None s h k n g = absurd cc
-edits_refused ws w more r v i (Some u) s h k n g = let f : HasRole w (EditsWord v) = subst (HasRole w) k h in edits_again ws w u.now more (texts i) s f.0 g
+  pub depth_taken : (n : ℕ) → r ≡ Depth n → is_some d ≡ false → Has o s u d e → HasNow (texts o) s u (Some n) (texts e)
+  depth_taken n k f g = more_depth ws w (texts o) s u n (texts e) (subst (HasRole w) k h) (subst (λ d. Has o s u d e) (nothing_there d f) g)
+
+  pub edits_taken : (v : Bor (List ℕ)) → r ≡ EditsWord v → is_some e ≡ false → Has o s u d e → HasNow (texts o) s u d (Some v.now)
+  edits_taken v k n g =
+      let f : HasRole w (EditsWord v) = subst (HasRole w) k h in
+      subst (λ x. HasNow (texts o) s u d (Some x)) (sym f.1) (more_edits ws w (texts o) s u d f.0 (subst (λ e. Has o s u d e) (nothing_there e n) g))
+
+  module _ (more : List (List ℕ)) where
+    pub indent_refused : (i : Bor (List ℕ)) → r ≡ Indent i → is_some o ≡ true → Has o s u d e → ¬ (IsReshaping (ws ++ w ∷ more))
+    indent_refused i k n g = by o n g
+      where
+        by : (o : Option (Bor (List ℕ))) → is_some o ≡ true → Has o s u d e → ¬ (IsReshaping (ws ++ w ∷ more))
+        by None n g = absurd cc
+        by (Some j) n g = indent_again ws w more i.now j.now s u d (texts e) (subst (HasRole w) k h) g
+
+    pub sorting_refused : r ≡ SortKeys → s ≡ true → Has o s u d e → ¬ (IsReshaping (ws ++ w ∷ more))
+    sorting_refused k n g = sorting_again ws w more (texts o) u d (texts e) (subst (HasRole w) k h) (subst (λ s. Has o s u d e) n g)
+
+    pub unique_refused : r ≡ UniqueKeys → u ≡ true → Has o s u d e → ¬ (IsReshaping (ws ++ w ∷ more))
+    unique_refused k n g = unique_again ws w more (texts o) s d (texts e) (subst (HasRole w) k h) (subst (λ u. Has o s u d e) n g)
+
+    pub depth_refused : (n : ℕ) → r ≡ Depth n → is_some d ≡ true → Has o s u d e → ¬ (IsReshaping (ws ++ w ∷ more))
+    depth_refused n k f g = by d f g
+      where
+        by : (d : Option ℕ) → is_some d ≡ true → Has o s u d e → ¬ (IsReshaping (ws ++ w ∷ more))
+        by None f g = absurd cc
+        by (Some m) f g = depth_again ws w more (texts o) s u n m (texts e) (subst (HasRole w) k h) g
+
+    pub edits_refused : (v : Bor (List ℕ)) → r ≡ EditsWord v → is_some e ≡ true → Has o s u d e → ¬ (IsReshaping (ws ++ w ∷ more))
+    edits_refused v k n g = by e n g
+      where
+        role : HasRole w (EditsWord v)
+        role = subst (HasRole w) k h
+
+        by : (e : Option (Bor (List ℕ))) → is_some e ≡ true → Has o s u d e → ¬ (IsReshaping (ws ++ w ∷ more))
+        by None n g = absurd cc
+        by (Some x) n g = edits_again ws w more x.now (texts o) s u d role.0 g
 
 -- ---- all words
 
@@ -178,8 +262,8 @@ split_word words i w e = ap (λ l. take i words ++ l) (sym (behind_word words i 
 pub word_taken : (words : List (List ℕ)) (i : ℕ) (w : List ℕ) → slice_get words i ≡ Some w → take i words ++ w ∷ [] ≡ take (i + 1) words
 word_taken words i w e = ap (λ v. take i words ++ v ∷ []) (sym (get_or_from_slice_get words i w w e)) ∙ sym (take_more words i w (slice_get_within words i w e))
 
-pub word_refused : (words : List (List ℕ)) (i : ℕ) (w : List ℕ) → slice_get words i ≡ Some w → ((more : List (List ℕ)) → ¬ (IsAsked (take i words ++ w ∷ more))) → ¬ (IsAsked words)
-word_refused words i w e h = subst (λ l. ¬ (IsAsked l)) (split_word words i w e) (h (drop (i + 1) words))
+pub word_refused : (words : List (List ℕ)) (i : ℕ) (w : List ℕ) → slice_get words i ≡ Some w → ((more : List (List ℕ)) → ¬ (IsReshaping (take i words ++ w ∷ more))) → ¬ (IsReshaping words)
+word_refused words i w e h = subst (λ l. ¬ (IsReshaping l)) (split_word words i w e) (h (drop (i + 1) words))
 
 -- ---- an indent is whitespace
 
@@ -200,14 +284,21 @@ indent_ws w t = by (bytes_eq w (codes "--pretty")) (bytes_eq w (codes "--tabs"))
     by false false true None t e = cc
     by false false false o t e = cc
 
-picked_indent : (words : List (List ℕ)) (i : List ℕ) → filter_map indent_in words ≡ i ∷ [] → ws i
-picked_indent [] i e = cc
-picked_indent (w ∷ words) i e = by (indent_in w) (filter_map indent_in words) (indent_ws w) (picked_indent words i) e
+-- what one word alone gives has what each such word's has
+picked : {A B : Type 0} (f : A → Option B) (P : B → Type 0) → ((w : A) (t : B) → f w ≡ Some t → P t) → (words : List A) (i : B) → filter_map f words ≡ i ∷ [] → P i
+picked f P h [] i e = cc
+picked f P h (w ∷ words) i e = by f P w (f w) (filter_map f words) i (h w) (picked f P h words i) e
   where
-    by : (o : Option (List ℕ)) (more : List (List ℕ)) → ((t : List ℕ) → o ≡ Some t → ws t) → (more ≡ i ∷ [] → ws i) → cons_option o more ≡ i ∷ [] → ws i
-    by None more h k e = k e
-    by (Some t) more h k e = let same : t ≡ i = cc in subst ws same (h t refl)
+    by : {A B : Type 0} (f : A → Option B) (P : B → Type 0) (w : A) (o : Option B) (more : List B) (i : B) → ((t : B) → o ≡ Some t → P t) → (more ≡ i ∷ [] → P i) → cons_option o more ≡ i ∷ [] → P i
+    by f P w None more i h k e = k e
+    by f P w (Some t) more i h k e = let same : t ≡ i = cc in subst P same (h t refl)
 
-pub gathered_indent : (words : List (List ℕ)) (i : Option (List ℕ)) (s : Bool) (w : Option (List ℕ)) → Holds words i s w → IsIndent i
-gathered_indent words None s w h = tt
-gathered_indent words (Some i) s w h = picked_indent words i h.indent_is
+pub gathered_indent : (words : List (List ℕ)) (i : Option (List ℕ)) (s u : Bool) (d : Option ℕ) (w : Option (List ℕ)) → Holds words i s u d w → IsIndent i
+gathered_indent words None s u d w h = tt
+gathered_indent words (Some i) s u d w h = picked indent_in ws indent_ws words i h.indent_is
+
+-- ---- the levels are few
+
+pub gathered_depth : (words : List (List ℕ)) (i : Option (List ℕ)) (s u : Bool) (d : Option ℕ) (w : Option (List ℕ)) → Holds words i s u d w → ForSome d (λ n. n ≤ 1024)
+gathered_depth words i s u None w h = λ n e. cc
+gathered_depth words i s u (Some m) w h = λ n e. picked depth_in (λ n. n ≤ 1024) depth_few words n (h.depth_is ∙ ap option_to_list e)

@@ -1,7 +1,5 @@
 -- What is read of a word, element by element.
-use Rattle.std.proofs.Common.{◌≡◌, ◌≢◌, inl, inr, ℕ, ◌+◌, ◌<◌, ◌≤◌, List, [], ◌∷◌, ◌++◌, length, drop, Bool, true, false, cond, Option, Some, None, option_map, option_and_then, slice_get, bytes_eq, codes, refl, sym, subst, ap, ◌∙◌, arith, append_assoc}
-use Rattle.std.proofs.lemmas.List.{drop_more}
-use Rattle.std.proofs.lemmas.Option.{slice_get_within, get_or_from_slice_get, slice_get-get_or}
+use Rattle.std.proofs.Common.{◌≡◌, ◌≢◌, inl, inr, ℕ, ◌≤◌, List, [], ◌∷◌, ◌++◌, length, drop, Bool, true, false, cond, Option, Some, None, option_map, option_and_then, slice_get, bytes_eq, codes, refl, sym, subst, ap, ap₂, ◌∙◌, arith, append_assoc, append-nil}
 use Rattle.std.proofs.lemmas.Bool.{false_from_ne_true}
 use Rattle.std.proofs.lemmas.Slice.Eq.{bytes_eq-Decides}
 use Rattle.json_grammar.specs.Tree.{Tree, null, boolean, num, text, list, pairs, no_trees, tree_and, trees_list, depth}
@@ -15,7 +13,7 @@ use Rattle.json_text.proofs.NoText.{no_text}
 use Rattle.json_doc.specs.declared.doc.Doc.{Doc}
 use Rattle.json_doc.specs.Docs.{IsDocOf, doc_tree, doc_root, doc_cells, doc_text}
 use Rattle.json_doc.specs.Reading.{ReadingFails}
-use Rattle.json_doc.proofs.Pieces.{spelled}
+use Rattle.json_doc.proofs.Trees.{spelled}
 use Rattle.json_doc.specs.declared.json_type.JsonType.TheVariants.{Array}
 use Rattle.json_doc.specs.Readings.{type_of, string_of, elements, children}
 use Rattle.json_model.specs.Edit.{Edit}
@@ -32,41 +30,39 @@ unread o p e h (inr (b, n)) = inr (b, h n)
 
 -- ---- one element after another
 
--- what the first i trees give is got, and the rest has to give something too
-pub record Taken {A : Type 0} (f : Tree → Option A) (xs : List Tree) (i : ℕ) (got : List A) : Type 0 where
-  pub whole : each_in f xs ≡ option_map (λ r. got ++ r) (each_in f (drop i xs))
+-- what the trees before the rest give is got, and the rest has to give something too
+pub record Taken {A : Type 0} (f : Tree → Option A) (xs rest : List Tree) (got : List A) : Type 0 where
+  pub whole : each_in f xs ≡ option_map (λ r. got ++ r) (each_in f rest)
 
-drop_seen : (xs : List Tree) (i : ℕ) (t : Tree) → Some t ≡ slice_get xs i → drop i xs ≡ t ∷ drop (i + 1) xs
-drop_seen xs i t e = let s : slice_get xs i ≡ Some t = sym e in drop_more xs i t (slice_get_within xs i t s) ∙ ap (λ u. u ∷ drop (i + 1) xs) (get_or_from_slice_get xs i t t s)
+itself : {A : Type 0} (o : Option (List A)) → o ≡ option_map (λ r. [] ++ r) o
+itself None = refl
+itself (Some r) = refl
+
+pub taken_none : {A : Type 0} (f : Tree → Option A) (xs rest : List Tree) (got : List A) → rest ≡ xs → got ≡ [] → Taken f xs rest got
+taken_none f xs rest got e n = record { whole = itself (each_in f xs) ∙ ap₂ (λ ys g. option_map (λ r. g ++ r) (each_in f ys)) (sym e) (sym n) }
+
+pub taken_all : {A : Type 0} (f : Tree → Option A) (xs rest : List Tree) (got : List A) → Taken f xs rest got → rest ≡ [] → each_in f xs ≡ Some got
+taken_all f xs rest got h e = h.whole ∙ ap (λ ys. option_map (λ r. got ++ r) (each_in f ys)) e ∙ ap Some (append-nil got)
 
 behind : {A : Type 0} (got : List A) (x : A) (o : Option (List A)) → option_map (λ r. got ++ r) (both (λ x xs. x ∷ xs) (Some x) o) ≡ option_map (λ r. (got ++ x ∷ []) ++ r) o
 behind got x None = refl
 behind got x (Some r) = ap Some (sym (append_assoc got (x ∷ []) r))
 
-taken_more : {A : Type 0} (f : Tree → Option A) (xs : List Tree) (i : ℕ) (got : List A) (t : Tree) (x : A) → Taken f xs i got → Some t ≡ slice_get xs i → f t ≡ Some x → Taken f xs (i + 1) (got ++ x ∷ [])
-taken_more f xs i got t x h e k =
-    record {
-      whole =
-          h.whole ∙ ap (λ ys. option_map (λ r. got ++ r) (each_in f ys)) (drop_seen xs i t e) ∙ ap (λ o. option_map (λ r. got ++ r) (both (λ x xs. x ∷ xs) o (each_in f (drop (i + 1) xs)))) k
-          ∙ behind got x (each_in f (drop (i + 1) xs));
-    }
-
-pub taken_next : {A : Type 0} (f : Tree → Option A) (xs : List Tree) (i : ℕ) (got got' : List A) (t : Tree) (x : A) → Taken f xs i got → Some t ≡ slice_get xs i → f t ≡ Some x → got' ≡ got ++ x ∷ [] → Taken f xs (i + 1) got'
-taken_next f xs i got got' t x h e k g = subst (Taken f xs (i + 1)) (sym g) (taken_more f xs i got t x h e k)
+pub taken_next : {A : Type 0} (f : Tree → Option A) (xs more rest : List Tree) (got got' : List A) (t : Tree) (x : A) → Taken f xs more got → more ≡ t ∷ rest → f t ≡ Some x → got' ≡ got ++ x ∷ [] → Taken f xs rest got'
+taken_next f xs more rest got got' t x h e k g =
+    subst (Taken f xs rest) (sym g)
+    (record {
+      whole = h.whole ∙ ap (λ ys. option_map (λ r. got ++ r) (each_in f ys)) e ∙ ap (λ o. option_map (λ r. got ++ r) (both (λ x xs. x ∷ xs) o (each_in f rest))) k ∙ behind got x (each_in f rest);
+    })
 
 both_none : {A B C : Type 0} (f : A → B → C) (o : Option B) → both f None o ≡ None
 both_none f None = refl
 both_none f (Some b) = refl
 
-pub taken_stops : {A : Type 0} (f : Tree → Option A) (xs : List Tree) (i : ℕ) (got : List A) (t : Tree) → Taken f xs i got → Some t ≡ slice_get xs i → f t ≡ None → each_in f xs ≡ None
-taken_stops f xs i got t h e k =
-    h.whole ∙ ap (λ ys. option_map (λ r. got ++ r) (each_in f ys)) (drop_seen xs i t e) ∙ ap (λ o. option_map (λ r. got ++ r) (both (λ x xs. x ∷ xs) o (each_in f (drop (i + 1) xs)))) k
-    ∙ ap (option_map (λ r. got ++ r)) (both_none (λ x xs. x ∷ xs) (each_in f (drop (i + 1) xs)))
-
--- within the list there is an element
-pub seen_within : {V : Type 0} (view : V → Tree) (o : Option V) (xs : List Tree) (i : ℕ) → option_map view o ≡ slice_get xs i → i < length xs → o ≡ None → ⊥
-seen_within view None xs i e l n = absurd (none_some (e ∙ slice_get-get_or xs i null l))
-seen_within view (Some v) xs i e l n = cc
+pub taken_stops : {A : Type 0} (f : Tree → Option A) (xs more rest : List Tree) (got : List A) (t : Tree) → Taken f xs more got → more ≡ t ∷ rest → f t ≡ None → each_in f xs ≡ None
+taken_stops f xs more rest got t h e k =
+    h.whole ∙ ap (λ ys. option_map (λ r. got ++ r) (each_in f ys)) e ∙ ap (λ o. option_map (λ r. got ++ r) (both (λ x xs. x ∷ xs) o (each_in f rest))) k
+    ∙ ap (option_map (λ r. got ++ r)) (both_none (λ x xs. x ∷ xs) (each_in f rest))
 
 -- ---- arrays
 
@@ -157,14 +153,14 @@ abbrev root_tree : Doc → Tree
 root_tree d = doc_tree d (doc_root d)
 
 root_is : (d : Doc) (t : Tree) → IsDocOf d t → root_tree d ≡ t
-root_is d t h = spelled (doc_cells d) (doc_text d) (doc_root d) t h.spelled
+root_is d t h = spelled (doc_cells d) (doc_text d) d.in_place (doc_root d) (length (doc_cells d)) t h.spelled
 
 pub word_spells : (word : List ℕ) (d : Doc) (es : List Edit) → length word ≤ most → Documents word d → edits_in (root_tree d) ≡ Some es → Spells word es
-word_spells word d es l (t, i, s, doc) h = record { tree = t; input = record { short = l; text = i; shallow = s }; edits = ap edits_in (sym (root_is d t doc)) ∙ h }
+word_spells word d es l (t, i, s, doc) h = record { tree = t; input = record { short = l; text = i; fit = (s, λ e. absurd (cc)) }; edits = ap edits_in (sym (root_is d t doc)) ∙ h }
 
 pub word_spells_none : (word : List ℕ) (d : Doc) → Documents word d → edits_in (root_tree d) ≡ None → (es : List Edit) → ¬ (Spells word es)
 word_spells_none word d (t, i, l, doc) n es s = none_some (sym n ∙ ap edits_in (root_is d t doc ∙ one_tree false t s.tree word i s.input.text) ∙ s.edits)
 
 pub no_text_spells : (word : List ℕ) (code : ErrorCode) (place : Place) → code ≢ NoMemory → ReadingFails word code place → (es : List Edit) → ¬ (Spells word es)
 no_text_spells word NoMemory place n h es s = absurd (n refl)
-no_text_spells word code place n h es s = no_text 254 word code h.0 h.2 s.tree s.input.text s.input.shallow
+no_text_spells word code place n h es s = no_text 254 word code h.0 h.2 s.tree s.input.text s.input.fit.0

@@ -6,7 +6,7 @@ use Rattle.json_grammar.proofs.Values.{one_tree}
 use Rattle.json_grammar.proofs.Sizes.{text_fits, nodes_some}
 use Rattle.json_model.specs.Edit.{Edit}
 use Rattle.reshape.specs.Words.{both, each_in, edit_in, edits_in, Spells, AsksEdits}
-use Rattle.reshape.specs.Options.{is_edits_word, Command, Asks}
+use Rattle.reshape.specs.Options.{is_edits_word, depth_or_usual, Command, Asks}
 
 same_some : {A : Type 0} {x y : A} → Some x ≡ Some y → x ≡ y
 same_some e = cc
@@ -37,16 +37,17 @@ same_counted true false e = absurd (omega arith)
 same_counted false true e = absurd (omega arith)
 same_counted false false e = refl
 
-abbrev made : List Edit → Option (List ℕ) → Bool → Command
-made es i s = record { es = es; layout = record { indent = i; sorts = s } }
+abbrev made : List Edit → Option (List ℕ) → Bool → ℕ → Bool → Command
+made es i s n u = record { es = es; layout = record { indent = i; sorts = s }; rules = record { limit = n; unique = u } }
 
-same_made : (es es' : List Edit) (i i' : Option (List ℕ)) (s s' : Bool) → es ≡ es' → i ≡ i' → s ≡ s' → made es i s ≡ made es' i' s'
-same_made es es' i i' s s' e f g = rw (e, f, g) refl
+same_made : (es es' : List Edit) (i i' : Option (List ℕ)) (s s' : Bool) (n n' : ℕ) (u u' : Bool) → es ≡ es' → i ≡ i' → s ≡ s' → n ≡ n' → u ≡ u' → made es i s n u ≡ made es' i' s' n' u'
+same_made es es' i i' s s' n n' u u' e f g m v = rw (e, f, g, m, v) refl
 
 pub one_asked : (words : List (List ℕ)) (c d : Command) → Asks words c → Asks words d → c ≡ d
 one_asked words c d h k =
-    same_made c.es d.es c.layout.indent d.layout.indent c.layout.sorts d.layout.sorts (one_list (filter is_edits_word words) c.es d.es h.edits k.edits) (same_listed c.layout.indent d.layout.indent (sym h.indent ∙ k.indent))
-    (same_counted c.layout.sorts d.layout.sorts (sym h.sorting ∙ k.sorting))
+    same_made c.es d.es c.layout.indent d.layout.indent c.layout.sorts d.layout.sorts c.rules.limit d.rules.limit c.rules.unique d.rules.unique (one_list (filter is_edits_word words) c.es d.es h.edits k.edits)
+    (same_listed c.layout.indent d.layout.indent (sym h.indent ∙ k.indent)) (same_counted c.layout.sorts d.layout.sorts (sym h.sorting ∙ k.sorting))
+    (h.limit ∙ ap depth_or_usual (same_listed h.depth k.depth (sym h.depth_is ∙ k.depth_is)) ∙ sym k.limit) (same_counted c.rules.unique d.rules.unique (sym h.unique ∙ k.unique))
 
 -- ---- what is made of two, or of one, where there is something
 

@@ -3,6 +3,7 @@ pub mod Words
 pub mod Printing
 pub mod Reshape
 pub mod Told
+pub mod Made
 pub mod Options
 pub mod Gathering
 pub mod Asked

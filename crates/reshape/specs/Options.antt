@@ -1,6 +1,9 @@
 -- What all words of the command line ask for: the options, in any order, and the edits word among them.
-use Rattle.std.specs.Prelude.{◌≡◌, ℕ, ◌-◌, Bool, true, not, cond, ◌&&◌, ◌||◌, nat_le, List, [], ◌∷◌, length, take, drop, replicate, filter, filter_map, Option, Some, None, is_some, option_map, option_to_list, bytes_eq, codes}
-use Rattle.std.specs.List.{list_all}
+use Rattle.std.specs.Prelude.{◌≡◌, ◌⊎◌, ℕ, ◌-◌, Bool, true, not, cond, ◌&&◌, ◌||◌, ◌==◌, nat_le, slice_index, List, [], ◌∷◌, length, take, drop, replicate, filter, filter_map, Option, Some, None, is_some, unwrap_or, option_map, option_and_then, option_to_list, ℤ, pos, negsuc, bytes_eq, codes}
+use Rattle.std.specs.List.{list_all, before_first, after_first}
+use Rattle.json_grammar.specs.Rules.{Rules}
+use Rattle.json_number.specs.Integers.{integer_in}
+use Rattle.json_text.specs.Ruled.{usual_rules}
 use Rattle.json_model.specs.Edit.{Edit}
 use Rattle.reshape.specs.Words.{AsksEdits}
 use Rattle.reshape.specs.Reshape.{Layout}
@@ -33,22 +36,73 @@ indent_in w =
 abbrev pub is_sorting : List ℕ → Bool
 is_sorting w = bytes_eq w (codes "--sort-keys")
 
+-- the word that asks for names that differ
+abbrev pub is_unique : List ℕ → Bool
+is_unique w = bytes_eq w (codes "--unique-keys")
+
+-- the number that this is, where it is from 0 to the last
+abbrev pub up_to : ℕ → ℤ → Option ℕ
+up_to last (pos n) = cond (nat_le n last) (Some n) None
+up_to last (negsuc n) = None
+
+-- `0`, or what begins with a digit from 1 to 9
+abbrev pub is_plain : List ℕ → Bool
+is_plain d = bytes_eq d (codes "0") || (nat_le 49 (slice_index d 0) && nat_le (slice_index d 0) 57)
+
+-- the number that decimal digits without a leading zero are, from 0 to the last
+abbrev pub number_up_to : ℕ → List ℕ → Option ℕ
+number_up_to last d = cond (is_plain d) (option_and_then (up_to last) (integer_in d)) None
+
+-- the number behind a name and an equals sign, from 0 to the last
+abbrev pub number_behind : List ℕ → ℕ → List ℕ → Option ℕ
+number_behind name last w = cond (bytes_eq (before_first (λ x. x == 61) w) name) (number_up_to last (after_first (λ x. x == 61) w)) None
+
+-- the most levels of the input that a word asks for: --depth=N so many, 1,024 at most
+abbrev pub depth_in : List ℕ → Option ℕ
+depth_in w = number_behind (codes "--depth") 1024 w
+
+-- the records of made input that a word asks for: --make=N so many, 100,000 at most
+abbrev pub made_in : List ℕ → Option ℕ
+made_in w = number_behind (codes "--make") 100000 w
+
 -- an edits word, or one of the options above
 abbrev pub is_known : List ℕ → Bool
-is_known w = is_edits_word w || (is_some (indent_in w) || is_sorting w)
+is_known w = is_edits_word w || (is_some (indent_in w) || (is_sorting w || (is_unique w || is_some (depth_in w))))
 
--- what is asked for: the edits, and the layout of the text
+-- the levels that are asked for, or the usual ones
+abbrev pub depth_or_usual : Option ℕ → ℕ
+depth_or_usual o = unwrap_or o usual_rules.limit
+
+-- what is asked for: the edits, the layout of the text, and the rules that the input is read by
 pub record Command : Type 0 where
   pub es : List Edit
   pub layout : Layout
+  pub rules : Rules
 
--- the words ask for this command: each is known, at most one asks for an indent and at most one for sorted members, and the words that are no options ask for the edits
+-- the words ask for this command: each is known, at most one asks for an indent, one for sorted members, one for names that differ and one for a number of levels, and the words that are no options ask for the edits
 pub record Asks (words : List (List ℕ)) (c : Command) : Type 0 where
   pub known : list_all is_known words ≡ true
   pub indent : filter_map indent_in words ≡ option_to_list c.layout.indent
   pub sorting : length (filter is_sorting words) ≡ cond c.layout.sorts 1 0
+  pub unique : length (filter is_unique words) ≡ cond c.rules.unique 1 0
+  pub depth : Option ℕ
+  pub depth_is : filter_map depth_in words ≡ option_to_list depth
+  pub limit : c.rules.limit ≡ depth_or_usual depth
   pub edits : AsksEdits (filter is_edits_word words) c.es
 
 -- the words ask for some command
+abbrev pub IsReshaping : List (List ℕ) → Type 0
+IsReshaping words = (c : Command) × Asks words c
+
+-- the words ask for made input of so many records: one word asks for them, and stands alone
+abbrev pub AsksMade : List (List ℕ) → ℕ → Type 0
+AsksMade (w ∷ []) n = made_in w ≡ Some n
+AsksMade _ n = ⊥
+
+-- the words ask for made input
+abbrev pub IsMaking : List (List ℕ) → Type 0
+IsMaking words = (n : ℕ) × AsksMade words n
+
+-- the words ask for something
 abbrev pub IsAsked : List (List ℕ) → Type 0
-IsAsked words = (c : Command) × Asks words c
+IsAsked words = IsReshaping words ⊎ IsMaking words

@@ -11,16 +11,7 @@ use Rattle.json_text.specs.Outside.{SinkState, Rose}
 use Rattle.json_text.specs.Transfer.{AppendsFront}
 use Rattle.json_print.specs.Printer.{Begins, StopCause}
 
--- the text was written and may wait for a flush, or what was gained is a prefix of the old bytes and the text
-pub record WritesText (old new : SinkState) (text : List ℕ) (result : Result (Unit {0}) Error) : Type 0 where
-  pub ok : OnOk result (Appends old.gained new.gained text)
-  pub calm : OnOk result (new.faults ≡ old.faults)
-  pub prefix : OnErr result (Begins new.gained (append_known old.gained text))
-  pub cause : IfErr result (λ e. StopCause old.faults new.faults e.code e.place)
-  pub told : old.faults < new.faults → IsErrOf result writing_failed
-  pub same_loan : new.loan ≡ old.loan
-
--- the same with a flush behind it
+-- the text was written and flushed, or what was gained is a prefix of the old bytes and the text
 pub record SendsText (old new : SinkState) (text : List ℕ) (result : Result (Unit {0}) Error) : Type 0 where
   pub ok : OnOk result (Appends old.gained new.gained text)
   pub flushed : OnOk result (new.unflushed ≡ false)

@@ -2,6 +2,7 @@
 use Rattle.std.specs.Prelude.{Bool, Option, cond, ◌≡◌, ◌⊎◌, ℕ, ◌+◌, ◌<◌, List, length, ⊤, IfSome, false, Ok, Err}
 use Rattle.json_grammar.specs.Tree.{Tree}
 use Rattle.json_grammar.specs.Grammar.{is_text}
+use Rattle.json_grammar.specs.Rules.{Rules}
 use Rattle.json_model.specs.Sort.{sorted}
 use Rattle.json_model.specs.Edit.{Edit, edited, Refusal, not_found, type_unmatched}
 use Rattle.json_text.specs.Known.{Appends}
@@ -34,15 +35,15 @@ abbrev pub ordered : Layout → Tree → Tree
 ordered l tree = cond l.sorts (sorted tree) tree
 
 -- all that the source had was read, no more than the limit, and it is a text of this tree
-pub record Reads (source source' : SourceState) (tree : Tree) : Type 0 where
+pub record Reads (rules : Rules) (source source' : SourceState) (tree : Tree) : Type 0 where
   pub bytes : List ℕ
   pub all : ReadsWithin most source source' bytes
-  pub input : IsInput bytes tree
+  pub input : IsInput rules bytes tree
 
 -- a text of exactly one tree was read, every edit applied in turn, and the sink gained exactly the text of the edited tree in the layout, which is a text of it, sorted where asked, and was flushed
-pub record Reshapes (es : List Edit) (l : Layout) (source source' : SourceState) (sink sink' : SinkState) : Type 0 where
+pub record Reshapes (rules : Rules) (es : List Edit) (l : Layout) (source source' : SourceState) (sink sink' : SinkState) : Type 0 where
   pub tree : Tree
-  pub reads : Reads source source' tree
+  pub reads : Reads rules source source' tree
   pub only : (other : Tree) → is_text false other reads.bytes → other ≡ tree
   pub changed : Tree
   pub applied : edited es tree ≡ Ok changed
@@ -51,31 +52,31 @@ pub record Reshapes (es : List Edit) (l : Layout) (source source' : SourceState)
   pub flushed : sink'.unflushed ≡ false
 
 -- all was read, and it has this fault
-pub record ReadsFault (source source' : SourceState) (code : ErrorCode) (place : Place) : Type 0 where
+pub record ReadsFault (rules : Rules) (source source' : SourceState) (code : ErrorCode) (place : Place) : Type 0 where
   pub bytes : List ℕ
   pub all : ReadsWithin most source source' bytes
-  pub fault : InputFault bytes code place
+  pub fault : InputFault rules bytes code place
 
 -- all was read, and the edit of this number is the first that does not apply to its tree
-pub record ReadsUnfit (es : List Edit) (source source' : SourceState) (number : ℕ) (why : Refusal) : Type 0 where
+pub record ReadsUnfit (rules : Rules) (es : List Edit) (source source' : SourceState) (number : ℕ) (why : Refusal) : Type 0 where
   pub tree : Tree
-  pub reads : Reads source source' tree
+  pub reads : Reads rules source source' tree
   pub refused : edited es tree ≡ Err (number, why)
 
 -- all was read, every edit applied, and a front of the text of the edited tree in the layout was gained
-pub record GainsFront (es : List Edit) (l : Layout) (source source' : SourceState) (sink sink' : SinkState) : Type 0 where
+pub record GainsFront (rules : Rules) (es : List Edit) (l : Layout) (source source' : SourceState) (sink sink' : SinkState) : Type 0 where
   pub tree : Tree
-  pub reads : Reads source source' tree
+  pub reads : Reads rules source source' tree
   pub changed : Tree
   pub applied : edited es tree ≡ Ok changed
   pub gains : AppendsFront sink.gained sink'.gained (laid_out l changed)
 
 -- why no document was read: one row for each answer
-abbrev pub ReadingRefuses : SourceState → SourceState → ErrorCode → Place → Type 0
-ReadingRefuses source source' NoMemory nowhere = ⊤
-ReadingRefuses source source' Io Reading = Rose source.faults source'.faults
-ReadingRefuses source source' TooLarge nowhere = RoseBy (most + 1) source.given source'.given × IfSome source.left (λ b. most < length b)
-ReadingRefuses source source' code place = ReadsFault source source' code place
+abbrev pub ReadingRefuses : Rules → SourceState → SourceState → ErrorCode → Place → Type 0
+ReadingRefuses rules source source' NoMemory nowhere = ⊤
+ReadingRefuses rules source source' Io Reading = Rose source.faults source'.faults
+ReadingRefuses rules source source' TooLarge nowhere = RoseBy (most + 1) source.given source'.given × IfSome source.left (λ b. most < length b)
+ReadingRefuses rules source source' code place = ReadsFault rules source source' code place
 
 -- the place of the refusal of an edit with this number: want of memory has none
 abbrev pub place_numbered : ErrorCode → Place → ℕ → Place
@@ -90,11 +91,11 @@ EditingRefuses es tree TypeUnmatched (in_edit number) = edited es tree ≡ Err (
 EditingRefuses es tree code place = ⊥
 
 -- why it was refused, and what that left in the sink: one row for each answer
-abbrev pub Refuses : List Edit → Layout → SourceState → SourceState → SinkState → SinkState → ErrorCode → Place → Type 0
-Refuses es l source source' sink sink' NoMemory nowhere = (sink' ≡ sink) ⊎ GainsFront es l source source' sink sink'
-Refuses es l source source' sink sink' Io Reading = Rose source.faults source'.faults × (sink' ≡ sink)
-Refuses es l source source' sink sink' TooLarge nowhere = RoseBy (most + 1) source.given source'.given × IfSome source.left (λ b. most < length b) × (sink' ≡ sink)
-Refuses es l source source' sink sink' NotFound (in_edit number) = ReadsUnfit es source source' number not_found × (sink' ≡ sink)
-Refuses es l source source' sink sink' TypeUnmatched (in_edit number) = ReadsUnfit es source source' number type_unmatched × (sink' ≡ sink)
-Refuses es l source source' sink sink' Io Writing = Rose sink.faults sink'.faults × GainsFront es l source source' sink sink'
-Refuses es l source source' sink sink' code place = ReadsFault source source' code place × (sink' ≡ sink)
+abbrev pub Refuses : Rules → List Edit → Layout → SourceState → SourceState → SinkState → SinkState → ErrorCode → Place → Type 0
+Refuses rules es l source source' sink sink' NoMemory nowhere = (sink' ≡ sink) ⊎ GainsFront rules es l source source' sink sink'
+Refuses rules es l source source' sink sink' Io Reading = Rose source.faults source'.faults × (sink' ≡ sink)
+Refuses rules es l source source' sink sink' TooLarge nowhere = RoseBy (most + 1) source.given source'.given × IfSome source.left (λ b. most < length b) × (sink' ≡ sink)
+Refuses rules es l source source' sink sink' NotFound (in_edit number) = ReadsUnfit rules es source source' number not_found × (sink' ≡ sink)
+Refuses rules es l source source' sink sink' TypeUnmatched (in_edit number) = ReadsUnfit rules es source source' number type_unmatched × (sink' ≡ sink)
+Refuses rules es l source source' sink sink' Io Writing = Rose sink.faults sink'.faults × GainsFront rules es l source source' sink sink'
+Refuses rules es l source source' sink sink' code place = ReadsFault rules source source' code place × (sink' ≡ sink)

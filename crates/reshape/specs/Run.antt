@@ -10,7 +10,8 @@ use Rattle.json_text.specs.Outside.{SourceState, SinkState, Rose}
 use Rattle.json_text.specs.Transfer.{AppendsFront}
 use Rattle.json_text.specs.FaultText.{text_of}
 use Rattle.json_model.specs.Edit.{Refusal}
-use Rattle.reshape.specs.Options.{Command, Asks, IsAsked}
+use Rattle.reshape.specs.Options.{Command, Asks, AsksMade, IsAsked}
+use Rattle.reshape.specs.Made.{GainsSummary, SummaryFails}
 use Rattle.reshape.specs.Reshape.{Reshapes, GainsFront, Refuses}
 use Rattle.reshape.specs.Told.{TellsFit, TellsFault, TellsUnfit}
 
@@ -34,34 +35,48 @@ pub record WithCommand (words : List (List ℕ)) (holds : Command → Type 0) : 
   pub asked : Asks words command
   pub so : holds command
 
--- why the call was refused: the words are looked at before anything is read
+-- why a command was refused: the words are looked at before anything is read
 abbrev pub RunRefuses : List (List ℕ) → SourceState → SourceState → SinkState → SinkState → ErrorCode → Place → Type 0
-RunRefuses words source source' sink sink' NoMemory nowhere = (sink' ≡ sink) ⊎ WithCommand words (λ c. GainsFront c.es c.layout source source' sink sink')
+RunRefuses words source source' sink sink' NoMemory nowhere = (sink' ≡ sink) ⊎ WithCommand words (λ c. GainsFront c.rules c.es c.layout source source' sink sink')
 RunRefuses words source source' sink sink' BadWords nowhere = (¬ IsAsked words) × (source' ≡ source) × (sink' ≡ sink)
-RunRefuses words source source' sink sink' code place = WithCommand words (λ c. Refuses c.es c.layout source source' sink sink' code place)
+RunRefuses words source source' sink sink' code place = WithCommand words (λ c. Refuses c.rules c.es c.layout source source' sink sink' code place)
+
+-- the words ask for made input of so many records, and of their number this holds
+pub record WithMade (words : List (List ℕ)) (holds : ℕ → Type 0) : Type 0 where
+  pub number : ℕ
+  pub asked : AsksMade words number
+  pub so : holds number
+
+-- what the words ask for was done: an edited text was written, or the summary of made input, for which nothing is read
+abbrev pub Did : List (List ℕ) → SourceState → SourceState → SinkState → SinkState → Type 0
+Did words source source' sink sink' =
+    WithCommand words (λ c. Reshapes c.rules c.es c.layout source source' sink sink') ⊎ WithMade words (λ n. (source' ≡ source) × GainsSummary n sink sink')
+
+-- why it was not done
+abbrev pub Fails : List (List ℕ) → SourceState → SourceState → SinkState → SinkState → ErrorCode → Place → Type 0
+Fails words source source' sink sink' code place =
+    RunRefuses words source source' sink sink' code place ⊎ WithMade words (λ n. (source' ≡ source) × SummaryFails n sink sink' code place)
 
 -- status 0
 pub record Done (words : List (List ℕ)) (source source' : SourceState) (sink sink' errs errs' : SinkState) : Type 0 where
-  pub command : Command
-  pub asked : Asks words command
-  pub reshapes : Reshapes command.es command.layout source source' sink sink'
+  pub did : Did words source source' sink sink'
   pub silent : errs' ≡ errs
 
 -- any other status: one error, with its status, its cause, what it left, and its text on errs
 pub record Refused (status : ℕ) (words : List (List ℕ)) (source source' : SourceState) (sink sink' errs errs' : SinkState) : Type 0 where
   pub error : Error
   pub status_is : status ≡ status_of error.code error.place
-  pub cause : RunRefuses words source source' sink sink' error.code error.place
+  pub cause : Fails words source source' sink sink' error.code error.place
   pub tells : Tells (text_of error) errs errs'
 
 -- the words ask for a command, the source tells a valid text to which its edits apply, and nothing failed
 abbrev pub IsGood : List (List ℕ) → SourceState → SourceState → SinkState → SinkState → Type 0
-IsGood words source source' sink sink' = WithCommand words (λ c. TellsFit c.es source source' sink sink')
+IsGood words source source' sink sink' = WithCommand words (λ c. TellsFit c.rules c.es source source' sink sink')
 
 -- the words ask for a command, the source tells bytes with this fault, and no read failed
 abbrev pub IsBad : List (List ℕ) → SourceState → SourceState → ErrorCode → Place → Type 0
-IsBad words source source' code place = WithCommand words (λ c. TellsFault source source' code place)
+IsBad words source source' code place = WithCommand words (λ c. TellsFault c.rules source source' code place)
 
 -- the words ask for a command, the source tells a valid text, the edit of this number is the first that does not apply to it, and no read failed
 abbrev pub IsUnfit : List (List ℕ) → SourceState → SourceState → ℕ → Refusal → Type 0
-IsUnfit words source source' number why = WithCommand words (λ c. TellsUnfit c.es source source' number why)
+IsUnfit words source source' number why = WithCommand words (λ c. TellsUnfit c.rules c.es source source' number why)

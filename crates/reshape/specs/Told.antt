@@ -7,33 +7,34 @@ use Rattle.json_text.specs.declared.error.Place.{Place}
 use Rattle.json_text.specs.declared.error.Place.TheVariants.{Edit as in_edit}
 use Rattle.json_text.specs.Outside.{SourceState, SinkState, Rose}
 use Rattle.json_grammar.specs.Tree.{Tree}
+use Rattle.json_grammar.specs.Rules.{Rules}
 use Rattle.json_model.specs.Edit.{Edit, edited, Refusal, not_found, type_unmatched}
 use Rattle.reshape.specs.Input.{IsInput, InputFault}
 
--- the source tells a valid text to which the edits apply, and nothing failed
-pub record TellsFit (es : List Edit) (source source' : SourceState) (sink sink' : SinkState) : Type 0 where
+-- the source tells a text that fits the rules to which the edits apply, and nothing failed
+pub record TellsFit (rules : Rules) (es : List Edit) (source source' : SourceState) (sink sink' : SinkState) : Type 0 where
   pub b : List ℕ
   pub told : source.left ≡ Some b
   pub tree : Tree
-  pub input : IsInput b tree
+  pub input : IsInput rules b tree
   pub changed : Tree
   pub applies : edited es tree ≡ Ok changed
   pub read : ¬ (Rose source.faults source'.faults)
   pub written : ¬ (Rose sink.faults sink'.faults)
 
 -- the source tells bytes with this fault, and no read failed
-pub record TellsFault (source source' : SourceState) (code : ErrorCode) (place : Place) : Type 0 where
+pub record TellsFault (rules : Rules) (source source' : SourceState) (code : ErrorCode) (place : Place) : Type 0 where
   pub b : List ℕ
   pub told : source.left ≡ Some b
-  pub fault : InputFault b code place
+  pub fault : InputFault rules b code place
   pub read : ¬ (Rose source.faults source'.faults)
 
--- the source tells a valid text, the edit of this number is the first that does not apply to it, and no read failed
-pub record TellsUnfit (es : List Edit) (source source' : SourceState) (number : ℕ) (why : Refusal) : Type 0 where
+-- the source tells a text that fits the rules, the edit of this number is the first that does not apply to it, and no read failed
+pub record TellsUnfit (rules : Rules) (es : List Edit) (source source' : SourceState) (number : ℕ) (why : Refusal) : Type 0 where
   pub b : List ℕ
   pub told : source.left ≡ Some b
   pub tree : Tree
-  pub input : IsInput b tree
+  pub input : IsInput rules b tree
   pub refused : edited es tree ≡ Err (number, why)
   pub read : ¬ (Rose source.faults source'.faults)
 

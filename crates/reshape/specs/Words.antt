@@ -6,6 +6,7 @@ use Rattle.json_doc.specs.Readings.{string_of}
 use Rattle.json_text.specs.declared.error.Error.{Error}
 use Rattle.json_text.specs.Errors.{no_memory, bad_words}
 use Rattle.json_model.specs.Edit.{Step, key_step, index_step, Edit, set_at, insert_at, push_at, remove_at}
+use Rattle.json_text.specs.Ruled.{usual_rules}
 use Rattle.reshape.specs.Input.{IsInput}
 
 -- both values, where there are both
@@ -57,10 +58,10 @@ edits_in _ = None
 abbrev pub Unread : {A : Type 0} → Option A → Error → Type 0
 Unread o e = (e ≡ no_memory) ⊎ ((e ≡ bad_words) × (o ≡ None))
 
--- the word is a text, within the limits of an input, of a tree that spells these edits
+-- the word is a text, by the usual rules, of a tree that spells these edits
 pub record Spells (word : List ℕ) (es : List Edit) : Type 0 where
   pub tree : Tree
-  pub input : IsInput word tree
+  pub input : IsInput usual_rules word tree
   pub edits : edits_in tree ≡ Some es
 
 -- these words ask for these edits: no word asks for none, and one word for those that it spells

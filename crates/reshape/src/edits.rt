@@ -14,7 +14,9 @@ use std::alloc::Global;
 /// use reshape::{Asked, asked};
 /// let mut words = Words::new(alloc);
 /// words.push("[[\"set\",[\"a\",0],1],[\"remove\",[],\"b\"]]")?;
-/// let Asked::Reshape(edits, _) = asked(alloc, &words)?;
+/// let Asked::Reshape(edits, _) = asked(alloc, &words)? else {
+///     return Err("made input".into());
+/// };
 /// assert!(rt; matches!(edits.as_slice(), [Edit::Set { .. }, Edit::Remove { .. }]));
 /// ```
 #[derive(Drop)]

@@ -142,10 +142,7 @@ pub fn read_edits(alloc: Global, doc: &Rc<Doc>) -> Result<Edits>
         return Err(BAD_WORDS);
     }
     let mut list = Vec::new(alloc);
-    'edits: for i in 0..view.len() {
-        let Some(element) = view.element(i) else {
-            return Err(BAD_WORDS);
-        };
+    'edits: for element in view.children() {
         let edit = read_edit(alloc, doc, element)?;
         list.push(edit)?;
     }

@@ -1,5 +1,5 @@
 // Laws of inputs and of the words, over the definitions alone.
-ghost use Rattle.reshape.specs.Laws.{OneInputFault, ValidHasNoFault, SomeInputFault, OneCommand};
+ghost use Rattle.reshape.specs.Laws.{OneInputFault, ValidHasNoFault, SomeInputFault, OneCommand, MadeAlone};
 
 /// An input has one fault at most, at one place.
 pub fn one_input_fault()
@@ -19,4 +19,9 @@ pub fn some_input_fault()
 /// The words of the command line ask for one command at most: for the same edits in the same layout.
 pub fn one_command()
     ensures { OneCommand }
+{}
+
+/// Words that ask for made input ask for one number of records, and for no command.
+pub fn made_alone()
+    ensures { MadeAlone }
 {}

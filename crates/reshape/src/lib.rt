@@ -21,6 +21,7 @@ mod edits;
 mod edits_word;
 mod engine;
 pub mod laws;
+mod made;
 mod options;
 mod output;
 mod path_word;
@@ -30,7 +31,7 @@ mod words;
 pub use asked_style::AskedStyle;
 pub use command::Asked;
 pub use edits::Edits;
-pub use engine::reshape;
+pub use engine::{reshape, reshape_with};
 pub use top::run;
 pub use words::asked;
 

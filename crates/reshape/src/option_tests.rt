@@ -130,6 +130,16 @@ fn other_options_are_refused(rt: HostRuntime) -> Result<(), Fail> {
         "--indent= ",
         "--sort",
         "--sort-keys=1",
+        "--unique-keys=1",
+        "--unique",
+        "--depth",
+        "--depth=",
+        "--depth=1025",
+        "--depth=01",
+        "--depth=+5",
+        "--depth=5 ",
+        "--depth=-0",
+        "--depth=18446744073709551616",
         "-",
         "-pretty",
         " --pretty",
@@ -150,6 +160,9 @@ fn options_stand_once(rt: HostRuntime) -> Result<(), Fail> {
         ["--indent=2", "--indent=2"],
         ["--indent=0", "--indent=4"],
         ["--sort-keys", "--sort-keys"],
+        ["--unique-keys", "--unique-keys"],
+        ["--depth=5", "--depth=5"],
+        ["--depth=5", "--depth=6"],
         ["[]", "[]"],
         ["[]", "{}"],
     ];
@@ -159,4 +172,116 @@ fn options_stand_once(rt: HostRuntime) -> Result<(), Fail> {
     check_refused(&rt, rt.alloc(), &["--sort-keys", "[]", "--sort-keys"])?;
     check_refused(&rt, rt.alloc(), &["--pretty", "[]", "--tabs"])?;
     check_refused(&rt, rt.alloc(), &["[]", "--pretty", "[]"])
+}
+
+/// Runs with words over input that is refused, or kept as it is.
+fn check_told(
+    rt: &impl Abort,
+    alloc: Global,
+    words: &[&str],
+    input: &[u8],
+    told: &str,
+) -> Result<(), Fail> {
+    let mut list = Words::new(alloc);
+    for word in words {
+        list.push(word)?;
+    }
+    let mut source = SliceSource::new(input);
+    let mut sink = VecSink::new(alloc);
+    let mut errs = VecSink::new(alloc);
+    let answer = run(alloc, &list, &mut source, &mut sink, &mut errs);
+    assert_eq!(rt; errs.as_slice(), told.as_bytes());
+    assert_eq!(rt; answer, u8::from(!told.is_empty()));
+    assert_eq!(rt;
+        sink.as_slice(),
+        if told.is_empty() {
+            input
+        } else {
+            b"".as_slice()
+        }
+    );
+    Ok(())
+}
+
+#[test]
+fn rules_that_are_asked_for(rt: HostRuntime) -> Result<(), Fail> {
+    let unique = ["--unique-keys"].as_slice();
+    let cases: [(&[&str], &[u8], &str); 11] = [
+        (
+            unique,
+            b"{\"a\":1,\"b\":2,\"\\u0061\":3}",
+            "DuplicateKey at offset 13, line 1 column 14\n",
+        ),
+        (unique, b"{\"a\":{\"a\":1}}", ""),
+        (
+            &[],
+            b"{\"a\":1,\"a\":}",
+            "InvalidJsonValue at offset 11, line 1 column 12\n",
+        ),
+        (
+            unique,
+            b"{\"a\":1,\"a\":}",
+            "DuplicateKey at offset 7, line 1 column 8\n",
+        ),
+        (
+            unique,
+            b"[[[[[[{\"a\":1,\"a\":",
+            "DuplicateKey at offset 13, line 1 column 14\n",
+        ),
+        (
+            &[],
+            b"[[[[[[{\"a\":1,\"a\":",
+            "EofWhileParsing at offset 17, line 1 column 18\n",
+        ),
+        (
+            &["--depth=0"],
+            b"[]",
+            "RecursionLimitExceeded at offset 0, line 1 column 1\n",
+        ),
+        (&["--depth=0"], b"1", ""),
+        (
+            &["--depth=1", "--unique-keys"],
+            b"[{\"a\":1,\"a\":2}]",
+            "RecursionLimitExceeded at offset 1, line 1 column 2\n",
+        ),
+        (
+            &["--unique-keys", "--depth=1"],
+            b"{\"a\":1,\"a\":[]}",
+            "DuplicateKey at offset 7, line 1 column 8\n",
+        ),
+        (
+            unique,
+            b"{\"a\":1,\"a",
+            "EofWhileParsing at offset 9, line 1 column 10\n",
+        ),
+    ];
+    for (words, input, told) in cases {
+        check_told(&rt, rt.alloc(), words, input, told)?;
+    }
+    check(
+        &rt,
+        rt.alloc(),
+        &[
+            "--unique-keys",
+            "--depth=1",
+            "[[\"set\",[\"a\"],[[{\"b\":1,\"b\":2}]]]]",
+        ],
+        b"{\"a\":1}",
+        b"{\"a\":[[{\"b\":1,\"b\":2}]]}",
+    )
+}
+
+#[test]
+fn as_many_levels_as_are_asked_for(rt: HostRuntime) -> Result<(), Fail> {
+    let mut text = Vec::new(rt.alloc());
+    text.resize(1_024, b'[')?;
+    for _ in 0..1_024 {
+        text.push(b']')?;
+    }
+    check_told(&rt, rt.alloc(), &["--depth=1024"], &text, "")?;
+    let mut deeper = Vec::new(rt.alloc());
+    deeper.push(b'[')?;
+    deeper.extend_from_slice(&text)?;
+    let told = "RecursionLimitExceeded at offset 1024, line 1 column 1025\n";
+    check_told(&rt, rt.alloc(), &["--depth=1024"], &deeper, told)
 }

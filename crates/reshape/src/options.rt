@@ -1,15 +1,19 @@
 // The options and the edits word among the words of the command line.
-ghost use Rattle.std.specs.Prelude.{◌≡◌, ◌≢◌, ℕ, List, [], ◌∷◌, ◌++◌, false, option_map, IfSome, IfNone, MatchOption};
-ghost use Rattle.reshape.specs.Options.{spaces, width_in, indent_in, is_known, IsAsked};
+ghost use Rattle.std.specs.Prelude.{◌≡◌, ◌≢◌, ◌≤◌, ℕ, List, [], ◌∷◌, ◌++◌, false, option_map, IfSome, IfNone, MatchOption};
+ghost use Rattle.std.specs.Option.{ForSome};
+ghost use Rattle.json_text.specs.Ruled.{rules_of};
+ghost use Rattle.reshape.specs.Options.{spaces, width_in, indent_in, is_plain, number_up_to, depth_in, made_in, depth_or_usual, is_known, IsReshaping, AsksMade, IsMaking};
 ghost use Rattle.reshape.specs.Gathering.{HasRole, Gathered};
 
-use json_text::Words;
+use json_text::{Rules, Words};
 
 // What one word is for.
 #[derive(Clone, Copy)]
 enum Role<'a> {
     Indent(&'static str),
     SortKeys,
+    UniqueKeys,
+    Depth(u32),
     EditsWord(&'a str),
 }
 
@@ -20,6 +24,10 @@ pub(crate) struct Options<'a> {
     pub indent: Option<&'static str>,
     /// Whether the members of each object are sorted by their keys.
     pub sorted: bool,
+    /// Whether the names of each object have to differ.
+    pub unique: bool,
+    /// The most levels, where they are asked for.
+    pub depth: Option<u32>,
     /// The word that is no option.
     pub edits: Option<&'a str>,
 }
@@ -53,6 +61,73 @@ fn indent_of(word: &str) -> Option<&'static str>
     }
 }
 
+// Whether it is `0`, or begins with a digit from 1 to 9.
+fn starts_plain(digits: &str) -> bool
+    ensures { result ≡ is_plain digits.now }
+{
+    let bytes = digits.as_bytes();
+    digits == "0" || !bytes.is_empty() && bytes[0] >= b'1' && bytes[0] <= b'9'
+}
+
+// So many levels as the digits say, which are 1,024 at most.
+fn levels_of(digits: &str) -> Option<u32>
+    ensures { result ≡ number_up_to 1024 digits.now }
+{
+    if !starts_plain(digits) {
+        return None;
+    }
+    match digits.parse::<u64>() {
+        Ok(n) if n <= 1_024 => Some(n as u32),
+        _ => None,
+    }
+}
+
+// The most levels that an option asks for.
+fn depth_of(word: &str) -> Option<u32>
+    ensures { result ≡ depth_in word.now }
+{
+    let (name, digits) = word.split_once('=')?;
+    if name != "--depth" {
+        return None;
+    }
+    levels_of(digits)
+}
+
+// So many records as the digits say, which are 100,000 at most.
+fn records_of(digits: &str) -> Option<u32>
+    ensures { result ≡ number_up_to 100000 digits.now }
+{
+    if !starts_plain(digits) {
+        return None;
+    }
+    match digits.parse::<u64>() {
+        Ok(n) if n <= 100_000 => Some(n as u32),
+        _ => None,
+    }
+}
+
+// The records of made input that an option asks for.
+fn made_of(word: &str) -> Option<u32>
+    ensures { result ≡ made_in word.now }
+{
+    let (name, digits) = word.split_once('=')?;
+    if name != "--make" {
+        return None;
+    }
+    records_of(digits)
+}
+
+/// So many records of made input as the words ask for, where one word asks for them and stands alone. They are 100,000 at most.
+pub fn made_asked(words: &Words) -> Option<u32>
+    ensures asks { MatchOption result (¬ (IsMaking words.now)) (AsksMade words.now) }
+    ensures few { IfSome result (λ n. n ≤ 100000) }
+{
+    if words.len() != 1 {
+        return None;
+    }
+    made_of(words.word(0))
+}
+
 // What a word is for; none where it is an option that is not known.
 fn role_of(word: &str) -> Option<Role<'_>>
     ensures { MatchOption result (is_known word.now ≡ false) (HasRole word.now) }
@@ -63,6 +138,12 @@ fn role_of(word: &str) -> Option<Role<'_>>
     if word == "--sort-keys" {
         return Some(Role::SortKeys);
     }
+    if word == "--unique-keys" {
+        return Some(Role::UniqueKeys);
+    }
+    if let Some(levels) = depth_of(word) {
+        return Some(Role::Depth(levels));
+    }
     let indent = indent_of(word)?;
     Some(Role::Indent(indent))
 }
@@ -71,7 +152,7 @@ impl<'a> Options<'a> {
     // With one more word; none where it is unknown, or another like it was there.
     fn take_word(self, word: &'a str) -> Option<Options<'a>>
         ensures taken { IfSome result (λ o. (ws : List (List ℕ)) → Gathered ws self.entry → Gathered (ws ++ word.now ∷ []) o) }
-        ensures refused { IfNone result ((ws more : List (List ℕ)) → Gathered ws self.entry → ¬ (IsAsked (ws ++ word.now ∷ more))) }
+        ensures refused { IfNone result ((ws more : List (List ℕ)) → Gathered ws self.entry → ¬ (IsReshaping (ws ++ word.now ∷ more))) }
     {
         match role_of(word)? {
             Role::Indent(indent) if self.indent.is_none() => Some(Options {
@@ -82,6 +163,14 @@ impl<'a> Options<'a> {
                 sorted: true,
                 ..self
             }),
+            Role::UniqueKeys if !self.unique => Some(Options {
+                unique: true,
+                ..self
+            }),
+            Role::Depth(levels) if self.depth.is_none() => Some(Options {
+                depth: Some(levels),
+                ..self
+            }),
             Role::EditsWord(edits) if self.edits.is_none() => Some(Options {
                 edits: Some(edits),
                 ..self
@@ -89,16 +178,30 @@ impl<'a> Options<'a> {
             _ => None,
         }
     }
+
+    /// The rules that are asked for: the usual ones where nothing is said of them.
+    pub fn rules(self) -> Rules
+        requires { ForSome self.depth (λ n. n ≤ 1024) }
+        ensures { rules_of result ≡ record { limit = depth_or_usual self.entry.depth; unique = self.entry.unique } }
+    {
+        let levels = self.depth.unwrap_or(Rules::usual().depth());
+        match Rules::new(levels, self.unique) {
+            Some(rules) => rules,
+            None => unreachable!(),
+        }
+    }
 }
 
-/// The options and the edits word among the words. None where an option is unknown or stands twice, where two options ask for
-/// an indent, or where two words are no options.
+/// The options and the edits word among the words. None where an option is unknown or stands twice, with the same number or
+/// another, where two options ask for an indent, or where two words are no options.
 pub fn gather(words: &Words) -> Option<Options<'_>>
-    ensures { MatchOption result (¬ (IsAsked words.now)) (Gathered words.now) }
+    ensures { MatchOption result (¬ (IsReshaping words.now)) (Gathered words.now) }
 {
     let mut options = Options {
         indent: None,
         sorted: false,
+        unique: false,
+        depth: None,
         edits: None,
     };
     'words: for i in 0..words.len() {

@@ -4,8 +4,9 @@ ghost use Rattle.json_print.specs.Layouts.{LaidOut};
 ghost use Rattle.json_print.specs.Printer.{start};
 ghost use Rattle.json_print.specs.Shown.{shown_as};
 ghost use Rattle.json_print.specs.Styles.{printed};
+ghost use Rattle.json_print.specs.TextWriting.{WritesText};
 ghost use Rattle.json_value.specs.Denotes.{tree_of};
-ghost use Rattle.reshape.specs.Printing.{Prints, SendsText, WritesText};
+ghost use Rattle.reshape.specs.Printing.{Prints, SendsText};
 
 use json_print::{
     Buffer, BufferedWriter, CompactFormatter, Events, Formatter, PrettyFormatter, Serializer, Style,
@@ -38,7 +39,7 @@ fn formatted<W: Sink, F: Formatter + Drop>(
     writer: W,
 ) -> (W, Result<()>)
     requires fresh { F.fresh formatter }
-    ensures text { (indent : Option (List ℕ)) → LaidOut (record { piece = F.piece; next = F.next }) formatter indent 0 false
+    ensures text { (indent : Option (List ℕ)) → LaidOut F.form formatter indent 0 false
         → WritesText (W.state writer) (W.state result.0) (shown_as indent sorted (tree_of value.now)) result.1 }
 {
     let mut out = printer(alloc, sorted, formatter, writer);

@@ -52,10 +52,7 @@ pub fn read_path(alloc: Global, view: DocView<'_>) -> Result<Path>
         return Err(BAD_WORDS);
     }
     let mut path = Path::new(alloc);
-    'steps: for i in 0..view.len() {
-        let Some(element) = view.element(i) else {
-            return Err(BAD_WORDS);
-        };
+    'steps: for element in view.children() {
         let step = read_step(alloc, element)?;
         path.push(step)?;
     }

@@ -6,13 +6,14 @@ ghost use Rattle.json_text.specs.Errors.{reading_failed, writing_failed};
 ghost use Rattle.json_text.specs.FaultText.{text_of};
 ghost use Rattle.json_text.specs.Transfer.{TakesAtMost};
 ghost use Rattle.reshape.specs.Input.{most};
-ghost use Rattle.reshape.specs.Reshape.{Reshapes};
 ghost use Rattle.json_model.specs.Edit.{Refusal};
-ghost use Rattle.reshape.specs.Options.{IsAsked};
-ghost use Rattle.reshape.specs.Run.{WithCommand, status_of, Tells, RunRefuses, Done, Refused, IsGood, IsBad, IsUnfit};
+ghost use Rattle.reshape.specs.Options.{IsAsked, IsMaking};
+ghost use Rattle.reshape.specs.Run.{status_of, Tells, Did, Fails, Done, Refused, IsGood, IsBad, IsUnfit};
 ghost use Rattle.reshape.specs.Told.{edit_refused};
 
-use crate::reshape;
+use crate::command::Asked;
+use crate::made::write_summary;
+use crate::reshape_with;
 use crate::words::asked;
 use json_text::{Error, ErrorCode, Place, Result, Sink, Source, Words, fault_text, put_all};
 use std::alloc::Global;
@@ -42,18 +43,26 @@ fn carry_out<S: Source, K: Sink>(
     source: &mut S,
     sink: &mut K,
 ) -> Result<()>
-    ensures done { OnOk result (WithCommand words.now (λ c. Reshapes c.es c.layout (S.state source.old) (S.state source.new) (K.state sink.old) (K.state sink.new))) }
-    ensures refused { IfErr result (λ e. RunRefuses words.now (S.state source.old) (S.state source.new) (K.state sink.old) (K.state sink.new) e.code e.place) }
+    ensures done { OnOk result (Did words.now (S.state source.old) (S.state source.new) (K.state sink.old) (K.state sink.new)) }
+    ensures unread { IsMaking words.now → S.state source.new ≡ S.state source.old }
+    ensures refused { IfErr result (λ e. Fails words.now (S.state source.old) (S.state source.new) (K.state sink.old) (K.state sink.new) e.code e.place) }
     ensures taken { TakesAtMost (most + 1) (S.state source.old) (S.state source.new) }
     ensures read_told { (S.state source.old).faults < (S.state source.new).faults → IsErrOf result reading_failed }
     ensures write_told { (K.state sink.old).faults < (K.state sink.new).faults → IsErrOf result writing_failed }
 {
     let asked = asked(alloc, words)?;
-    reshape(alloc, source, sink, asked.edits(), asked.style())
+    match asked {
+        Asked::Made(records) => write_summary(alloc, records, sink),
+        Asked::Reshape(_, _) => {
+            let rules = asked.rules();
+            reshape_with(alloc, source, sink, asked.edits(), asked.style(), rules)
+        }
+    }
 }
 
 /// Does all that the program does, and answers its status: 0 where it is done, 1 where the input is refused, 2 the words,
 /// 3 an edit, 4 where reading failed, 5 where writing failed, 6 where memory ran out. On 1 to 6 the text of the refusal goes to `errs`.
+/// Where the words ask for made input nothing is read, and its summary is written.
 pub fn run<S: Source, K: Sink, E: Sink>(
     alloc: Global,
     words: &Words,
@@ -72,6 +81,8 @@ pub fn run<S: Source, K: Sink, E: Sink>(
         → (result ≡ 0) ⊎ (result ≡ 6) }
     ensures unfit { (number : ℕ) (why : Refusal) → IsUnfit words.now (S.state source.old) (S.state source.new) number why
         → ((result ≡ 3) × Tells (text_of (edit_refused number why)) (E.state errs.old) (E.state errs.new)) ⊎ (result ≡ 6) }
+    ensures unread { IsMaking words.now → S.state source.new ≡ S.state source.old }
+    ensures made { IsMaking words.now → (result ≡ 0) ⊎ (result ≡ 5) ⊎ (result ≡ 6) }
     ensures words { ¬ (IsAsked words.now) → (result ≡ 2) ⊎ (result ≡ 6) }
     ensures exact { (code : ErrorCode) (place : Place) → IsBad words.now (S.state source.old) (S.state source.new) code place
         → ((result ≡ 1) × Tells (text_of (record { code = code; place = place })) (E.state errs.old) (E.state errs.new)) ⊎ (result ≡ 6) }

@@ -4,14 +4,14 @@ ghost use Rattle.json_text.specs.Errors.{no_memory, bad_words};
 ghost use Rattle.json_text.specs.declared.error.ErrorCode.TheVariants.{NoMemory};
 ghost use Rattle.json_model.specs.Edit.{Edit};
 ghost use Rattle.reshape.specs.Words.{Spells, AsksEdits};
-ghost use Rattle.reshape.specs.Options.{Asks, IsAsked};
-ghost use Rattle.reshape.specs.Asked.{edits_of, asked_command};
+ghost use Rattle.reshape.specs.Options.{IsAsked};
+ghost use Rattle.reshape.specs.Asked.{edits_of, AsksFor};
 
 use crate::asked_style::AskedStyle;
 use crate::command::Asked;
 use crate::edits::Edits;
 use crate::edits_word::read_edits;
-use crate::options::gather;
+use crate::options::{gather, made_asked};
 use crate::path_word::BAD_WORDS;
 use json_doc::read_document;
 use json_text::{Error, ErrorCode, Place, Result, Words};
@@ -59,18 +59,24 @@ fn read_edits_word(alloc: Global, word: Option<&str>) -> Result<Edits>
 }
 
 /// What the words ask for. A word that begins with `--` is an option: `--pretty` asks for an indent of two spaces, `--tabs` for one
-/// of a tab, `--indent=N` for one of N spaces, which is one digit from 0 to 8, and `--sort-keys` for members in the order of their
-/// keys. Any other word is the edits word, which asks for the edits that it spells. Answers `BadWords` where an option is unknown
-/// or stands twice, where two options ask for an indent, and where there are two edits words or the one has another form, and
-/// `NoMemory` where memory runs out.
+/// of a tab, `--indent=N` for one of N spaces, which is one digit from 0 to 8, `--sort-keys` for members in the order of their
+/// keys, `--unique-keys` for input in which the keys of each object differ, and `--depth=N` for input of N levels at most, which
+/// is a number from 0 to 1,024 without leading zeros. Any other word is the edits word, which asks for the edits that it spells;
+/// it is itself read by the usual rules. `--make=N` alone asks for made input of N records, which is a number from 0 to 100,000
+/// without leading zeros. Answers `BadWords` where an option is unknown or stands twice, where two options ask for an indent, where
+/// `--make=N` stands beside another word, and where there are two edits words or the one has another form, and `NoMemory` where
+/// memory runs out.
 pub fn asked(alloc: Global, words: &Words) -> Result<Asked>
-    ensures ok { IfOk result (λ a. Asks words.now (asked_command a)) }
+    ensures ok { IfOk result (AsksFor words.now) }
     ensures err { IfErr result (λ e. (e ≡ no_memory) ⊎ ((e ≡ bad_words) × ¬ (IsAsked words.now))) }
 {
+    if let Some(records) = made_asked(words) {
+        return Ok(Asked::Made(records));
+    }
     let Some(options) = gather(words) else {
         return Err(BAD_WORDS);
     };
     let edits = read_edits_word(alloc, options.edits)?;
-    let style = AskedStyle::new(options.indent, options.sorted);
+    let style = AskedStyle::new(options.indent, options.sorted, options.rules());
     Ok(Asked::Reshape(edits, style))
 }

@@ -13,6 +13,7 @@ fn read(alloc: Global, words: &[&str]) -> Result<Option<Edits>, Fail> {
     }
     match asked(alloc, &list) {
         Ok(Asked::Reshape(edits, _)) => Ok(Some(edits)),
+        Ok(Asked::Made(_)) => Err("made input".into()),
         Err(error) if error.code == ErrorCode::BadWords => Ok(None),
         Err(error) => Err(error.into()),
     }

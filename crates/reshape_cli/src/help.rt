@@ -14,6 +14,11 @@ Options, in any order, each at most once, and one of the first three at most:
   --indent=N    indent by N spaces, 0 to 8
   --tabs        indent by a tab
   --sort-keys   sort the members of each object by the bytes of their keys
+  --unique-keys refuse input in which an object has two members of one key
+  --depth=N     refuse input of more than N levels, 0 to 1024; 254 without it
+  --make=N      read nothing; make an array of N records, 0 to 100000, print it
+                compact and sorted, and tell the bytes and sums of both; stands
+                alone
   --help        print this text; stands alone
   --version     print the version; stands alone
 
@@ -32,8 +37,8 @@ The path [] is the root.
 
 Status:
   0  done
-  1  the input is refused: too large, not UTF-8, or no JSON of 254 levels
-     at most
+  1  the input is refused: too large, not UTF-8, no JSON of so many levels,
+     or with a key that repeats where keys have to be unique
   2  the words are refused
   3  an edit does not apply
   4  reading failed

@@ -1,14 +1,16 @@
-use Rattle.std.proofs.Common.{map}
-use Rattle.json_value.specs.Edits.{edit_of}
-use Rattle.reshape.specs.Reshape.{layout_of}
-use Rattle.reshape.proofs.ToldBytes.{fit_outcome, fault_outcome, unfit_outcome}
 use Rattle.reshape.proofs.engine.reshape.Goals as goal
 
+pub returns-clause-done : goal.returns-clause-done
+returns-clause-done g c = rw (← c.usual.ensures) c.reshape_with.ensures.done
+
+pub returns-clause-refused : goal.returns-clause-refused
+returns-clause-refused g c = rw (← c.usual.ensures) c.reshape_with.ensures.refused
+
 pub returns-clause-complete : goal.returns-clause-complete
-returns-clause-complete g c = λ fit. fit_outcome c.pass.result (map edit_of c.args.edits.now) (layout_of c.args.style) _ _ _ _ c.pass.ensures.refused fit
+returns-clause-complete g c = rw (← c.usual.ensures) c.reshape_with.ensures.complete
 
 pub returns-clause-unfit : goal.returns-clause-unfit
-returns-clause-unfit g c = λ number why unfit. unfit_outcome c.pass.result (map edit_of c.args.edits.now) (layout_of c.args.style) _ _ _ _ number why c.pass.ensures.done c.pass.ensures.refused unfit
+returns-clause-unfit g c = rw (← c.usual.ensures) c.reshape_with.ensures.unfit
 
 pub returns-clause-exact : goal.returns-clause-exact
-returns-clause-exact g c = λ code place bad. fault_outcome c.pass.result (map edit_of c.args.edits.now) (layout_of c.args.style) _ _ _ _ code place c.pass.ensures.done c.pass.ensures.refused bad
+returns-clause-exact g c = rw (← c.usual.ensures) c.reshape_with.ensures.exact

@@ -1,0 +1,133 @@
+// A large input that is made from a number, and the summary of it and of its text.
+ghost use Rattle.std.specs.Prelude.{◌≡◌, ◌++◌, ◌<◌, ◌≤◌, sum, decimal, OnOk, IfOk, IfErr, IsErrOf};
+ghost use Rattle.json_grammar.specs.Tree.{Tree};
+ghost use Rattle.json_text.specs.Errors.{no_memory, writing_failed};
+ghost use Rattle.json_text.specs.Ruled.{usual_rules};
+ghost use Rattle.reshape.specs.Input.{IsInput};
+ghost use Rattle.reshape.specs.Reshape.{layout_of};
+ghost use Rattle.reshape.specs.Printing.{Prints};
+ghost use Rattle.reshape.specs.Made as spec;
+ghost use Rattle.reshape.specs.Made.{made_record, totals, sorted_compact, IsSummary, IsPrinted, GainsSummary, SummaryFails};
+
+use crate::reshape;
+use itoa::Buffer;
+use json_print::Style;
+use json_text::{Result, Sink, SliceSource, VecSink, flush_all, put_all};
+use std::alloc::Global;
+
+/// The style in which made input is printed: compact, with the members of each object in the order of their keys.
+pub fn sorted_style() -> Style<'static>
+    ensures { layout_of result ≡ sorted_compact }
+{
+    match Style::new(None, true) {
+        Some(style) => style,
+        None => unreachable!(),
+    }
+}
+
+fn separator(number: u32) -> &'static [u8]
+    ensures { result.now ≡ spec.separator number }
+{
+    if number == 0 { b"" } else { b", " }
+}
+
+fn push_record(text: &mut Vec<u8>, number: u32) -> Result<()>
+    ensures ok { OnOk result (text.new.items ≡ text.old.items ++ made_record number) }
+    ensures err { IfErr result (λ e. e ≡ no_memory) }
+{
+    let mut buffer = Buffer::new();
+    text.extend_from_slice(b"{\"n\": ")?;
+    text.extend_from_slice(buffer.format(number).as_bytes())?;
+    text.extend_from_slice(b", \"k\": [-0, 1.50], \"a\": \"\\u0041\"}")?;
+    Ok(())
+}
+
+// An array of so many records, which are numbered from 0 on.
+fn make(alloc: Global, records: u32) -> Result<Vec<u8>>
+    ensures ok { IfOk result (λ v. v.items ≡ spec.made records) }
+    ensures err { IfErr result (λ e. e ≡ no_memory) }
+{
+    let mut text = Vec::from_slice(alloc, b"[")?;
+    'records: for number in 0..records {
+        text.extend_from_slice(separator(number))?;
+        push_record(&mut text, number)?;
+    }
+    text.push(b']')?;
+    Ok(text)
+}
+
+// The text of made input, compact and sorted.
+fn printed(alloc: Global, input: &[u8]) -> Result<Vec<u8>>
+    ensures ok { IfOk result (λ v. IsPrinted input.now v.items) }
+    ensures err { (tree : Tree) → IsInput usual_rules input.now tree → IfErr result (λ e. e ≡ no_memory) }
+{
+    let mut source = SliceSource::new(input);
+    let mut sink = VecSink::new(alloc);
+    reshape(alloc, &mut source, &mut sink, &[], sorted_style())?;
+    Ok(sink.into_vec())
+}
+
+fn sum_of(bytes: &[u8]) -> u128
+    ensures { result ≡ sum bytes.now }
+{
+    let mut sum = 0;
+    'bytes: for byte in bytes {
+        sum += u128::from(*byte);
+    }
+    sum
+}
+
+fn push_number(text: &mut Vec<u8>, number: u128) -> Result<()>
+    ensures ok { OnOk result (text.new.items ≡ text.old.items ++ decimal number) }
+    ensures err { IfErr result (λ e. e ≡ no_memory) }
+{
+    let mut buffer = Buffer::new();
+    text.extend_from_slice(buffer.format(number).as_bytes())?;
+    Ok(())
+}
+
+// A name, how many bytes there are, and their sum.
+fn push_totals(text: &mut Vec<u8>, name: &[u8], bytes: &[u8]) -> Result<()>
+    ensures ok { OnOk result (text.new.items ≡ text.old.items ++ totals name.now bytes.now) }
+    ensures err { IfErr result (λ e. e ≡ no_memory) }
+{
+    text.extend_from_slice(name)?;
+    push_number(text, bytes.len() as u128)?;
+    text.push(b' ')?;
+    push_number(text, sum_of(bytes))?;
+    text.push(b'\n')?;
+    Ok(())
+}
+
+// The summary of made input of so many records.
+fn summary(alloc: Global, records: u32) -> Result<Vec<u8>>
+    requires { records ≤ 100000 }
+    ensures ok { IfOk result (λ v. IsSummary records v.items) }
+    ensures err { IfErr result (λ e. e ≡ no_memory) }
+{
+    let input = make(alloc, records)?;
+    let output = printed(alloc, &input)?;
+    let mut text = Vec::new(alloc);
+    push_totals(&mut text, b"in ", &input)?;
+    push_totals(&mut text, b"out ", &output)?;
+    Ok(text)
+}
+
+fn send<K: Sink>(sink: &mut K, text: &[u8]) -> Result<()>
+    ensures { Prints (K.state sink.old) (K.state sink.new) text.now result }
+{
+    put_all(sink, text)?;
+    flush_all(sink)
+}
+
+/// Makes an array of so many records, prints it compact and sorted, and writes how many bytes both have and what these sum up to, a
+/// line each, flushed. Where the sink failed or memory ran out it gained a front of this at most. There are at most 100,000 records.
+pub fn write_summary<K: Sink>(alloc: Global, records: u32, sink: &mut K) -> Result<()>
+    requires { records ≤ 100000 }
+    ensures ok { OnOk result (GainsSummary records (K.state sink.old) (K.state sink.new)) }
+    ensures refused { IfErr result (λ e. SummaryFails records (K.state sink.old) (K.state sink.new) e.code e.place) }
+    ensures told { (K.state sink.old).faults < (K.state sink.new).faults → IsErrOf result writing_failed }
+{
+    let text = summary(alloc, records)?;
+    send(sink, &text)
+}
