@@ -3,7 +3,7 @@ use Rattle.std.proofs.Common.{◌≡◌, ◌≢◌, ℕ, List, [], ◌∷◌, le
 use Rattle.std.proofs.lemmas.Bool.{and_parts, leb-true}
 use Rattle.std.specs.Str.{all_ascii_digits}
 use Rattle.json_grammar.specs.Grammar.{IsDigit, number}
-use Rattle.json_grammar.specs.NumberStates.{at_start, after_minus, after_zero, no_number, number_step, number_run}
+use Rattle.json_grammar.specs.NumberStates.{at_start, after_minus, no_number, number_step}
 use Rattle.json_grammar.proofs.NumberRuns.{number_ends, no_number_goes_on}
 use Rattle.json_grammar.proofs.NumberScan.{number_by_state, ended_whole}
 use Rattle.json_text.proofs.WholeNumbers.{zero_ends}

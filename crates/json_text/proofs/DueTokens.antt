@@ -1,5 +1,5 @@
 -- Before the token that needs a refused byte stand the tokens that were told.
-use Rattle.std.proofs.Common.{◌≡◌, ℕ, ◌≤◌, List, [], ◌∷◌, ◌++◌, length, take, false, sym, ap, ◌∙◌, subst, arith, append_assoc, length-append, take_all}
+use Rattle.std.proofs.Common.{◌≡◌, ℕ, ◌≤◌, List, [], ◌∷◌, ◌++◌, length, take, sym, ap, ◌∙◌, subst, arith, append_assoc, length-append, take_all, Bool}
 use Rattle.std.proofs.Math.Seq.{take-append_seam}
 use Rattle.json_grammar.specs.declared.Kind.{Kind}
 use Rattle.json_grammar.specs.declared.Spot.{Spot}
@@ -29,21 +29,21 @@ front : (b p r : List ℕ) (k : ℕ) → b ≡ p ++ r → length p ≡ k → p �
 front b p r k e l = sym (ap (take k) e ∙ ap (λ n. take n (p ++ r)) (sym l) ∙ take-append_seam p r)
 
 -- what stands before a refused byte begins some text
-told_viable : {limit k : ℕ} {b : List ℕ} {code : FaultCode} → Told false (viable_prefix false) ((t : Tree) × is_text false t b) limit b k code → viable_prefix false (take k b)
-told_viable {k = k} {b = b} (deep (p, x, r, e, l, v, o, m)) = subst (viable_prefix false) (front b p (x ∷ r) k e l) (shorter_viable false p (x ∷ []) v)
-told_viable {k = k} {b = b} (short (e, v, o, m)) = subst (viable_prefix false) (sym (ap (λ n. take n b) e ∙ take_all (length b) b (omega arith))) v
-told_viable {k = k} {b = b} (other r) = subst (viable_prefix false) (front b r.p (r.x ∷ r.long.rest) k r.long.bytes r.offset) r.long.is_viable
+told_viable : {lossy : Bool} {limit k : ℕ} {b : List ℕ} {code : FaultCode} → Told lossy (viable_prefix lossy) ((t : Tree) × is_text lossy t b) limit b k code → viable_prefix lossy (take k b)
+told_viable {lossy = lossy} {k = k} {b = b} (deep (p, x, r, e, l, v, o, m)) = subst (viable_prefix lossy) (front b p (x ∷ r) k e l) (shorter_viable lossy p (x ∷ []) v)
+told_viable {lossy = lossy} {k = k} {b = b} (short (e, v, o, m)) = subst (viable_prefix lossy) (sym (ap (λ n. take n b) e ∙ take_all (length b) b (omega arith))) v
+told_viable {lossy = lossy} {k = k} {b = b} (other r) = subst (viable_prefix lossy) (front b r.p (r.x ∷ r.long.rest) k r.long.bytes r.offset) r.long.is_viable
 
-fault_viable : (limit : ℕ) (b : List ℕ) (c : ErrorCode) (k : ℕ) → IsFault limit b c k → viable_prefix false (take k b)
-fault_viable limit b c k h = let s = stands (λ row. fault false limit b row k) c h in told_viable (told false (viable_prefix false) ((t : Tree) × is_text false t b) limit b s.row k s.holds)
+fault_viable : (lossy : Bool) (limit : ℕ) (b : List ℕ) (c : ErrorCode) (k : ℕ) → IsFault lossy limit b c k → viable_prefix lossy (take k b)
+fault_viable lossy limit b c k h = let s = stands (λ row. fault lossy limit b row k) c h in told_viable (told lossy (viable_prefix lossy) ((t : Tree) × is_text lossy t b) limit b s.row k s.holds)
 
-told_within : {limit k : ℕ} {b : List ℕ} {code : FaultCode} → Told false (viable_prefix false) ((t : Tree) × is_text false t b) limit b k code → k ≤ length b
+told_within : {lossy : Bool} {limit k : ℕ} {b : List ℕ} {code : FaultCode} → Told lossy (viable_prefix lossy) ((t : Tree) × is_text lossy t b) limit b k code → k ≤ length b
 told_within (deep (p, x, r, e, l, v, o, m)) = omega (arith, l, ap length e ∙ length-append p (x ∷ r))
 told_within (short (e, v, o, m)) = omega (arith, e)
 told_within (other r) = omega (arith, r.offset, ap length r.long.bytes ∙ length-append r.p (r.x ∷ r.long.rest))
 
-fault_within : (limit : ℕ) (b : List ℕ) (c : ErrorCode) (k : ℕ) → IsFault limit b c k → k ≤ length b
-fault_within limit b c k h = let s = stands (λ row. fault false limit b row k) c h in told_within (told false (viable_prefix false) ((t : Tree) × is_text false t b) limit b s.row k s.holds)
+fault_within : (lossy : Bool) (limit : ℕ) (b : List ℕ) (c : ErrorCode) (k : ℕ) → IsFault lossy limit b c k → k ≤ length b
+fault_within lossy limit b c k h = let s = stands (λ row. fault lossy limit b row k) c h in told_within (told lossy (viable_prefix lossy) ((t : Tree) × is_text lossy t b) limit b s.row k s.holds)
 
 -- whitespace before a gap
 gap_behind : (z g : List ℕ) → ws z → IsGap g → IsGap (z ++ g)
@@ -57,38 +57,38 @@ gap_behind z g h i = record {
   space_behind = i.space_behind;
 }
 
-pub due_behind_tokens : (old : ParserState) (e : Error) (ts : List Token) (due : IsDue old e) → HasGiven old ts → (c : List Kind) × (w : Spot) × reading false (take due.needs.at (input old)) c w ts
+pub due_behind_tokens : (old : ParserState) (e : Error) (ts : List Token) (due : IsDue old e) → HasGiven old ts → (c : List Kind) × (w : Spot) × reading old.lossy (take due.needs.at (input old)) c w ts
 due_behind_tokens old e ts due h =
     let b = input old in let i = taken old in let n = due.needs in
     let o = n.order in let l = h.order in
-    let v = fault_viable old.limit b e.code due.offset due.fault in
-    gap_has_no_token false b h.base n.at old.open_kinds old.spot ts h.given (omega arith)
+    let v = fault_viable old.lossy old.limit b e.code due.offset due.fault in
+    gap_has_no_token old.lossy b h.base n.at old.open_kinds old.spot ts h.given (omega arith)
     (subst IsGap (sym (piece_append b h.base i n.at h.order o.0)) (gap_behind (piece b h.base i) (piece b i n.at) h.space n.gap))
-    (shorter_viable false (take n.at b) (piece b n.at due.offset) (subst (viable_prefix false) (take_on b n.at due.offset o.1) v))
+    (shorter_viable old.lossy (take n.at b) (piece b n.at due.offset) (subst (viable_prefix old.lossy) (take_on b n.at due.offset o.1) v))
 
 -- a reader that took a name stood behind the same tokens at its opening quotation mark
-pub name_told : (limit limit' : ℕ) (b : List ℕ) (i j n : ℕ) (c c' : List Kind) (w w' : Spot) (ts : List Token) (s : List ℕ)
-    → Stood limit b i c w ts
+pub name_told : (lossy : Bool) (limit limit' : ℕ) (b : List ℕ) (i j n : ℕ) (c c' : List Kind) (w w' : Spot) (ts : List Token) (s : List ℕ)
+    → Stood lossy limit b i c w ts
     → i ≤ j
     → j ≤ n
     → n ≤ length b
     → IsGap (piece b i j)
-    → string false s (piece b j n)
-    → Stood limit' b n c' w' (ts ++ key_token s ∷ [])
-    → (d : List Kind) × (v : Spot) × reading false (take j b) d v ts × TakesKey v
-name_told limit limit' b i j n c c' w w' ts s h l m within g str h' =
+    → string lossy s (piece b j n)
+    → Stood lossy limit' b n c' w' (ts ++ key_token s ∷ [])
+    → (d : List Kind) × (v : Spot) × reading lossy (take j b) d v ts × TakesKey v
+name_told lossy limit limit' b i j n c c' w w' ts s h l m within g str h' =
     let o = h.order in
-    name_behind_gap false b h.base j n c c' w w' ts s h.given (omega arith) m within
+    name_behind_gap lossy b h.base j n c c' w w' ts s h.given (omega arith) m within
     (subst IsGap (sym (piece_append b h.base i j o l)) (gap_behind (piece b h.base i) (piece b i j) h.space g)) str
-    (stood_at limit' b n c' w' (ts ++ key_token s ∷ []) h')
+    (stood_at lossy limit' b n c' w' (ts ++ key_token s ∷ []) h')
 
-pub names_before_due : (old : ParserState) (e : Error) (ts : List Token) (due : IsDue old e) → HasGiven old ts → NamesTold false (input old) (taken old) due.offset
+pub names_before_due : (old : ParserState) (e : Error) (ts : List Token) (due : IsDue old e) → HasGiven old ts → NamesTold old.lossy (input old) (taken old) due.offset
 names_before_due old e ts due h j n c w us s jn nk nb r t x =
     let b = input old in let i = taken old in let d = due.needs in
     let o = d.order in let l = h.order in
-    let v = fault_viable old.limit b e.code due.offset due.fault in
+    let v = fault_viable old.lossy old.limit b e.code due.offset due.fault in
     let g = subst IsGap (sym (piece_append b h.base i d.at h.order o.0)) (gap_behind (piece b h.base i) (piece b i d.at) h.space d.gap) in
     let m : n ≤ h.base =
-    names_before false (e.code ≡ code.InvalidNumber) b h.base due.offset old.open_kinds old.spot ts h.given (fault_within old.limit b e.code due.offset due.fault) v (record { at = d.at; order = (omega arith, o.1); gap = g; begun = d.begun }) j n c w us s jn nk nb r t x
+    names_before old.lossy (e.code ≡ code.InvalidNumber) b h.base due.offset old.open_kinds old.spot ts h.given (fault_within old.lossy old.limit b e.code due.offset due.fault) v (record { at = d.at; order = (omega arith, o.1); gap = g; begun = d.begun }) j n c w us s jn nk nb r t x
     in
     omega arith

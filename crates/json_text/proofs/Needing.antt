@@ -1,5 +1,5 @@
 -- At each refusal, what stands between what was taken and the byte that is refused.
-use Rattle.std.proofs.Common.{◌≡◌, ◌≢◌, ℕ, zero, suc, ◌+◌, ◌-◌, ◌<◌, ◌≤◌, List, [], ◌∷◌, ◌++◌, length, get_or, take, drop, false, ◌⊎◌, inl, inr, refl, sym, ap, ◌∙◌, subst, arith, append_assoc, append-nil, length-take}
+use Rattle.std.proofs.Common.{◌≡◌, ◌≢◌, ℕ, zero, suc, ◌+◌, ◌-◌, ◌<◌, ◌≤◌, List, [], ◌∷◌, ◌++◌, length, get_or, take, drop, ◌⊎◌, inl, inr, refl, sym, ap, ◌∙◌, subst, arith, append_assoc, append-nil, length-take, Bool}
 use Rattle.std.proofs.lemmas.List.{take-append-drop, append_cancel_left}
 use Rattle.json_grammar.specs.Grammar.{ws, IsDigit}
 use Rattle.json_grammar.specs.Fault.{is_word}
@@ -53,14 +53,14 @@ gap_colon b i j k h l s q r = gap_mark b i j k 58 h l s q r (inr refl)
 -- ---- tokens
 
 -- a byte with which no token begins
-pub needs_first : (b : List ℕ) (k : ℕ) (c : ErrorCode) → TokenNeeds b k c k
-needs_first b k c = record { order = omega arith; begun = inl (piece_none b k) }
+pub needs_first : (lossy : Bool) (b : List ℕ) (k : ℕ) (c : ErrorCode) → TokenNeeds lossy b k c k
+needs_first lossy b k c = record { order = omega arith; begun = inl (piece_none b k) }
 
-pub needs_behind : (b : List ℕ) (i j k : ℕ) (c : ErrorCode) → i ≤ j → IsGap (piece b i j) → TokenNeeds b j c k → NextNeeds b i c k
-needs_behind b i j k c h g t = record { at = j; order = (h, t.order); gap = g; begun = t.begun }
+pub needs_behind : (lossy : Bool) (b : List ℕ) (i j k : ℕ) (c : ErrorCode) → i ≤ j → IsGap (piece b i j) → TokenNeeds lossy b j c k → NextNeeds lossy b i c k
+needs_behind lossy b i j k c h g t = record { at = j; order = (h, t.order); gap = g; begun = t.begun }
 
-pub needs_word : (word b : List ℕ) (at k : ℕ) (c : ErrorCode) → is_word word → WordStops b at word c k → TokenNeeds b at c k
-needs_word word b at k c i s = record { order = let p = s.place in omega arith; begun = by s.count refl }
+pub needs_word : (lossy : Bool) (word b : List ℕ) (at k : ℕ) (c : ErrorCode) → is_word word → WordStops b at word c k → TokenNeeds lossy b at c k
+needs_word lossy word b at k c i s = record { order = let p = s.place in omega arith; begun = by s.count refl }
   where
     whole : take s.count word ++ drop s.count word ≡ word
     whole = take-append-drop s.count word
@@ -68,21 +68,21 @@ needs_word word b at k c i s = record { order = let p = s.place in omega arith; 
     left : drop s.count word ≢ []
     left e = let n = s.short in absurd (omega (arith, length-take s.count word, ap length (sym whole ∙ ap (λ y. take s.count word ++ y) e ∙ append-nil (take s.count word))))
 
-    by : (n : ℕ) → n ≡ s.count → IsBegun false (c ≡ code.InvalidNumber) (piece b at k)
+    by : (n : ℕ) → n ≡ s.count → IsBegun lossy (c ≡ code.InvalidNumber) (piece b at k)
     by zero e = inl (s.bytes ∙ ap (λ n. take n word) (sym e))
     by (suc n) e =
         inr (inl
-        (subst (BeginsToken false) (sym s.bytes)
+        (subst (BeginsToken lossy) (sym s.bytes)
         (record { rest = drop s.count word; begun = λ f. let m = s.short in absurd (omega (arith, length-take s.count word, ap length f)); unfinished = left; token = inl (subst is_word (sym whole) i) })))
 
-pub needs_number : (b : List ℕ) (at k : ℕ) (c : ErrorCode) → StopsAt b at k → Refused b code.InvalidNumber c k → TokenNeeds b at c k
-needs_number b at k c st r = record { order = st.at.order; begun = by st.why }
+pub needs_number : (lossy : Bool) (b : List ℕ) (at k : ℕ) (c : ErrorCode) → StopsAt b at k → Refused b code.InvalidNumber c k → TokenNeeds lossy b at c k
+needs_number lossy b at k c st r = record { order = st.at.order; begun = by st.why }
   where
     refused : k < length b → Refused b code.InvalidNumber c k → c ≡ code.InvalidNumber
     refused l (inl (m, e)) = e
     refused l (inr (m, e)) = absurd (omega arith)
 
-    by : (IsUnfinished st.state × GoesNoFurther b k st.state) ⊎ ((st.state ≡ after_zero) × (k < length b) × IsDigit (get_or b k 0)) → IsBegun false (c ≡ code.InvalidNumber) (piece b at k)
+    by : (IsUnfinished st.state × GoesNoFurther b k st.state) ⊎ ((st.state ≡ after_zero) × (k < length b) × IsDigit (get_or b k 0)) → IsBegun lossy (c ≡ code.InvalidNumber) (piece b at k)
     by (inl (u, g)) =
         let p = piece b at k in
         inr (inl
@@ -97,16 +97,16 @@ needs_number b at k c st r = record { order = st.at.order; begun = by st.why }
         }))
     by (inr (e, l, d)) = inr (inr (refused l r, zero_read (piece b at k) (st.at.leads ∙ e)))
 
-pub needs_string : (b : List ℕ) (at k : ℕ) (c : ErrorCode) → ByteAt b at 34 → StringStops b (at + 1) c k → TokenNeeds b at c k
-needs_string b at k c q st = by st.why
+pub needs_string : (lossy : Bool) (b : List ℕ) (at k : ℕ) (c : ErrorCode) → ByteAt b at 34 → StringStops lossy b (at + 1) c k → TokenNeeds lossy b at c k
+needs_string lossy b at k c q st = by st.why
   where
     some : (z : List ℕ) → z ++ 34 ∷ [] ≢ []
     some [] f = cons_some f
     some (x ∷ z) f = cons_some f
 
-    inside : (e : List ℕ) → at ≤ k → Inside b at k e → TokenNeeds b at c k
+    inside : (e : List ℕ) → at ≤ k → Inside lossy b at k e → TokenNeeds lossy b at c k
     inside e l i =
-        let s = atoms_chars false (atoms_append false i.atoms (atoms_one false i.goes_on)) in
+        let s = atoms_chars lossy (atoms_append lossy i.atoms (atoms_one lossy i.goes_on)) in
         let p : piece b at k ≡ 34 ∷ (i.m ++ e) = append_cancel_left (take at b) (piece b at k) (34 ∷ (i.m ++ e)) (sym (take_on b at k l) ∙ i.row) in
         record {
           order = l;
@@ -120,19 +120,19 @@ needs_string b at k c q st = by st.why
               }));
         }
 
-    plain_at : k ≡ st.to → TokenNeeds b at c k
+    plain_at : k ≡ st.to → TokenNeeds lossy b at c k
     plain_at e =
         let o = st.whole.order in
-        inside [] (omega arith) (subst (λ y. Inside b at y []) (sym e) (plain_inside b at st.to st.escaped q st.whole))
+        inside [] (omega arith) (subst (λ y. Inside lossy b at y []) (sym e) (plain_inside lossy b at st.to st.escaped q st.whole))
 
-    by : ((k ≡ st.to) × (k ≡ length b) × (c ≡ code.EofWhileParsing)) ⊎ (((k ≡ st.to) × (k < length b) × (get_or b k 0 < 32) × (c ≡ code.ControlCharacter)) ⊎ (ByteAt b st.to 92 × EscapeStops b (st.to + 1) c k)) → TokenNeeds b at c k
+    by : ((k ≡ st.to) × (k ≡ length b) × (c ≡ code.EofWhileParsing)) ⊎ (((k ≡ st.to) × (k < length b) × (get_or b k 0 < 32) × (c ≡ code.ControlCharacter)) ⊎ (ByteAt b st.to 92 × EscapeStops lossy b (st.to + 1) c k)) → TokenNeeds lossy b at c k
     by (inl f) = plain_at f.0
     by (inr (inl f)) = plain_at f.0
     by (inr (inr (f, x))) =
         let o = st.whole.order in let l = x.order in
-        inside (92 ∷ piece b (st.to + 1) k) (omega arith) (escape_inside b at st.to k st.escaped x.state q st.whole f x.order x.leads x.unfinished)
+        inside (92 ∷ piece b (st.to + 1) k) (omega arith) (escape_inside lossy b at st.to k st.escaped x.state q st.whole f x.order x.leads x.unfinished)
 
 -- ---- the same told of what is left of a text
 
-pub needs_left : (b : List ℕ) (start i k : ℕ) (c : ErrorCode) → NextNeeds b i c k → NextNeeds b (start + i - start) c k
-needs_left b start i k c h = let e : start + i - start ≡ i = omega arith in subst (λ y. NextNeeds b y c k) (sym e) h
+pub needs_left : (lossy : Bool) (b : List ℕ) (start i k : ℕ) (c : ErrorCode) → NextNeeds lossy b i c k → NextNeeds lossy b (start + i - start) c k
+needs_left lossy b start i k c h = let e : start + i - start ≡ i = omega arith in subst (λ y. NextNeeds lossy b y c k) (sym e) h

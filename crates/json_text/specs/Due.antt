@@ -1,5 +1,5 @@
 -- When a fault is due: at the event that needs the byte that is refused.
-use Rattle.std.specs.Prelude.{◌≡◌, ℕ, ◌≤◌, List, false}
+use Rattle.std.specs.Prelude.{◌≡◌, Bool, ℕ, ◌≤◌, List}
 use Rattle.json_grammar.specs.Given.{piece}
 use Rattle.json_grammar.specs.Needs.{IsBegun, NeedsByte}
 use Rattle.json_text.specs.declared.error.ErrorCode.{ErrorCode}
@@ -7,10 +7,10 @@ use Rattle.json_text.specs.declared.error.ErrorCode.TheVariants as code
 
 -- the token that begins at i, or would, needs the byte at k, which is refused by this code;
 -- a digit behind a leading zero is refused as an invalid number
-pub record TokenNeeds (b : List ℕ) (i : ℕ) (c : ErrorCode) (k : ℕ) : Type 0 where
+pub record TokenNeeds (lossy : Bool) (b : List ℕ) (i : ℕ) (c : ErrorCode) (k : ℕ) : Type 0 where
   pub order : i ≤ k
-  pub begun : IsBegun false (c ≡ code.InvalidNumber) (piece b i k)
+  pub begun : IsBegun lossy (c ≡ code.InvalidNumber) (piece b i k)
 
 -- so does the token that comes next behind the first i bytes, whatever stands in the gap before it
-abbrev pub NextNeeds : List ℕ → ℕ → ErrorCode → ℕ → Type 0
-NextNeeds b i c k = NeedsByte false (c ≡ code.InvalidNumber) b i k
+abbrev pub NextNeeds : Bool → List ℕ → ℕ → ErrorCode → ℕ → Type 0
+NextNeeds lossy b i c k = NeedsByte lossy (c ≡ code.InvalidNumber) b i k

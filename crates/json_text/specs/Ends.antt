@@ -1,5 +1,5 @@
 -- What stands behind what a parser took, and how a sequence or a map that its caller reads ends there.
-use Rattle.std.specs.Prelude.{◌≡◌, ℕ, ◌+◌, ◌<◌, ◌≤◌, List, [], length, get_or, cond, ◌==◌, Option, Some, None, slice_get}
+use Rattle.std.specs.Prelude.{◌≡◌, Bool, ℕ, ◌+◌, ◌<◌, ◌≤◌, List, [], length, get_or, cond, ◌==◌, Option, Some, None, slice_get}
 use Rattle.json_grammar.specs.declared.Kind.{Kind}
 use Rattle.json_grammar.specs.declared.Kind.TheVariants.{Array as array, Object as object}
 use Rattle.json_grammar.specs.Grammar.{IsWhitespace, ws}
@@ -31,10 +31,11 @@ pub record TrailsAt (s : ParserState) (e : Error) : Type 0 where
   pub told : e ≡ record { code = code.TrailingCharacters; place = place_at s.text at }
 
 -- it reads a text from i on, and has taken nothing yet
-pub record IsNewAt (text : List ℕ) (limit i : ℕ) (s : ParserState) : Type 0 where
+pub record IsNewAt (text : List ℕ) (lossy : Bool) (limit i : ℕ) (s : ParserState) : Type 0 where
   pub text_is : s.text ≡ text
   pub start : s.start ≡ i
   pub index : s.index ≡ i
+  pub lossy_is : s.lossy ≡ lossy
   pub limit_is : s.limit ≡ limit
   pub fresh : HasGiven s []
   pub unfailed : s.failure ≡ None
@@ -44,7 +45,7 @@ pub record TakesEnd (old : ParserState) (k : Kind) (new : ParserState) : Type 0 
   pub at : ℕ
   pub next : ComesNext old at
   pub closes : ByteAt old.text at (closing k)
-  pub behind : IsNewAt old.text old.limit (at + 1) new
+  pub behind : IsNewAt old.text old.lossy old.limit (at + 1) new
 
 -- why a sequence or a map does not end with what comes next
 abbrev pub no_end : Kind → Option ℕ → ErrorCode

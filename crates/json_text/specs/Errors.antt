@@ -1,5 +1,5 @@
--- The numbers and categories of the codes, and the refusals that carry no offset, by name.
-use Rattle.std.specs.Prelude.{ℕ, Some, None}
+-- The codes' names, numbers and categories, and the refusals that carry no offset, by name.
+use Rattle.std.specs.Prelude.{ℕ, List, Some, None, codes}
 use Rattle.std.specs.declared.option.Option.{Option}
 use Rattle.json_text.specs.declared.error.Error.{Error}
 use Rattle.json_text.specs.declared.error.ErrorCode.{ErrorCode}
@@ -9,47 +9,50 @@ use Rattle.json_text.specs.declared.error.Category.TheVariants as category
 use Rattle.json_text.specs.declared.error.Place.{Place}
 use Rattle.json_text.specs.declared.error.Place.TheVariants as place
 
--- the number of a code
-abbrev pub number_of : ErrorCode → ℕ
-number_of code.NoMemory = 1
-number_of code.Io = 2
-number_of code.TooLarge = 3
-number_of code.InvalidUTF8 = 4
-number_of code.EofWhileParsing = 5
-number_of code.InvalidLiteral = 6
-number_of code.InvalidNumber = 7
-number_of code.ExpectedColon = 8
-number_of code.ExpectedArrayCommaOrEnd = 9
-number_of code.ExpectedObjectCommaOrEnd = 10
-number_of code.ExpectObjectKeyOrEnd = 11
-number_of code.TrailingComma = 12
-number_of code.InvalidJsonValue = 13
-number_of code.ControlCharacter = 14
-number_of code.InvalidEscape = 15
-number_of code.InvalidSurrogate = 16
-number_of code.TrailingCharacters = 17
-number_of code.RecursionLimitExceeded = 18
-number_of code.NotFound = 19
-number_of code.TypeUnmatched = 20
-number_of code.NumberOutOfRange = 21
-number_of code.SerExpectKeyIsStrOrNum = 22
-number_of code.ExpectedNumericKey = 23
-number_of code.BadWords = 24
-number_of code.DuplicateKey = 25
+-- the name of a code, its number and its category
+pub record Row : Type 0 where
+  pub name : List ℕ
+  pub number : ℕ
+  pub category : Category
 
--- the category of a code
+abbrev pub row : List ℕ → ℕ → Category → Row
+row n k c = record { name = n; number = k; category = c }
+
+abbrev pub row_of : ErrorCode → Row
+row_of code.NoMemory = row (codes "NoMemory") 1 category.Memory
+row_of code.Io = row (codes "Io") 2 category.Io
+row_of code.TooLarge = row (codes "TooLarge") 3 category.Limit
+row_of code.InvalidUTF8 = row (codes "InvalidUTF8") 4 category.Syntax
+row_of code.EofWhileParsing = row (codes "EofWhileParsing") 5 category.Eof
+row_of code.InvalidLiteral = row (codes "InvalidLiteral") 6 category.Syntax
+row_of code.InvalidNumber = row (codes "InvalidNumber") 7 category.Syntax
+row_of code.ExpectedColon = row (codes "ExpectedColon") 8 category.Syntax
+row_of code.ExpectedArrayCommaOrEnd = row (codes "ExpectedArrayCommaOrEnd") 9 category.Syntax
+row_of code.ExpectedObjectCommaOrEnd = row (codes "ExpectedObjectCommaOrEnd") 10 category.Syntax
+row_of code.ExpectObjectKeyOrEnd = row (codes "ExpectObjectKeyOrEnd") 11 category.Syntax
+row_of code.TrailingComma = row (codes "TrailingComma") 12 category.Syntax
+row_of code.InvalidJsonValue = row (codes "InvalidJsonValue") 13 category.Syntax
+row_of code.ControlCharacter = row (codes "ControlCharacter") 14 category.Syntax
+row_of code.InvalidEscape = row (codes "InvalidEscape") 15 category.Syntax
+row_of code.InvalidSurrogate = row (codes "InvalidSurrogate") 16 category.Syntax
+row_of code.TrailingCharacters = row (codes "TrailingCharacters") 17 category.Syntax
+row_of code.RecursionLimitExceeded = row (codes "RecursionLimitExceeded") 18 category.Limit
+row_of code.NotFound = row (codes "NotFound") 19 category.NotFound
+row_of code.TypeUnmatched = row (codes "TypeUnmatched") 20 category.TypeUnmatched
+row_of code.NumberOutOfRange = row (codes "NumberOutOfRange") 21 category.TypeUnmatched
+row_of code.SerExpectKeyIsStrOrNum = row (codes "SerExpectKeyIsStrOrNum") 22 category.TypeUnmatched
+row_of code.ExpectedNumericKey = row (codes "ExpectedNumericKey") 23 category.TypeUnmatched
+row_of code.BadWords = row (codes "BadWords") 24 category.Syntax
+row_of code.DuplicateKey = row (codes "DuplicateKey") 25 category.Syntax
+
+abbrev pub name_of : ErrorCode → List ℕ
+name_of c = (row_of c).name
+
+abbrev pub number_of : ErrorCode → ℕ
+number_of c = (row_of c).number
+
 abbrev pub category_of : ErrorCode → Category
-category_of code.NoMemory = category.Memory
-category_of code.Io = category.Io
-category_of code.TooLarge = category.Limit
-category_of code.EofWhileParsing = category.Eof
-category_of code.RecursionLimitExceeded = category.Limit
-category_of code.NotFound = category.NotFound
-category_of code.TypeUnmatched = category.TypeUnmatched
-category_of code.NumberOutOfRange = category.TypeUnmatched
-category_of code.SerExpectKeyIsStrOrNum = category.TypeUnmatched
-category_of code.ExpectedNumericKey = category.TypeUnmatched
-category_of _ = category.Syntax
+category_of c = (row_of c).category
 
 -- the offset, the line and the column of a place in the input
 abbrev pub offset_of : Place → Option ℕ

@@ -1,5 +1,5 @@
 -- What a clause sees of a parser.
-use Rattle.std.specs.Prelude.{◌≡◌, ℕ, ◌+◌, ◌-◌, ◌<◌, ◌≤◌, List, [], ◌∷◌, ◌++◌, length, get_or, take, drop, false, Option, Some, IfSome}
+use Rattle.std.specs.Prelude.{◌≡◌, ℕ, ◌+◌, ◌-◌, ◌<◌, ◌≤◌, List, [], ◌∷◌, ◌++◌, length, get_or, take, drop, Bool, Option, Some, IfSome}
 use Rattle.json_grammar.specs.declared.Kind.{Kind}
 use Rattle.json_grammar.specs.declared.Spot.{Spot}
 use Rattle.json_grammar.specs.declared.Spot.TheVariants as spot
@@ -11,17 +11,18 @@ use Rattle.json_grammar.specs.Needs.{IsGap}
 use Rattle.json_text.specs.declared.error.Error.{Error}
 use Rattle.json_text.specs.declared.event.Event.{Event}
 use Rattle.json_text.specs.declared.event.Event.TheVariants as event
-use Rattle.json_text.specs.Events.{Means, raw_size, token_bytes, EndsToken}
+use Rattle.json_text.specs.Events.{Means, IsRead, raw_size, token_bytes, EndsToken}
 use Rattle.json_text.specs.Faults.{IsFault, FaultFrom, IsInValue}
 use Rattle.json_text.specs.Due.{NextNeeds}
 use Rattle.json_text.specs.Positions.{place_at}
 use Rattle.json_text.specs.Standing.{Stood}
 
--- the whole text and where reading began in it; the most levels of a tree; the place behind what was taken, counted from the
+-- the whole text and where reading began in it; whether it is read in the lossy mode; the most levels of a tree; the place behind what was taken, counted from the
 -- beginning of the text; the open containers, the innermost first; what may come next; and what was refused
 pub record ParserState : Type 0 where
   pub text : List ℕ
   pub start : ℕ
+  pub lossy : Bool
   pub limit : ℕ
   pub index : ℕ
   pub open_kinds : List Kind
@@ -29,8 +30,8 @@ pub record ParserState : Type 0 where
   pub failure : Option Error
 
 -- of a parser that took so many bytes of what it reads
-abbrev pub state_of : List ℕ → ℕ → ℕ → ℕ → List Kind → Spot → Option Error → ParserState
-state_of text start limit at c w f = record { text = text; start = start; limit = limit; index = start + at; open_kinds = c; spot = w; failure = f }
+abbrev pub state_of : List ℕ → ℕ → Bool → ℕ → ℕ → List Kind → Spot → Option Error → ParserState
+state_of text start lossy limit at c w f = record { text = text; start = start; lossy = lossy; limit = limit; index = start + at; open_kinds = c; spot = w; failure = f }
 
 -- what is read
 abbrev pub input : ParserState → List ℕ
@@ -42,7 +43,7 @@ taken s = s.index - s.start
 
 -- the events so far, End aside, were these tokens
 abbrev pub HasGiven : ParserState → List Token → Type 0
-HasGiven s ts = Stood s.limit (input s) (taken s) s.open_kinds s.spot ts
+HasGiven s ts = Stood s.lossy s.limit (input s) (taken s) s.open_kinds s.spot ts
 
 -- a value was read, and nothing is open
 abbrev pub IsWhole : ParserState → Type 0
@@ -52,11 +53,12 @@ IsWhole s = (s.spot ≡ spot.Done) × (length s.open_kinds ≡ 0)
 pub record SameInput (old new : ParserState) : Type 0 where
   pub text : new.text ≡ old.text
   pub start : new.start ≡ old.start
+  pub lossy : new.lossy ≡ old.lossy
   pub limit : new.limit ≡ old.limit
 
 -- an event of one more token, or the end: then the input is a text of the tree of these tokens, within the limit, and nothing is taken
 abbrev pub Goes : ParserState → Event → ParserState → Type 0
-Goes old event.End new = (new ≡ old) × ((ts : List Token) → HasGiven old ts → (t : Tree) × is_text false t (input old) × (ts ≡ tokens t) × (depth t ≤ old.limit))
+Goes old event.End new = (new ≡ old) × ((ts : List Token) → HasGiven old ts → (t : Tree) × is_text old.lossy t (input old) × (ts ≡ tokens t) × (depth t ≤ old.limit))
 Goes old e new = (ts : List Token) → HasGiven old ts → (x : Token) × Means e x × HasGiven new (ts ++ x ∷ [])
 
 -- behind what was taken before stand a gap and then the event's token, byte for byte, and the parser
@@ -70,6 +72,7 @@ pub record TakesToken (old : ParserState) (e : Event) (new : ParserState) : Type
   pub order : (old.index ≤ begins) × (begins < new.index)
   pub gap : IsGap (piece new.text old.index begins)
   pub bytes : piece new.text begins new.index ≡ token_bytes e
+  pub mode : IsRead old.lossy e
 
 -- so at each event but the end
 abbrev pub IsTight : ParserState → Event → ParserState → Type 0
@@ -87,29 +90,29 @@ IsLent _ s = Unit {0}
 -- the fault of the input, which is kept and comes again
 pub record Refuses (old : ParserState) (e : Error) (new : ParserState) : Type 0 where
   pub kept : new ≡ record old { failure = Some e }
-  pub fault : FaultFrom old.limit old.start old.text e.code e.place
+  pub fault : FaultFrom old.lossy old.limit old.start old.text e.code e.place
   pub again : IfSome old.failure (λ f. e ≡ f)
 
 -- the fault is told at the event that needs the byte at its offset, and at no event before that
 pub record IsDue (old : ParserState) (e : Error) : Type 0 where
   pub offset : ℕ
   pub place : e.place ≡ place_at old.text (old.start + offset)
-  pub fault : IsFault old.limit (input old) e.code offset
-  pub needs : NextNeeds (input old) (taken old) e.code offset
+  pub fault : IsFault old.lossy old.limit (input old) e.code offset
+  pub needs : NextNeeds old.lossy (input old) (taken old) e.code offset
 
 -- the events so far begin the tokens of each text that begins so; where the last is a number, of each in which it goes no further
 abbrev pub EventsBegin : ParserState → Type 0
-EventsBegin s = (ts : List Token) → HasGiven s ts → (t : Tree) (b : List ℕ) → is_text false t (take (taken s) (input s) ++ b) → LastEnds s.spot ts b → (m : List Token) × (tokens t ≡ ts ++ m)
+EventsBegin s = (ts : List Token) → HasGiven s ts → (t : Tree) (b : List ℕ) → is_text s.lossy t (take (taken s) (input s) ++ b) → LastEnds s.spot ts b → (m : List Token) × (tokens t ≡ ts ++ m)
 
 -- one value was read, whatever follows it, and the parser stands right behind it: a number is the longest there, and no digit follows a leading zero
 abbrev pub HasRead : ParserState → Type 0
-HasRead s = (ts : List Token) → HasGiven s ts → (t : Tree) × reads false (input s) t (taken s) × (ts ≡ tokens t) × (depth t ≤ s.limit)
+HasRead s = (ts : List Token) → HasGiven s ts → (t : Tree) × reads s.lossy (input s) t (taken s) × (ts ≡ tokens t) × (depth t ≤ s.limit)
 
 -- what is true of each parser, which keeps what is left of the text from the start on
 pub record IsSound (rest : List ℕ) (s : ParserState) : Type 0 where
   pub rest_is : rest ≡ input s
   pub given : (ts : List Token) × HasGiven s ts
-  pub failed : IfSome s.failure (λ e. FaultFrom s.limit s.start s.text e.code e.place)
+  pub failed : IfSome s.failure (λ e. FaultFrom s.lossy s.limit s.start s.text e.code e.place)
   pub inside : ¬ (IsWhole s) → IfSome s.failure (λ e. IsInValue e.code)
   pub order : s.start ≤ s.index
   pub within : s.index ≤ length s.text

@@ -1,6 +1,6 @@
 // What a call answers where it is not `Ok`.
 ghost use Rattle.std.specs.Prelude.{◌≡◌, ◌↔◌, IsTrue};
-ghost use Rattle.json_text.specs.Errors.{no_memory, number_of, category_of, offset_of, line_of, column_of};
+ghost use Rattle.json_text.specs.Errors.{no_memory, number_of, name_of, category_of, offset_of, line_of, column_of};
 
 use std::alloc::{AllocError, AllocFailed};
 
@@ -155,33 +155,51 @@ impl ErrorCode {
     pub fn number(self) -> u8
         ensures { result ≡ number_of self }
     {
+        self as u8
+    }
+
+    // Its name and its category.
+    fn row(self) -> (&'static str, Category)
+        ensures name { result.0.now ≡ name_of self }
+        ensures category { result.1 ≡ category_of self }
+    {
         match self {
-            ErrorCode::NoMemory => 1,
-            ErrorCode::Io => 2,
-            ErrorCode::TooLarge => 3,
-            ErrorCode::InvalidUTF8 => 4,
-            ErrorCode::EofWhileParsing => 5,
-            ErrorCode::InvalidLiteral => 6,
-            ErrorCode::InvalidNumber => 7,
-            ErrorCode::ExpectedColon => 8,
-            ErrorCode::ExpectedArrayCommaOrEnd => 9,
-            ErrorCode::ExpectedObjectCommaOrEnd => 10,
-            ErrorCode::ExpectObjectKeyOrEnd => 11,
-            ErrorCode::TrailingComma => 12,
-            ErrorCode::InvalidJsonValue => 13,
-            ErrorCode::ControlCharacter => 14,
-            ErrorCode::InvalidEscape => 15,
-            ErrorCode::InvalidSurrogate => 16,
-            ErrorCode::TrailingCharacters => 17,
-            ErrorCode::RecursionLimitExceeded => 18,
-            ErrorCode::NotFound => 19,
-            ErrorCode::TypeUnmatched => 20,
-            ErrorCode::NumberOutOfRange => 21,
-            ErrorCode::SerExpectKeyIsStrOrNum => 22,
-            ErrorCode::ExpectedNumericKey => 23,
-            ErrorCode::BadWords => 24,
-            ErrorCode::DuplicateKey => 25,
+            ErrorCode::NoMemory => ("NoMemory", Category::Memory),
+            ErrorCode::Io => ("Io", Category::Io),
+            ErrorCode::TooLarge => ("TooLarge", Category::Limit),
+            ErrorCode::InvalidUTF8 => ("InvalidUTF8", Category::Syntax),
+            ErrorCode::EofWhileParsing => ("EofWhileParsing", Category::Eof),
+            ErrorCode::InvalidLiteral => ("InvalidLiteral", Category::Syntax),
+            ErrorCode::InvalidNumber => ("InvalidNumber", Category::Syntax),
+            ErrorCode::ExpectedColon => ("ExpectedColon", Category::Syntax),
+            ErrorCode::ExpectedArrayCommaOrEnd => ("ExpectedArrayCommaOrEnd", Category::Syntax),
+            ErrorCode::ExpectedObjectCommaOrEnd => ("ExpectedObjectCommaOrEnd", Category::Syntax),
+            ErrorCode::ExpectObjectKeyOrEnd => ("ExpectObjectKeyOrEnd", Category::Syntax),
+            ErrorCode::TrailingComma => ("TrailingComma", Category::Syntax),
+            ErrorCode::InvalidJsonValue => ("InvalidJsonValue", Category::Syntax),
+            ErrorCode::ControlCharacter => ("ControlCharacter", Category::Syntax),
+            ErrorCode::InvalidEscape => ("InvalidEscape", Category::Syntax),
+            ErrorCode::InvalidSurrogate => ("InvalidSurrogate", Category::Syntax),
+            ErrorCode::TrailingCharacters => ("TrailingCharacters", Category::Syntax),
+            ErrorCode::RecursionLimitExceeded => ("RecursionLimitExceeded", Category::Limit),
+            ErrorCode::NotFound => ("NotFound", Category::NotFound),
+            ErrorCode::TypeUnmatched => ("TypeUnmatched", Category::TypeUnmatched),
+            ErrorCode::NumberOutOfRange => ("NumberOutOfRange", Category::TypeUnmatched),
+            ErrorCode::SerExpectKeyIsStrOrNum => (
+                "SerExpectKeyIsStrOrNum",
+                Category::TypeUnmatched,
+            ),
+            ErrorCode::ExpectedNumericKey => ("ExpectedNumericKey", Category::TypeUnmatched),
+            ErrorCode::BadWords => ("BadWords", Category::Syntax),
+            ErrorCode::DuplicateKey => ("DuplicateKey", Category::Syntax),
         }
+    }
+
+    /// Its name, as it stands in the enum.
+    pub(crate) fn name(self) -> &'static str
+        ensures { result.now ≡ name_of self }
+    {
+        self.row().0
     }
 }
 
@@ -197,32 +215,7 @@ impl Error {
     pub fn classify(&self) -> Category
         ensures { result ≡ category_of self.now.code }
     {
-        match self.code {
-            ErrorCode::NoMemory => Category::Memory,
-            ErrorCode::Io => Category::Io,
-            ErrorCode::TooLarge | ErrorCode::RecursionLimitExceeded => Category::Limit,
-            ErrorCode::EofWhileParsing => Category::Eof,
-            ErrorCode::NotFound => Category::NotFound,
-            ErrorCode::TypeUnmatched
-            | ErrorCode::NumberOutOfRange
-            | ErrorCode::SerExpectKeyIsStrOrNum
-            | ErrorCode::ExpectedNumericKey => Category::TypeUnmatched,
-            ErrorCode::InvalidUTF8
-            | ErrorCode::InvalidLiteral
-            | ErrorCode::InvalidNumber
-            | ErrorCode::ExpectedColon
-            | ErrorCode::ExpectedArrayCommaOrEnd
-            | ErrorCode::ExpectedObjectCommaOrEnd
-            | ErrorCode::ExpectObjectKeyOrEnd
-            | ErrorCode::TrailingComma
-            | ErrorCode::InvalidJsonValue
-            | ErrorCode::ControlCharacter
-            | ErrorCode::InvalidEscape
-            | ErrorCode::InvalidSurrogate
-            | ErrorCode::TrailingCharacters
-            | ErrorCode::BadWords
-            | ErrorCode::DuplicateKey => Category::Syntax,
-        }
+        self.code.row().1
     }
 
     /// Whether the refusal is one of syntax.

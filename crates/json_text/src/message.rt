@@ -1,8 +1,9 @@
 // The text of a refusal, in a field of its own.
 ghost use Rattle.std.specs.Prelude.{Some, ◌≡◌, ℕ, ◌+◌, ◌≤◌, List, [], ◌++◌, length, take, decimal};
-ghost use Rattle.json_text.specs.FaultText.{name_of, place_text, message_of, text_of};
+ghost use Rattle.json_text.specs.FaultText.{place_text, message_of, text_of};
+ghost use Rattle.json_text.specs.Errors.{name_of};
 
-use crate::{Error, ErrorCode, Place};
+use crate::{Error, Place};
 use itoa::Buffer;
 use std::fmt;
 use std::marker::Model;
@@ -67,40 +68,6 @@ impl FaultText {
     }
 }
 
-impl ErrorCode {
-    fn name(self) -> &'static str
-        ensures { result.now ≡ name_of self }
-    {
-        match self {
-            ErrorCode::NoMemory => "NoMemory",
-            ErrorCode::Io => "Io",
-            ErrorCode::TooLarge => "TooLarge",
-            ErrorCode::InvalidUTF8 => "InvalidUTF8",
-            ErrorCode::EofWhileParsing => "EofWhileParsing",
-            ErrorCode::InvalidLiteral => "InvalidLiteral",
-            ErrorCode::InvalidNumber => "InvalidNumber",
-            ErrorCode::ExpectedColon => "ExpectedColon",
-            ErrorCode::ExpectedArrayCommaOrEnd => "ExpectedArrayCommaOrEnd",
-            ErrorCode::ExpectedObjectCommaOrEnd => "ExpectedObjectCommaOrEnd",
-            ErrorCode::ExpectObjectKeyOrEnd => "ExpectObjectKeyOrEnd",
-            ErrorCode::TrailingComma => "TrailingComma",
-            ErrorCode::InvalidJsonValue => "InvalidJsonValue",
-            ErrorCode::ControlCharacter => "ControlCharacter",
-            ErrorCode::InvalidEscape => "InvalidEscape",
-            ErrorCode::InvalidSurrogate => "InvalidSurrogate",
-            ErrorCode::TrailingCharacters => "TrailingCharacters",
-            ErrorCode::RecursionLimitExceeded => "RecursionLimitExceeded",
-            ErrorCode::NotFound => "NotFound",
-            ErrorCode::TypeUnmatched => "TypeUnmatched",
-            ErrorCode::NumberOutOfRange => "NumberOutOfRange",
-            ErrorCode::SerExpectKeyIsStrOrNum => "SerExpectKeyIsStrOrNum",
-            ErrorCode::ExpectedNumericKey => "ExpectedNumericKey",
-            ErrorCode::BadWords => "BadWords",
-            ErrorCode::DuplicateKey => "DuplicateKey",
-        }
-    }
-}
-
 impl fmt::Display for Error {
     ghost output = { λ e. Some (message_of e) };
 
@@ -156,6 +123,7 @@ pub fn fault_text(error: &Error) -> FaultText
 #[cfg(test)]
 mod tests {
     use super::*;
+    use crate::ErrorCode;
     use std::test::Fail;
 
     #[test]

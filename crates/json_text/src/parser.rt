@@ -1,5 +1,5 @@
 // The reader of a text.
-ghost use Rattle.std.specs.Prelude.{◌≡◌, ◌⊎◌, ◌+◌, ◌<◌, ◌≤◌, ◌↔◌, ◌==◌, List, [], length, get_or, cond, IsTrue, IsSome, Some, None, IfSome, IfOk, IfErr, OnOk, OnErr};
+ghost use Rattle.std.specs.Prelude.{◌≡◌, ◌⊎◌, ◌+◌, ◌<◌, ◌≤◌, ◌↔◌, ◌==◌, List, [], true, false, length, get_or, cond, IsTrue, IsSome, Some, None, IfSome, IfOk, IfErr, OnOk, OnErr};
 ghost use Rattle.std.specs.Str.{IsCharBoundary};
 ghost use Rattle.json_grammar.specs.declared.Spot.TheVariants as Spot;
 ghost use Rattle.json_grammar.specs.Grammar.{IsWhitespace, ws};
@@ -44,6 +44,7 @@ pub struct Parser<'a> {
     // what is read: the text from `start` on
     rest: &'a str,
     start: usize,
+    lossy: bool,
     // how many bytes of the rest were taken
     at: usize,
     limit: usize,
@@ -57,9 +58,9 @@ impl<'a> Model for Parser<'a> {
 
     ghost Value = { ParserState };
 
-    ghost view = { λ a. state_of a.text.now a.start a.limit a.at a.kinds a.spot a.failure };
+    ghost view = { λ a. state_of a.text.now a.start a.lossy a.limit a.at a.kinds a.spot a.failure };
 
-    ghost invariant = { λ a. IsSound a.rest.now (state_of a.text.now a.start a.limit a.at a.kinds a.spot a.failure) };
+    ghost invariant = { λ a. IsSound a.rest.now (state_of a.text.now a.start a.lossy a.limit a.at a.kinds a.spot a.failure) };
 }
 
 #[inline(always)]
@@ -95,12 +96,14 @@ impl<'a> Parser<'a> {
         ensures text { result.text ≡ text.now }
         ensures start { (result.start ≡ 0) × (result.index ≡ 0) }
         ensures limit { result.limit ≡ 254 }
+        ensures strict { result.lossy ≡ false }
         ensures fresh { HasGiven result [] × (result.failure ≡ None) }
     {
         Parser {
             text,
             rest: text,
             start: 0,
+            lossy: false,
             at: 0,
             limit: LEVELS,
             kinds: Kinds::new(),
@@ -125,21 +128,23 @@ impl<'a> Parser<'a> {
         ensures text { result.text ≡ text.now }
         ensures start { (result.start ≡ index) × (result.index ≡ index) }
         ensures limit { result.limit ≡ 254 }
+        ensures strict { result.lossy ≡ false }
         ensures fresh { HasGiven result [] × (result.failure ≡ None) }
     {
-        Parser::new_at(text, index, LEVELS)
+        Parser::new_at(text, index, LEVELS, false)
     }
 
-    /// The same with another limit.
-    fn new_at(text: &'a str, index: usize, limit: usize) -> Parser<'a>
+    /// The same with another limit, in either mode.
+    fn new_at(text: &'a str, index: usize, limit: usize, lossy: bool) -> Parser<'a>
         requires boundary { IsCharBoundary text.now index }
         requires most { limit ≤ 1024 }
-        ensures { IsNewAt text.now limit index result }
+        ensures { IsNewAt text.now lossy limit index result }
     {
         Parser {
             text,
             rest: &text[index..],
             start: index,
+            lossy,
             at: 0,
             limit,
             kinds: Kinds::new(),
@@ -162,6 +167,31 @@ impl<'a> Parser<'a> {
         }
     }
 
+    /// The same parser in the lossy mode, where no surrogate is refused (RFC 8259, section 8.2): the escape of one that
+    /// stands alone, of a low one or of a high one behind which no low one is escaped at once, is U+FFFD, and reading
+    /// goes on behind that escape. All else is read and refused as before. It has handed out no event and refused
+    /// nothing.
+    ///
+    /// ```
+    /// use json_text::{Event, Parser};
+    /// let mut text = Vec::new(alloc);
+    /// if let Event::Str(span) = Parser::new("\"\\ud800a\"").lossy().next()? {
+    ///     text.reserve(span.raw_len())?;
+    ///     span.unescape_into(&mut text);
+    /// }
+    /// assert_eq!(rt; text.as_slice(), "\u{fffd}a".as_bytes());
+    /// ```
+    pub fn lossy(self) -> Parser<'a>
+        requires { HasGiven self [] × (self.failure ≡ None) }
+        ensures lossy { result ≡ record self.entry { lossy = true } }
+        ensures fresh { HasGiven result [] × (result.failure ≡ None) }
+    {
+        Parser {
+            lossy: true,
+            ..self
+        }
+    }
+
     /// The place behind what was taken, in bytes from the beginning of the text. After an event it is right behind
     /// the event's token: neither the colon behind a name nor the comma or the whitespace behind a value is taken.
     #[inline(always)]
@@ -174,7 +204,8 @@ impl<'a> Parser<'a> {
     /// How many bytes stand from where the parser began up to the end of the text, taken or not.
     pub fn input_len(&self) -> usize
         ensures length { result ≡ length (input self.now) }
-        ensures within { (self.now.start ≤ self.now.index) × (self.now.index ≤ length self.now.text) }
+        ensures within { (self.now.start ≤ self.now.index)
+            × (self.now.index ≤ length self.now.text) }
     {
         self.rest.len()
     }
@@ -196,8 +227,10 @@ impl<'a> Parser<'a> {
         ensures ok { IfOk result (λ e. Goes self.old e self.new) }
         ensures tight { IfOk result (λ e. IsTight self.old e self.new) }
         ensures whole { IfOk result (λ e. e ≡ Event.End → IsWhole self.old) }
-        ensures err { IfErr result (λ f. IsFault self.old.limit (input self.old) f.code f.offset) }
-        ensures needs { IfErr result (λ f. NextNeeds (input self.old) (taken self.old) f.code f.offset) }
+        ensures err { IfErr result (λ f.
+            IsFault self.old.lossy self.old.limit (input self.old) f.code f.offset) }
+        ensures needs { IfErr result (λ f.
+            NextNeeds self.old.lossy (input self.old) (taken self.old) f.code f.offset) }
         ensures inside { IfErr result (λ f. ¬ (IsWhole self.old) → IsInValue f.code) }
         ensures kept { OnErr result (self.new ≡ self.old) }
     {
@@ -215,7 +248,14 @@ impl<'a> Parser<'a> {
                 offset: stand.at,
             });
         }
-        match take_event(self.rest, stand.at, stand.spot, self.limit, &mut self.kinds) {
+        match take_event(
+            self.rest,
+            stand.at,
+            stand.spot,
+            self.limit,
+            self.lossy,
+            &mut self.kinds,
+        ) {
             Ok(read) => {
                 self.at = read.end;
                 self.spot = read.spot;
@@ -230,8 +270,10 @@ impl<'a> Parser<'a> {
     #[inline(never)]
     fn refuse(&mut self, fault: Fault)
         requires new { self.old.failure ≡ None }
-        requires fault { IsFault self.old.limit (input self.old) fault.code fault.offset }
-        requires needs { NextNeeds (input self.old) (taken self.old) fault.code fault.offset }
+        requires fault { IsFault self.old.lossy self.old.limit (input self.old) fault.code
+            fault.offset }
+        requires needs { NextNeeds self.old.lossy (input self.old) (taken self.old) fault.code
+            fault.offset }
         requires inside { ¬ (IsWhole self.old) → IsInValue fault.code }
         ensures some { IsSome self.new.failure }
         ensures kept { IfSome self.new.failure (λ e. Refuses self.old e self.new) }
@@ -274,7 +316,7 @@ impl<'a> Parser<'a> {
         ensures needs { IfErr result (λ e. self.old.failure ≡ None → IsDue self.old e) }
         ensures inside { IfErr result (λ e. ¬ (IsWhole self.old) → IsInValue e.code) }
         ensures in_value { IfErr result (λ e. ¬ (IsWhole self.old)
-            → ValueFaultFrom self.old.limit self.old.start self.old.text e.code e.place) }
+            → ValueFaultFrom self.old.lossy self.old.limit self.old.start self.old.text e.code e.place) }
         ensures whole { IfOk result (λ e. e ≡ Event.End → IsWhole self.old) }
         ensures reads { OnOk result (¬ (IsWhole self.old) → IsWhole self.new → HasRead self.new) }
         ensures begins { EventsBegin self.new }
@@ -294,7 +336,8 @@ impl<'a> Parser<'a> {
     /// Moves behind whitespace.
     pub fn skip_ws(&mut self)
         ensures moves { self.new ≡ record self.old { index = self.new.index } }
-        ensures order { (self.old.index ≤ self.new.index) × (self.new.index ≤ length self.old.text) }
+        ensures order { (self.old.index ≤ self.new.index)
+            × (self.new.index ≤ length self.old.text) }
         ensures space { ws (piece self.old.text self.old.index self.new.index) }
         ensures stop { self.new.index < length self.old.text
             → ¬ (IsWhitespace (get_or self.old.text self.new.index 0)) }
@@ -351,13 +394,13 @@ impl<'a> Parser<'a> {
         if bytes[at] != closing(kind) {
             return Err(self.error_at(no_end(kind, bytes[at]), at));
         }
-        *self = Parser::new_at(self.text, at + 1, self.limit);
+        *self = Parser::new_at(self.text, at + 1, self.limit, self.lossy);
         Ok(())
     }
 
     /// Takes whitespace and `]`, where the caller reads the elements of an array by one parser each (RFC 8259,
     /// section 5). Where only whitespace is left `EofWhileParsing` comes, else `ExpectedArrayCommaOrEnd`, both at the
-    /// next byte that is no whitespace; then the parser does not move. Behind `]` it is a new parser of the same limit.
+    /// next byte that is no whitespace; then the parser does not move. Behind `]` it is a new parser of the same limit and mode.
     pub fn end_seq(&mut self) -> Result<()>
         requires { HasGiven self.old [] ⊎ IsWhole self.old }
         ensures ok { OnOk result (TakesEnd self.old Kind.Array self.new) }
@@ -370,7 +413,7 @@ impl<'a> Parser<'a> {
     /// Takes whitespace and `}`, where the caller reads the members of an object (RFC 8259, section 4). Where only
     /// whitespace is left `EofWhileParsing` comes, at a comma `TrailingComma`, else `ExpectedObjectCommaOrEnd`, each at
     /// the next byte that is no whitespace; then the parser does not move. Behind `}` it is a new parser of the same
-    /// limit.
+    /// limit and mode.
     pub fn end_map(&mut self) -> Result<()>
         requires { HasGiven self.old [] ⊎ IsWhole self.old }
         ensures ok { OnOk result (TakesEnd self.old Kind.Object self.new) }

@@ -67,6 +67,35 @@ fn escapes_spelled_out(rt: HostRuntime) -> std::result::Result<(), Fail> {
 }
 
 #[test]
+fn surrogates_that_stand_alone(rt: HostRuntime) -> std::result::Result<(), Fail> {
+    let table = [
+        ("\"\\uDA51\\uD83D\\uDE04\"", "\u{fffd}\u{1f604}", 10),
+        ("\"\\uD800abc\"", "\u{fffd}abc", 7),
+        ("\"\\udc00\"", "\u{fffd}", 4),
+        ("\"\\uD800\\u0041\"", "\u{fffd}A", 9),
+    ];
+    for (text, means, offset) in table {
+        let refused = refusal_of(text).map(|error| (error.code, error.offset()));
+        assert_eq!(rt;
+            refused,
+            Some((ErrorCode::InvalidSurrogate, Some(offset))),
+            "at {text}"
+        );
+        let mut bytes = Vec::with_capacity(rt.alloc(), 64)?;
+        match Parser::new(text).lossy().next()? {
+            Event::Str(span) => {
+                if span.raw_len() <= 64 {
+                    span.unescape_into(&mut bytes);
+                }
+            }
+            _ => {}
+        }
+        assert_eq!(rt; bytes.as_slice(), means.as_bytes(), "at {text}");
+    }
+    Ok(())
+}
+
+#[test]
 fn refusals_with_their_offsets(rt: HostRuntime) {
     let table = [
         ("\"\\ud800abc\"", ErrorCode::InvalidSurrogate, 7),

@@ -51,7 +51,8 @@ impl Model for Repaired {
 /// Standard, section 3.9, "U+FFFD substitution of maximal subparts"); or memory runs out.
 pub fn repair(alloc: Global, bytes: &[u8]) -> Result<Repaired>
     ensures text { IfOk result (λ r. r.text ≡ utf8_lossy bytes.now) }
-    ensures origin { IfOk result (λ r. (k : ℕ) → k ≤ length r.text → origin_of r k ≡ origin_at bytes.now k) }
+    ensures origin { IfOk result (λ r. (k : ℕ) → k ≤ length r.text
+        → origin_of r k ≡ origin_at bytes.now k) }
     ensures err { IfErr result (λ e. e ≡ no_memory) }
 {
     let mut text = String::with_capacity(alloc, bytes.len())?;

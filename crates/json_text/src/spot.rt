@@ -1,5 +1,5 @@
 // What may come at a place.
-ghost use Rattle.std.specs.Prelude.{◌≡◌, ◌≢◌, ℕ, ◌+◌, ◌<◌, ◌≤◌, List, length, get_or, IfOk, IfErr, None};
+ghost use Rattle.std.specs.Prelude.{◌≡◌, ◌≢◌, ℕ, Bool, ◌+◌, ◌<◌, ◌≤◌, List, length, get_or, IfOk, IfErr, None};
 ghost use Rattle.json_grammar.specs.declared.Kind.{Kind};
 ghost use Rattle.json_grammar.specs.declared.Spot.TheVariants as Spot;
 ghost use Rattle.json_grammar.specs.Tree.{Token};
@@ -36,8 +36,8 @@ fn settle(bytes: &[u8], from: usize, spot: Spot) -> Stand
     ensures within { (from ≤ result.at) × (result.at ≤ length bytes.now) }
     ensures space { ws (piece bytes.now from result.at) }
     ensures stop { result.at < length bytes.now → ¬ (IsWhitespace (get_or bytes.now result.at 0)) }
-    ensures stood { (limit : ℕ) (c : List Kind) (ts : List Token)
-        → Stood limit bytes.now from c spot ts → Stood limit bytes.now result.at c spot ts }
+    ensures stood { (lossy : Bool) (limit : ℕ) (c : List Kind) (ts : List Token)
+        → Stood lossy limit bytes.now from c spot ts → Stood lossy limit bytes.now result.at c spot ts }
 {
     Stand {
         at: ws_end(bytes, from),
@@ -60,16 +60,20 @@ fn after_comma(kind: Kind) -> Spot
 pub fn ready(bytes: &[u8], index: usize, spot: Spot, kinds: &Kinds) -> Result<Stand, Fault>
     requires { index ≤ length bytes.now }
     ensures within { IfOk result (λ r. (index ≤ r.at) × (r.at ≤ length bytes.now)) }
-    ensures stop { IfOk result (λ r. r.at < length bytes.now → ¬ (IsWhitespace (get_or bytes.now r.at 0))) }
+    ensures stop { IfOk result (λ r. r.at < length bytes.now
+        → ¬ (IsWhitespace (get_or bytes.now r.at 0))) }
     ensures apart { IfOk result
         (λ r. (r.spot ≢ Spot.Colon) × (r.spot ≡ Spot.Done → top kinds.now ≢ None → ¬ (ByteAt bytes.now r.at 44))) }
-    ensures ok { (limit : ℕ) (ts : List Token) → Stood limit bytes.now index kinds.now spot ts
-        → IfOk result (λ r. Stood limit bytes.now r.at kinds.now r.spot ts) }
+    ensures ok { (lossy : Bool) (limit : ℕ) (ts : List Token)
+        → Stood lossy limit bytes.now index kinds.now spot ts
+        → IfOk result (λ r. Stood lossy limit bytes.now r.at kinds.now r.spot ts) }
     ensures gap { IfOk result (λ r. IsGap (piece bytes.now index r.at)) }
     ensures whole { IfOk result (λ r. r.spot ≡ Spot.Done → spot ≡ Spot.Done) }
-    ensures err { (limit : ℕ) (ts : List Token) → Stood limit bytes.now index kinds.now spot ts
-        → IfErr result (λ f. IsFault limit bytes.now f.code f.offset) }
-    ensures needs { IfErr result (λ f. NextNeeds bytes.now index f.code f.offset) }
+    ensures err { (lossy : Bool) (limit : ℕ) (ts : List Token)
+        → Stood lossy limit bytes.now index kinds.now spot ts
+        → IfErr result (λ f. IsFault lossy limit bytes.now f.code f.offset) }
+    ensures needs { (lossy : Bool)
+        → IfErr result (λ f. NextNeeds lossy bytes.now index f.code f.offset) }
     ensures inside { IfErr result (λ f. IsInValue f.code) }
 {
     let here = settle(bytes, index, spot);

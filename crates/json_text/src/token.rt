@@ -1,5 +1,5 @@
 // The parts of a text, each where it begins.
-ghost use Rattle.std.specs.Prelude.{◌≡◌, ◌≢◌, ℕ, ◌+◌, ◌<◌, ◌≤◌, List, length, get_or, drop, Some, None, IfOk, IfErr, OnErr};
+ghost use Rattle.std.specs.Prelude.{◌≡◌, ◌≢◌, ℕ, Bool, ◌+◌, ◌<◌, ◌≤◌, List, length, get_or, drop, Some, None, IfOk, IfErr, OnErr};
 ghost use Rattle.json_grammar.specs.Grammar.{IsWhitespace};
 ghost use Rattle.json_grammar.specs.declared.Kind.{Kind};
 ghost use Rattle.json_grammar.specs.declared.Kind.TheVariants as Kind;
@@ -68,16 +68,18 @@ pub(crate) struct Quote<'a> {
 
 /// The string that begins at `at`.
 #[inline(always)]
-fn string_at<'a>(text: &'a str, at: usize) -> Result<Quote<'a>, Fault>
+fn string_at<'a>(text: &'a str, at: usize, lossy: bool) -> Result<Quote<'a>, Fault>
     requires { ByteAt text.now at 34 }
-    ensures ok { IfOk result (λ q. Quoted text.now at q.span.raw.now q.end) }
-    ensures err { IfErr result (λ f. StringStops text.now (at + 1) f.code f.offset) }
+    ensures ok { IfOk result (λ q. Quoted lossy text.now at q.span.raw.now q.end) }
+    ensures mode { IfOk result (λ q. q.span.lossy ≡ lossy) }
+    ensures err { IfErr result (λ f. StringStops lossy text.now (at + 1) f.code f.offset) }
 {
-    match string_end(text.as_bytes(), at + 1) {
+    match string_end(text.as_bytes(), at + 1, lossy) {
         Ok(close) => Ok(Quote {
             span: Span {
                 raw: &text[at + 1..close.quote],
                 escaped: close.escaped,
+                lossy,
             },
             end: close.quote + 1,
         }),
@@ -97,13 +99,15 @@ pub(crate) struct Read<'a> {
 #[inline(always)]
 fn number<'a>(text: &'a str, at: usize) -> Result<Read<'a>, Fault>
     requires { (at < length text.now) × BeginsNumber (get_or text.now at 0) }
-    ensures ok { (limit : ℕ) (c : List Kind) (w : Spot) → TakesValue w
-        → IfOk result (λ r. From limit text.now at c w r.event r.end c r.spot) }
-    ensures tight { IfOk result (λ r. Tight text.now at r.event r.end) }
-    ensures err { (limit : ℕ) (c : List Kind) (w : Spot) (ts : List Token) → TakesValue w
-        → Stood limit text.now at c w ts
-        → IfErr result (λ f. IsFault limit text.now f.code f.offset) }
-    ensures needs { IfErr result (λ f. TokenNeeds text.now at f.code f.offset) }
+    ensures ok { (lossy : Bool) (limit : ℕ) (c : List Kind) (w : Spot) → TakesValue w
+        → IfOk result (λ r. From lossy limit text.now at c w r.event r.end c r.spot) }
+    ensures tight { (lossy : Bool) → IfOk result (λ r. Tight lossy text.now at r.event r.end) }
+    ensures err { (lossy : Bool) (limit : ℕ) (c : List Kind) (w : Spot) (ts : List Token)
+        → TakesValue w
+        → Stood lossy limit text.now at c w ts
+        → IfErr result (λ f. IsFault lossy limit text.now f.code f.offset) }
+    ensures needs { (lossy : Bool)
+        → IfErr result (λ f. TokenNeeds lossy text.now at f.code f.offset) }
     ensures inside { IfErr result (λ f. IsInValue f.code) }
 {
     let bytes = text.as_bytes();
@@ -122,13 +126,15 @@ fn number<'a>(text: &'a str, at: usize) -> Result<Read<'a>, Fault>
 fn literal<'a>(text: &'a str, at: usize, word: &[u8], event: Event<'a>) -> Result<Read<'a>, Fault>
     requires first { ByteAt text.now at (get_or word.now 0 0) }
     requires word { WordOf event word.now }
-    ensures ok { (limit : ℕ) (c : List Kind) (w : Spot) → TakesValue w
-        → IfOk result (λ r. From limit text.now at c w r.event r.end c r.spot) }
-    ensures tight { IfOk result (λ r. Tight text.now at r.event r.end) }
-    ensures err { (limit : ℕ) (c : List Kind) (w : Spot) (ts : List Token) → TakesValue w
-        → Stood limit text.now at c w ts
-        → IfErr result (λ f. IsFault limit text.now f.code f.offset) }
-    ensures needs { IfErr result (λ f. TokenNeeds text.now at f.code f.offset) }
+    ensures ok { (lossy : Bool) (limit : ℕ) (c : List Kind) (w : Spot) → TakesValue w
+        → IfOk result (λ r. From lossy limit text.now at c w r.event r.end c r.spot) }
+    ensures tight { (lossy : Bool) → IfOk result (λ r. Tight lossy text.now at r.event r.end) }
+    ensures err { (lossy : Bool) (limit : ℕ) (c : List Kind) (w : Spot) (ts : List Token)
+        → TakesValue w
+        → Stood lossy limit text.now at c w ts
+        → IfErr result (λ f. IsFault lossy limit text.now f.code f.offset) }
+    ensures needs { (lossy : Bool)
+        → IfErr result (λ f. TokenNeeds lossy text.now at f.code f.offset) }
     ensures inside { IfErr result (λ f. IsInValue f.code) }
 {
     match word_end(text.as_bytes(), at, word) {
@@ -143,18 +149,18 @@ fn literal<'a>(text: &'a str, at: usize, word: &[u8], event: Event<'a>) -> Resul
 
 /// The string that begins at `at`, as a value.
 #[inline(always)]
-fn string<'a>(text: &'a str, at: usize) -> Result<Read<'a>, Fault>
+fn string<'a>(text: &'a str, at: usize, lossy: bool) -> Result<Read<'a>, Fault>
     requires { ByteAt text.now at 34 }
     ensures ok { (limit : ℕ) (c : List Kind) (w : Spot) → TakesValue w
-        → IfOk result (λ r. From limit text.now at c w r.event r.end c r.spot) }
-    ensures tight { IfOk result (λ r. Tight text.now at r.event r.end) }
+        → IfOk result (λ r. From lossy limit text.now at c w r.event r.end c r.spot) }
+    ensures tight { IfOk result (λ r. Tight lossy text.now at r.event r.end) }
     ensures err { (limit : ℕ) (c : List Kind) (w : Spot) (ts : List Token) → TakesValue w
-        → Stood limit text.now at c w ts
-        → IfErr result (λ f. IsFault limit text.now f.code f.offset) }
-    ensures needs { IfErr result (λ f. TokenNeeds text.now at f.code f.offset) }
+        → Stood lossy limit text.now at c w ts
+        → IfErr result (λ f. IsFault lossy limit text.now f.code f.offset) }
+    ensures needs { IfErr result (λ f. TokenNeeds lossy text.now at f.code f.offset) }
     ensures inside { IfErr result (λ f. IsInValue f.code) }
 {
-    match string_at(text, at) {
+    match string_at(text, at, lossy) {
         Ok(quote) => Ok(Read {
             event: Event::Str(quote.span),
             end: quote.end,
@@ -205,12 +211,14 @@ fn open<'a>(
 ) -> Result<Read<'a>, Fault>
     requires bracket { ByteAt text.now at (spec_bracket kind) }
     requires most { limit ≤ 1024 }
-    ensures ok { (w : Spot) → TakesValue w
-        → IfOk result (λ r. From limit text.now at kinds.old w r.event r.end kinds.new r.spot) }
-    ensures tight { IfOk result (λ r. Tight text.now at r.event r.end) }
-    ensures err { (w : Spot) (ts : List Token) → TakesValue w → Stood limit text.now at kinds.old w ts
-        → IfErr result (λ f. IsFault limit text.now f.code f.offset) }
-    ensures needs { IfErr result (λ f. TokenNeeds text.now at f.code f.offset) }
+    ensures ok { (lossy : Bool) (w : Spot) → TakesValue w
+        → IfOk result (λ r. From lossy limit text.now at kinds.old w r.event r.end kinds.new r.spot) }
+    ensures tight { (lossy : Bool) → IfOk result (λ r. Tight lossy text.now at r.event r.end) }
+    ensures err { (lossy : Bool) (w : Spot) (ts : List Token) → TakesValue w
+        → Stood lossy limit text.now at kinds.old w ts
+        → IfErr result (λ f. IsFault lossy limit text.now f.code f.offset) }
+    ensures needs { (lossy : Bool)
+        → IfErr result (λ f. TokenNeeds lossy text.now at f.code f.offset) }
     ensures inside { IfErr result (λ f. IsInValue f.code) }
     ensures kept { OnErr result (kinds.new ≡ kinds.old) }
 {
@@ -238,22 +246,28 @@ fn byte_at(text: &str, at: usize) -> u8
 
 /// The value that begins at `at`, or the bracket with which it begins.
 #[inline(always)]
-fn value<'a>(text: &'a str, at: usize, limit: usize, kinds: &mut Kinds) -> Result<Read<'a>, Fault>
+fn value<'a>(
+    text: &'a str,
+    at: usize,
+    limit: usize,
+    lossy: bool,
+    kinds: &mut Kinds,
+) -> Result<Read<'a>, Fault>
     requires within { at < length text.now }
     requires byte { ¬ (IsWhitespace (get_or text.now at 0)) }
     requires most { limit ≤ 1024 }
     ensures ok { (w : Spot) → TakesValue w
-        → IfOk result (λ r. From limit text.now at kinds.old w r.event r.end kinds.new r.spot) }
-    ensures tight { IfOk result (λ r. Tight text.now at r.event r.end) }
+        → IfOk result (λ r. From lossy limit text.now at kinds.old w r.event r.end kinds.new r.spot) }
+    ensures tight { IfOk result (λ r. Tight lossy text.now at r.event r.end) }
     ensures err { (w : Spot) (ts : List Token) → TakesValue w → NoEnd text.now at kinds.old w
-        → Stood limit text.now at kinds.old w ts
-        → IfErr result (λ f. IsFault limit text.now f.code f.offset) }
-    ensures needs { IfErr result (λ f. TokenNeeds text.now at f.code f.offset) }
+        → Stood lossy limit text.now at kinds.old w ts
+        → IfErr result (λ f. IsFault lossy limit text.now f.code f.offset) }
+    ensures needs { IfErr result (λ f. TokenNeeds lossy text.now at f.code f.offset) }
     ensures inside { IfErr result (λ f. IsInValue f.code) }
     ensures kept { OnErr result (kinds.new ≡ kinds.old) }
 {
     match begin_of(byte_at(text, at)) {
-        Begin::String => string(text, at),
+        Begin::String => string(text, at, lossy),
         Begin::Array => open(Kind::Array, text, at, limit, kinds),
         Begin::Object => open(Kind::Object, text, at, limit, kinds),
         Begin::Null => literal(text, at, b"null", Event::Null),
@@ -285,17 +299,17 @@ fn no_key(spot: Spot, byte: u8) -> ErrorCode
 
 /// The name that begins at `at`.
 #[inline(always)]
-fn key<'a>(text: &'a str, at: usize, spot: Spot) -> Result<Read<'a>, Fault>
+fn key<'a>(text: &'a str, at: usize, spot: Spot, lossy: bool) -> Result<Read<'a>, Fault>
     requires within { at < length text.now }
     requires byte { ¬ (IsWhitespace (get_or text.now at 0)) }
     requires spot { TakesKey spot }
     ensures ok { (limit : ℕ) (c : List Kind)
-        → IfOk result (λ r. From limit text.now at c spot r.event r.end c r.spot) }
-    ensures tight { IfOk result (λ r. Tight text.now at r.event r.end) }
+        → IfOk result (λ r. From lossy limit text.now at c spot r.event r.end c r.spot) }
+    ensures tight { IfOk result (λ r. Tight lossy text.now at r.event r.end) }
     ensures err { (limit : ℕ) (c : List Kind) (ts : List Token) → NoEnd text.now at c spot
-        → Stood limit text.now at c spot ts
-        → IfErr result (λ f. IsFault limit text.now f.code f.offset) }
-    ensures needs { IfErr result (λ f. TokenNeeds text.now at f.code f.offset) }
+        → Stood lossy limit text.now at c spot ts
+        → IfErr result (λ f. IsFault lossy limit text.now f.code f.offset) }
+    ensures needs { IfErr result (λ f. TokenNeeds lossy text.now at f.code f.offset) }
     ensures inside { IfErr result (λ f. IsInValue f.code) }
 {
     let byte = byte_at(text, at);
@@ -305,7 +319,7 @@ fn key<'a>(text: &'a str, at: usize, spot: Spot) -> Result<Read<'a>, Fault>
             offset: at,
         });
     }
-    match string_at(text, at) {
+    match string_at(text, at, lossy) {
         Ok(quote) => Ok(Read {
             event: Event::Key(quote.span),
             end: quote.end,
@@ -334,46 +348,58 @@ fn close<'a>(kind: Kind, at: usize, kinds: &mut Kinds) -> Read<'a>
 
 /// What may begin at `at` behind the bracket of an array: an element, or the array's end.
 #[inline(always)]
-fn first<'a>(text: &'a str, at: usize, limit: usize, kinds: &mut Kinds) -> Result<Read<'a>, Fault>
+fn first<'a>(
+    text: &'a str,
+    at: usize,
+    limit: usize,
+    lossy: bool,
+    kinds: &mut Kinds,
+) -> Result<Read<'a>, Fault>
     requires within { at < length text.now }
     requires byte { ¬ (IsWhitespace (get_or text.now at 0)) }
     requires open { top kinds.old ≡ Some Kind.Array }
     requires most { limit ≤ 1024 }
     ensures ok { IfOk result
-        (λ r. From limit text.now at kinds.old Spot.First r.event r.end kinds.new r.spot) }
-    ensures tight { IfOk result (λ r. Tight text.now at r.event r.end) }
-    ensures err { (ts : List Token) → Stood limit text.now at kinds.old Spot.First ts
-        → IfErr result (λ f. IsFault limit text.now f.code f.offset) }
-    ensures needs { IfErr result (λ f. TokenNeeds text.now at f.code f.offset) }
+        (λ r. From lossy limit text.now at kinds.old Spot.First r.event r.end kinds.new r.spot) }
+    ensures tight { IfOk result (λ r. Tight lossy text.now at r.event r.end) }
+    ensures err { (ts : List Token) → Stood lossy limit text.now at kinds.old Spot.First ts
+        → IfErr result (λ f. IsFault lossy limit text.now f.code f.offset) }
+    ensures needs { IfErr result (λ f. TokenNeeds lossy text.now at f.code f.offset) }
     ensures inside { IfErr result (λ f. IsInValue f.code) }
     ensures kept { OnErr result (kinds.new ≡ kinds.old) }
 {
     if byte_at(text, at) == b']' {
         Ok(close(Kind::Array, at, kinds))
     } else {
-        value(text, at, limit, kinds)
+        value(text, at, limit, lossy, kinds)
     }
 }
 
 /// What may begin at `at` behind the bracket of an object: a name, or the object's end.
 #[inline(always)]
-fn key_or_end<'a>(text: &'a str, at: usize, kinds: &mut Kinds) -> Result<Read<'a>, Fault>
+fn key_or_end<'a>(
+    text: &'a str,
+    at: usize,
+    lossy: bool,
+    kinds: &mut Kinds,
+) -> Result<Read<'a>, Fault>
     requires within { at < length text.now }
     requires byte { ¬ (IsWhitespace (get_or text.now at 0)) }
     requires open { top kinds.old ≡ Some Kind.Object }
     ensures ok { (limit : ℕ)
-        → IfOk result (λ r. From limit text.now at kinds.old Spot.KeyOrEnd r.event r.end kinds.new r.spot) }
-    ensures tight { IfOk result (λ r. Tight text.now at r.event r.end) }
-    ensures err { (limit : ℕ) (ts : List Token) → Stood limit text.now at kinds.old Spot.KeyOrEnd ts
-        → IfErr result (λ f. IsFault limit text.now f.code f.offset) }
-    ensures needs { IfErr result (λ f. TokenNeeds text.now at f.code f.offset) }
+        → IfOk result (λ r. From lossy limit text.now at kinds.old Spot.KeyOrEnd r.event r.end kinds.new r.spot) }
+    ensures tight { IfOk result (λ r. Tight lossy text.now at r.event r.end) }
+    ensures err { (limit : ℕ) (ts : List Token)
+        → Stood lossy limit text.now at kinds.old Spot.KeyOrEnd ts
+        → IfErr result (λ f. IsFault lossy limit text.now f.code f.offset) }
+    ensures needs { IfErr result (λ f. TokenNeeds lossy text.now at f.code f.offset) }
     ensures inside { IfErr result (λ f. IsInValue f.code) }
     ensures kept { OnErr result (kinds.new ≡ kinds.old) }
 {
     if byte_at(text, at) == b'}' {
         Ok(close(Kind::Object, at, kinds))
     } else {
-        key(text, at, Spot::KeyOrEnd)
+        key(text, at, Spot::KeyOrEnd, lossy)
     }
 }
 
@@ -383,12 +409,14 @@ fn behind_value<'a>(text: &'a str, at: usize, kinds: &mut Kinds) -> Result<Read<
     requires within { at < length text.now }
     requires byte { ¬ (IsWhitespace (get_or text.now at 0)) }
     requires apart { top kinds.old ≢ None → ¬ (ByteAt text.now at 44) }
-    ensures ok { (limit : ℕ)
-        → IfOk result (λ r. From limit text.now at kinds.old Spot.Done r.event r.end kinds.new r.spot) }
-    ensures tight { IfOk result (λ r. Tight text.now at r.event r.end) }
-    ensures err { (limit : ℕ) (ts : List Token) → Stood limit text.now at kinds.old Spot.Done ts
-        → IfErr result (λ f. IsFault limit text.now f.code f.offset) }
-    ensures needs { IfErr result (λ f. TokenNeeds text.now at f.code f.offset) }
+    ensures ok { (lossy : Bool) (limit : ℕ)
+        → IfOk result (λ r. From lossy limit text.now at kinds.old Spot.Done r.event r.end kinds.new r.spot) }
+    ensures tight { (lossy : Bool) → IfOk result (λ r. Tight lossy text.now at r.event r.end) }
+    ensures err { (lossy : Bool) (limit : ℕ) (ts : List Token)
+        → Stood lossy limit text.now at kinds.old Spot.Done ts
+        → IfErr result (λ f. IsFault lossy limit text.now f.code f.offset) }
+    ensures needs { (lossy : Bool)
+        → IfErr result (λ f. TokenNeeds lossy text.now at f.code f.offset) }
     ensures inside { IfErr result (λ f. top kinds.old ≢ None → IsInValue f.code) }
     ensures kept { OnErr result (kinds.new ≡ kinds.old) }
 {
@@ -417,6 +445,7 @@ pub fn take_event<'a>(
     at: usize,
     spot: Spot,
     limit: usize,
+    lossy: bool,
     kinds: &mut Kinds,
 ) -> Result<Read<'a>, Fault>
     requires within { at < length text.now }
@@ -426,19 +455,21 @@ pub fn take_event<'a>(
     requires key_or_end { spot ≡ Spot.KeyOrEnd → top kinds.old ≡ Some Kind.Object }
     requires apart { spot ≡ Spot.Done → top kinds.old ≢ None → ¬ (ByteAt text.now at 44) }
     requires most { limit ≤ 1024 }
-    ensures ok { IfOk result (λ r. From limit text.now at kinds.old spot r.event r.end kinds.new r.spot) }
-    ensures tight { IfOk result (λ r. Tight text.now at r.event r.end) }
-    ensures err { (ts : List Token) → Stood limit text.now at kinds.old spot ts
-        → IfErr result (λ f. IsFault limit text.now f.code f.offset) }
-    ensures needs { IfErr result (λ f. TokenNeeds text.now at f.code f.offset) }
-    ensures inside { IfErr result (λ f. (spot ≡ Spot.Done → top kinds.old ≢ None) → IsInValue f.code) }
+    ensures ok { IfOk result (λ r.
+        From lossy limit text.now at kinds.old spot r.event r.end kinds.new r.spot) }
+    ensures tight { IfOk result (λ r. Tight lossy text.now at r.event r.end) }
+    ensures err { (ts : List Token) → Stood lossy limit text.now at kinds.old spot ts
+        → IfErr result (λ f. IsFault lossy limit text.now f.code f.offset) }
+    ensures needs { IfErr result (λ f. TokenNeeds lossy text.now at f.code f.offset) }
+    ensures inside { IfErr result (λ f. (spot ≡ Spot.Done → top kinds.old ≢ None)
+        → IsInValue f.code) }
     ensures kept { OnErr result (kinds.new ≡ kinds.old) }
 {
     match spot {
-        Spot::Value => value(text, at, limit, kinds),
-        Spot::First => first(text, at, limit, kinds),
-        Spot::Key => key(text, at, Spot::Key),
-        Spot::KeyOrEnd => key_or_end(text, at, kinds),
+        Spot::Value => value(text, at, limit, lossy, kinds),
+        Spot::First => first(text, at, limit, lossy, kinds),
+        Spot::Key => key(text, at, Spot::Key, lossy),
+        Spot::KeyOrEnd => key_or_end(text, at, lossy, kinds),
         _ => behind_value(text, at, kinds),
     }
 }

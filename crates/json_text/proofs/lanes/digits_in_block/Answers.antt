@@ -1,4 +1,4 @@
-use Rattle.std.proofs.Common.{ℕ, ◌+◌, ◌-◌, ◌%◌, leb, cond, refl, arith}
+use Rattle.std.proofs.Common.{◌+◌, ◌-◌, ◌%◌, leb, cond, refl, arith}
 use Rattle.std.proofs.lemmas.Simd.{zip2_splat, length-chunk}
 use lib.Lanes.{chunk}
 use Rattle.json_text.proofs.Masks.{joined, splat_is, counted_in, digit_decided}

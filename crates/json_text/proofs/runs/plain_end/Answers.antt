@@ -1,6 +1,6 @@
 use Rattle.std.proofs.Common.{◌+◌, arith}
 use Rattle.json_text.specs.Runs.{IsPlain}
-use Rattle.json_text.proofs.RunEnds.{each_none, each_more, ends_within, ends_behind}
+use Rattle.json_text.proofs.RunEnds.{each_none, ends_within, ends_behind}
 use Rattle.json_text.proofs.runs.plain_end.Goals as goal
 
 pub returns-then-count-lt-BLOCK : goal.returns-then-count-lt-BLOCK

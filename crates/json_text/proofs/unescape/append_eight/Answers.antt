@@ -1,4 +1,4 @@
-use Rattle.std.proofs.Common.{sym, ap, ◌∙◌, ◌++◌, ◌+◌}
+use Rattle.std.proofs.Common.{sym, ap, ◌∙◌, ◌++◌}
 use Rattle.json_text.proofs.Pieces.{piece_eight, eight_on}
 use Rattle.json_text.proofs.unescape.append_eight.Goals as goal
 

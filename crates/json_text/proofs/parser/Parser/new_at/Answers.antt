@@ -9,7 +9,7 @@ invariant_of-result c =
     let t = c.args.text.now in let i = c.args.index in let n = c.args.limit in
     record {
       rest_is = c.range_from.ensures.value;
-      given = ([], rw c.new.ensures (from_rest n i 0 t (drop i t) [] at_value [] refl (stood_start n (drop i t))));
+      given = ([], rw c.new.ensures (from_rest c.args.lossy n i 0 t (drop i t) [] at_value [] refl (stood_start c.args.lossy n (drop i t))));
       failed = tt;
       inside = λ w. tt;
       order = omega arith;
@@ -24,7 +24,8 @@ returns c =
       text_is = refl;
       start = refl;
       index = omega arith;
+      lossy_is = refl;
       limit_is = refl;
-      fresh = rw c.new.ensures (from_rest n i 0 t (drop i t) [] at_value [] refl (stood_start n (drop i t)));
+      fresh = rw c.new.ensures (from_rest c.args.lossy n i 0 t (drop i t) [] at_value [] refl (stood_start c.args.lossy n (drop i t)));
       unfailed = refl;
     }
