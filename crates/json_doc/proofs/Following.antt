@@ -54,7 +54,7 @@ follows_on old new x k m false ts answer after held f b h =
 pub means_at : (e e' : Event) (x : Token) → e ≡ e' → Means e x → Means e' x
 means_at e e' x is h = subst (λ (v : Event). Means v x) is h
 
-pub held_of : (old new : DocumentVisitor) (to : List ℕ → Token) (raw t : List ℕ) (r : Bool) → chars false t raw → OnTrue r ((u : List ℕ) → chars false u raw → HoldsMore (Holds old) (Holds new) (to u)) → OnTrue r (HoldsMore (Holds old) (Holds new) (to t))
+pub held_of : {lossy : Bool} (old new : DocumentVisitor) (to : List ℕ → Token) (raw t : List ℕ) (r : Bool) → chars lossy t raw → OnTrue r ((u : List ℕ) → chars lossy u raw → HoldsMore (Holds old) (Holds new) (to u)) → OnTrue r (HoldsMore (Holds old) (Holds new) (to t))
 held_of old new to raw t true h k = k t h
 held_of old new to raw t false h k = tt
 

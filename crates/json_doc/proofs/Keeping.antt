@@ -49,20 +49,22 @@ pub record Keeps (most : ℕ) (p : ParserState) (v : DocumentVisitor) (b : List 
   pub reads : p.text ≡ b
   pub start : p.start ≡ 0
   pub limit : p.limit ≡ most
+  pub strict : p.lossy ≡ false
   pub unfailed : p.failure ≡ None
   pub gave : HasGiven p ts
   pub follows : Follows v ts
   pub room : (visitor_state v).cell_room ≡ (length b + 1) / 2
   pub text_room : (visitor_state v).text_room ≡ length b
 
-pub keeps_start : (limit : ℕ) (p : ParserState) (v : DocumentVisitor) (b : List ℕ) → p.text ≡ b → p.start ≡ 0 → p.limit ≡ limit → HasGiven p [] → p.failure ≡ None
+pub keeps_start : (limit : ℕ) (p : ParserState) (v : DocumentVisitor) (b : List ℕ) → p.text ≡ b → p.start ≡ 0 → p.limit ≡ limit → p.lossy ≡ false → HasGiven p [] → p.failure ≡ None
     → visitor_state v ≡ record { cell_room = (length b + 1) / 2; text_room = length b; nodes = 0; bytes = 0; full = false } → Holds v [] → Keeps limit p v b []
-keeps_start most p v b reads start limit gave unfailed fresh held =
+keeps_start most p v b reads start limit strict gave unfailed fresh held =
     let full : v.full ≡ false = ap (λ (s : VisitorState). s.full) fresh in
     record {
       reads = reads;
       start = start;
       limit = limit;
+      strict = strict;
       unfailed = unfailed;
       gave = gave;
       follows = record { held = λ e. held; over = λ e. absurd (both v.full full e) };
@@ -100,13 +102,13 @@ tight_on p q event.EndObject n g = g
 tight_on p q event.End n g = absurd (n refl)
 
 pub given_begins : (p : ParserState) (ts : List Token) → HasGiven p ts → Begins ts
-given_begins p ts h = reading_begins false (take h.base (input p)) p.open_kinds p.spot ts h.given.at
+given_begins p ts h = reading_begins p.lossy (take h.base (input p)) p.open_kinds p.spot ts h.given.at
 
 -- what was recorded is no longer than what was taken
 recorded_within : (p : ParserState) (v : DocumentVisitor) (ts : List Token) → HasGiven p ts → Holds v ts → (visitor_state v).bytes ≤ p.index
 recorded_within p v ts h held =
     let bytes : (visitor_state v).bytes ≤ bytes_of ts = recorded_bytes v ts held in
-    let fits = (read_fits false h.given.at).1 in
+    let fits = (read_fits p.lossy h.given.at).1 in
     let order = h.order in
     omega (arith, length-take h.base (input p))
 
@@ -147,6 +149,7 @@ module _ {limit : ℕ} {p q : ParserState} {v : DocumentVisitor} {b : List ℕ} 
     reads = same.text ∙ k.reads;
     start = same.start ∙ k.start;
     limit = same.limit ∙ k.limit;
+    strict = same.lossy ∙ k.strict;
     unfailed = unfailed;
     gave = next_token.2;
     follows = f;
@@ -166,7 +169,7 @@ keeps_end rules p q v o b ts k d g =
     let whole = g.1 ts k.gave in
     let t = whole.0 in
     let here : input p ≡ b = ap (λ (i : ℕ). drop i p.text) k.start ∙ k.reads in
-    let is = subst (λ (s : List ℕ). is_text false t s) here whole.1 in
+    let is = subst (λ (m : Bool). is_text m t b) k.strict (subst (λ (s : List ℕ). is_text p.lossy t s) here whole.1) in
     let count : nodes_of ts ≡ nodes t = ap nodes_of whole.2 ∙ nodes_tree t in
     let fits = (text_fits false t b is).0 in
     let room = k.room in
@@ -175,17 +178,18 @@ keeps_end rules p q v o b ts k d g =
 
 -- ---- a fault
 
-fault_fails : (rules : Rules) (b : List ℕ) (c : ErrorCode) (at : Place) → FaultWithAt rules b c at → ReadingFailsWith rules b c at
+fault_fails : (rules : Rules) (b : List ℕ) (c : ErrorCode) (at : Place) → FaultWithAt false rules b c at → ReadingFailsWith rules b c at
 fault_fails rules b code.NoMemory place.None h = tt
 fault_fails rules b c at h = h
 
 -- where the parser stands in the whole text
-stood_in : (p : ParserState) (limit : ℕ) (b : List ℕ) (ts : List Token) → p.text ≡ b → p.start ≡ 0 → p.limit ≡ limit → HasGiven p ts → Stood limit b p.index p.open_kinds p.spot ts
-stood_in p limit b ts reads start most h =
+stood_in : (p : ParserState) (limit : ℕ) (b : List ℕ) (ts : List Token) → p.text ≡ b → p.start ≡ 0 → p.limit ≡ limit → p.lossy ≡ false → HasGiven p ts → Stood false limit b p.index p.open_kinds p.spot ts
+stood_in p limit b ts reads start most strict h =
     let index : p.index - p.start ≡ p.index = omega arith in
     let here : drop p.start p.text ≡ b = ap (λ (i : ℕ). drop i p.text) start ∙ reads in
-    subst (λ n. Stood n b p.index p.open_kinds p.spot ts) most
-    (subst (λ y. Stood p.limit y p.index p.open_kinds p.spot ts) here (subst (λ i. Stood p.limit (drop p.start p.text) i p.open_kinds p.spot ts) index h))
+    subst (λ m. Stood m limit b p.index p.open_kinds p.spot ts) strict
+    (subst (λ n. Stood p.lossy n b p.index p.open_kinds p.spot ts) most
+    (subst (λ y. Stood p.lossy p.limit y p.index p.open_kinds p.spot ts) here (subst (λ i. Stood p.lossy p.limit (drop p.start p.text) i p.open_kinds p.spot ts) index h)))
 
 -- the parser's fault is the one by the rules
 pub refused_fails : (rules : Rules) (p : ParserState) (v : DocumentVisitor) (o : OpenKeys) (b : List ℕ) (ts : List Token) (e : Error) → Keeps rules.limit p v b ts → Differ rules o ts → IsDue p e → ReadingFailsWith rules b e.code e.place
@@ -193,16 +197,17 @@ refused_fails rules p v o b ts e k d due =
     let index : p.index - p.start ≡ p.index = let z = k.start in omega arith in
     let here : drop p.start p.text ≡ b = ap (λ (i : ℕ). drop i p.text) k.start ∙ k.reads in
     let zeroth : p.start + due.offset ≡ due.offset = let z = k.start in omega arith in
-    let stood_here = stood_in p rules.limit b ts k.reads k.start k.limit k.gave in
+    let stood_here = stood_in p rules.limit b ts k.reads k.start k.limit k.strict k.gave in
     let names : NamesTold false b p.index due.offset =
-    subst (λ i. NamesTold false b i due.offset) index (subst (λ y. NamesTold false y (p.index - p.start) due.offset) here (names_before_due p e ts due k.gave)) in
-    let fault_here : IsFault rules.limit b e.code due.offset = subst (λ n. IsFault n b e.code due.offset) k.limit (subst (λ y. IsFault p.limit y e.code due.offset) here due.fault) in
+    subst (λ m. NamesTold m b p.index due.offset) k.strict (subst (λ i. NamesTold p.lossy b i due.offset) index (subst (λ y. NamesTold p.lossy y (p.index - p.start) due.offset) here (names_before_due p e ts due k.gave))) in
+    let fault_here : IsFault false rules.limit b e.code due.offset =
+    subst (λ m. IsFault m rules.limit b e.code due.offset) k.strict (subst (λ n. IsFault p.lossy n b e.code due.offset) k.limit (subst (λ y. IsFault p.lossy p.limit y e.code due.offset) here due.fault)) in
     let s = stands (λ row. fault false rules.limit b row due.offset) e.code fault_here in
-    let by_rules = fault_stands false rules b p.index p.open_kinds p.spot ts s.row due.offset (stood_at rules.limit b p.index p.open_kinds p.spot ts stood_here) (λ u. (d u).0) (λ u. names) s.holds in
+    let by_rules = fault_stands false rules b p.index p.open_kinds p.spot ts s.row due.offset (stood_at false rules.limit b p.index p.open_kinds p.spot ts stood_here) (λ u. (d u).0) (λ u. names) s.holds in
     fault_fails rules b e.code e.place (
       due.offset,
       due.place ∙ ap (place_at p.text) zeroth ∙ ap (λ y. place_at y due.offset) k.reads,
-      subst (λ c. IsFaultWith rules b c due.offset) (sym s.same) (stood (λ row. fault_with false rules b row due.offset) s.row by_rules),
+      subst (λ c. IsFaultWith false rules b c due.offset) (sym s.same) (stood (λ row. fault_with false rules b row due.offset) s.row by_rules),
     )
 
 -- ---- names that differ
@@ -245,8 +250,11 @@ repeated_fails rules p q v o b ts e error u k d goes tight same (inr (n, is, rep
     s : List ℕ
     s = next.1.0
 
-    spelled : chars false s n.raw.now
+    spelled : chars n.lossy s n.raw.now
     spelled = next.1.1
+
+    strictly : chars false s n.raw.now
+    strictly = subst (λ m. chars m s n.raw.now) (t.mode ∙ k.strict) spelled
 
     given : HasGiven q (ts ++ key_token s ∷ [])
     given = subst (λ x. HasGiven q (ts ++ x ∷ [])) next.1.2 next.2
@@ -264,29 +272,29 @@ repeated_fails rules p q v o b ts e error u k d goes tight same (inr (n, is, rep
         let size : length (34 ∷ (n.raw.now ++ 34 ∷ [])) ≡ length n.raw.now + 2 = omega (arith, length-append n.raw.now (34 ∷ [])) in
         omega (arith, within, piece_length b t.begins q.index (omega arith) within)
 
-    stood_p : Stood rules.limit b p.index p.open_kinds p.spot ts
-    stood_p = stood_in p rules.limit b ts k.reads k.start k.limit k.gave
+    stood_p : Stood false rules.limit b p.index p.open_kinds p.spot ts
+    stood_p = stood_in p rules.limit b ts k.reads k.start k.limit k.strict k.gave
 
-    stood_q : Stood rules.limit b q.index q.open_kinds q.spot (ts ++ key_token s ∷ [])
-    stood_q = stood_in q rules.limit b (ts ++ key_token s ∷ []) whole (same.start ∙ k.start) (same.limit ∙ k.limit) given
+    stood_q : Stood false rules.limit b q.index q.open_kinds q.spot (ts ++ key_token s ∷ [])
+    stood_q = stood_in q rules.limit b (ts ++ key_token s ∷ []) whole (same.start ∙ k.start) (same.limit ∙ k.limit) (same.lossy ∙ k.strict) given
 
     gap : IsGap (piece b p.index t.begins)
     gap = subst (λ y. IsGap (piece y p.index t.begins)) whole t.gap
 
     string_at : string false s (piece b t.begins q.index)
-    string_at = (n.raw.now, bytes, spelled)
+    string_at = (n.raw.now, bytes, strictly)
 
     there : (c : List Kind) × (w : Spot) × reading false (take t.begins b) c w ts × TakesKey w
-    there = let l = t.order in name_told rules.limit rules.limit b p.index t.begins q.index p.open_kinds q.open_kinds p.spot q.spot ts s stood_p l.0 (omega arith) within gap string_at stood_q
+    there = let l = t.order in name_told false rules.limit rules.limit b p.index t.begins q.index p.open_kinds q.open_kinds p.spot q.spot ts s stood_p l.0 (omega arith) within gap string_at stood_q
 
     refused : fault_with false rules b duplicate_key t.begins
     refused = let l = t.order in key_refused false rules b t.begins q.index there.0 there.1 ts s u there.2 there.3 (omega arith) within string_at stood_p.depth (d u).0 (repeats s (keys_from [] ts) spelled (d u).1)
 
-    at : IsFaultWith rules b code.DuplicateKey (q.index - (length n.raw.now + 2))
+    at : IsFaultWith false rules b code.DuplicateKey (q.index - (length n.raw.now + 2))
     at = subst (λ j. fault_with false rules b duplicate_key j) (sym begins) refused
 
 -- ---- the usual rules
 
 pub usual_fails : (b : List ℕ) (c : ErrorCode) (at : Place) → ReadingFailsWith usual_rules b c at → ReadingFails b c at
 usual_fails b code.NoMemory place.None h = tt
-usual_fails b c at h = (fault_with_limit_at 254 b c at).0 h
+usual_fails b c at h = (fault_with_limit_at false 254 b c at).0 h

@@ -17,3 +17,6 @@ pub mod Following
 pub mod Keeping
 pub mod NameSets
 pub mod Fronts
+pub mod Subtrees
+pub mod Slots
+pub mod ValueRecording

@@ -1,5 +1,5 @@
 -- The literal of an event that was read is a number.
-use Rattle.std.proofs.Common.{◌≡◌, false, ℕ, List, [], ◌∷◌, ◌++◌, subst}
+use Rattle.std.proofs.Common.{◌≡◌, Bool, ℕ, List, [], ◌∷◌, ◌++◌, subst}
 use Rattle.json_grammar.specs.declared.Kind.{Kind}
 use Rattle.json_grammar.specs.declared.Spot.{Spot}
 use Rattle.json_grammar.specs.Tree.{Token}
@@ -11,8 +11,8 @@ use Rattle.json_text.specs.Events.{Means}
 use Rattle.json_doc.specs.Reading.{EventIsNumber}
 
 -- the last event that was read
-pub event_number : (e : Event) (x : Token) (p : List ℕ) (c : List Kind) (w : Spot) (ts : List Token) → Means e x → reading false p c w (ts ++ x ∷ []) → EventIsNumber e
-event_number (event.Number l) x p c w ts m h = last_number ts l.now (subst (λ (y : Token). reading false p c w (ts ++ y ∷ [])) m h)
+pub event_number : {lossy : Bool} (e : Event) (x : Token) (p : List ℕ) (c : List Kind) (w : Spot) (ts : List Token) → Means e x → reading lossy p c w (ts ++ x ∷ []) → EventIsNumber e
+event_number {lossy = lossy} (event.Number l) x p c w ts m h = last_number ts l.now (subst (λ (y : Token). reading lossy p c w (ts ++ y ∷ [])) m h)
 event_number event.Null x p c w ts m h = tt
 event_number (event.Bool v) x p c w ts m h = tt
 event_number (event.Str s) x p c w ts m h = tt

@@ -21,3 +21,4 @@ pub mod Nodes
 pub mod Reading
 pub mod Laws
 pub mod OpenNames
+pub mod OneValue

@@ -25,24 +25,24 @@ use Rattle.json_doc.specs.declared.document_visitor.DocumentVisitor.{DocumentVis
 -- memory ran out, or the text has this fault by the rules
 abbrev pub ReadingFailsWith : Rules → List ℕ → ErrorCode → Place → Type 0
 ReadingFailsWith rules text code.NoMemory place.None = Unit {0}
-ReadingFailsWith rules text c p = FaultWithAt rules text c p
+ReadingFailsWith rules text c p = FaultWithAt false rules text c p
 
 -- memory ran out, or the event is a name that its object has already, told at its opening quotation mark
 abbrev pub RefusesName : OpenKeys → Event → List ℕ → ℕ → Error → Type 0
 RefusesName o e text end error =
     (error ≡ no_memory)
-    ⊎ ((v : Span) × (e ≡ event.Key v) × ((s : List ℕ) (all : List Keys) → chars false s v.raw.now → HasNames o all → RepeatsAt all (key_token s))
+    ⊎ ((v : Span) × (e ≡ event.Key v) × ((s : List ℕ) (all : List Keys) → chars v.lossy s v.raw.now → HasNames o all → RepeatsAt all (key_token s))
     × (error ≡ record { code = code.DuplicateKey; place = place_at text (end - (length v.raw.now + 2)) }))
 
 -- memory ran out, or the text has this fault
 abbrev pub ReadingFails : List ℕ → ErrorCode → Place → Type 0
 ReadingFails text code.NoMemory place.None = Unit {0}
-ReadingFails text c p = FaultAt 254 text c p
+ReadingFails text c p = FaultAt false 254 text c p
 
--- memory ran out, or what the parser reads has this fault as a value
+-- memory ran out, or what the parser reads has this fault as a value, in its mode
 abbrev pub FrontFails : ParserState → ErrorCode → Place → Type 0
 FrontFails s code.NoMemory place.None = Unit {0}
-FrontFails s c p = ValueFaultFrom s.limit s.start s.text c p
+FrontFails s c p = ValueFaultFrom s.lossy s.limit s.start s.text c p
 
 -- where it is of a number, its literal is a number
 abbrev pub EventIsNumber : Event → Type 0

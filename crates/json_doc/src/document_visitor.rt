@@ -3,6 +3,8 @@ ghost use Rattle.std.specs.Prelude.{◌≡◌, ◌+◌, ◌/◌, ◌<◌, ◌≤
 ghost use Rattle.json_grammar.specs.Grammar.{chars};
 ghost use Rattle.json_text.specs.Spelled.{NoEscape};
 
+mod room;
+
 use crate::cell::Cell;
 use crate::doc::Doc;
 use crate::visitor::JsonVisitor;
@@ -179,9 +181,9 @@ impl DocumentVisitor {
     #[inline(always)]
     fn push_text(&mut self, s: Span<'_>) -> Cell
         requires { vec_len self.old.text + length s.raw.now ≤ self.old.text_room }
-        ensures cell { (t : List ℕ) → chars false t s.entry.raw.now
+        ensures cell { (t : List ℕ) → chars s.entry.lossy t s.entry.raw.now
             → result ≡ Cell.Str (vec_len self.old.text) (length t) }
-        ensures text { (t : List ℕ) → chars false t s.entry.raw.now
+        ensures text { (t : List ℕ) → chars s.entry.lossy t s.entry.raw.now
             → self.new.text.items ≡ self.old.text.items ++ t }
         ensures capacity { ¬ (NoEscape s.entry.raw.now)
             → vec_capacity self.new.text ≡ vec_capacity self.old.text }
@@ -336,7 +338,7 @@ fn append_bytes(out: &mut Vec<u8>, bytes: &[u8])
 #[inline(always)]
 fn append_text(out: &mut Vec<u8>, s: Span<'_>)
     requires { vec_len out.old + length s.raw.now ≤ vec_capacity out.old }
-    ensures items { (t : List ℕ) → chars false t s.entry.raw.now
+    ensures items { (t : List ℕ) → chars s.entry.lossy t s.entry.raw.now
         → out.new.items ≡ out.old.items ++ t }
     ensures grows { vec_len out.old ≤ vec_len out.new }
     ensures len { vec_len out.new ≤ vec_len out.old + length s.entry.raw.now }

@@ -25,6 +25,7 @@ mod reader;
 mod rules_tests;
 #[cfg(test)]
 mod tests;
+mod value_reader;
 mod view;
 mod visitor;
 
@@ -36,5 +37,6 @@ pub use json_type::JsonType;
 pub use node::DocNode;
 pub use pairs::DocPairs;
 pub use reader::{read_document, read_document_with, read_front};
+pub use value_reader::read_value;
 pub use view::DocView;
 pub use visitor::JsonVisitor;

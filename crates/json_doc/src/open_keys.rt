@@ -127,7 +127,8 @@ impl<'a> OpenKeys<'a> {
     fn take_into_set(&mut self, name: CowStr<'a>) -> Result<bool>
         requires some { HasSomeNames self.old }
         requires inside { 0 < length self.old.outer.items }
-        ensures ok { IfOk result (λ had. TakesIn had self.old self.new (key_token (cow_str_bytes name.entry))) }
+        ensures ok { IfOk result (λ had.
+            TakesIn had self.old self.new (key_token (cow_str_bytes name.entry))) }
         ensures err { IfErr result (λ e. e ≡ no_memory) }
     {
         if self.in_row(name.as_str()) {
@@ -159,8 +160,8 @@ impl<'a> OpenKeys<'a> {
     fn take_escaped(&mut self, name: Span<'_>) -> Result<bool>
         requires some { HasSomeNames self.old }
         requires inside { 0 < length self.old.outer.items }
-        requires spelled { (s : List ℕ) × chars false s name.raw.now }
-        ensures ok { IfOk result (λ had. (s : List ℕ) → chars false s name.entry.raw.now
+        requires spelled { (s : List ℕ) × chars name.lossy s name.raw.now }
+        ensures ok { IfOk result (λ had. (s : List ℕ) → chars name.entry.lossy s name.entry.raw.now
             → TakesIn had self.old self.new (key_token s)) }
         ensures err { IfErr result (λ e. e ≡ no_memory) }
     {
@@ -173,8 +174,8 @@ impl<'a> OpenKeys<'a> {
     /// Takes the next name of the text, and answers whether its object has it already. Memory may run out.
     pub fn take_key(&mut self, name: Span<'a>) -> Result<bool>
         requires some { HasSomeNames self.old }
-        requires spelled { (s : List ℕ) × chars false s name.raw.now }
-        ensures ok { IfOk result (λ had. (s : List ℕ) → chars false s name.entry.raw.now
+        requires spelled { (s : List ℕ) × chars name.lossy s name.raw.now }
+        ensures ok { IfOk result (λ had. (s : List ℕ) → chars name.entry.lossy s name.entry.raw.now
             → TakesIn had self.old self.new (key_token s)) }
         ensures err { IfErr result (λ e. e ≡ no_memory) }
     {

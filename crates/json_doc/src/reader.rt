@@ -18,6 +18,7 @@ ghost use Rattle.json_doc.specs.Docs.{IsDocOf};
 use crate::doc::Doc;
 use crate::document_visitor::DocumentVisitor;
 use crate::open_keys::OpenKeys;
+use crate::value_reader::record_value;
 use crate::visitor::JsonVisitor;
 use json_number::{JsonNumberTrait, integer_of};
 use json_text::{Error, ErrorCode, Event, Parser, Result, Rules, Span, place_of};
@@ -50,7 +51,7 @@ fn record_number(visitor: &mut DocumentVisitor, literal: &str) -> bool
 
 // Whether the event was recorded. There is nothing to record of the end.
 #[inline(always)]
-fn record_event(visitor: &mut DocumentVisitor, event: Event<'_>) -> bool
+pub(crate) fn record_event(visitor: &mut DocumentVisitor, event: Event<'_>) -> bool
     requires number { EventIsNumber event }
     requires come { (visitor_state visitor.old).full ≡ false
         → (x : Token) × Means event x × MayCome (Holds visitor.old) x }
@@ -187,8 +188,8 @@ pub fn read_document(alloc: Global, text: &str) -> Result<Rc<Doc>>
 }
 
 /// The document of one value, whatever follows it: the parser, which has handed out no event, goes on to the end of the
-/// value and stands right behind it. Its text has at most 4,294,967,295 bytes. Each fault of what it reads, as a value, is
-/// told with its place in the text; or memory runs out.
+/// value and stands right behind it. It reads in its mode, strict or lossy. Its text has at most 4,294,967,295 bytes. Each
+/// fault of what it reads, as a value, is told with its place in the text; or memory runs out.
 ///
 /// ```
 /// use json_doc::read_front;
@@ -201,14 +202,13 @@ pub fn read_front(alloc: Global, parser: &mut Parser<'_>) -> Result<Rc<Doc>>
     requires fresh { HasGiven parser.old [] }
     requires size { length parser.old.text < 2 ^ 32 }
     ensures same { SameInput parser.old parser.new }
-    ensures ok { IfOk result (λ d. (t : Tree) × reads false (input parser.old) t (taken parser.new)
+    ensures ok { IfOk result (λ d. (t : Tree)
+        × reads parser.old.lossy (input parser.old) t (taken parser.new)
         × (depth t ≤ parser.old.limit) × IsDocOf d.value t) }
     ensures err { IfErr result (λ e. FrontFails parser.old e.code e.place) }
 {
-    let mut visitor = DocumentVisitor::new(alloc, parser.input_len())?;
-    'events: while !parser.done() {
-        let event = parser.next()?;
-        let _recorded = record_event(&mut visitor, event);
-    }
+    let mut visitor = DocumentVisitor::with_room(alloc, 0, 0)?;
+    let first = parser.next()?;
+    record_value(&mut visitor, parser, first)?;
     visitor.finish(alloc)
 }

@@ -89,22 +89,22 @@ pub trait JsonVisitor {
     /// A string by what stands between its quotes.
     fn visit_str(&mut self, s: Span<'_>) -> bool
         requires { (state self.old).full ≡ false
-            → (t : List ℕ) × chars false t s.raw.now × MayCome (holds self.old) (text_token t) }
+            → (t : List ℕ) × chars s.lossy t s.raw.now × MayCome (holds self.old) (text_token t) }
         ensures answer { IsTrue result ↔ Fits (state self.old) 1 (length s.entry.raw.now) }
-        ensures state { (t : List ℕ) → chars false t s.entry.raw.now
+        ensures state { (t : List ℕ) → chars s.entry.lossy t s.entry.raw.now
             → state self.new ≡ after_event result 1 (length t) (state self.old) }
-        ensures held { OnTrue result ((t : List ℕ) → chars false t s.entry.raw.now
+        ensures held { OnTrue result ((t : List ℕ) → chars s.entry.lossy t s.entry.raw.now
             → HoldsMore (holds self.old) (holds self.new) (text_token t)) }
         ensures memory { ¬ (NoEscape s.entry.raw.now) → keeps_memory self.old self.new };
 
     /// A key by what stands between its quotes.
     fn visit_key(&mut self, s: Span<'_>) -> bool
         requires { (state self.old).full ≡ false
-            → (t : List ℕ) × chars false t s.raw.now × MayCome (holds self.old) (key_token t) }
+            → (t : List ℕ) × chars s.lossy t s.raw.now × MayCome (holds self.old) (key_token t) }
         ensures answer { IsTrue result ↔ Fits (state self.old) 1 (length s.entry.raw.now) }
-        ensures state { (t : List ℕ) → chars false t s.entry.raw.now
+        ensures state { (t : List ℕ) → chars s.entry.lossy t s.entry.raw.now
             → state self.new ≡ after_event result 1 (length t) (state self.old) }
-        ensures held { OnTrue result ((t : List ℕ) → chars false t s.entry.raw.now
+        ensures held { OnTrue result ((t : List ℕ) → chars s.entry.lossy t s.entry.raw.now
             → HoldsMore (holds self.old) (holds self.new) (key_token t)) }
         ensures memory { ¬ (NoEscape s.entry.raw.now) → keeps_memory self.old self.new };
 

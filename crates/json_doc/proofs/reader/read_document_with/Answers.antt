@@ -16,7 +16,7 @@ events-init c =
     let new = c.new-2.ensures in
     let p = c.depth-parser.ensures in
     let r = rules_of c.args.rules in
-    ([], keeps_start r.limit c.depth-parser.result v c.args.text.now (ap (λ y. y.text) p.limit ∙ new.text) (ap (λ y. y.start) p.limit ∙ new.start.0) (ap (λ y. y.limit) p.limit ∙ c.depth.ensures.depth) p.fresh.0 p.fresh.1 q.room q.held, differ_start r c.new-keys.result c.new-keys.ensures)
+    ([], keeps_start r.limit c.depth-parser.result v c.args.text.now (ap (λ y. y.text) p.limit ∙ new.text) (ap (λ y. y.start) p.limit ∙ new.start.0) (ap (λ y. y.limit) p.limit ∙ c.depth.ensures.depth) (ap (λ y. y.lossy) p.limit ∙ new.strict) p.fresh.0 p.fresh.1 q.room q.held, differ_start r c.new-keys.result c.new-keys.ensures)
 
 pub check_names-requires-clause-some : goal.check_names-requires-clause-some
 check_names-requires-clause-some c u = (_, (c.events.invariant.2 u).1)

@@ -1,4 +1,4 @@
-use Rattle.std.proofs.Common.{◌≡◌, ◌++◌, false, sym, ap, ◌∙◌, subst, IsUtf8}
+use Rattle.std.proofs.Common.{◌≡◌, ◌++◌, sym, ap, ◌∙◌, subst, IsUtf8}
 use Rattle.std.proofs.lemmas.Result.{IfOk-weaker}
 use Rattle.std.specs.String.{string_bytes}
 use Rattle.json_grammar.proofs.Texts.{chars_utf8}
@@ -9,7 +9,7 @@ use Rattle.json_doc.proofs.open_keys.OpenKeys.take_escaped.Goals as goal
 pub from_utf8_unchecked-name-requires : goal.from_utf8_unchecked-name-requires
 from_utf8_unchecked-name-requires c =
     let s = c.requires.spelled in
-    subst IsUtf8 (sym (c.unescape_into.ensures.text s.0 s.1 ∙ ap (λ z. z ++ s.0) c.in_ok-bytes.ensures.items)) (chars_utf8 false s.1)
+    subst IsUtf8 (sym (c.unescape_into.ensures.text s.0 s.1 ∙ ap (λ z. z ++ s.0) c.in_ok-bytes.ensures.items)) (chars_utf8 _ s.1)
 
 pub returns-clause-ok : goal.returns-clause-ok
 returns-clause-ok c =

@@ -1,0 +1,99 @@
+// Reads one value among others into a document.
+ghost use Rattle.std.specs.Prelude.{◌≡◌, ◌⊎◌, ◌<◌, ◌≤◌, ◌^◌, List, [], ◌∷◌, OnOk, IfOk, IfErr, false};
+ghost use Rattle.json_grammar.specs.Tree.{Tree, Token, tokens};
+ghost use Rattle.json_text.specs.Errors.{no_memory};
+ghost use Rattle.json_text.specs.Events.{Means, raw_size};
+ghost use Rattle.json_text.specs.Parsing.{HasGiven, HasRead, IsWhole, SameInput};
+ghost use Rattle.json_doc.specs.Docs.{IsDocOf};
+ghost use Rattle.json_doc.specs.OneValue.{HandedOut, ReadsValue, RefusesValue, levels_behind as spec_levels_behind};
+ghost use Rattle.json_doc.specs.Recorded.{visitor_state, Holds};
+
+use crate::doc::Doc;
+use crate::document_visitor::DocumentVisitor;
+use crate::reader::record_event;
+use json_text::{Event, Parser, Result};
+use std::alloc::Global;
+use std::rc::Rc;
+
+// How many bytes of the text the event lends.
+fn lent_len(event: Event<'_>) -> usize
+    ensures { result ≡ raw_size event.entry }
+{
+    match event {
+        Event::Number(literal) => literal.len(),
+        Event::Str(s) | Event::Key(s) => s.raw_len(),
+        _ => 0,
+    }
+}
+
+// How many containers are open behind the event, where `levels` were before it.
+fn levels_behind(event: Event<'_>, levels: usize) -> usize
+    requires most { levels < 2 ^ 32 }
+    ensures { (x : Token) → Means event.entry x → result ≡ spec_levels_behind x levels }
+{
+    match event {
+        Event::BeginArray | Event::BeginObject => levels + 1,
+        Event::EndArray | Event::EndObject => levels.saturating_sub(1),
+        _ => levels,
+    }
+}
+
+// Records a value from its first event on, which the parser handed out last, and goes on to its end.
+pub(crate) fn record_value<'a>(
+    visitor: &mut DocumentVisitor,
+    parser: &mut Parser<'a>,
+    first: Event<'a>,
+) -> Result<()>
+    requires first { HandedOut parser.old first }
+    requires empty { Holds visitor.old [] }
+    requires admits { (visitor_state visitor.old).full ≡ false }
+    ensures same { SameInput parser.old parser.new }
+    ensures order { parser.old.index ≤ parser.new.index }
+    ensures ok { OnOk result ((t : Tree) × ReadsValue parser.old first.entry t parser.new
+        × Holds visitor.new (tokens t)) }
+    ensures whole { (IsWhole parser.old → HasRead parser.old)
+        → IsWhole parser.new → HasRead parser.new }
+    ensures err { IfErr result (λ e. (e ≡ no_memory) ⊎ RefusesValue parser.new e) }
+    ensures given { (ts : List Token) × HasGiven parser.new ts }
+{
+    let mut event = first;
+    let mut levels = 0;
+    'events: loop {
+        visitor.make_room(lent_len(event))?;
+        let _recorded = record_event(visitor, event);
+        levels = levels_behind(event, levels);
+        if levels == 0 {
+            return Ok(());
+        }
+        event = parser.next()?;
+    }
+}
+
+/// The document of the value whose first event the parser handed out last, whatever follows it: the parser goes on to
+/// the end of the value and stands right behind it. What it refuses comes as the parser tells it; or memory runs out.
+///
+/// ```
+/// use json_doc::read_value;
+/// use json_text::{Event, Parser};
+/// let mut parser = Parser::new("[1, [2, 3], 4]");
+/// parser.next()?;
+/// parser.next()?;
+/// let first = parser.next()?;
+/// assert_eq!(rt; read_value(alloc, &mut parser, first)?.cells().len(), 3);
+/// assert!(rt; matches!(parser.next()?, Event::Number("4")));
+/// ```
+pub fn read_value<'a>(alloc: Global, parser: &mut Parser<'a>, first: Event<'a>) -> Result<Rc<Doc>>
+    requires { HandedOut parser.old first }
+    ensures same { SameInput parser.old parser.new }
+    ensures order { parser.old.index ≤ parser.new.index }
+    ensures ok { IfOk result (λ d. (t : Tree) × ReadsValue parser.old first.entry t parser.new
+        × IsDocOf d.value t) }
+    ensures whole { (IsWhole parser.old → HasRead parser.old)
+        → IsWhole parser.new → HasRead parser.new }
+    ensures err { IfErr result (λ e. (e ≡ no_memory) ⊎ RefusesValue parser.new e) }
+    ensures given { (ts : List Token) × HasGiven parser.new ts }
+{
+    let mut visitor = DocumentVisitor::with_room(alloc, 0, 0)?;
+    record_value(&mut visitor, parser, first)?;
+    visitor.finish(alloc)
+}
