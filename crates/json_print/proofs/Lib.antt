@@ -24,3 +24,5 @@ pub mod RowPieces
 pub mod Layers
 pub mod Emptying
 pub mod Overlapping
+pub mod PlainBlocks
+pub mod Decimals

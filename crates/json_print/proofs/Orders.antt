@@ -9,12 +9,12 @@ use Rattle.std.specs.Ordering.{is_lt, nat_cmp, on, then_cmp, ordering_then, orde
 use Rattle.std.specs.Cmp.{IsTotalOrder}
 use Rattle.std.specs.Cmp.Lexicographic.{slice_cmp}
 use Rattle.std.proofs.lemmas.Cmp.{then_total, on_total, nat_cmp_total, nat_list_cmp_total}
-use Rattle.std.specs.List.Sorted.{IsPermutation}
-use Rattle.std.proofs.lemmas.List.Sorted.{Contains-permutation, IsPermutation-sym}
+use Rattle.std.specs.List.Sorted.{IsPermutation, IsSortedBy}
+use Rattle.std.proofs.lemmas.List.Sorted.{Contains-permutation, IsPermutation-sym, IsPermutation-map}
+use Rattle.std.proofs.lemmas.Map.Keys.{IsDistinct-IsPermutation}
 use Rattle.json_model.specs.Sort.{bytes_less}
-use Rattle.json_print.specs.declared.order.Numbered.{Numbered}
 use Rattle.std.proofs.lemmas.List.{get_or-map, length-map}
-use Rattle.json_print.specs.Orders.{pair_of, Pair, In, Rise, numbered_in, inserted_all}
+use Rattle.json_print.specs.Orders.{Pair, In, Rise, numbered_in, inserted_all}
 use Rattle.json_print.specs.Printer.{Row, row_in, rows_sorted}
 
 abbrev pub numbered_cmp : Pair → Pair → Ordering
@@ -23,7 +23,7 @@ numbered_cmp = then_cmp (on (λ (x : Pair). x.0) (slice_cmp nat_cmp)) (on (λ (x
 abbrev pub Below : Pair → Pair → Type 0
 Below x y = numbered_cmp x y ≡ Less
 
-total : IsTotalOrder numbered_cmp
+pub total : IsTotalOrder numbered_cmp
 total = then_total (on_total (λ (x : Pair). x.0) nat_list_cmp_total) (on_total (λ (x : Pair). x.1) nat_cmp_total)
 
 -- ---- lists of any kind
@@ -156,7 +156,7 @@ all_ascends (x ∷ xs) r = in_ascends x (inserted_all xs) (all_ascends xs r.1) (
 
 -- ---- by a sort
 
-pub sort_inserts : (xs ys : List Pair) → Rise xs → IsPermutation xs ys → Ascends ys → ys ≡ inserted_all xs
+sort_inserts : (xs ys : List Pair) → Rise xs → IsPermutation xs ys → Ascends ys → ys ≡ inserted_all xs
 sort_inserts xs ys r p a =
     unique ys (inserted_all xs) a (all_ascends xs r)
     (λ z h. in_all z xs (let c = Contains-permutation ys xs z (IsPermutation-sym xs ys p) (from_in ys z h) in in_from xs z c.0 c.1 c.2))
@@ -182,19 +182,19 @@ rows_inserted text (x ∷ xs) = row_inserted text x (inserted_all xs) ∙ ap (ro
 
 -- ---- what std's sort ensures
 
-abbrev pub number_eq : Pair → Pair → Bool
+abbrev number_eq : Pair → Pair → Bool
 number_eq x y = x.1 == y.1
 
 each_apart : (x : Pair) (xs : List Pair) → ((z : Pair) → In z xs → x.1 < z.1) → AllByRecursion (λ y. number_eq x y ≡ false) xs
 each_apart x [] h = tt
 each_apart x (y ∷ xs) h = (ne_eqb x.1 y.1 (λ e. omega (arith, h y (inl refl))), each_apart x xs (λ z k. h z (inr k)))
 
-pub rise_apart : (xs : List Pair) → Rise xs → IsDistinct number_eq xs
+rise_apart : (xs : List Pair) → Rise xs → IsDistinct number_eq xs
 unfolding IsDistinct
 rise_apart [] r = tt
 rise_apart (x ∷ xs) r = (each_apart x xs r.0, rise_apart xs r.1)
 
-pub flips : (x y : Pair) → number_eq x y ≡ number_eq y x
+flips : (x y : Pair) → number_eq x y ≡ number_eq y x
 flips x y = go (cases_eq x.1 y.1)
   where
     go : (x.1 ≡ y.1) ⊎ (x.1 ≡ y.1 → ⊥) → (x.1 == y.1) ≡ (y.1 == x.1)
@@ -221,7 +221,7 @@ next_below x y l n = go (numbered_cmp x y) refl
     go Equal p = absurd (same_number (equal_number (slice_cmp nat_cmp x.0 y.0) p))
     go Greater p = absurd (false_true (sym l ∙ ap is_lt (total.antisymm y x ∙ ap ordering_reverse p)))
 
-pub ascends_from : (ys : List Pair) → ((k : ℕ) (d : Pair) → k + 1 < length ys → is_lt (numbered_cmp (get_or ys (k + 1) d) (get_or ys k d)) ≡ false) → IsDistinct number_eq ys → Ascends ys
+ascends_from : (ys : List Pair) → ((k : ℕ) (d : Pair) → k + 1 < length ys → is_lt (numbered_cmp (get_or ys (k + 1) d) (get_or ys k d)) ≡ false) → IsDistinct number_eq ys → Ascends ys
 unfolding IsDistinct
 ascends_from [] h n = tt
 ascends_from (x ∷ []) h n = (λ z k. absurd k, tt)
@@ -230,9 +230,13 @@ ascends_from (x ∷ y ∷ ys) h n =
     let f : Below x y = next_below x y (h 0 x (omega arith)) n.0.0 in
     (λ z k. elim k [ inl e ↦ subst (Below x) (sym e) f | inr j ↦ total.trans x y z f (rest.0 z j) ], rest)
 
-pub mapped : (ys : List Numbered) → ((k : ℕ) (d : Numbered) → 0 ≤ k → k + 1 < length ys → is_lt (numbered_cmp (pair_of (get_or ys (k + 1) d)) (pair_of (get_or ys k d))) ≡ false)
-    → (k : ℕ) (d : Pair) → k + 1 < length (map pair_of ys) → is_lt (numbered_cmp (get_or (map pair_of ys) (k + 1) d) (get_or (map pair_of ys) k d)) ≡ false
-mapped [] h k d l = absurd (omega arith)
-mapped (y ∷ ys) h k d l =
-    let n : k + 1 < length (y ∷ ys) = subst (λ m. k + 1 < m) (length-map (y ∷ ys) pair_of) l in
-    rw (get_or-map pair_of (y ∷ ys) (k + 1) y d n, get_or-map pair_of (y ∷ ys) k y d (omega (arith, n))) (h k y (omega arith) n)
+mapped : {X : Type 0} (f : X → Pair) (ys : List X) → IsSortedBy (λ x y. is_lt (numbered_cmp (f x) (f y))) ys → (k : ℕ) (d : Pair) → k + 1 < length (map f ys) → is_lt (numbered_cmp (get_or (map f ys) (k + 1) d) (get_or (map f ys) k d)) ≡ false
+mapped f [] h k d l = absurd (omega arith)
+mapped f (y ∷ ys) h k d l =
+    let n : k + 1 < length (y ∷ ys) = subst (λ m. k + 1 < m) (length-map (y ∷ ys) f) l in
+    rw (get_or-map f (y ∷ ys) (k + 1) y d n, get_or-map f (y ∷ ys) k y d (omega (arith, n))) (h k y (omega arith) n)
+
+-- so it is of what has a key and a number
+pub sort_orders : {X : Type 0} (f : X → Pair) (xs ys : List X) → Rise (map f xs) → IsPermutation xs ys → IsSortedBy (λ x y. is_lt (numbered_cmp (f x) (f y))) ys → map f ys ≡ inserted_all (map f xs)
+sort_orders f xs ys r p s =
+    let moved = IsPermutation-map f xs ys p in sort_inserts (map f xs) (map f ys) r moved (ascends_from (map f ys) (mapped f ys s) (IsDistinct-IsPermutation number_eq flips _ _ moved (rise_apart _ r)))

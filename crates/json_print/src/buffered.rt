@@ -79,18 +79,28 @@ fn fill_by<const N: usize>(buffer: &mut [u8], at: usize, piece: &[u8])
     Simd::<u8, N>::from_slice(&piece[back..]).copy_to_slice(&mut buffer[at + back..]);
 }
 
+#[inline(never)]
+fn fill_long(buffer: &mut [u8], at: usize, piece: &[u8])
+    requires { at + length piece.now ≤ length buffer.old }
+    ensures { take (at + length piece.now) buffer.new ≡ take at buffer.old ++ piece.now }
+{
+    buffer[at..at + piece.len()].copy_from_slice(piece);
+}
+
 // Copies a piece. One of a known length costs a store or two.
-#[inline]
+#[inline(always)]
 fn fill(buffer: &mut [u8], at: usize, piece: &[u8])
     requires { at + length piece.now ≤ length buffer.old }
     ensures { take (at + length piece.now) buffer.new ≡ take at buffer.old ++ piece.now }
 {
     match piece.len() {
+        0 => {}
+        1 => buffer[at] = piece[0],
         2..4 => fill_by::<2>(buffer, at, piece),
         4..8 => fill_by::<4>(buffer, at, piece),
         8..16 => fill_by::<8>(buffer, at, piece),
         16..33 => fill_by::<16>(buffer, at, piece),
-        _ => buffer[at..at + piece.len()].copy_from_slice(piece),
+        _ => fill_long(buffer, at, piece),
     }
 }
 

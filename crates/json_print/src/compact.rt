@@ -3,7 +3,7 @@ ghost use Rattle.json_print.specs.Layouts.{plain_form};
 
 use crate::Formatter;
 use crate::adding::{add, told};
-use crate::escape::{add_number, add_string};
+use crate::escape::{add_number, add_string, add_unsigned};
 use crate::layout::add_byte_array;
 use json_text::{Result, Sink};
 
@@ -80,7 +80,7 @@ impl Formatter for CompactFormatter {
 
     #[inline(always)]
     fn write_u64<W: Sink>(&mut self, writer: &mut W, value: u64) -> Result<()> {
-        told(add_number(writer, value))
+        told(add_unsigned(writer, value))
     }
 
     #[inline(always)]

@@ -1,12 +1,14 @@
 // Strings and numbers.
-ghost use Rattle.std.specs.Prelude.{◌≡◌, ◌<◌, MatchOption};
+ghost use Rattle.std.specs.Prelude.{◌≡◌, ◌+◌, ◌<◌, ◌≤◌, MatchOption};
 ghost use Rattle.std.specs.Char.{digit_char};
+ghost use Rattle.std.specs.Fmt.{decimal};
 ghost use Rattle.json_model.specs.Print.{quoted, shown_byte, shown_bytes, unit_escape};
 ghost use Rattle.json_print.specs.Adding.{Adds};
 ghost use Rattle.json_print.specs.Calls.{string_text};
 ghost use Rattle.json_text.specs.Runs.{IsPlain, plain};
 
 use crate::adding::{Added, add};
+use crate::plain::is_plain_short;
 use itoa::{Buffer, Integer};
 use json_text::{Sink, plain_run};
 
@@ -109,13 +111,25 @@ fn add_quoted_plain<W: Sink>(writer: &mut W, value: &[u8]) -> Added
 }
 
 #[inline(never)]
-fn add_quoted<W: Sink>(writer: &mut W, value: &[u8]) -> Added
+fn add_quoted_long<W: Sink>(writer: &mut W, value: &[u8]) -> Added
     ensures { Adds (W.state writer.old) (W.state writer.new) (quoted value.now) result }
 {
     if plain_run(value, 0) == value.len() {
         add_quoted_plain(writer, value)
     } else {
         add_quoted_escaped(writer, value)
+    }
+}
+
+// A short string of which no byte has to be escaped is tested and put in line.
+#[inline(always)]
+fn add_quoted<W: Sink>(writer: &mut W, value: &[u8]) -> Added
+    ensures { Adds (W.state writer.old) (W.state writer.new) (quoted value.now) result }
+{
+    if is_plain_short(value) {
+        add_quoted_plain(writer, value)
+    } else {
+        add_quoted_long(writer, value)
     }
 }
 
@@ -138,4 +152,61 @@ pub(crate) fn add_number<N: Integer, W: Sink>(writer: &mut W, number: N) -> Adde
 {
     let mut buffer = Buffer::new();
     add(writer, buffer.format(number).as_bytes())
+}
+
+#[inline(always)]
+fn digit(value: u64) -> u8
+    requires { value < 10 }
+    ensures { result ≡ 48 + value }
+{
+    b'0' + value as u8
+}
+
+// An integer of one or two digits.
+#[inline(always)]
+fn add_pair<W: Sink>(writer: &mut W, number: u64) -> Added
+    requires { number < 100 }
+    ensures { Adds (W.state writer.old) (W.state writer.new) (decimal number) result }
+{
+    if number < 10 {
+        return add(writer, &[digit(number)]);
+    }
+    add(writer, &[digit(number / 10), digit(number % 10)])
+}
+
+// An integer of three or four digits.
+#[inline(always)]
+fn add_quad<W: Sink>(writer: &mut W, number: u64) -> Added
+    requires { (100 ≤ number) × (number < 10000) }
+    ensures { Adds (W.state writer.old) (W.state writer.new) (decimal number) result }
+{
+    let last = digit(number % 10);
+    let tens = number / 10;
+    let hundreds = tens / 10;
+    if hundreds < 10 {
+        return add(writer, &[digit(hundreds), digit(tens % 10), last]);
+    }
+    add(
+        writer,
+        &[
+            digit(hundreds / 10),
+            digit(hundreds % 10),
+            digit(tens % 10),
+            last,
+        ],
+    )
+}
+
+// An integer from zero on: one of a few digits is put in line.
+#[inline(always)]
+pub(crate) fn add_unsigned<W: Sink>(writer: &mut W, number: u64) -> Added
+    ensures { Adds (W.state writer.old) (W.state writer.new) (decimal number) result }
+{
+    if number < 100 {
+        add_pair(writer, number)
+    } else if number < 10_000 {
+        add_quad(writer, number)
+    } else {
+        add_number(writer, number)
+    }
 }

@@ -25,6 +25,7 @@ mod indent;
 mod layout;
 mod order;
 mod part;
+mod plain;
 mod pretty;
 mod quoted;
 mod serializer;
@@ -39,8 +40,3 @@ pub use pretty::PrettyFormatter;
 pub use quoted::Quoted;
 pub use serializer::Serializer;
 pub use style::Style;
-
-#[cfg(test)]
-mod system_tests;
-#[cfg(test)]
-mod tests;

@@ -42,7 +42,11 @@ fn write_int<F: Formatter, W: Sink>(formatter: &mut F, writer: &mut W, value: i1
 
 // The same from zero on.
 #[inline(always)]
-fn write_uint<F: Formatter, W: Sink>(formatter: &mut F, writer: &mut W, value: u128) -> Result<()>
+pub(crate) fn write_uint<F: Formatter, W: Sink>(
+    formatter: &mut F,
+    writer: &mut W,
+    value: u128,
+) -> Result<()>
     ensures puts { Puts (W.state writer.old) (W.state writer.new)
         (F.form.piece formatter.old (unsigned_call value)) result }
     ensures next { OnOk result (formatter.new ≡ F.form.next formatter.old (unsigned_call value)) }
@@ -53,7 +57,7 @@ fn write_uint<F: Formatter, W: Sink>(formatter: &mut F, writer: &mut W, value: u
     }
 }
 
-#[inline(always)]
+#[inline(never)]
 pub(crate) fn write_part<F: Formatter, W: Sink>(
     formatter: &mut F,
     writer: &mut W,

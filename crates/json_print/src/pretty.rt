@@ -4,7 +4,7 @@ ghost use Rattle.json_print.specs.Layouts.{LaidOut, pretty_form};
 
 use crate::Formatter;
 use crate::adding::{add, told};
-use crate::escape::{add_number, add_string};
+use crate::escape::{add_number, add_string, add_unsigned};
 use crate::indent::Indent;
 use crate::layout::{add_byte_array, add_end, add_start};
 use json_text::{Result, Sink};
@@ -125,7 +125,7 @@ impl Formatter for PrettyFormatter<'_> {
 
     #[inline(always)]
     fn write_u64<W: Sink>(&mut self, writer: &mut W, value: u64) -> Result<()> {
-        told(add_number(writer, value))
+        told(add_unsigned(writer, value))
     }
 
     #[inline(always)]

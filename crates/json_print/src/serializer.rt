@@ -8,6 +8,7 @@ ghost use Rattle.json_print.specs.Stands.{after_stands};
 ghost use Rattle.json_print.specs.Steps.{refusal_of};
 ghost use Rattle.json_print.specs.Written.{Written};
 
+mod puts;
 mod steps;
 
 use crate::part::Part;
@@ -120,8 +121,9 @@ impl<W: Sink, F: Formatter> Serializer<W, F> {
         self.writer
     }
 
-    // The error that is kept. It is answered in place: an answer behind a call would be cleared at each token.
-    #[inline(always)]
+    // The error that is kept.
+    #[cold]
+    #[inline(never)]
     fn refusal(&self) -> Result<()>
         ensures { result ≡ refusal_of self.now.failed }
     {
@@ -148,115 +150,93 @@ impl<W: Sink, F: Formatter> Events for Serializer<W, F> {
 
     ghost moves = { λ s g. after_stands F.form s (token_of g) };
 
+    #[inline(always)]
     fn null(&mut self) -> Result<()> {
-        if self.failed.is_some() {
-            return self.refusal();
+        if self.failed.is_none() && self.null_value().is_ok() {
+            return Ok(());
         }
-        match self.scalar(Part::Null) {
-            Ok(()) => Ok(()),
-            Err(_) => self.refusal(),
-        }
+        self.refusal()
     }
 
+    #[inline(always)]
     fn boolean(&mut self, b: bool) -> Result<()> {
-        if self.failed.is_some() {
-            return self.refusal();
+        if self.failed.is_none() && self.boolean_value(b).is_ok() {
+            return Ok(());
         }
-        match self.scalar(Part::Bool(b)) {
-            Ok(()) => Ok(()),
-            Err(_) => self.refusal(),
-        }
+        self.refusal()
     }
 
+    #[inline(always)]
     fn int(&mut self, n: i128) -> Result<()> {
-        if self.failed.is_some() {
-            return self.refusal();
+        if self.failed.is_none() && self.scalar(Part::Int(n)).is_ok() {
+            return Ok(());
         }
-        match self.scalar(Part::Int(n)) {
-            Ok(()) => Ok(()),
-            Err(_) => self.refusal(),
-        }
+        self.refusal()
     }
 
+    #[inline(always)]
     fn uint(&mut self, n: u128) -> Result<()> {
-        if self.failed.is_some() {
-            return self.refusal();
+        if self.failed.is_none() && self.unsigned(n).is_ok() {
+            return Ok(());
         }
-        match self.scalar(Part::Uint(n)) {
-            Ok(()) => Ok(()),
-            Err(_) => self.refusal(),
-        }
+        self.refusal()
     }
 
+    #[inline(always)]
     fn raw_number(&mut self, literal: &str) -> Result<()> {
-        if self.failed.is_some() {
-            return self.refusal();
+        if self.failed.is_none() && self.number(literal).is_ok() {
+            return Ok(());
         }
-        match self.scalar(Part::Number(literal)) {
-            Ok(()) => Ok(()),
-            Err(_) => self.refusal(),
-        }
+        self.refusal()
     }
 
+    #[inline(always)]
     fn text(&mut self, s: &str) -> Result<()> {
-        if self.failed.is_some() {
-            return self.refusal();
+        if self.failed.is_none() && self.string(s).is_ok() {
+            return Ok(());
         }
-        match self.scalar(Part::Text(s)) {
-            Ok(()) => Ok(()),
-            Err(_) => self.refusal(),
-        }
+        self.refusal()
     }
 
+    #[inline(always)]
     fn begin_array(&mut self, hint: Option<usize>) -> Result<()> {
         let _ = hint;
-        if self.failed.is_some() {
-            return self.refusal();
+        if self.failed.is_none() && self.begin(Kind::Array).is_ok() {
+            return Ok(());
         }
-        match self.begin(Kind::Array) {
-            Ok(()) => Ok(()),
-            Err(_) => self.refusal(),
-        }
+        self.refusal()
     }
 
+    #[inline(always)]
     fn end_array(&mut self) -> Result<()> {
-        if self.failed.is_some() {
-            return self.refusal();
+        if self.failed.is_none() && self.end(Kind::Array).is_ok() {
+            return Ok(());
         }
-        match self.end(Kind::Array) {
-            Ok(()) => Ok(()),
-            Err(_) => self.refusal(),
-        }
+        self.refusal()
     }
 
+    #[inline(always)]
     fn begin_object(&mut self, hint: Option<usize>) -> Result<()> {
         let _ = hint;
-        if self.failed.is_some() {
-            return self.refusal();
+        if self.failed.is_none() && self.begin(Kind::Object).is_ok() {
+            return Ok(());
         }
-        match self.begin(Kind::Object) {
-            Ok(()) => Ok(()),
-            Err(_) => self.refusal(),
-        }
+        self.refusal()
     }
 
+    #[inline(always)]
     fn key(&mut self, s: &str) -> Result<()> {
-        if self.failed.is_some() {
-            return self.refusal();
+        if self.failed.is_none() && self.key_text(s).is_ok() {
+            return Ok(());
         }
-        match self.key_text(s) {
-            Ok(()) => Ok(()),
-            Err(_) => self.refusal(),
-        }
+        self.refusal()
     }
 
+    #[inline(always)]
     fn end_object(&mut self) -> Result<()> {
-        if self.failed.is_some() {
-            return self.refusal();
+        if self.failed.is_none() && self.end(Kind::Object).is_ok() {
+            return Ok(());
         }
-        match self.end(Kind::Object) {
-            Ok(()) => Ok(()),
-            Err(_) => self.refusal(),
-        }
+        self.refusal()
     }
 }

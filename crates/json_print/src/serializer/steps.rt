@@ -1,17 +1,18 @@
 // The steps of a serializer.
-ghost use Rattle.std.specs.Prelude.{◌≡◌, None, Some};
+ghost use Rattle.std.specs.Prelude.{◌≡◌, None, Some, true};
+ghost use Rattle.json_print.specs.Calls.{boolean_call, null_call, number_call, string_call, unsigned_call};
 ghost use Rattle.json_print.specs.Parts.{meaning};
-ghost use Rattle.json_print.specs.Printer.{call, emptied, emptied_in, filed_in, is_first, key_kept, key_written, keyed, layered_in, members_put, no_layer, opened_up, took_begin, took_end, took_key, took_scalar, value_begun, value_ended};
+ghost use Rattle.json_print.specs.Printer.{emptied, emptied_in, filed_in, is_first, key_kept, key_written, keyed, layered_in, members_put, no_layer, opened_up, took_begin, took_end, took_key, took_scalar, value_begun, value_ended};
 ghost use Rattle.json_print.specs.Rows.{IsOrderOf, members_written};
 ghost use Rattle.json_print.specs.Serializing.{StepsBy, out_of};
 
 use super::{Halted, Serializer, Step};
 use crate::order::Numbered;
-use crate::part::{Part, write_part};
+use crate::part::Part;
 use crate::sorted::{SortedObject, put_rows};
 use crate::{Formatter, Turn};
 use json_grammar::Kind;
-use json_text::{Error, Sink};
+use json_text::{Error, ErrorCode, Sink};
 
 #[inline(always)]
 fn first_key(turn: Turn) -> bool
@@ -24,52 +25,6 @@ fn first_key(turn: Turn) -> bool
 }
 
 impl<W: Sink, F: Formatter> Serializer<W, F> {
-    // Keeps the error.
-    #[cold]
-    #[inline(never)]
-    fn halt(&mut self, error: Error) -> Halted
-        ensures { self.new ≡ record self.old { failed = Some error } }
-    {
-        self.failed = Some(error);
-        Halted
-    }
-
-    // A call of the formatter where members may wait: out of line, so that its answers are not cleared
-    // at each token.
-    #[inline(never)]
-    fn call_waiting(&mut self, part: Part<'_>) -> Step
-        requires { self.old.failed ≡ None }
-        ensures { StepsBy W.state self.old self.new
-            (λ s. call F.form s (meaning part.entry)) result }
-    {
-        match self.objects.last_mut() {
-            None => match write_part(&mut self.formatter, &mut self.writer, part) {
-                Ok(()) => Ok(()),
-                Err(error) => Err(self.halt(error)),
-            },
-            Some(object) => match object.call(&mut self.formatter, part) {
-                Ok(()) => Ok(()),
-                Err(error) => Err(self.halt(error)),
-            },
-        }
-    }
-
-    // A call of the formatter.
-    #[inline(always)]
-    fn call(&mut self, part: Part<'_>) -> Step
-        requires { self.old.failed ≡ None }
-        ensures { StepsBy W.state self.old self.new
-            (λ s. call F.form s (meaning part.entry)) result }
-    {
-        match self.objects.last() {
-            None => match write_part(&mut self.formatter, &mut self.writer, part) {
-                Ok(()) => Ok(()),
-                Err(error) => Err(self.halt(error)),
-            },
-            Some(_) => self.call_waiting(part),
-        }
-    }
-
     // What stands before a value.
     #[inline(always)]
     fn value_begin(&mut self) -> Step
@@ -78,9 +33,9 @@ impl<W: Sink, F: Formatter> Serializer<W, F> {
     {
         match self.turn {
             Turn::Value | Turn::Key(_) | Turn::Done => Ok(()),
-            Turn::Element(first) => self.call(Part::BeginElement(first)),
+            Turn::Element(first) => self.put_begin_element(first),
             Turn::Member if self.sorts => Ok(()),
-            Turn::Member => self.call(Part::BeginMember),
+            Turn::Member => self.put_begin_member(),
         }
     }
 
@@ -112,27 +67,82 @@ impl<W: Sink, F: Formatter> Serializer<W, F> {
             }
             Some(Kind::Array) => {
                 self.turn = Turn::Element(false);
-                self.call(Part::EndElement)
+                self.put_end_element()
             }
             Some(Kind::Object) => {
                 self.turn = Turn::Key(false);
                 if self.sorts {
                     self.file()
                 } else {
-                    self.call(Part::EndMember)
+                    self.put_end_member()
                 }
             }
         }
     }
 
-    #[inline(always)]
+    // The scalars, each out of line: what is in line where tokens are given stays small.
+    #[inline(never)]
+    pub(super) fn null_value(&mut self) -> Step
+        requires { self.old.failed ≡ None }
+        ensures { StepsBy W.state self.old self.new (λ s. took_scalar F.form s null_call) result }
+    {
+        self.value_begin()?;
+        self.put_null()?;
+        self.value_end()
+    }
+
+    #[inline(never)]
+    pub(super) fn boolean_value(&mut self, b: bool) -> Step
+        requires { self.old.failed ≡ None }
+        ensures { StepsBy W.state self.old self.new (λ s.
+            took_scalar F.form s (boolean_call b)) result }
+    {
+        self.value_begin()?;
+        self.put_boolean(b)?;
+        self.value_end()
+    }
+
+    #[inline(never)]
     pub(super) fn scalar(&mut self, part: Part<'_>) -> Step
         requires { self.old.failed ≡ None }
         ensures { StepsBy W.state self.old self.new
             (λ s. took_scalar F.form s (meaning part.entry)) result }
     {
         self.value_begin()?;
-        self.call(part)?;
+        self.put_scalar(part)?;
+        self.value_end()
+    }
+
+    #[inline(never)]
+    pub(super) fn unsigned(&mut self, n: u128) -> Step
+        requires { self.old.failed ≡ None }
+        ensures { StepsBy W.state self.old self.new
+            (λ s. took_scalar F.form s (unsigned_call n)) result }
+    {
+        self.value_begin()?;
+        self.put_unsigned(n)?;
+        self.value_end()
+    }
+
+    #[inline(never)]
+    pub(super) fn number(&mut self, literal: &str) -> Step
+        requires { self.old.failed ≡ None }
+        ensures { StepsBy W.state self.old self.new
+            (λ s. took_scalar F.form s (number_call literal.now)) result }
+    {
+        self.value_begin()?;
+        self.put_number(literal)?;
+        self.value_end()
+    }
+
+    #[inline(never)]
+    pub(super) fn string(&mut self, text: &str) -> Step
+        requires { self.old.failed ≡ None }
+        ensures { StepsBy W.state self.old self.new
+            (λ s. took_scalar F.form s (string_call true text.now)) result }
+    {
+        self.value_begin()?;
+        self.put_text(text)?;
         self.value_end()
     }
 
@@ -172,7 +182,7 @@ impl<W: Sink, F: Formatter> Serializer<W, F> {
     {
         match self.opened.push(kind) {
             Ok(()) => {}
-            Err(error) => return Err(self.halt(Error::from(error))),
+            Err(_) => return Err(self.halt_by(ErrorCode::NoMemory)),
         }
         match kind {
             Kind::Array => {
@@ -190,13 +200,13 @@ impl<W: Sink, F: Formatter> Serializer<W, F> {
         }
     }
 
-    #[inline(always)]
+    #[inline(never)]
     pub(super) fn begin(&mut self, kind: Kind) -> Step
         requires { self.old.failed ≡ None }
         ensures { StepsBy W.state self.old self.new (λ s. took_begin F.form s kind) result }
     {
         self.value_begin()?;
-        self.call(Part::Begin(kind))?;
+        self.put_begin(kind)?;
         self.open(kind)
     }
 
@@ -263,13 +273,13 @@ impl<W: Sink, F: Formatter> Serializer<W, F> {
         }
     }
 
-    #[inline(always)]
+    #[inline(never)]
     pub(super) fn end(&mut self, kind: Kind) -> Step
         requires { self.old.failed ≡ None }
         ensures { StepsBy W.state self.old self.new (λ s. took_end F.form s kind) result }
     {
         self.empty(kind)?;
-        self.call(Part::End(kind))?;
+        self.put_end(kind)?;
         let _ = self.opened.pop();
         self.value_end()
     }
@@ -296,9 +306,9 @@ impl<W: Sink, F: Formatter> Serializer<W, F> {
         ensures { StepsBy W.state self.old self.new (λ s. key_written F.form s key.now) result }
     {
         let first = first_key(self.turn);
-        self.call(Part::BeginKey(first))?;
-        self.call(Part::Text(key))?;
-        self.call(Part::EndKey)
+        self.put_begin_key(first)?;
+        self.put_text(key)?;
+        self.put_end_key()
     }
 
     #[inline(always)]
@@ -313,7 +323,7 @@ impl<W: Sink, F: Formatter> Serializer<W, F> {
         }
     }
 
-    #[inline(always)]
+    #[inline(never)]
     pub(super) fn key_text(&mut self, key: &str) -> Step
         requires { self.old.failed ≡ None }
         ensures { StepsBy W.state self.old self.new (λ s. took_key F.form s key.now) result }

@@ -1,5 +1,5 @@
 // What no clause says of the edge to the system: each call of a writer or a reader that fails is told.
-use crate::{BufferedWriter, Events, Serializer};
+use json_print::{BufferedWriter, Events, Serializer};
 use json_text::{
     Error, ErrorCode, Failed, Place, Sink, SinkError, Source, StdSink, StdSource, flush_all,
     put_all, read_all,

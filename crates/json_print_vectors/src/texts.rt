@@ -3,7 +3,7 @@ ghost use Rattle.std.specs.Prelude.{◌≡◌, [], ◌∷◌, true, false, OnOk}
 ghost use Rattle.json_grammar.specs.declared.Kind.TheVariants.{Object as object};
 ghost use Rattle.json_print.specs.declared.events.Turn.TheVariants.{Value as at_value, Key as at_key, Done as at_done};
 
-use crate::{
+use json_print::{
     Buffer, BufferedWriter, CompactFormatter, Events, Formatter, PrettyFormatter, Serializer, Style,
 };
 use json_text::{ErrorCode, FakeSink, LentSink, Result, Sink, VecSink, flush_all, put_all};

@@ -1,0 +1,77 @@
+// Whether a short string has no byte that has to be escaped.
+ghost use Rattle.std.specs.Prelude.{◌≡◌, ℕ, ◌+◌, ◌<◌, ◌≤◌, ◌↔◌, length, get_or, IsTrue};
+ghost use Rattle.json_text.specs.Runs.{IsPlain, plain};
+
+use std::simd::prelude::*;
+
+// The last byte of the control characters.
+const LAST_CONTROL: u8 = 31;
+
+#[inline(always)]
+fn is_plain(byte: u8) -> bool
+    ensures { IsTrue result → IsPlain byte }
+{
+    byte > LAST_CONTROL && byte != b'"' && byte != b'\\'
+}
+
+#[inline(always)]
+fn is_none(mask: u64) -> bool
+    ensures { IsTrue result → (mask ≡ 0) }
+{
+    mask == 0
+}
+
+// Whether each of N bytes stands for itself in a string.
+#[inline(always)]
+fn is_plain_block<const N: usize>(bytes: &[u8], at: usize) -> bool
+    requires lanes { N ≤ 64 }
+    requires room { at + N ≤ length bytes.now }
+    ensures { IsTrue result → (k : ℕ) → at ≤ k → k < at + N → IsPlain (get_or bytes.now k 0) }
+{
+    let block = Simd::<u8, N>::from_slice(&bytes[at..]);
+    let quote = block.simd_eq(Simd::splat(b'"'));
+    let backslash = block.simd_eq(Simd::splat(b'\\'));
+    let stops = block.simd_le(Simd::splat(LAST_CONTROL)) | quote | backslash;
+    is_none(stops.to_bitmask())
+}
+
+// Whether no byte has to be escaped, of N bytes up to twice as many, by two blocks that may overlap.
+#[inline(always)]
+fn is_plain_by<const N: usize>(text: &[u8]) -> bool
+    requires lanes { N ≤ 64 }
+    requires long { N ≤ length text.now }
+    requires short { length text.now ≤ N + N }
+    ensures { IsTrue result → plain text.now }
+{
+    if !is_plain_block::<N>(text, 0) {
+        return false;
+    }
+    is_plain_block::<N>(text, text.len() - N)
+}
+
+// The same of few bytes, one after another.
+#[inline(always)]
+fn is_plain_few(text: &[u8]) -> bool
+    ensures { IsTrue result → plain text.now }
+{
+    'each: for byte in text {
+        if !is_plain(*byte) {
+            return false;
+        }
+    }
+    true
+}
+
+/// Whether the text is short and no byte of it has to be escaped.
+#[inline(always)]
+pub(crate) fn is_plain_short(text: &[u8]) -> bool
+    ensures { IsTrue result → plain text.now }
+{
+    match text.len() {
+        4..8 => is_plain_by::<4>(text),
+        8..16 => is_plain_by::<8>(text),
+        16..33 => is_plain_by::<16>(text),
+        0..4 => is_plain_few(text),
+        _ => false,
+    }
+}
