@@ -38,3 +38,5 @@ pub mod FirstWrites
 pub mod WhereStepsLead
 pub mod RefusedCalls
 pub mod EditsAlong
+pub mod KeyOrders
+pub mod SortedGiven

@@ -9,6 +9,8 @@ pub mod Room
 pub mod OwnLists
 pub mod Written
 pub mod Emitting
+pub mod EmittingSorted
+pub mod KeyOrder
 pub mod Seen
 pub mod Sights
 pub mod SightParts
@@ -24,3 +26,4 @@ pub mod Touched
 pub mod Lending
 pub mod Laws
 pub mod Failures
+pub mod EditTrees

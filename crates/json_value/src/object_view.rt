@@ -210,7 +210,8 @@ impl<'a> PackedMembers<'a> {
 
     #[inline]
     fn next(&mut self) -> Option<(&'a str, View<'a>)>
-        ensures tree { YieldsFirstBy member_seen (λ p. pairs_left p.members) self.old result self.new }
+        ensures tree { YieldsFirstBy member_seen (λ p. pairs_left p.members)
+            self.old result self.new }
         ensures sight { YieldsFirstBy member_sight packed_member_sights self.old result self.new }
     {
         match self.members.next() {

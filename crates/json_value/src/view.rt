@@ -12,17 +12,21 @@ ghost use Rattle.json_value.specs.Sights.{sight_of, place_of, nowhere};
 ghost use Rattle.json_value.specs.Spots.{spot_in, spot_of};
 ghost use Rattle.json_value.specs.ViewSpots.{spot_seen, spot_kept, places_kept};
 ghost use Rattle.json_model.specs.Edit.{key_step, index_step};
+ghost use Rattle.json_model.specs.Sort.{sorted};
 ghost use Rattle.json_value.specs.Edits.{steps_of};
 ghost use Rattle.json_value.specs.Steps.{child, tree_at, tree_or_null};
 ghost use Rattle.json_doc.specs.Docs.{doc_cells, doc_tree};
 ghost use Rattle.json_print.specs.Standing.{TakesValue};
 ghost use Rattle.json_print.specs.Given.{given_tokens};
 ghost use Rattle.json_value.specs.Emitting.{Emits, tree_given};
+ghost use Rattle.json_value.specs.EmittingSorted.{EmitsOrLacks};
 ghost use Rattle.json_value.specs.Failures.{OnlyNoMemory};
 
 use crate::array_view::ArrayView;
 use crate::emit::emit_value;
 use crate::emit_packed::emit_document;
+use crate::emit_sorted::sort_value;
+use crate::emit_sorted_packed::sort_document;
 use crate::index::Index;
 use crate::object_view::ObjectView;
 use crate::packed_view::PackedView;
@@ -276,6 +280,24 @@ impl<'a> View<'a> {
         match self.form {
             ViewForm::Packed(packed) => emit_document(packed.view, out),
             ViewForm::Whole(value) => emit_value(value, out),
+            ViewForm::Absent => out.null(),
+        }
+    }
+
+    /// Gives the tokens of the tree that is seen, with the members of each object in the order of their
+    /// keys and those of one key in the order in which they stand, to `out`, as `emit` does. Takes memory
+    /// for an object whose keys fall: 8 bytes a member, until its end was given. Where that is lacking
+    /// `NoMemory` is answered; then the events have taken the first of these tokens, and no error.
+    pub fn emit_sorted<E: Events>(self, alloc: Global, out: &mut E) -> Result<()>
+        requires { E.failed out.old ≡ None → TakesValue (E.stand (E.state out.old)).turn }
+        ensures given { EmitsOrLacks E.after E.stopped (E.state out.old) (E.state out.new)
+            (E.failed out.old) (E.failed out.new) (tree_given (sorted (seen self.entry))) result }
+        ensures tokens { given_tokens (tree_given (sorted (seen self.entry)))
+            ≡ tokens (sorted (seen self.entry)) }
+    {
+        match self.form {
+            ViewForm::Packed(packed) => sort_document(packed.view, alloc, out),
+            ViewForm::Whole(value) => sort_value(value, alloc, out),
             ViewForm::Absent => out.null(),
         }
     }

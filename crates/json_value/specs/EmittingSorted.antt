@@ -1,0 +1,18 @@
+-- What it is to give a tree to events in the order of its keys, which may take memory.
+use Rattle.std.specs.Prelude.{◌≡◌, ◌⊎◌, List, Option, None, Some, Result, Err, OnOk, IfErr, IfSome}
+use Rattle.json_text.specs.declared.error.Error.{Error}
+use Rattle.json_text.specs.Errors.{no_memory}
+use Rattle.json_print.specs.Given.{Given}
+use Rattle.json_print.specs.Taking.{after_all, StopsAmong}
+
+-- the events met the error at this one, or memory was lacking before it was given: then they have answered no error
+abbrev pub StopsOrLacks : {S : Type 0} → (S → Given → S → Error → Type 0) → Option Error → S → Given → S → Error → Type 0
+StopsOrLacks stopped err' s g s' e = (stopped s g s' e × (err' ≡ Some e)) ⊎ ((e ≡ no_memory) × (s' ≡ s) × (err' ≡ None))
+
+-- these were given in turn, up to the first that met an error or for which memory was lacking; where an error was answered before,
+-- it is answered again
+pub record EmitsOrLacks {S : Type 0} (after : S → Given → S) (stopped : S → Given → S → Error → Type 0) (old new : S) (err err' : Option Error) (gs : List Given) (result : Result (Unit {0}) Error) : Type 0 where
+  pub all : OnOk result (new ≡ after_all after old gs)
+  pub fresh : OnOk result (err' ≡ None)
+  pub stops : err ≡ None → IfErr result (StopsAmong after (StopsOrLacks stopped err') old new gs)
+  pub again : IfSome err (λ e. (result ≡ Err e) × (new ≡ old) × (err' ≡ err))

@@ -1,0 +1,37 @@
+-- Members by their numbers, in the order of their keys.
+use Rattle.std.specs.Prelude.{◌≡◌, ℕ, zero, suc, ◌-◌, List, [], ◌∷◌, map, slice_index_or}
+use Rattle.json_grammar.specs.Tree.{Tree, null}
+use Rattle.json_doc.specs.Docs.{doc_tree}
+use Rattle.json_doc.specs.Trees.{text_of}
+use Rattle.json_doc.specs.declared.doc.Doc.{Doc}
+use Rattle.json_print.specs.Orders.{Pair, inserted_all}
+use Rattle.json_value.specs.Denotes.{pair_of}
+use Rattle.json_value.specs.declared.pair.Keyed.{Keyed}
+use Rattle.json_value.specs.declared.value.Value.{Value}
+
+-- a number with its key
+abbrev pub keyed : (ℕ → List ℕ) → ℕ → Pair
+keyed key n = (key n, n)
+
+-- the second are the first in the order of their keys, and those of one key in the order in which they were
+abbrev pub IsKeyOrder : (ℕ → List ℕ) → List ℕ → List ℕ → Type 0
+IsKeyOrder key numbers order = map (keyed key) order ≡ inserted_all (map (keyed key) numbers)
+
+-- ---- a document: a member's number is the place of its value
+
+-- the key that stands before a place
+abbrev pub place_key : Doc → ℕ → List ℕ
+place_key d at = text_of (doc_tree d (at - 1))
+
+-- ---- an owned object: its members are numbered from 0 on
+
+abbrev pub numbers_from : ℕ → ℕ → List ℕ
+numbers_from k zero = []
+numbers_from k (suc n) = k ∷ numbers_from (suc k) n
+
+-- the member of a number
+abbrev pub member_at : List (Keyed Value) → ℕ → List ℕ × Tree
+member_at ps n = slice_index_or (map pair_of ps) n ([], null)
+
+abbrev pub owned_key : List (Keyed Value) → ℕ → List ℕ
+owned_key ps n = (member_at ps n).0
