@@ -1,10 +1,10 @@
 -- One event more.
-use Rattle.std.proofs.Common.{◌≡◌, ◌≢◌, ◌∙◌, List, [], ◌∷◌, ◌++◌, length, take, true, false, None, refl, sym, ap, subst, arith}
+use Rattle.std.proofs.Common.{◌≡◌, ◌≢◌, ◌≤◌, ◌∙◌, List, [], ◌∷◌, ◌++◌, length, take, true, false, None, refl, sym, ap, subst, arith}
 use Rattle.json_grammar.specs.declared.Kind.{Kind}
+use Rattle.json_grammar.specs.declared.Kind.TheVariants.{Array as array, Object as object}
 use Rattle.json_grammar.specs.declared.Spot.{Spot as Place}
-use Rattle.json_grammar.specs.declared.Spot.TheVariants.{Done as done}
+use Rattle.json_grammar.specs.declared.Spot.TheVariants.{Value as at_value, First as first, Key as at_key, KeyOrEnd as key_or_close, Colon as colon, Done as done}
 use Rattle.json_grammar.specs.Tree.{Tree, Token as Tok, num_token, text_token, key_token, tokens}
-use Rattle.json_grammar.proofs.StringsUnique.{chars_same}
 use Rattle.json_text.specs.declared.event.Event.{Event}
 use Rattle.json_text.specs.declared.event.Event.TheVariants as event
 use Rattle.json_text.specs.Events.{Means}
@@ -14,12 +14,12 @@ use Rattle.json_grammar.specs.Place.{reading}
 use Rattle.json_data.specs.declared.token.TokenKind.{TokenKind}
 use Rattle.json_data.specs.Kinds.{kind_of}
 use Rattle.json_data.specs.Spots.{Spot, top, over, after_all, after, opened_of, may_come, MayCome}
-use Rattle.json_data.specs.Text.{event_kind, EventIsNumber, place_of, spot_of, before, ReadsAhead}
+use Rattle.json_data.specs.Text.{event_kind, EventIsNumber, place_of, spot_of, before, ReadsAhead, IsReading}
 use Rattle.json_grammar.proofs.Numeric.{last_number}
 use Rattle.json_data.proofs.Places.{at_spot, comes, allowed_last, after_append, after_tree, opened_spot, before_after}
 
-pub given_reading : (p : ParserState) (ts : List Tok) → HasGiven p ts → reading false (take (taken p) (input p)) p.open_kinds p.spot ts
-given_reading p ts h = stood_at p.limit (input p) (taken p) p.open_kinds p.spot ts h
+pub given_reading : (p : ParserState) (ts : List Tok) → HasGiven p ts → reading p.lossy (take (taken p) (input p)) p.open_kinds p.spot ts
+given_reading p ts h = stood_at p.lossy p.limit (input p) (taken p) p.open_kinds p.spot ts h
 
 pub place_is : (p : ParserState) (ts : List Tok) → HasGiven p ts → place_of p ≡ after_all top ts
 place_is p ts h = at_spot (given_reading p ts h)
@@ -65,19 +65,6 @@ same_kind event.BeginObject x m = ap kind_of m
 same_kind event.EndObject x m = ap kind_of m
 same_kind event.End x m = absurd m
 
--- an event is of one token
-pub means_one : (e : Event) (x y : Tok) → Means e x → Means e y → x ≡ y
-means_one event.Null x y m n = m ∙ sym n
-means_one (event.Bool b) x y m n = m ∙ sym n
-means_one (event.Number l) x y m n = m ∙ sym n
-means_one (event.Str s) x y m n = m.2 ∙ ap text_token (chars_same false [] [] m.1 n.1 refl).0 ∙ sym n.2
-means_one (event.Key s) x y m n = m.2 ∙ ap key_token (chars_same false [] [] m.1 n.1 refl).0 ∙ sym n.2
-means_one event.BeginArray x y m n = m ∙ sym n
-means_one event.EndArray x y m n = m ∙ sym n
-means_one event.BeginObject x y m n = m ∙ sym n
-means_one event.EndObject x y m n = m ∙ sym n
-means_one event.End x y m n = absurd m
-
 pub event_number : (p : ParserState) (e : Event) (ts : List Tok) (x : Tok) → Means e x → HasGiven p (ts ++ x ∷ []) → EventIsNumber e
 event_number p (event.Number l) ts x m h = last_number ts l.now (given_reading p (ts ++ num_token l.now ∷ []) (subst (λ (y : Tok). HasGiven p (ts ++ y ∷ [])) m h))
 event_number p event.Null ts x m h = tt
@@ -121,3 +108,32 @@ whole_over p (e, l) = ap (λ (w : Place). spot_of w p.open_kinds) e ∙ ap (spot
     empty : (c : List Kind) → length c ≡ 0 → c ≡ []
     empty [] l = refl
     empty (k ∷ c) l = absurd (omega arith)
+
+-- and the other way round
+pub over_whole : (p : ParserState) → place_of p ≡ over → IsWhole p
+over_whole p e = by p.spot p.open_kinds e
+  where
+    by : (w : Place) (c : List Kind) → spot_of w c ≡ over → (w ≡ done) × (length c ≡ 0)
+    by done [] e = (refl, refl)
+    by at_value [] e = absurd (cc)
+    by first [] e = absurd (cc)
+    by at_key [] e = absurd (cc)
+    by key_or_close [] e = absurd (cc)
+    by colon [] e = absurd (cc)
+    by w (array ∷ c) e = absurd (cc)
+    by at_value (object ∷ c) e = absurd (cc)
+    by first (object ∷ c) e = absurd (cc)
+    by at_key (object ∷ c) e = absurd (cc)
+    by key_or_close (object ∷ c) e = absurd (cc)
+    by colon (object ∷ c) e = absurd (cc)
+    by done (object ∷ c) e = absurd (cc)
+
+-- a parser that has given nothing has read no value
+pub fresh_reading : (p : ParserState) → HasGiven p [] → p.failure ≡ None → p.start ≤ p.index → IsReading (record { parser = p; ahead = None; failed = None })
+fresh_reading p h f o = record {
+  given = ([], h);
+  failed = tt;
+  fresh = λ e. f;
+  order = o;
+  read = λ w. absurd (let e : top ≡ over = sym (place_is p [] h) ∙ whole_over p w in cc);
+}

@@ -1,7 +1,7 @@
 -- A source that knows which tokens of its tree are left: a source over a value.
 use Rattle.std.proofs.Common.{◌≡◌, ◌∙◌, ◌&&◌, List, [], ◌∷◌, ◌++◌, Bool, true, false, refl, sym, ap, subst, append_assoc, append-nil}
 use Rattle.json_grammar.specs.Tree.{Tree, Token as Tok, tokens}
-use Rattle.json_data.proofs.TokensSame.{same}
+use Rattle.json_grammar.proofs.TokensUnique.{same}
 use Rattle.json_data.specs.Kinds.{kind_of}
 use Rattle.json_data.specs.Spots.{Spot, top, after, after_all, behind_value, may_come, MayCome, allowed}
 use Rattle.json_data.specs.Stand.{Takes}

@@ -11,7 +11,6 @@ pub mod TextCalls
 pub mod Pairs
 pub mod Rows
 pub mod Digits
-pub mod TokensSame
 pub mod Left
 pub mod RuledCalls
 pub mod NumberKeys
@@ -20,3 +19,6 @@ pub mod Objects
 pub mod ValueViews
 pub mod ValueSteps
 pub mod ValueCalls
+pub mod TextValues
+pub mod Spelling
+pub mod ValueData

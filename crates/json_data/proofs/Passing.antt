@@ -84,7 +84,7 @@ first_more : (zs : List Tok) (o : Option TokenKind) (k : TokenKind) → FirstIs 
 first_more [] o k f = absurd f
 first_more (z ∷ zs) o k f = f
 
-first_tree : (t : Tree) → FirstIs (tokens t) (first_kind t)
+pub first_tree : (t : Tree) → FirstIs (tokens t) (first_kind t)
 first_tree null = refl
 first_tree (boolean b) = refl
 first_tree (num l) = refl

@@ -178,7 +178,7 @@ at_spot (read_key {c = c} {w = w} {ts = ts} s h n q) =
 at_spot (read_colon {c = c} h q) = colon_spot c ∙ at_spot h
 
 -- a value may begin there
-value_begins : {p : List ℕ} {c : List Kind} {w : Place} {ts : List Tok} → reading false p c w ts → TakesValue w → Begins (spot_of w c)
+value_begins : {lossy : Bool} {p : List ℕ} {c : List Kind} {w : Place} {ts : List Tok} → reading lossy p c w ts → TakesValue w → Begins (spot_of w c)
 value_begins h takes_at_value = at_value_begins _
   where
     at_value_begins : (c : List Kind) → Begins (spot_of at_value c)
@@ -188,7 +188,7 @@ value_begins h takes_at_value = at_value_begins _
 value_begins {c = c} h takes_first = let e = first_in h refl in subst (λ (d : List Kind). Begins (spot_of first d)) (sym e.1) in_array
 
 -- each token may come where it stands
-pub comes : {p : List ℕ} {c : List Kind} {w : Place} {ts : List Tok} → reading false p c w ts → allowed top ts ≡ true
+pub comes : {lossy : Bool} {p : List ℕ} {c : List Kind} {w : Place} {ts : List Tok} → reading lossy p c w ts → allowed top ts ≡ true
 comes (start h) = refl
 comes (open_one {ts = ts} k h t q) =
     allowed_append top ts (begin k ∷ []) (comes h) (both (opens_there k) refl)

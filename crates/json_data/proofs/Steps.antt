@@ -50,9 +50,9 @@ scalar {taken = taken} {stand = stand} {b = b} {c = c} t y i e k p q =
     }
 
 -- bytes say one text
-pub says_one : (e : Bool) (s r b : List ℕ) → Says s e b → Says r e b → s ≡ r
-says_one true s r b h k = (chars_same false [] [] h k refl).0
-says_one false s r b h k = h ∙ sym k
+pub says_one : (e : Option Bool) (s r b : List ℕ) → Says s e b → Says r e b → s ≡ r
+says_one (Some lossy) s r b h k = (chars_same lossy [] [] h k refl).0
+says_one None s r b h k = h ∙ sym k
 
 -- by its kind
 no_bracket : (o : Option ℤ) (k : TokenKind) → number_kind o ≡ k → (k ≡ BeginArray) ⊎ ((k ≡ EndArray) ⊎ ((k ≡ BeginObject) ⊎ (k ≡ EndObject))) → ⊥

@@ -6,14 +6,15 @@ use Rattle.json_text.specs.declared.error.Error.{Error}
 use Rattle.json_text.specs.declared.event.Event.{Event}
 use Rattle.json_text.specs.declared.event.Event.TheVariants as event
 use Rattle.json_text.specs.Events.{Means}
-use Rattle.json_text.specs.Parsing.{ParserState, HasGiven, SameInput, Goes, IsTight}
+use Rattle.json_text.specs.Parsing.{ParserState, HasGiven, SameInput, Goes, IsTight, IsWhole, HasRead}
 use Rattle.json_data.specs.declared.token.TokenKind.{TokenKind}
 use Rattle.json_data.specs.Kinds.{kind_of}
 use Rattle.json_data.specs.Spots.{Spot, top, over, after, after_all, MayCome}
 use Rattle.json_data.specs.Stand.{Takes, Peeks, TakesOne}
-use Rattle.json_data.specs.Text.{TextState, TakenBefore, text_taken, text_stand, event_kind}
+use Rattle.json_data.specs.Text.{TextState, TakenBefore, text_taken, text_stand, event_kind, HasReadValue}
+use Rattle.json_doc.proofs.ValueRecording.{means_one}
 use Rattle.json_data.proofs.Places.{after_append}
-use Rattle.json_data.proofs.Events.{place_is, spot_back, same_kind, means_one, reads_ahead}
+use Rattle.json_data.proofs.Events.{place_is, spot_back, same_kind, reads_ahead, over_whole}
 
 -- the event that was read ahead is taken
 pub takes_next : (a : TextState) (p : ParserState) (f : Option Error) (e : Event) (k : TokenKind) → (ts : List Tok) × TakenBefore (Some e) p ts
@@ -59,3 +60,9 @@ nothing_more p None f (ts, i) s t new e n h g k j =
     let r = reads_ahead p new e ts i n h g k j in
     let m : false ≡ true = subst (λ (q : Spot). MayCome q (event_kind e)) s r.may in
     cc
+
+-- behind a value that was taken
+pub has_read_value : (p : ParserState) (o : Option Event) (f : Option Error) → (text_stand (record { parser = p; ahead = o; failed = f })).spot ≡ over
+    → (text_stand (record { parser = p; ahead = o; failed = f })).told ≡ None → (IsWhole p → HasRead p) → HasReadValue (record { parser = p; ahead = o; failed = f })
+has_read_value p (Some a) f s t r = absurd (cc)
+has_read_value p None f s t r = r (over_whole p s)

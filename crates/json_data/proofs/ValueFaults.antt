@@ -1,5 +1,5 @@
 -- A refusal of a parser that had not read a whole value.
-use Rattle.std.proofs.Common.{◌≡◌, ℕ, List, false, refl}
+use Rattle.std.proofs.Common.{◌≡◌, ℕ, List, Bool, false, refl}
 use Rattle.json_text.specs.declared.error.ErrorCode.{ErrorCode}
 use Rattle.json_text.specs.declared.error.ErrorCode.TheVariants as code
 use Rattle.json_text.specs.declared.error.Error.{Error}
@@ -9,8 +9,8 @@ use Rattle.json_text.proofs.ValueFaults.{value_fault_of}
 use Rattle.json_data.specs.Refusals.{is_refusal}
 use Rattle.json_data.specs.Text.{HasFault}
 
-module _ (limit : ℕ) (b : List ℕ) where
-  pub no_refusal_of : (c : ErrorCode) (k : ℕ) → IsFault limit b c k → is_refusal c ≡ false
+module _ (lossy : Bool) (limit : ℕ) (b : List ℕ) where
+  pub no_refusal_of : (c : ErrorCode) (k : ℕ) → IsFault lossy limit b c k → is_refusal c ≡ false
   no_refusal_of code.TypeUnmatched k h = absurd h
   no_refusal_of code.NumberOutOfRange k h = absurd h
   no_refusal_of code.ExpectedNumericKey k h = absurd h
@@ -21,7 +21,7 @@ has_fault p e d n = record {
   offset = d.offset;
   place = d.place;
   in_text = d.fault;
-  in_value = value_fault_of p.limit (input p) e.code d.offset d.fault n;
+  in_value = value_fault_of p.lossy p.limit (input p) e.code d.offset d.fault n;
   needs = d.needs;
-  no_refusal = no_refusal_of p.limit (input p) e.code d.offset d.fault;
+  no_refusal = no_refusal_of p.lossy p.limit (input p) e.code d.offset d.fault;
 }

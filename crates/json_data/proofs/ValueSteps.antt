@@ -417,11 +417,16 @@ wants_next a m s h =
     (subst (λ (xs : List Tok). WantsValueAt (spot_in a.levels a.next) (if a.told then head_kind xs else None)) (sym s.rest) h))
     s.reached
 
+-- the value that comes next is taken, whole
+pub passes : (a b : ValueTokens) (m : ValueState) (t : Tree) → Settles (value_state a) m → m.next ≡ Some t → value_state b ≡ record m { next = None; told = false } → TakesTree value_taken value_stand a b t
+passes a b m t s n e =
+    tree_taken a b t
+    (settled s (subst (λ (z : ValueState). Steps m z (tokens t) (behind_value (spot_in m.levels m.next))) (sym e) (value_passed m t n))
+    (ap behind_value s.spot))
+
 pub skips : (a b : ValueTokens) (m : ValueState) → Settles (value_state a) m → WantsValue (value_stand a) → value_state b ≡ record m { next = None; told = false } → (t : Tree) × TakesTree value_taken value_stand a b t
-skips a b m s h e =
-    let w = wants_next (value_state a) m s h in (
-      w.0,
-      tree_taken a b w.0
-          (settled s (subst (λ (z : ValueState). Steps m z (tokens w.0) (behind_value (spot_in m.levels m.next))) (sym e) (value_passed m w.0 w.1))
-          (ap behind_value s.spot)),
-    )
+skips a b m s h e = let w = wants_next (value_state a) m s h in (w.0, passes a b m w.0 s w.1 e)
+
+-- where a value is wanted, one comes next
+pub not_none : (a m : ValueState) → Settles a m → WantsValue (state_stand a) → m.next ≡ None → ⊥
+not_none a m s h n = let w = wants_next a m s h in let e : Some w.0 ≡ None = sym w.1 ∙ n in cc

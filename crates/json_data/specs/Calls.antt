@@ -36,7 +36,7 @@ ReadingFails limit f b code.InvalidUTF8 p = (k : ℕ) × IsUtf8Fault b k × (p �
 ReadingFails limit f b code.TypeUnmatched p = TreeRefused limit f b code.TypeUnmatched p
 ReadingFails limit f b code.NumberOutOfRange p = TreeRefused limit f b code.NumberOutOfRange p
 ReadingFails limit f b code.ExpectedNumericKey p = TreeRefused limit f b code.ExpectedNumericKey p
-ReadingFails limit f b c p = IsUtf8 b × FaultAt limit b c p
+ReadingFails limit f b c p = IsUtf8 b × FaultAt false limit b c p
 
 -- why bytes are not looked at as a text: there are more than 4,294,967,295, or they are no UTF-8
 abbrev pub TextFails : List ℕ → ErrorCode → Place → Type 0
@@ -61,7 +61,7 @@ ReadingFailsWith rules f b code.InvalidUTF8 p = (k : ℕ) × IsUtf8Fault b k × 
 ReadingFailsWith rules f b code.TypeUnmatched p = TreeRefusedWith rules f b code.TypeUnmatched p
 ReadingFailsWith rules f b code.NumberOutOfRange p = TreeRefusedWith rules f b code.NumberOutOfRange p
 ReadingFailsWith rules f b code.ExpectedNumericKey p = TreeRefusedWith rules f b code.ExpectedNumericKey p
-ReadingFailsWith rules f b c p = IsUtf8 b × FaultWithAt rules b c p
+ReadingFailsWith rules f b c p = IsUtf8 b × FaultWithAt false rules b c p
 
 -- ---- from a source
 

@@ -13,3 +13,6 @@ pub mod Calls
 pub mod Wholes
 pub mod Values
 pub mod ValueCalls
+pub mod TextValues
+pub mod ReadingValues
+pub mod Spelled

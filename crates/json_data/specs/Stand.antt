@@ -1,5 +1,5 @@
 -- What a call of a source of tokens takes.
-use Rattle.std.specs.Prelude.{◌≡◌, ◌<◌, ◌≤◌, ℕ, List, [], ◌∷◌, ◌++◌, Option, Some, None, true, false}
+use Rattle.std.specs.Prelude.{◌≡◌, ◌<◌, ◌≤◌, ℕ, List, [], ◌∷◌, ◌++◌, Bool, Option, Some, None, true, false}
 use Rattle.json_grammar.specs.declared.Kind.TheVariants.{Array as array, Object as object}
 use Rattle.json_grammar.specs.Tree.{Tree, Trees, Pairs, tokens, trees_tokens, pairs_tokens, Token as Tok, end}
 use Rattle.json_text.specs.declared.error.Error.{Error}
@@ -8,9 +8,9 @@ use Rattle.json_data.specs.Kinds.{kind_of, first_kind}
 use Rattle.json_data.specs.Refusals.{is_refusal}
 use Rattle.json_data.specs.Spots.{Spot, top, over, element, key_or_end, member, MayCome, begins_value, behind_value, around, after}
 
--- what is read: a text from a place on, with so many levels at most, or a tree
+-- what is read: a text from a place on, lossy or not, with so many levels at most, or a tree
 pub data Input : Type 0 where
-  over_text : List ℕ → ℕ → ℕ → Input
+  over_text : List ℕ → ℕ → Bool → ℕ → Input
   over_tree : Tree → Input
 
 pub record Stand : Type 0 where

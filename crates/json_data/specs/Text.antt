@@ -5,7 +5,8 @@ use Rattle.json_grammar.specs.declared.Kind.TheVariants.{Array as array, Object 
 use Rattle.json_grammar.specs.declared.Spot.{Spot as Place}
 use Rattle.json_grammar.specs.declared.Spot.TheVariants.{Colon as colon, Done as done, Value as at_value}
 use Rattle.json_grammar.specs.Grammar.{number}
-use Rattle.json_grammar.specs.Tree.{Token as Tok}
+use Rattle.json_grammar.specs.Fault.{reads}
+use Rattle.json_grammar.specs.Tree.{Tree, Token as Tok, tokens, depth}
 use Rattle.json_number.specs.Integers.{integer_in}
 use Rattle.json_text.specs.declared.error.Error.{Error}
 use Rattle.json_text.specs.declared.event.Event.{Event}
@@ -15,7 +16,7 @@ use Rattle.json_text.specs.Events.{Means}
 use Rattle.json_text.specs.Due.{NextNeeds}
 use Rattle.json_text.specs.Faults.{IsFault, IsValueFault}
 use Rattle.json_text.specs.Positions.{place_at}
-use Rattle.json_text.specs.Parsing.{ParserState, input, taken, HasGiven, SameInput}
+use Rattle.json_text.specs.Parsing.{ParserState, input, taken, HasGiven, SameInput, IsWhole, HasRead}
 use Rattle.json_data.specs.declared.token.TokenKind.{TokenKind}
 use Rattle.json_data.specs.declared.token.TokenKind.TheVariants as kind
 use Rattle.json_data.specs.Kinds.{number_kind}
@@ -84,9 +85,9 @@ pub record ReadsAhead (old : ParserState) (e : Event) (new : ParserState) : Type
 pub record HasFault (p : ParserState) (e : Error) : Type 0 where
   pub offset : ℕ
   pub place : e.place ≡ place_at p.text (p.start + offset)
-  pub in_text : IsFault p.limit (input p) e.code offset
-  pub in_value : IsValueFault p.limit (input p) e.code offset
-  pub needs : NextNeeds (input p) (taken p) e.code offset
+  pub in_text : IsFault p.lossy p.limit (input p) e.code offset
+  pub in_value : IsValueFault p.lossy p.limit (input p) e.code offset
+  pub needs : NextNeeds p.lossy (input p) (taken p) e.code offset
   pub no_refusal : is_refusal e.code ≡ false
 
 -- ---- sources
@@ -115,7 +116,7 @@ waiting (Some e) = 1
 
 abbrev pub text_stand : TextState → Stand
 text_stand s = record {
-  input = over_text s.parser.text s.parser.start s.parser.limit;
+  input = over_text s.parser.text s.parser.start s.parser.lossy s.parser.limit;
   spot = spot_before s.ahead s.parser;
   told = option_map event_kind s.ahead;
   left = (length s.parser.text - s.parser.index) + waiting s.ahead;
@@ -130,6 +131,10 @@ pub record IsFresh (s : TextState) : Type 0 where
   pub ahead : s.ahead ≡ None
   pub failed : s.failed ≡ None
 
+-- the tokens that were taken are those of the value that is read there, whatever follows it
+abbrev pub HasReadValue : TextState → Type 0
+HasReadValue s = (ts : List Tok) → text_taken s ts → (t : Tree) × reads s.parser.lossy (input s.parser) t (taken s.parser) × (ts ≡ tokens t) × (depth t ≤ s.parser.limit)
+
 -- why a source of a text answered an error: memory ran out, or the value has this fault
 abbrev pub TextFails : ParserState → Error → Type 0
 TextFails p e = (e ≡ no_memory) ⊎ HasFault p e
@@ -139,3 +144,5 @@ pub record IsReading (s : TextState) : Type 0 where
   pub given : (ts : List Tok) × text_taken s ts
   pub failed : IfSome s.failed (TextFails s.parser)
   pub fresh : s.failed ≡ None → s.parser.failure ≡ None
+  pub order : s.parser.start ≤ s.parser.index
+  pub read : IsWhole s.parser → HasRead s.parser

@@ -167,7 +167,8 @@ pub fn from_reader<'a, S: Source, T: Deserialize<'a> + Drop>(
         ReadsSource (S.state source.old) (S.state source.new) T.from_tree (gives (T.datum v))) }
     ensures err { IfErr result (λ e.
         SourceFails (S.state source.old) (S.state source.new) T.from_tree e.code e.place) }
-    ensures told { (S.state source.old).faults < (S.state source.new).faults → IsErrOf result reading_failed }
+    ensures told { (S.state source.old).faults < (S.state source.new).faults
+        → IsErrOf result reading_failed }
     ensures taken { TakesAtMost (most + 1) (S.state source.old) (S.state source.new) }
 {
     let bytes = read_all(alloc, source, MOST)?;

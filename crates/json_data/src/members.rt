@@ -42,7 +42,8 @@ pub fn read_members<S: Lent, M: Members<S>, T: Tokens<S>>(
     tokens: &mut T,
 ) -> Result<()>
     requires { WantsValue (T.stand tokens.old) }
-    ensures ok { OnOk result (Reads T.taken T.stand (spec_read_members M.step (M.so_far members.old))
+    ensures ok { OnOk result
+        (Reads T.taken T.stand (spec_read_members M.step (M.so_far members.old))
         tokens.old tokens.new (gives (M.so_far members.new))) }
     ensures err { IfErr result (λ e. Stops T.taken T.stand
         (spec_read_members M.step (M.so_far members.old)) tokens.old tokens.new e) }

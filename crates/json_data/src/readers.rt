@@ -133,7 +133,9 @@ impl<S: Lent> DeserializeFrom<S> for IgnoredAny {
 // Where a refusal e was met within a list, what is left of the list is taken too.
 pub fn leave_after<S: Lent, T: Tokens<S>>(tokens: &mut T, e: Error) -> Error
     requires { spec_is_refusal e.code ≡ true → IsOpen (T.stand tokens.old).spot }
-    ensures left { spec_is_refusal e.code ≡ true → ((result ≡ e) × Leaves T.taken T.stand tokens.old tokens.new) ⊎ Fails (T.stand tokens.old) (T.stand tokens.new) result }
+    ensures left { spec_is_refusal e.code ≡ true
+        → ((result ≡ e) × Leaves T.taken T.stand tokens.old tokens.new)
+        ⊎ Fails (T.stand tokens.old) (T.stand tokens.new) result }
     ensures as_was { spec_is_refusal e.code ≡ false → (result ≡ e) × (tokens.new ≡ tokens.old) }
 {
     if is_refusal(e.code) {

@@ -1,18 +1,24 @@
 // The tokens of a text.
-ghost use Rattle.std.specs.Prelude.{◌≡◌, ◌≤◌, ◌^◌, length, List, [], false, Err, None, OnOk, IfOk, IfErr, IfSome};
+ghost use Rattle.std.specs.Prelude.{◌≡◌, ◌≤◌, ◌^◌, length, List, [], true, false, Err, None, OnOk, IfOk, IfErr, IfSome};
 ghost use Rattle.json_grammar.specs.Tree.{Tree, Token as Tok, tokens, depth};
+ghost use Rattle.json_value.specs.Denotes.{tree_of};
 ghost use Rattle.json_data.specs.Kinds.{StandsFor};
+ghost use Rattle.json_data.specs.TextValues.{IsPacked};
 ghost use Rattle.json_data.specs.Spots.{IsOpen, over};
 ghost use Rattle.json_data.specs.Stand.{NotWhole, WantsValue, Takes, Peeks, TakesOne, TakesTree, Leaves, Fails};
-ghost use Rattle.json_data.specs.Text.{IsFresh, text_taken, text_stand, TextFails};
+ghost use Rattle.json_data.specs.Text.{IsFresh, text_taken, text_stand, TextFails, HasReadValue};
+ghost use Rattle.std.specs.Str.{IsCharBoundary};
 ghost use Rattle.json_text.specs.Faults.{FaultFrom};
 ghost use Rattle.json_text.specs.Parsing.{input};
 ghost use Rattle.json_grammar.specs.Grammar.{is_text};
 
 use crate::ahead::{event_kind, event_token, read_ahead};
+use crate::packed_value::packed_value;
 use crate::token::{TokenKind, TokenOf};
 use crate::tokens::Tokens;
 use json_text::{Error, Event, Parser, Result};
+use json_value::Value;
+use std::alloc::Global;
 use std::marker::Model;
 
 /// The tokens of a text that begins with a value. What stands behind the value is not looked at.
@@ -39,10 +45,27 @@ impl<'a> TextTokens<'a> {
     pub fn new(text: &'a str) -> TextTokens<'a>
         ensures text { result.parser.text ≡ text.now }
         ensures start { (result.parser.start ≡ 0) × (result.parser.limit ≡ 254) }
+        ensures strict { result.parser.lossy ≡ false }
         ensures fresh { IsFresh result }
     {
         TextTokens {
             parser: Parser::new(text),
+            ahead: None,
+            failed: None,
+        }
+    }
+
+    /// Stands at a place of the text, in bytes, where a value must come, with the limit of `new`. Places are told as in
+    /// the whole text.
+    pub fn at(text: &'a str, index: usize) -> TextTokens<'a>
+        requires { IsCharBoundary text.now index }
+        ensures text { result.parser.text ≡ text.now }
+        ensures start { (result.parser.start ≡ index) × (result.parser.limit ≡ 254) }
+        ensures strict { result.parser.lossy ≡ false }
+        ensures fresh { IsFresh result }
+    {
+        TextTokens {
+            parser: Parser::at(text, index),
             ahead: None,
             failed: None,
         }
@@ -54,11 +77,30 @@ impl<'a> TextTokens<'a> {
         requires most { depth ≤ 1024 }
         requires fresh { IsFresh self }
         ensures text { result.parser.text ≡ self.entry.parser.text }
-        ensures start { (result.parser.start ≡ self.entry.parser.start) × (result.parser.limit ≡ depth) }
+        ensures start { (result.parser.start ≡ self.entry.parser.start)
+            × (result.parser.limit ≡ depth) }
+        ensures mode { result.parser.lossy ≡ self.entry.parser.lossy }
         ensures fresh { IsFresh result }
     {
         TextTokens {
             parser: self.parser.depth(depth),
+            ahead: None,
+            failed: None,
+        }
+    }
+
+    /// The same tokens in the lossy mode, where no surrogate is refused: the escape of one that stands alone is U+FFFD
+    /// (RFC 8259, section 8.2). None was told, taken or refused.
+    pub fn lossy(self) -> TextTokens<'a>
+        requires { IsFresh self }
+        ensures text { result.parser.text ≡ self.entry.parser.text }
+        ensures start { (result.parser.start ≡ self.entry.parser.start)
+            × (result.parser.limit ≡ self.entry.parser.limit) }
+        ensures mode { result.parser.lossy ≡ true }
+        ensures fresh { IsFresh result }
+    {
+        TextTokens {
+            parser: self.parser.lossy(),
             ahead: None,
             failed: None,
         }
@@ -73,13 +115,26 @@ impl<'a> TextTokens<'a> {
         self.failed
     }
 
+    /// The place right behind the value, which was taken, in bytes from the beginning of the text.
+    pub fn index(&self) -> usize
+        requires over { (text_stand self.now).spot ≡ over }
+        requires told { (text_stand self.now).told ≡ None }
+        ensures same { result ≡ self.now.parser.index }
+        ensures order { self.now.parser.start ≤ result }
+        ensures read { HasReadValue self.now }
+    {
+        self.parser.index()
+    }
+
     /// Whether only whitespace is left behind the value, which was taken.
     pub(crate) fn finish(self) -> Result<()>
         requires over { (text_stand self).spot ≡ over }
         requires told { (text_stand self).told ≡ None }
         ensures ok { OnOk result ((ts : List Tok) → text_taken self.entry ts
-            → (t : Tree) × is_text false t (input self.entry.parser) × (ts ≡ tokens t) × (depth t ≤ self.entry.parser.limit)) }
-        ensures err { IfErr result (λ e. FaultFrom self.entry.parser.limit self.entry.parser.start self.entry.parser.text e.code e.place) }
+            → (t : Tree) × is_text self.entry.parser.lossy t (input self.entry.parser) × (ts ≡ tokens t) × (depth t ≤ self.entry.parser.limit)) }
+        ensures err { IfErr result (λ e.
+            FaultFrom self.entry.parser.lossy self.entry.parser.limit self.entry.parser.start
+            self.entry.parser.text e.code e.place) }
     {
         let mut parser = self.parser;
         let event = match parser.next() {
@@ -99,6 +154,7 @@ impl<'a> TextTokens<'a> {
         ensures none { OnOk result (Takes text_taken self.old [] self.new) }
         ensures err { IfErr result (λ e. Fails (text_stand self.old) (text_stand self.new) e) }
         ensures again { IfSome self.old.failed (λ e. result ≡ Err e) }
+        ensures unfailed { OnOk result (self.new.failed ≡ None) }
     {
         if let Some(error) = self.failed {
             return Err(error);
@@ -121,7 +177,8 @@ impl<'a> TextTokens<'a> {
     /// Takes the next token.
     fn take(&mut self) -> Result<TokenOf<&'a str>>
         requires { NotWhole (text_stand self.old) }
-        ensures ok { IfOk result (λ y. (x : Tok) × StandsFor (λ s. s.now) y x × TakesOne text_taken text_stand self.old self.new x) }
+        ensures ok { IfOk result (λ y. (x : Tok) × StandsFor (λ s. s.now) y x
+            × TakesOne text_taken text_stand self.old self.new x) }
         ensures err { IfErr result (λ e. Fails (text_stand self.old) (text_stand self.new) e) }
         ensures again { IfSome self.old.failed (λ e. result ≡ Err e) }
     {
@@ -132,6 +189,30 @@ impl<'a> TextTokens<'a> {
                 Ok(event_token(event))
             }
             None => unreachable!(),
+        }
+    }
+
+    /// Takes the tokens of one tree, and answers a value of it.
+    fn keep(&mut self, alloc: Global) -> Result<Value>
+        requires { WantsValue (text_stand self.old) }
+        ensures ok { IfOk result (λ v.
+            TakesTree text_taken text_stand self.old self.new (tree_of v)) }
+        ensures place { IfOk result IsPacked }
+        ensures err { IfErr result (λ e. Fails (text_stand self.old) (text_stand self.new) e) }
+        ensures again { IfSome self.old.failed (λ e. result ≡ Err e) }
+    {
+        self.look()?;
+        let event = match self.ahead {
+            Some(event) => event,
+            None => unreachable!(),
+        };
+        self.ahead = None;
+        match packed_value(alloc, &mut self.parser, event) {
+            Ok(value) => Ok(value),
+            Err(error) => {
+                self.failed = Some(error);
+                Err(error)
+            }
         }
     }
 
@@ -159,7 +240,8 @@ impl<'a> TextTokens<'a> {
     /// Takes the tokens of one tree.
     fn pass(&mut self) -> Result<()>
         requires { WantsValue (text_stand self.old) }
-        ensures ok { OnOk result ((t : Tree) × TakesTree text_taken text_stand self.old self.new t) }
+        ensures ok { OnOk result ((t : Tree)
+            × TakesTree text_taken text_stand self.old self.new t) }
         ensures err { IfErr result (λ e. Fails (text_stand self.old) (text_stand self.new) e) }
         ensures again { IfSome self.old.failed (λ e. result ≡ Err e) }
     {
@@ -183,6 +265,18 @@ impl<'a> Tokens<&'a str> for TextTokens<'a> {
 
     fn next(&mut self) -> Result<TokenOf<&'a str>> {
         self.take()
+    }
+
+    // A container that has members is a place of a document of its own.
+    fn value(&mut self, alloc: Global) -> Result<Value>
+        requires { WantsValue (text_stand self.old) }
+        ensures ok { IfOk result (λ v.
+            TakesTree text_taken text_stand self.old self.new (tree_of v)) }
+        ensures place { IfOk result IsPacked }
+        ensures err { IfErr result (λ e. Fails (text_stand self.old) (text_stand self.new) e) }
+        ensures again { IfSome self.old.failed (λ e. result ≡ Err e) }
+    {
+        self.keep(alloc)
     }
 
     fn skip(&mut self) -> Result<()> {

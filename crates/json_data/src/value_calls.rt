@@ -14,7 +14,8 @@ use std::alloc::Global;
 /// `ExpectedNumericKey`. Or memory runs out.
 pub fn from_value<'a, T: Deserialize<'a>>(alloc: Global, value: &'a Value) -> Result<T>
     ensures ok { IfOk result (λ v. T.from_tree (tree_of value.now) ≡ gives (T.datum v)) }
-    ensures err { IfErr result (λ e. TreeReadingFails T.from_tree (tree_of value.now) e.code e.place) }
+    ensures err { IfErr result (λ e.
+        TreeReadingFails T.from_tree (tree_of value.now) e.code e.place) }
 {
     let mut tokens = ValueTokens::new(alloc, value.view());
     T::deserialize(alloc, &mut tokens)

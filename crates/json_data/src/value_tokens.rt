@@ -1,5 +1,5 @@
 // The tokens of a value.
-ghost use Rattle.std.specs.Prelude.{◌≡◌, List, [], ◌∷◌, false, Some, None, OnOk, IfOk, IfErr};
+ghost use Rattle.std.specs.Prelude.{◌≡◌, List, [], ◌∷◌, false, true, Some, None, OnOk, IfOk, IfErr};
 ghost use Rattle.json_grammar.specs.Tree.{Token as Tok};
 ghost use Rattle.json_text.specs.Errors.{no_memory};
 ghost use Rattle.json_value.specs.Seen.{seen};
@@ -15,8 +15,8 @@ use crate::token::{Token, TokenKind, TokenOf};
 use crate::tokens::Tokens;
 use crate::view_tokens::{scalar_token, view_kind};
 use json_doc::JsonType;
-use json_text::{ErrorCode, Result};
-use json_value::View;
+use json_text::{Error, ErrorCode, Result};
+use json_value::{Value, View};
 use std::alloc::Global;
 use std::mem;
 
@@ -59,6 +59,15 @@ impl<'a> ValueTokens<'a> {
         }
     }
 
+    // Memory ran out.
+    fn exhaust(&mut self) -> Error
+        ensures error { result ≡ no_memory }
+        ensures failed { value_state self.new ≡ record (value_state self.old) { failed = true } }
+    {
+        self.failed = true;
+        refusal(ErrorCode::NoMemory)
+    }
+
     // Goes from the value that comes next into what is left of it.
     fn enter(&mut self, level: Level<'a>) -> Result<()>
         ensures ok { let s = value_state self.old in OnOk result (value_state self.new
@@ -73,10 +82,7 @@ impl<'a> ValueTokens<'a> {
                 self.told = false;
                 Ok(())
             }
-            Err(_) => {
-                self.failed = true;
-                Err(refusal(ErrorCode::NoMemory))
-            }
+            Err(_) => Err(self.exhaust()),
         }
     }
 
@@ -168,6 +174,25 @@ impl<'a> Tokens<&'a str> for ValueTokens<'a> {
         match self.next {
             Some(view) => self.take_value(view),
             None => Ok(self.take_front()),
+        }
+    }
+
+    fn value(&mut self, alloc: Global) -> Result<Value> {
+        if self.failed {
+            return Err(refusal(ErrorCode::NoMemory));
+        }
+        self.settle();
+        let view = match self.next {
+            Some(view) => view,
+            None => unreachable!(),
+        };
+        match view.to_value(alloc) {
+            Ok(value) => {
+                self.next = None;
+                self.told = false;
+                Ok(value)
+            }
+            Err(_) => Err(self.exhaust()),
         }
     }
 

@@ -104,8 +104,10 @@ pub(crate) fn whole_of_number(n: Number) -> Whole
 pub(crate) fn next_int<S: Lent, T: Tokens<S>>(tokens: &mut T) -> Result<Number>
     requires whole { NotWhole (T.stand tokens.old) }
     requires told { (T.stand tokens.old).told ≡ Some TokenKind.Int }
-    ensures ok { IfOk result (λ n. TakesTree T.taken T.stand tokens.old tokens.new (num (text_of_number n))) }
-    ensures value { IfOk result (λ n. (integer_in (text_of_number n) ≡ Some (value_of n)) × number (text_of_number n)) }
+    ensures ok { IfOk result (λ n.
+        TakesTree T.taken T.stand tokens.old tokens.new (num (text_of_number n))) }
+    ensures value { IfOk result (λ n. (integer_in (text_of_number n) ≡ Some (value_of n))
+        × number (text_of_number n)) }
     ensures err { IfErr result (λ e. Fails (T.stand tokens.old) (T.stand tokens.new) e) }
 {
     match tokens.next()? {
@@ -118,7 +120,8 @@ pub(crate) fn next_int<S: Lent, T: Tokens<S>>(tokens: &mut T) -> Result<Number>
 pub(crate) fn next_raw<S: Lent, T: Tokens<S>>(tokens: &mut T) -> Result<S>
     requires whole { NotWhole (T.stand tokens.old) }
     requires told { (T.stand tokens.old).told ≡ Some TokenKind.Raw }
-    ensures ok { IfOk result (λ l. TakesTree T.taken T.stand tokens.old tokens.new (num (S.bytes l))) }
+    ensures ok { IfOk result (λ l.
+        TakesTree T.taken T.stand tokens.old tokens.new (num (S.bytes l))) }
     ensures value { IfOk result (λ l. (integer_in (S.bytes l) ≡ None) × number (S.bytes l)) }
     ensures err { IfErr result (λ e. Fails (T.stand tokens.old) (T.stand tokens.new) e) }
 {
@@ -131,7 +134,8 @@ pub(crate) fn next_raw<S: Lent, T: Tokens<S>>(tokens: &mut T) -> Result<S>
 /// The integer of the tree that comes next.
 pub(crate) fn read_whole<S: Lent, T: Tokens<S>>(tokens: &mut T) -> Result<Whole>
     requires { WantsValue (T.stand tokens.old) }
-    ensures ok { IfOk result (λ w. (t : Tree) × TakesTree T.taken T.stand tokens.old tokens.new t × IsWhole (tree_integer t) w) }
+    ensures ok { IfOk result (λ w. (t : Tree) × TakesTree T.taken T.stand tokens.old tokens.new t
+        × IsWhole (tree_integer t) w) }
     ensures err { IfErr result (λ e. Fails (T.stand tokens.old) (T.stand tokens.new) e) }
 {
     let kind = tokens.peek()?;
@@ -153,8 +157,11 @@ pub(crate) fn fit(whole: Whole, low: u128, high: u128) -> Result<i128>
     requires high { high ≤ 2 ^ 127 }
     ensures ok { (o : Option ℤ) → IsWhole o whole → IfOk result (λ n. o ≡ Some n) }
     ensures within { IfOk result (λ n. between low high n ≡ true) }
-    ensures err { (o : Option ℤ) → IsWhole o whole → IfErr result (λ e. (in_range (between low high) o ≡ refuses e.code) × (e ≡ spec_refusal e.code) × (spec_is_refusal e.code ≡ true)) }
-    ensures refusal { IfErr result (λ e. (e ≡ spec_refusal e.code) × (spec_is_refusal e.code ≡ true)) }
+    ensures err { (o : Option ℤ) → IsWhole o whole
+        → IfErr result (λ e. (in_range (between low high) o ≡ refuses e.code)
+        × (e ≡ spec_refusal e.code) × (spec_is_refusal e.code ≡ true)) }
+    ensures refusal { IfErr result (λ e. (e ≡ spec_refusal e.code)
+        × (spec_is_refusal e.code ≡ true)) }
 {
     match whole {
         Whole::Nothing => Err(refusal(ErrorCode::TypeUnmatched)),
@@ -173,9 +180,12 @@ pub(crate) fn read_between<S: Lent, T: Tokens<S>>(
     requires wants { WantsValue (T.stand tokens.old) }
     requires low { low ≤ 2 ^ 127 }
     requires high { high ≤ 2 ^ 127 }
-    ensures ok { IfOk result (λ n. Reads T.taken T.stand (read_integer (between low high)) tokens.old tokens.new (gives (integer_datum n))) }
+    ensures ok { IfOk result (λ n.
+        Reads T.taken T.stand (read_integer (between low high)) tokens.old tokens.new
+        (gives (integer_datum n))) }
     ensures within { IfOk result (λ n. between low high n ≡ true) }
-    ensures err { IfErr result (λ e. Stops T.taken T.stand (read_integer (between low high)) tokens.old tokens.new e) }
+    ensures err { IfErr result (λ e.
+        Stops T.taken T.stand (read_integer (between low high)) tokens.old tokens.new e) }
 {
     let whole = read_whole(tokens)?;
     match fit(whole, low, high) {
@@ -188,8 +198,11 @@ pub(crate) fn read_between<S: Lent, T: Tokens<S>>(
 pub(crate) fn fit_unsigned(whole: Whole) -> Result<u128>
     ensures ok { (o : Option ℤ) → IsWhole o whole → IfOk result (λ n. o ≡ Some (pos n)) }
     ensures within { IfOk result (λ n. n < 2 ^ 128) }
-    ensures err { (o : Option ℤ) → IsWhole o whole → IfErr result (λ e. (in_range (between 0 (2 ^ 128)) o ≡ refuses e.code) × (e ≡ spec_refusal e.code) × (spec_is_refusal e.code ≡ true)) }
-    ensures refusal { IfErr result (λ e. (e ≡ spec_refusal e.code) × (spec_is_refusal e.code ≡ true)) }
+    ensures err { (o : Option ℤ) → IsWhole o whole
+        → IfErr result (λ e. (in_range (between 0 (2 ^ 128)) o ≡ refuses e.code)
+        × (e ≡ spec_refusal e.code) × (spec_is_refusal e.code ≡ true)) }
+    ensures refusal { IfErr result (λ e. (e ≡ spec_refusal e.code)
+        × (spec_is_refusal e.code ≡ true)) }
 {
     match whole {
         Whole::Nothing => Err(refusal(ErrorCode::TypeUnmatched)),

@@ -18,6 +18,9 @@ returns-clause-ok c =
     let e = c.in-Ok.ensures in
     reads_ahead c.args.parser.now c.next.new.self c.in-Ok.event i.0 i.1 c.in_default.not-End e.same e.ok.2 e.tight e.ok.1
 
+pub returns-clause-read : goal.returns-clause-read
+returns-clause-read c = λ w. c.in-Ok.ensures.reads (λ v. c.requires.whole (whole_over c.args.parser.now v)) w
+
 pub returns-in-Err-clause-fault : goal.returns-in-Err-clause-fault
 returns-in-Err-clause-fault c =
     let p = c.args.parser.now in

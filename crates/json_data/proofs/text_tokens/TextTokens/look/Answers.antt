@@ -1,8 +1,8 @@
-use Rattle.std.proofs.Common.{List, [], ◌∷◌, ◌++◌, Option, Some, sym, subst, inr}
+use Rattle.std.proofs.Common.{◌≤◌, List, [], ◌∷◌, ◌++◌, Option, Some, sym, subst, inr}
 use Rattle.std.proofs.lemmas.List.{append-nil}
 use Rattle.json_grammar.specs.Tree.{Token as Tok}
 use Rattle.json_text.specs.declared.event.Event.{Event}
-use Rattle.json_text.specs.Parsing.{ParserState, HasGiven}
+use Rattle.json_text.specs.Parsing.{ParserState, HasGiven, IsWhole, HasRead}
 use Rattle.json_data.specs.Text.{TakenBefore, TextFails, HasFault}
 use Rattle.json_data.proofs.Events.{event_number}
 use Rattle.json_data.proofs.text_tokens.TextTokens.look.Goals as goal
@@ -33,6 +33,8 @@ invariant_of-self-in-Err c =
       given = (i.0, subst (λ (o : Option Event). TakenBefore o c.read_ahead.new.parser i.0) (sym c.in_default-ahead.is) (subst (λ (q : ParserState). HasGiven q i.0) (sym c.in-Err.ensures.kept) h));
       failed = subst (λ (q : ParserState). TextFails q e) (sym c.in-Err.ensures.kept) (inr g);
       fresh = λ n. absurd (cc);
+      order = subst (λ (q : ParserState). q.start ≤ q.index) (sym c.in-Err.ensures.kept) c.self.invariant.order;
+      read = subst (λ (q : ParserState). IsWhole q → HasRead q) (sym c.in-Err.ensures.kept) c.self.invariant.read;
     }
 
 pub returns-in-Ok-clause-none : goal.returns-in-Ok-clause-none

@@ -1,4 +1,4 @@
-use Rattle.std.proofs.Common.{◌∷◌, [], Bool, refl, sym, subst}
+use Rattle.std.proofs.Common.{◌∷◌, [], Bool, Option, refl, sym, subst}
 use Rattle.json_grammar.specs.declared.Kind.{Kind}
 use Rattle.json_grammar.specs.Tree.{end}
 use Rattle.json_value.specs.Seen.{seen}
@@ -15,7 +15,7 @@ returns-in-Some c =
     let o = opened_in [] s.outer.items in
     let k = c.in-Some.key.now in (
       _,
-      (k, subst (λ (e : Bool). Says k e c.plain.result.text.now) (sym c.plain.ensures.escaped) (sym c.plain.ensures.text), refl),
+      (k, subst (λ (e : Option Bool). Says k e c.plain.result.text.now) (sym c.plain.ensures.escaped) (sym c.plain.ensures.text), refl),
       key_taken (value_state s) (opened c.member.new.self o) (k, seen c.in-Some.value) c.requires.next (c.in-Some.ensures o),
     )
 

@@ -1,0 +1,12 @@
+use Rattle.std.proofs.Common.{◌≡◌, None, sym, subst}
+use Rattle.json_data.specs.Spots.{over}
+use Rattle.json_data.specs.Text.{TextState, text_stand, HasReadValue}
+use Rattle.json_data.proofs.TextSteps.{has_read_value}
+use Rattle.json_data.proofs.text_tokens.TextTokens.index.Goals as goal
+
+pub returns-clause-read : goal.returns-clause-read
+returns-clause-read c =
+    let s = c.self.inside in
+    let v = sym c.self.view_is in
+    subst HasReadValue c.self.view_is
+    (has_read_value s.parser s.ahead s.failed (subst (λ (n : TextState). (text_stand n).spot ≡ over) v c.requires.over) (subst (λ (n : TextState). (text_stand n).told ≡ None) v c.requires.told) c.self.invariant.read)

@@ -1,0 +1,10 @@
+-- Why no step, path or edit is read of a value.
+use Rattle.std.specs.Prelude.{◌≡◌, ◌⊎◌, Option, None}
+use Rattle.json_text.specs.declared.error.Error.{Error}
+use Rattle.json_text.specs.declared.error.ErrorCode.TheVariants.{TypeUnmatched}
+use Rattle.json_text.specs.Errors.{no_memory}
+use Rattle.json_data.specs.Refusals.{refusal}
+
+-- memory ran out, or the tree spells none
+abbrev pub Unspelled : {A : Type 0} → Option A → Error → Type 0
+Unspelled o e = (e ≡ no_memory) ⊎ ((e ≡ refusal TypeUnmatched) × (o ≡ None))

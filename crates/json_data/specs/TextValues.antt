@@ -1,0 +1,10 @@
+-- What a value that is read from a text is.
+use Rattle.std.specs.Prelude.{◌≡◌}
+use Rattle.json_doc.specs.declared.doc.Doc.{Doc}
+use Rattle.json_doc.specs.Docs.{doc_root}
+use Rattle.json_value.specs.declared.value.Value.{Value}
+use Rattle.json_value.specs.Spots.{spot_of, read_spot}
+
+-- it stands at the root of a document, as each container in it that has members stands in that document
+abbrev pub IsPacked : Value → Type 0
+IsPacked v = (d : Doc) × (spot_of v ≡ read_spot d (doc_root d))

@@ -1,0 +1,160 @@
+// Edits, as values spell them.
+ghost use Rattle.std.specs.Prelude.{◌≡◌, ◌≢◌, [], ◌∷◌, length, drop, IfOk, IfErr, Some, MatchOption, option_map, option_and_then, slice_get, codes};
+ghost use Rattle.json_doc.specs.Readings.{string_of};
+ghost use Rattle.json_value.specs.Edits.{edit_of, path_steps};
+ghost use Rattle.json_value.specs.EditTrees.{edit_named, edit_in};
+ghost use Rattle.json_value.specs.Seen.{seen, elements_seen};
+ghost use Rattle.json_data.specs.ReadingValues.{path_datum, edit_datum, read_path as spec_read_path, read_edit as spec_read_edit};
+ghost use Rattle.json_data.specs.Spelled.{Unspelled};
+
+use crate::deserialize::DeserializeFrom;
+use crate::lent::Lent;
+use crate::path_values::{read_path, read_step, unspelled};
+use crate::tokens::Tokens;
+use json_text::Result;
+use json_value::{ArrayView, Edit, Path, Text, View};
+use std::alloc::Global;
+
+// The text of the first element; none where there is no such text.
+fn name_of<'a>(array: ArrayView<'a>) -> Option<&'a str>
+    ensures { option_map (λ s. s.now) result
+        ≡ option_and_then string_of (slice_get (elements_seen array.entry) 0) }
+{
+    match array.get(0) {
+        Some(first) => first.text(),
+        None => None,
+    }
+}
+
+// The two elements behind the first; none where there are fewer or more.
+fn two_behind<'a>(array: ArrayView<'a>) -> Option<(View<'a>, View<'a>)>
+    ensures { MatchOption result (length (drop 1 (elements_seen array.entry)) ≢ 2)
+        (λ p. drop 1 (elements_seen array.entry) ≡ seen p.0 ∷ seen p.1 ∷ []) }
+{
+    if array.len() != 3 {
+        return None;
+    }
+    let first = array.get(1)?;
+    let second = array.get(2)?;
+    Some((first, second))
+}
+
+// The three elements behind the first; none where there are fewer or more.
+fn three_behind<'a>(array: ArrayView<'a>) -> Option<(View<'a>, View<'a>, View<'a>)>
+    ensures { MatchOption result (length (drop 1 (elements_seen array.entry)) ≢ 3)
+        (λ p. drop 1 (elements_seen array.entry) ≡ seen p.0 ∷ seen p.1 ∷ seen p.2 ∷ []) }
+{
+    if array.len() != 4 {
+        return None;
+    }
+    let first = array.get(1)?;
+    let second = array.get(2)?;
+    let third = array.get(3)?;
+    Some((first, second, third))
+}
+
+// `["set", path, value]`
+fn read_set(alloc: Global, array: ArrayView<'_>) -> Result<Edit>
+    ensures ok { IfOk result (λ e.
+        edit_named (codes "set") (drop 1 (elements_seen array.entry)) ≡ Some (edit_of e)) }
+    ensures err { IfErr result
+        (Unspelled (edit_named (codes "set") (drop 1 (elements_seen array.entry)))) }
+{
+    let Some((path, value)) = two_behind(array) else {
+        return Err(unspelled());
+    };
+    let path = read_path(alloc, path)?;
+    let value = value.to_value(alloc)?;
+    Ok(Edit::Set { path, value })
+}
+
+// `["push", path, value]`
+fn read_push(alloc: Global, array: ArrayView<'_>) -> Result<Edit>
+    ensures ok { IfOk result (λ e.
+        edit_named (codes "push") (drop 1 (elements_seen array.entry)) ≡ Some (edit_of e)) }
+    ensures err { IfErr result
+        (Unspelled (edit_named (codes "push") (drop 1 (elements_seen array.entry)))) }
+{
+    let Some((path, value)) = two_behind(array) else {
+        return Err(unspelled());
+    };
+    let path = read_path(alloc, path)?;
+    let value = value.to_value(alloc)?;
+    Ok(Edit::Push { path, value })
+}
+
+// `["remove", path, step]`
+fn read_remove(alloc: Global, array: ArrayView<'_>) -> Result<Edit>
+    ensures ok { IfOk result (λ e.
+        edit_named (codes "remove") (drop 1 (elements_seen array.entry)) ≡ Some (edit_of e)) }
+    ensures err { IfErr result
+        (Unspelled (edit_named (codes "remove") (drop 1 (elements_seen array.entry)))) }
+{
+    let Some((path, step)) = two_behind(array) else {
+        return Err(unspelled());
+    };
+    let path = read_path(alloc, path)?;
+    let step = read_step(alloc, step)?;
+    Ok(Edit::Remove { path, step })
+}
+
+// `["insert", path, key, value]`
+fn read_insert(alloc: Global, array: ArrayView<'_>) -> Result<Edit>
+    ensures ok { IfOk result (λ e.
+        edit_named (codes "insert") (drop 1 (elements_seen array.entry)) ≡ Some (edit_of e)) }
+    ensures err { IfErr result
+        (Unspelled (edit_named (codes "insert") (drop 1 (elements_seen array.entry)))) }
+{
+    let Some((path, key, value)) = three_behind(array) else {
+        return Err(unspelled());
+    };
+    let Some(key) = key.text() else {
+        return Err(unspelled());
+    };
+    let path = read_path(alloc, path)?;
+    let key = Text::copy(alloc, key)?;
+    let value = value.to_value(alloc)?;
+    Ok(Edit::Insert { path, key, value })
+}
+
+// The edit that is seen.
+fn read_edit(alloc: Global, view: View<'_>) -> Result<Edit>
+    ensures ok { IfOk result (λ e. edit_in (seen view.entry) ≡ Some (edit_of e)) }
+    ensures err { IfErr result (Unspelled (edit_in (seen view.entry))) }
+{
+    let Some(array) = view.as_array() else {
+        return Err(unspelled());
+    };
+    let Some(name) = name_of(array) else {
+        return Err(unspelled());
+    };
+    match name {
+        "set" => read_set(alloc, array),
+        "insert" => read_insert(alloc, array),
+        "push" => read_push(alloc, array),
+        "remove" => read_remove(alloc, array),
+        _ => Err(unspelled()),
+    }
+}
+
+impl<S: Lent> DeserializeFrom<S> for Path {
+    ghost datum = { λ p. path_datum (path_steps p) };
+
+    ghost from_tree = { spec_read_path };
+
+    fn deserialize<T: Tokens<S>>(alloc: Global, tokens: &mut T) -> Result<Path> {
+        let value = tokens.value(alloc)?;
+        read_path(alloc, value.view())
+    }
+}
+
+impl<S: Lent> DeserializeFrom<S> for Edit {
+    ghost datum = { λ e. edit_datum (edit_of e) };
+
+    ghost from_tree = { spec_read_edit };
+
+    fn deserialize<T: Tokens<S>>(alloc: Global, tokens: &mut T) -> Result<Edit> {
+        let value = tokens.value(alloc)?;
+        read_edit(alloc, value.view())
+    }
+}

@@ -1,0 +1,71 @@
+// Steps and paths, as values spell them.
+ghost use Rattle.std.specs.Prelude.{◌≡◌, IfOk, IfErr, Some};
+ghost use Rattle.json_number.specs.Numbers.{value_of};
+ghost use Rattle.json_text.specs.declared.error.ErrorCode.TheVariants as ErrorCode;
+ghost use Rattle.json_value.specs.Edits.{step_of, path_steps};
+ghost use Rattle.json_value.specs.EditTrees.{each_in, index_of, step_in, path_in};
+ghost use Rattle.json_value.specs.Seen.{seen, elements_seen};
+ghost use Rattle.json_data.specs.Refusals.{refusal as spec_refusal};
+ghost use Rattle.json_data.specs.Spelled.{Unspelled};
+
+use crate::refusals::refusal;
+use json_number::{JsonNumberTrait, Number};
+use json_text::{Error, ErrorCode, Result};
+use json_value::{ArrayView, Path, PointerNode, Text, View};
+use std::alloc::Global;
+
+/// The refusal of a value that spells something else.
+pub(crate) fn unspelled() -> Error
+    ensures { result ≡ spec_refusal ErrorCode.TypeUnmatched }
+{
+    refusal(ErrorCode::TypeUnmatched)
+}
+
+// The index that an integer is; none below 0, and from 2^32 on.
+fn read_index(number: Number) -> Option<u32>
+    ensures { result ≡ index_of (value_of number) }
+{
+    u32::try_from(number.as_u64()?).ok()
+}
+
+/// The step that is seen: a key or an index.
+pub(crate) fn read_step(alloc: Global, view: View<'_>) -> Result<PointerNode>
+    ensures ok { IfOk result (λ s. step_in (seen view.entry) ≡ Some (step_of s)) }
+    ensures err { IfErr result (Unspelled (step_in (seen view.entry))) }
+{
+    if let Some(key) = view.text() {
+        let key = Text::copy(alloc, key)?;
+        return Ok(PointerNode::Key(key));
+    }
+    if let Some(number) = view.as_number() {
+        if let Some(index) = read_index(number) {
+            return Ok(PointerNode::Index(index as usize));
+        }
+    }
+    Err(unspelled())
+}
+
+// The path of which the elements are the steps.
+fn read_steps(alloc: Global, array: ArrayView<'_>) -> Result<Path>
+    ensures ok { IfOk result (λ p.
+        each_in step_in (elements_seen array.entry) ≡ Some (path_steps p)) }
+    ensures err { IfErr result (Unspelled (each_in step_in (elements_seen array.entry))) }
+{
+    let mut path = Path::new(alloc);
+    'steps: for element in array.iter() {
+        let step = read_step(alloc, element)?;
+        path.push(step)?;
+    }
+    Ok(path)
+}
+
+/// The path that is seen: an array of steps.
+pub(crate) fn read_path(alloc: Global, view: View<'_>) -> Result<Path>
+    ensures ok { IfOk result (λ p. path_in (seen view.entry) ≡ Some (path_steps p)) }
+    ensures err { IfErr result (Unspelled (path_in (seen view.entry))) }
+{
+    match view.as_array() {
+        Some(array) => read_steps(alloc, array),
+        None => Err(unspelled()),
+    }
+}
