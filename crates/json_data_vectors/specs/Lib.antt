@@ -1,2 +1,3 @@
 pub mod Person
 pub mod Nested
+pub mod Damage

@@ -1,0 +1,26 @@
+-- Laws on places that are told.
+use Rattle.std.specs.Prelude.{◌≡◌, ℕ, ◌≤◌, Bool, List, length, Some}
+use Rattle.std.specs.Str.Lossy.{utf8_lossy}
+use Rattle.json_text.specs.Positions.{place_at}
+use Rattle.json_text.specs.Repaired.{RepairedText, origin_at, origin_of}
+use Rattle.json_stream.specs.Streams.{stands_at, told_at}
+
+-- r is what `repair` makes of the bytes
+pub record IsRepairOf (b : List ℕ) (r : RepairedText) : Type 0 where
+  pub text : r.text ≡ utf8_lossy b
+  pub origin : (k : ℕ) → k ≤ length r.text → origin_of r k ≡ origin_at b k
+
+-- what is told of a place of the repaired text is the place of the input from which it comes
+abbrev pub ToldByInput : Type 0
+ToldByInput =
+    (b : List ℕ) (r : RepairedText) (lossy : Bool) (i k : ℕ)
+    → IsRepairOf b r
+    → k ≤ length r.text
+    → told_at (stands_at r.text lossy (Some r) i) k ≡ place_at b (origin_at b k)
+
+-- and of its end, the end of the input
+abbrev pub EndToldByInput : Type 0
+EndToldByInput =
+    (b : List ℕ) (r : RepairedText) (lossy : Bool) (i : ℕ)
+    → IsRepairOf b r
+    → told_at (stands_at r.text lossy (Some r) i) (length r.text) ≡ place_at b (length b)

@@ -1,0 +1,225 @@
+// Values of one input, one after another.
+ghost use Rattle.std.specs.Prelude.{◌≡◌, ◌<◌, ◌^◌, length, true, false, IfSome, IfOk, IfErr, OnOk, OnErr, IsUtf8, option_copied};
+ghost use Rattle.json_grammar.specs.declared.Kind.TheVariants as Kind;
+ghost use Rattle.json_data.specs.Reading.{gives};
+ghost use Rattle.json_text.specs.Ends.{NothingLeft, TrailsAt, LacksEnd};
+ghost use Rattle.json_stream.specs.Streams.{InputState, standing, stands_at, offset_in, TakesValue, Fails, PassesEnd, EndFails};
+
+use crate::read_value::read_value;
+use crate::stream_deserializer::StreamDeserializer;
+use crate::told::told;
+use json_data::Deserialize;
+use json_text::{Parser, Repaired, Result, check_utf8};
+use std::alloc::Global;
+use std::marker::Model;
+
+/// Reads the values of one input one after another. Nothing but whitespace need stand between them, and what follows a
+/// value is not looked at. Places are told as in the whole input.
+///
+/// ```
+/// use json_stream::Deserializer;
+/// let mut input = Deserializer::from_str("{\"a\": 1, \"b\": 2}123");
+/// let _object = input.deserialize::<json_data::IgnoredAny>(alloc)?;
+/// assert_eq!(rt; input.index(), 16);
+/// assert_eq!(rt; input.end().err().and_then(|error| error.offset()), Some(16));
+/// ```
+#[derive(Drop)]
+pub struct Deserializer<'a> {
+    bytes: &'a [u8],
+    // the same bytes, or why they are no text
+    text: Result<&'a str>,
+    lossy: bool,
+    // where it was repaired: what made the text, by which places of the input are told
+    repaired: Option<&'a Repaired>,
+    at: usize,
+}
+
+impl<'a> Model for Deserializer<'a> {
+    ghost use Rattle.std.specs.Prelude.{◌≡◌, IsOk, MatchResult, IfSome, option_copied};
+    ghost use Rattle.json_text.specs.Utf8.{Utf8Cause};
+    ghost use Rattle.json_stream.specs.Streams.{InputState, IsTextAt};
+
+    ghost Value = { InputState };
+
+    ghost view = { λ a. record {
+      text = a.bytes.now;
+      index = a.at;
+      lossy = a.lossy;
+      repaired = option_copied a.repaired;
+    } };
+
+    ghost invariant = { λ a. IfSome a.repaired (λ r. (r.now.text ≡ a.bytes.now) × IsOk a.text)
+        × MatchResult a.text
+        (λ t. IsTextAt a.bytes.now a.at t.now)
+        (λ e. Utf8Cause a.bytes.now e.code e.place) };
+}
+
+impl<'a> Deserializer<'a> {
+    /// Stands at the beginning of the bytes, which are at most 4,294,967,295. Whether they are UTF-8 is tested here, once.
+    pub fn from_slice(s: &'a [u8]) -> Deserializer<'a>
+        requires { length s.now < 2 ^ 32 }
+        ensures { result ≡ record { text = s.now; index = 0; lossy = false; repaired = None } }
+    {
+        Deserializer {
+            bytes: s,
+            text: check_utf8(s),
+            lossy: false,
+            repaired: None,
+            at: 0,
+        }
+    }
+
+    /// Stands at the beginning of the text, which has at most 4,294,967,295 bytes.
+    pub fn from_str(s: &'a str) -> Deserializer<'a>
+        requires { length s.now < 2 ^ 32 }
+        ensures { result ≡ record { text = s.now; index = 0; lossy = false; repaired = None } }
+    {
+        Deserializer::of_text(s, false, None)
+    }
+
+    /// Stands at the beginning of the repaired text, which has at most 4,294,967,295 bytes, in the lossy mode. Offsets, lines
+    /// and columns are told as in the input that was repaired.
+    pub fn from_repaired(r: &'a Repaired) -> Deserializer<'a>
+        requires { length r.now.text < 2 ^ 32 }
+        ensures state { result ≡ record {
+          text = r.now.text;
+          index = 0;
+          lossy = true;
+          repaired = Some r.now;
+        } }
+        ensures utf8 { IsUtf8 result.text }
+    {
+        Deserializer::of_text(r.as_str(), true, Some(r))
+    }
+
+    // Stands at the beginning of the text, which may have been repaired.
+    fn of_text(text: &'a str, lossy: bool, repaired: Option<&'a Repaired>) -> Deserializer<'a>
+        requires { IfSome repaired (λ r. r.now.text ≡ text.now) }
+        ensures { result ≡ stands_at text.now lossy (option_copied repaired.entry) 0 }
+    {
+        Deserializer {
+            bytes: text.as_bytes(),
+            text: Ok(text),
+            lossy,
+            repaired,
+            at: 0,
+        }
+    }
+
+    /// The same: every number is read as its literal, whatever is asked for.
+    pub fn use_rawnumber(self) -> Deserializer<'a>
+        ensures { result ≡ self.entry }
+    {
+        self
+    }
+
+    /// The same in the lossy mode, where no surrogate is refused: the escape of one that stands alone is U+FFFD (RFC 8259,
+    /// section 8.2). Bytes that are no UTF-8 are refused as before.
+    pub fn utf8_lossy(self) -> Deserializer<'a>
+        ensures { result ≡ record self.entry { lossy = true } }
+    {
+        Deserializer {
+            lossy: true,
+            ..self
+        }
+    }
+
+    /// Where it stands, in bytes from the beginning of the input; of a repaired text, where that place comes from.
+    pub fn index(&self) -> usize
+        ensures { result ≡ offset_in self.now.repaired self.now.index }
+    {
+        match self.repaired {
+            None => self.at,
+            Some(repaired) => repaired.origin(self.at),
+        }
+    }
+
+    /// The value that comes next.
+    ///
+    /// `InvalidUTF8` comes exactly where the whole input is no UTF-8. A code from `EofWhileParsing` to
+    /// `InvalidSurrogate` or `RecursionLimitExceeded` tells the fault of what is left, as a value of at most 254 levels.
+    /// Else the tree of the value may be refused, at its first byte: `TypeUnmatched`, `NumberOutOfRange`,
+    /// `ExpectedNumericKey`. Or memory runs out. It then stands behind the value where the value was given or its tree
+    /// refused, and else where it stood.
+    pub fn deserialize<T: Deserialize<'a>>(&mut self, alloc: Global) -> Result<T>
+        ensures ok { IfOk result (λ v.
+            TakesValue T.from_tree self.old (gives (T.datum v)) self.new) }
+        ensures err { IfErr result (λ e.
+            Fails T.from_tree self.old e.code e.place self.new) }
+    {
+        match self.text {
+            Ok(text) => read_value(alloc, text, self.lossy, self.repaired, &mut self.at),
+            Err(error) => Err(error),
+        }
+    }
+
+    /// Whether only whitespace is left. `InvalidUTF8` comes as in `deserialize`, else `TrailingCharacters` exactly at
+    /// the next other byte (RFC 8259, section 2). It does not move.
+    pub fn end(&mut self) -> Result<()>
+        ensures utf8 { OnOk result (IsUtf8 self.old.text) }
+        ensures ok { OnOk result (NothingLeft (standing self.old)) }
+        ensures err { IfErr result (EndFails self.old (TrailsAt (standing self.old))) }
+        ensures kept { self.new ≡ self.old }
+    {
+        match self.text {
+            Ok(text) => match Parser::at(text, self.at).end() {
+                Ok(()) => Ok(()),
+                Err(error) => Err(told(self.repaired, error)),
+            },
+            Err(error) => Err(error),
+        }
+    }
+
+    /// Takes whitespace and `]`, where the caller reads the elements of an array (RFC 8259, section 5). `InvalidUTF8`
+    /// comes as in `deserialize`, else `EofWhileParsing` where only whitespace is left, else `ExpectedArrayCommaOrEnd`,
+    /// both at the next byte that is no whitespace; then it does not move.
+    pub fn end_seq(&mut self) -> Result<()>
+        ensures ok { OnOk result (PassesEnd self.old Kind.Array self.new) }
+        ensures err { IfErr result (EndFails self.old (LacksEnd (standing self.old) Kind.Array)) }
+        ensures kept { OnErr result (self.new ≡ self.old) }
+    {
+        match self.text {
+            Ok(text) => {
+                let mut parser = Parser::at(text, self.at);
+                match parser.end_seq() {
+                    Ok(()) => {
+                        self.at = parser.index();
+                        Ok(())
+                    }
+                    Err(error) => Err(told(self.repaired, error)),
+                }
+            }
+            Err(error) => Err(error),
+        }
+    }
+
+    /// Takes whitespace and `}`, where the caller reads the members of an object (RFC 8259, section 4). `InvalidUTF8`
+    /// comes as in `deserialize`, else `EofWhileParsing` where only whitespace is left, `TrailingComma` at a comma, and
+    /// else `ExpectedObjectCommaOrEnd`, each at the next byte that is no whitespace; then it does not move.
+    pub fn end_map(&mut self) -> Result<()>
+        ensures ok { OnOk result (PassesEnd self.old Kind.Object self.new) }
+        ensures err { IfErr result (EndFails self.old (LacksEnd (standing self.old) Kind.Object)) }
+        ensures kept { OnErr result (self.new ≡ self.old) }
+    {
+        match self.text {
+            Ok(text) => {
+                let mut parser = Parser::at(text, self.at);
+                match parser.end_map() {
+                    Ok(()) => {
+                        self.at = parser.index();
+                        Ok(())
+                    }
+                    Err(error) => Err(told(self.repaired, error)),
+                }
+            }
+            Err(error) => Err(error),
+        }
+    }
+
+    /// All values that are left, one after another.
+    pub fn into_stream<T: Deserialize<'a>>(self) -> StreamDeserializer<'a, T>
+        ensures { result ≡ record { input = self.entry; ended = false } }
+    {
+        StreamDeserializer::new(self)
+    }
+}

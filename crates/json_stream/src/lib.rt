@@ -1,0 +1,21 @@
+//! Values of one input, one after another: each is read as the caller asks, and what follows it is not looked at.
+//!
+//! ```
+//! use json_stream::Deserializer;
+//! let mut numbers = Deserializer::from_slice(b"1 22 [").into_stream::<u8>();
+//! assert!(rt; matches!(numbers.next(alloc), Some(Ok(1))));
+//! assert!(rt; matches!(numbers.next(alloc), Some(Ok(22))));
+//! let damage = numbers.next(alloc).and_then(|last| last.err());
+//! assert_eq!(rt; damage.and_then(|error| error.offset()), Some(6));
+//! assert!(rt; numbers.next(alloc).is_none());
+//! ```
+#![tactic(auto)]
+
+mod deserializer;
+pub mod laws;
+mod read_value;
+mod stream_deserializer;
+mod told;
+
+pub use deserializer::Deserializer;
+pub use stream_deserializer::StreamDeserializer;

@@ -1,0 +1,63 @@
+// One value of a text, from a place on.
+ghost use Rattle.std.specs.Prelude.{◌≡◌, IfSome, IfOk, IfErr, option_copied};
+ghost use Rattle.std.specs.Str.{IsCharBoundary};
+ghost use Rattle.json_data.specs.Reading.{gives};
+ghost use Rattle.json_data.specs.Text.{IsFresh};
+ghost use Rattle.json_stream.specs.Streams.{stands_at, TakesValue, Fails};
+
+use crate::told::told;
+use json_data::{Deserialize, TextTokens, is_refusal};
+use json_text::{Error, Repaired, Result, place_of, ws_run};
+use std::alloc::Global;
+
+// The tokens of the value that comes next in the text, in either mode.
+fn tokens_at<'a>(text: &'a str, lossy: bool, from: usize) -> TextTokens<'a>
+    requires { IsCharBoundary text.now from }
+    ensures text { result.parser.text ≡ text.now }
+    ensures start { (result.parser.start ≡ from) × (result.parser.limit ≡ 254) }
+    ensures mode { result.parser.lossy ≡ lossy }
+    ensures fresh { IsFresh result }
+{
+    let tokens = TextTokens::at(text, from);
+    if lossy { tokens.lossy() } else { tokens }
+}
+
+/// The value that comes next in the text from `at` on, in either mode, which becomes the place behind it where it was taken.
+/// A text that was repaired is read so too, and what is refused in it is told by the input.
+pub(crate) fn read_value<'a, T: Deserialize<'a>>(
+    alloc: Global,
+    text: &'a str,
+    lossy: bool,
+    repaired: Option<&Repaired>,
+    at: &mut usize,
+) -> Result<T>
+    requires boundary { IsCharBoundary text.now at.old }
+    requires same { IfSome repaired (λ r. r.now.text ≡ text.now) }
+    ensures ok { IfOk result (λ v. TakesValue T.from_tree
+        (stands_at text.now lossy (option_copied repaired.entry) at.old)
+        (gives (T.datum v))
+        (stands_at text.now lossy (option_copied repaired.entry) at.new)) }
+    ensures err { IfErr result (λ e. Fails T.from_tree
+        (stands_at text.now lossy (option_copied repaired.entry) at.old) e.code e.place
+        (stands_at text.now lossy (option_copied repaired.entry) at.new)) }
+    ensures boundary { IsCharBoundary text.now at.new }
+{
+    let from = *at;
+    let mut tokens = tokens_at(text, lossy, from);
+    match T::deserialize(alloc, &mut tokens) {
+        Ok(value) => {
+            *at = tokens.index();
+            Ok(value)
+        }
+        Err(error) => {
+            if !is_refusal(error.code) {
+                let _failure = tokens.failure();
+                return Err(told(repaired, error));
+            }
+            *at = tokens.index();
+            let begin = ws_run(text.as_bytes(), from);
+            let place = place_of(text.as_bytes(), begin);
+            Err(told(repaired, Error { place, ..error }))
+        }
+    }
+}

@@ -1,0 +1,53 @@
+// Places of an input whose text was repaired.
+ghost use Rattle.std.specs.Prelude.{◌≡◌, ◌-◌, ◌≤◌, length, IfSome, option_copied};
+ghost use Rattle.json_stream.specs.Streams.{added as spec_added, origin_place, in_input, IsWithin};
+
+use json_text::{Error, Place, Repaired};
+
+// How many bytes more the repaired text has before the offset than the input.
+fn added(repaired: &Repaired, offset: usize) -> usize
+    requires { offset ≤ length repaired.now.text }
+    ensures { result ≡ spec_added repaired.now offset }
+{
+    offset.saturating_sub(repaired.origin(offset))
+}
+
+// The place in the input for one in its repaired text.
+#[cold]
+fn origin_of(repaired: &Repaired, place: Place) -> Place
+    requires { IsWithin repaired.now.text place }
+    ensures { result ≡ origin_place repaired.now place }
+{
+    match place {
+        Place::At {
+            offset,
+            line,
+            column,
+        } => {
+            let line_start = offset.saturating_sub(column.saturating_sub(1));
+            let more = added(repaired, offset).saturating_sub(added(repaired, line_start));
+            Place::At {
+                offset: repaired.origin(offset),
+                line,
+                column: column.saturating_sub(more),
+            }
+        }
+        elsewhere => elsewhere,
+    }
+}
+
+/// What is told of an error of the text that is read: the same, at its place in the input.
+pub(crate) fn told(repaired: Option<&Repaired>, error: Error) -> Error
+    requires { IfSome repaired (λ r. IsWithin r.now.text error.place) }
+    ensures { result ≡ record error {
+      place = in_input (option_copied repaired.entry) error.place;
+    } }
+{
+    match repaired {
+        Some(repaired) => Error {
+            place: origin_of(repaired, error.place),
+            ..error
+        },
+        None => error,
+    }
+}
