@@ -13,8 +13,6 @@ mod documents;
 #[cfg(test)]
 mod equality;
 #[cfg(test)]
-mod hostile;
-#[cfg(test)]
 mod numbers;
 #[cfg(test)]
 mod paths;

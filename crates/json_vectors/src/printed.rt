@@ -66,6 +66,25 @@ fn values_made_by_hand_are_printed(rt: HostRuntime) -> Result<(), Fail> {
     Ok(())
 }
 
+// Whether this is the compact text of what is seen with the members of each object in the order of their keys.
+fn prints_sorted(alloc: Global, view: View<'_>, json: &[u8]) -> json_text::Result<bool> {
+    let mut out = Serializer::new(alloc, VecSink::new(alloc));
+    view.emit_sorted(alloc, &mut out)?;
+    Ok(out.into_inner().as_slice() == json)
+}
+
+#[test]
+fn objects_are_printed_in_the_order_of_their_keys(rt: HostRuntime) -> Result<(), Fail> {
+    let alloc = rt.alloc();
+    let doc = read(alloc, "{\"c\":[{\"b\":1,\"a\":2}],\"b\":3,\"b\":4,\"a\":5}")?;
+    let json = b"{\"a\":5,\"b\":3,\"b\":4,\"c\":[{\"a\":2,\"b\":1}]}";
+    assert!(rt; prints_sorted(alloc, View::packed(doc.view()), json)?);
+    let value = made(alloc)?;
+    let json = b"[null,{\"a\":true,\"a\":{},\"b\":[]},\"x\"]";
+    assert!(rt; prints_sorted(alloc, value.view(), json)?);
+    Ok(())
+}
+
 // The numbers `[18446744073709551615,-7,1,-0]`.
 fn numbers(alloc: Global) -> json_text::Result<Value> {
     let mut items = Vec::new(alloc);

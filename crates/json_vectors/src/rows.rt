@@ -1,7 +1,8 @@
 // Inputs and words with what `run` comes to.
 
 /// Worked examples of the top call. Each line has an input, the status, the text that comes out or is told (there without its line
-/// break), and the words, each closed by `|`; of the first and the third `%XX` is a byte. A line that begins with `#` says what follows.
+/// break), and the words, each closed by `|`. `«N PIECE»` is N times the piece; of the first and the third `%XX` is a byte. A line that
+/// begins with `#` says what follows.
 pub const ROWS: &str = r#"# texts, compact
 {"a": 1, "b": true, "c": null}|0|{"a":1,"b":true,"c":null}|
 [-0,1.0,1e400,12345678901234567890123,18446744073709551615]|0|[-0,1.0,1e400,12345678901234567890123,18446744073709551615]|
@@ -15,6 +16,9 @@ pub const ROWS: &str = r#"# texts, compact
  -12.5e+3%0A|0|-12.5e+3|
 %09true |0|true|
 "é€"|0|"é€"|
+"\n"|0|"\n"|
+«254 [»«254 ]»|0|«254 [»«254 ]»|
+"«1000000 a»"|0|"«1000000 a»"|
 # faults at their places
 |1|EofWhileParsing at offset 0, line 1 column 1|
 "\ud800abc"|1|InvalidSurrogate at offset 7, line 1 column 8|
@@ -50,6 +54,11 @@ x%FF|1|InvalidUTF8 at offset 1, line 1 column 2|
 [[[[[[[[[[[[[[[[[[[[[[[[[[[[[[[[[[[[[[[[x|1|InvalidJsonValue at offset 40, line 1 column 41|
 [[[[[[[[[[[[[[[[[[[[[[[[[[[[[[[[[[[[[[[["\ud800x|1|InvalidSurrogate at offset 47, line 1 column 48|
 %FF|1|InvalidUTF8 at offset 0, line 1 column 1|
+«255 [»«255 ]»|1|RecursionLimitExceeded at offset 254, line 1 column 255|
+«300 [»|1|RecursionLimitExceeded at offset 254, line 1 column 255|
+«1000 [»|1|RecursionLimitExceeded at offset 254, line 1 column 255|
+«1000000 [»|1|RecursionLimitExceeded at offset 254, line 1 column 255|
+"«1000000 \»|1|EofWhileParsing at offset 1000001, line 1 column 1000002|
 # edits that apply, and the first that does not
 {"a": 1, "a": true}|0|{"a":2,"a":true}|[["set",["a"],2]]|
 {"a": 1, "a": true, "a": null}|0|{"a":2,"a":true,"a":null}|[["set",["a"],2]]|
@@ -71,6 +80,9 @@ x%FF|1|InvalidUTF8 at offset 1, line 1 column 2|
 [1]|0|{"a":[2]}|[["set",[],{"a":[]}],["push",["a"],1],["set",["a",0],2]]|
 [0,-0,1e400]|0|[0,-0,1e400,1E+2]|[["push",[],1E+2]]|
 {%0A    "name": "Xiaoming",%0A    "obj": {},%0A    "arr": [],%0A    "age": 18,%0A    "address": {%0A        "city": "Beijing"%0A    },%0A    "phones": [%0A        "+123456"%0A    ]%0A}|0|{"name":"Xiaoming","obj":{},"arr":[],"age":18,"address":{"city":"Beijing"},"phones":["+123456"],"inserted":true}|[["insert",[],"inserted",true]]|
+{"a": 1, "b": 1.50}|0|{"a":2,"b":1.50}|[["set",["a"],2]]|
+«254 [»«254 ]»|0|«255 [»«255 ]»|[["push",[0«252 ,0»],[]]]|
+«254 [»«254 ]»|0|«506 [»«506 ]»|[["push",[0«252 ,0»],«252 [»«252 ]»]]|
 {"a":[1]}|3|NotFound in edit 0|[["set",["a",5],0]]|
 null|3|TypeUnmatched in edit 0|[["set",["k"],1]]|
 1|3|TypeUnmatched in edit 0|[["push",[],1]]|
@@ -100,6 +112,11 @@ null|3|TypeUnmatched in edit 0|[["insert",[],"k",1]]|
 {"b":1}|0|{%0A  "a": [],%0A  "b": 1%0A}|--pretty|--sort-keys|[["insert",[],"a",[]]]|
 {"b":1}|0|{%0A  "a": [],%0A  "b": 1%0A}|--sort-keys|[["insert",[],"a",[]]]|--indent=2|
 {"b":1}|0|{%0A%09"a": [],%0A%09"b": 1%0A}|[["insert",[],"a",[]]]|--tabs|--sort-keys|
+{"b":1}|0|{%0A  "a": [],%0A  "b": 1%0A}|--sort-keys|[["insert",[],"a",[]]]|--pretty|
+{"b":1}|0|{%0A  "a": [],%0A  "b": 1%0A}|[["insert",[],"a",[]]]|--pretty|--sort-keys|
+{"b":1}|0|{%0A  "a": [],%0A  "b": 1%0A}|--sort-keys|--indent=2|[["insert",[],"a",[]]]|
+{}|0|{%0A%09"a": []%0A}|--tabs|[["insert",[],"a",[]]]|
+{"b":1}|0|{"a":[],"b":1}|[["insert",[],"a",[]]]|--sort-keys|
 # rules that are asked for
 {"a":1,"b":2,"\u0061":3}|1|DuplicateKey at offset 13, line 1 column 14|--unique-keys|
 {"a":{"a":1}}|0|{"a":{"a":1}}|--unique-keys|
@@ -112,6 +129,8 @@ null|3|TypeUnmatched in edit 0|[["insert",[],"k",1]]|
 [{"a":1,"a":2}]|1|RecursionLimitExceeded at offset 1, line 1 column 2|--depth=1|--unique-keys|
 {"a":1,"a":[]}|1|DuplicateKey at offset 7, line 1 column 8|--unique-keys|--depth=1|
 {"a":1,"a|1|EofWhileParsing at offset 9, line 1 column 10|--unique-keys|
+«1024 [»«1024 ]»|0|«1024 [»«1024 ]»|--depth=1024|
+«1025 [»«1025 ]»|1|RecursionLimitExceeded at offset 1024, line 1 column 1025|--depth=1024|
 # which concern the input alone
 {"a":1}|0|{"a":[[{"b":1,"b":2}]]}|--unique-keys|--depth=1|[["set",["a"],[[{"b":1,"b":2}]]]]|
 # made input, for which nothing is read
@@ -172,6 +191,46 @@ x|0|in 84 4779%0Aout 61 3681%0A|--make=2|
 1|2|BadWords|[["push",[],0,0]]|
 1|2|BadWords|[[]]|
 1|2|BadWords|[["set",[],01]]|
+1|2|BadWords|[["set"]]|
+1|2|BadWords|[["set",["a"],0,0]]|
+1|2|BadWords|[["set","a",0]]|
+1|2|BadWords|[["set",[null],0]]|
+1|2|BadWords|[["Set",[],0]]|
+1|2|BadWords|[["push",[1e2],0]]|
+1|2|BadWords|[["push",[-0],0]]|
+1|2|BadWords|[["remove",[],null]]|
+1|2|BadWords|[["remove",[]]]|
+1|2|BadWords|[["set",[],0],["set"]]|
+1|2|BadWords|{"set":[]}|
+1|2|BadWords|[]|--|
+1|2|BadWords|[]|---|
+1|2|BadWords|[]|--Pretty|
+1|2|BadWords|[]|--pretty |
+1|2|BadWords|[]|--prett|
+1|2|BadWords|[]|--pretty=2|
+1|2|BadWords|[]|--tab|
+1|2|BadWords|[]|--indent|
+1|2|BadWords|[]|--indent=|
+1|2|BadWords|[]|--indent=9|
+1|2|BadWords|[]|--indent=10|
+1|2|BadWords|[]|--indent=02|
+1|2|BadWords|[]|--indent=-1|
+1|2|BadWords|[]|--indent= |
+1|2|BadWords|[]|--sort|
+1|2|BadWords|[]|--sort-keys=1|
+1|2|BadWords|[]|--unique-keys=1|
+1|2|BadWords|[]|--unique|
+1|2|BadWords|[]|--depth|
+1|2|BadWords|[]|--depth=|
+1|2|BadWords|[]|--depth=1025|
+1|2|BadWords|[]|--depth=01|
+1|2|BadWords|[]|--depth=+5|
+1|2|BadWords|[]|--depth=5 |
+1|2|BadWords|[]|--depth=-0|
+1|2|BadWords|[]|--depth=18446744073709551616|
+1|2|BadWords|[]|-|
+1|2|BadWords|[]|-pretty|
+1|2|BadWords|[]| --pretty|
 1|2|BadWords|--pretty|--tabs|
 1|2|BadWords|--pretty|--pretty|
 1|2|BadWords|--tabs|--indent=2|
@@ -190,3 +249,6 @@ x|0|in 84 4779%0Aout 61 3681%0A|--make=2|
 1|2|BadWords|--make=1|--make=1|
 1|2|BadWords|[]|--make=1|
 "#;
+
+/// The row of the largest made input, apart: where nothing is optimised, as under `rt try --test`, it takes half a minute.
+pub const LARGEST_MADE: &str = "x|0|in 4588890 254416828%0Aout 3388891 197916860%0A|--make=100000|";

@@ -49,22 +49,22 @@ module _ (rules : Rules) where
   one_input_fault b c c' p p' (not_utf8 s u) (no_text s' u' f) = let w = (utf8_cause b c p u).1 in absurd (utf8_no_fault b w.0 w.1 u')
   one_input_fault b c c' p p' (no_text s u f) (too_large l) = absurd (omega (arith, l, s))
   one_input_fault b c c' p p' (no_text s u f) (not_utf8 s' u') = let w = (utf8_cause b c' p' u').1 in absurd (utf8_no_fault b w.0 w.1 u)
-  one_input_fault b c c' p p' (no_text s u f) (no_text s' u' f') = one_fault_with_at rules b c c' p p' f f'
+  one_input_fault b c c' p p' (no_text s u f) (no_text s' u' f') = one_fault_with_at false rules b c c' p p' f f'
 
   pub valid_no_fault : (b : List ℕ) (c : ErrorCode) (p : Place) → IsValid rules b → ¬ (InputFault rules b c p)
   valid_no_fault b c p v (too_large l) = omega (arith, l, v.input.short)
   valid_no_fault b c p v (not_utf8 s u) = let w = (utf8_cause b c p u).1 in utf8_no_fault b w.0 w.1 (text_utf8 false v.tree b v.input.text)
-  valid_no_fault b c p v (no_text s u (k, e, h)) = fault_with_is_no_text rules b c k h v.tree v.input.text v.input.fit
+  valid_no_fault b c p v (no_text s u (k, e, h)) = fault_with_is_no_text false rules b c k h v.tree v.input.text v.input.fit
 
   pub some_input_fault : (b : List ℕ) → IsValid rules b ⊎ ((c : ErrorCode) × (p : Place) × InputFault rules b c p)
   some_input_fault b = elim (cases_lt most (length b)) [ inl l ↦ inr (code.TooLarge, nowhere, too_large l) | inr s ↦ by s (some_fault b) ]
     where
-      read : length b ≤ most → IsUtf8 b → ((t : Tree) × is_text false t b × fits t rules) ⊎ ((c : ErrorCode) × (p : Place) × FaultWithAt rules b c p) → IsValid rules b ⊎ ((c : ErrorCode) × (p : Place) × InputFault rules b c p)
+      read : length b ≤ most → IsUtf8 b → ((t : Tree) × is_text false t b × fits t rules) ⊎ ((c : ErrorCode) × (p : Place) × FaultWithAt false rules b c p) → IsValid rules b ⊎ ((c : ErrorCode) × (p : Place) × InputFault rules b c p)
       read s u (inl (t, h, d)) = inl (record { tree = t; input = record { short = s; text = h; fit = d } })
       read s u (inr (c, p, h)) = inr (c, p, no_text s u h)
 
       by : length b ≤ most → IsUtf8 b ⊎ ((k : ℕ) × IsUtf8Fault b k) → IsValid rules b ⊎ ((c : ErrorCode) × (p : Place) × InputFault rules b c p)
-      by s (inl u) = read s u (some_fault_with_at rules b u)
+      by s (inl u) = read s u (some_fault_with_at false rules b u)
       by s (inr w) = inr (code.InvalidUTF8, place_at b w.0, not_utf8 s (w.0, w.1, refl))
 
   -- ---- what is no fault of an input

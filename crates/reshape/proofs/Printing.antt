@@ -1,5 +1,5 @@
 -- A text printed through a buffered writer over a borrowed sink.
-use Rattle.std.proofs.Common.{◌≡◌, ℕ, List, [], ◌∷◌, refl, sym, ap, subst, ◌∙◌, arith, Bool, false, ◌||◌, Option, None, Result, Ok, Err, inr}
+use Rattle.std.proofs.Common.{◌≡◌, ℕ, List, [], ◌∷◌, ◌++◌, refl, sym, ap, subst, ◌∙◌, arith, Bool, false, ◌||◌, Option, None, Result, Ok, Err, inl, inr}
 use Rattle.std.specs.Borrow.{GName}
 use Rattle.json_grammar.specs.Tree.{Tree, tokens}
 use Rattle.json_text.specs.declared.error.Error.{Error}
@@ -7,6 +7,7 @@ use Rattle.json_text.specs.declared.error.ErrorCode.{ErrorCode}
 use Rattle.json_text.specs.declared.error.ErrorCode.TheVariants.{NoMemory, Io}
 use Rattle.json_text.specs.declared.error.Place.{Place}
 use Rattle.json_text.specs.declared.error.Place.TheVariants.{None as nowhere, Writing}
+use Rattle.json_text.specs.Errors.{no_memory}
 use Rattle.json_text.specs.Known.{Grows, append_known}
 use Rattle.json_text.proofs.Known.{known-append, known-nil}
 use Rattle.json_text.specs.Lending.{lent_as, ComesBack}
@@ -16,20 +17,44 @@ use Rattle.json_print.specs.Buffered.{held_behind}
 use Rattle.json_print.specs.Calls.{holds_any}
 use Rattle.json_print.specs.Layouts.{Form, LaidOut}
 use Rattle.json_print.specs.Given.{Given, given_tokens}
-use Rattle.json_print.specs.Printer.{Out, StopCause, StopsTaking, took, start}
+use Rattle.json_print.specs.Printer.{Out, StopCause, StopsTaking, after, took, start}
 use Rattle.json_print.specs.Shown.{shown_as}
 use Rattle.json_print.specs.TextWriting.{WritesText}
+use Rattle.json_print.specs.Taking.{after_all, StopsAmong}
 use Rattle.json_print.specs.Written.{Written}
-use Rattle.json_value.specs.Emitting.{Emits}
+use Rattle.json_print.proofs.Taking.{took_all, tokens_append}
+use Rattle.json_value.specs.EmittingSorted.{EmitsOrLacks, StopsOrLacks}
 use Rattle.json_print.proofs.TextWriting.{all_written, stopped_written, front_gained, same_name, grown, sent_back}
 use Rattle.reshape.specs.Printing.{PrintingFails, Prints, SendsText}
 
 -- ---- the tokens of a tree, given to a serializer
 
-pub text_written : {F : Type 0} (m : Form F) (f : F) (sorts : Bool) (w new : SinkState) (first now : Out F) (err failed : Option Error) (t u : Tree) (gs : List Given) (i : Option (List ℕ)) (r : Result (Unit {0}) Error)
-    → LaidOut m f i 0 false → first ≡ start f sorts w → err ≡ None → u ≡ t → given_tokens gs ≡ tokens u → Emits (took m) (StopsTaking m) first now err failed gs r → Written m now new → WritesText w new (shown_as i sorts t) r
-text_written m f sorts w new first now err failed t u gs i (Ok v) laid s n e z h k = all_written t gs v laid s (z ∙ ap tokens e) h.all k
-text_written m f sorts w new first now err failed t u gs i (Err x) laid s n e z h k = stopped_written t laid s (z ∙ ap tokens e) (h.stops n) k
+module _ {F : Type 0} (m : Form F) (f : F) (w new : SinkState) (first now : Out F) (failed : Option Error) (t : Tree) (gs : List Given) (i : Option (List ℕ)) (laid : LaidOut m f i 0 false) (s : first ≡ start f false w) (z : given_tokens gs ≡ tokens t)
+    (k : Written m now new) where
+  -- memory was lacking behind the first of them
+  lacked : (front back : List Given) (x : Given) (e : Error) → gs ≡ front ++ x ∷ back → e ≡ no_memory → now ≡ after_all (took m) first front → WritesText w new (shown_as i false t) (Err e)
+  lacked front back x e g n h =
+      let here = h ∙ took_all m first front ∙ ap (λ o. after_all (after m) o (given_tokens front)) s in
+      let c = k.calm f false w (given_tokens front) here in
+      record {
+        ok = tt;
+        calm = tt;
+        prefix = k.prefix f false w i t (given_tokens front) (given_tokens (x ∷ back)) laid (sym z ∙ ap given_tokens g ∙ tokens_append front (x ∷ back)) here;
+        cause = subst (λ (y : Error). StopCause w.faults new.faults y.code y.place) (sym n) tt;
+        told = λ l. absurd (omega (arith, l, c.0));
+        same_loan = c.1;
+      }
+
+  stopped : (e : Error) → StopsAmong (took m) (StopsOrLacks (StopsTaking m) failed) first now gs e → WritesText w new (shown_as i false t) (Err e)
+  stopped e h =
+      elim h.left [
+        | inl met ↦ stopped_written t laid s z (record { front = h.front; at = h.at; back = h.back; whole = h.whole; left = met.0 }) k
+        | inr lack ↦ lacked h.front h.back h.at e h.whole lack.0 lack.1
+      ]
+
+  pub text_written : (err : Option Error) (r : Result (Unit {0}) Error) → err ≡ None → EmitsOrLacks (took m) (StopsTaking m) first now err failed gs r → WritesText w new (shown_as i false t) r
+  text_written err (Ok v) n h = all_written t gs v laid s z h.all k
+  text_written err (Err e) n h = stopped e (h.stops n)
 
 -- ... with the indent and the order that the style has
 pub in_style : (old new : SinkState) (r : Result (Unit {0}) Error) (i j : Option (List ℕ)) (s z : Bool) (t : Tree) → i ≡ j → s ≡ z → WritesText old new (shown_as i s t) r → WritesText old new (shown_as j z t) r

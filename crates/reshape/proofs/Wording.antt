@@ -5,7 +5,8 @@ use Rattle.json_grammar.specs.Sizes.{nodes, trees_nodes}
 use Rattle.json_grammar.proofs.Values.{one_tree}
 use Rattle.json_grammar.proofs.Sizes.{text_fits, nodes_some}
 use Rattle.json_model.specs.Edit.{Edit}
-use Rattle.reshape.specs.Words.{both, each_in, edit_in, edits_in, Spells, AsksEdits}
+use Rattle.json_value.specs.EditTrees.{both, each_in, edit_in}
+use Rattle.reshape.specs.Words.{edits_in, Spells, AsksEdits}
 use Rattle.reshape.specs.Options.{is_edits_word, depth_or_usual, Command, Asks}
 
 same_some : {A : Type 0} {x y : A} → Some x ≡ Some y → x ≡ y

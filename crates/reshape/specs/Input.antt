@@ -29,4 +29,4 @@ pub record IsValid (rules : Rules) (b : List ℕ) : Type 0 where
 pub data InputFault (rules : Rules) : List ℕ → ErrorCode → Place → Type 0 where
   too_large : {b : List ℕ} → most < length b → InputFault rules b TooLarge nowhere
   not_utf8 : {b : List ℕ} {code : ErrorCode} {place : Place} → length b ≤ most → Utf8Cause b code place → InputFault rules b code place
-  no_text : {b : List ℕ} {code : ErrorCode} {place : Place} → length b ≤ most → IsUtf8 b → FaultWithAt rules b code place → InputFault rules b code place
+  no_text : {b : List ℕ} {code : ErrorCode} {place : Place} → length b ≤ most → IsUtf8 b → FaultWithAt false rules b code place → InputFault rules b code place

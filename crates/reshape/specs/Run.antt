@@ -29,6 +29,10 @@ status_of code place = 1
 abbrev pub Tells : List ℕ → SinkState → SinkState → Type 0
 Tells text errs errs' = Appends errs.gained errs'.gained text ⊎ (AppendsFront errs.gained errs'.gained text × (Rose errs.faults errs'.faults ⊎ Rose errs.lacks errs'.lacks))
 
+-- the refusal is told, with this status; or memory ran out
+abbrev pub StatusTells : ℕ → Error → SinkState → SinkState → ℕ → Type 0
+StatusTells answer error errs errs' status = ((status ≡ answer) × Tells (text_of error) errs errs') ⊎ (status ≡ 6)
+
 -- the words ask for a command, and of it this holds
 pub record WithCommand (words : List (List ℕ)) (holds : Command → Type 0) : Type 0 where
   pub command : Command

@@ -35,7 +35,8 @@ impl AskedStyle {
     pub(crate) fn new(indent: Option<&'static str>, sorted: bool, rules: Rules) -> AskedStyle
         requires { IsIndent (option_map (λ s. s.now) indent) }
         ensures rules { rules_asked result ≡ rules_of rules }
-        ensures layout { layout_asked result ≡ record { indent = option_map (λ s. s.now) indent.entry; sorts = sorted } }
+        ensures layout { layout_asked result
+            ≡ record { indent = option_map (λ s. s.now) indent.entry; sorts = sorted } }
     {
         match Style::new(indent, sorted) {
             Some(style) => AskedStyle { style, rules },

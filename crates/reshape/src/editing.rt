@@ -27,8 +27,10 @@ fn numbered(error: Error, number: u32) -> Error
 /// or memory runs out. There are fewer than 2^32 edits.
 pub fn apply_all(alloc: Global, value: &mut Value, edits: &[Edit]) -> Result<()>
     requires { length edits.now < 2 ^ 32 }
-    ensures ok { OnOk result (edited (map edit_of edits.now) (tree_of value.old) ≡ Ok (tree_of value.new)) }
-    ensures refused { IfErr result (λ e. EditingRefuses (map edit_of edits.now) (tree_of value.old) e.code e.place) }
+    ensures ok { OnOk result
+        (edited (map edit_of edits.now) (tree_of value.old) ≡ Ok (tree_of value.new)) }
+    ensures refused { IfErr result
+        (λ e. EditingRefuses (map edit_of edits.now) (tree_of value.old) e.code e.place) }
 {
     let mut number = 0;
     for edit in edits {

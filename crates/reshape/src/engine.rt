@@ -1,15 +1,12 @@
 // From the bytes of a source to the bytes of a sink.
-ghost use Rattle.std.specs.Prelude.{ℕ, ◌⊎◌, ◌+◌, ◌<◌, ◌^◌, length, map, OnOk, IfErr, IsErrOf, IsOkUnless};
-ghost use Rattle.json_model.specs.Edit.{Refusal};
+ghost use Rattle.std.specs.Prelude.{◌+◌, ◌<◌, ◌^◌, length, map, OnOk, IfErr, IsOkUnless};
 ghost use Rattle.json_value.specs.Edits.{edit_of};
-ghost use Rattle.json_text.specs.declared.error.ErrorCode.{ErrorCode};
-ghost use Rattle.json_text.specs.declared.error.Place.{Place};
-ghost use Rattle.json_text.specs.Errors.{no_memory, reading_failed, writing_failed};
+ghost use Rattle.json_text.specs.Errors.{no_memory};
 ghost use Rattle.json_text.specs.Ruled.{rules_of, usual_rules};
 ghost use Rattle.json_text.specs.Transfer.{TakesAtMost};
 ghost use Rattle.reshape.specs.Input.{most};
 ghost use Rattle.reshape.specs.Reshape.{layout_of, Reshapes, Refuses};
-ghost use Rattle.reshape.specs.Told.{TellsFit, TellsFault, TellsUnfit, edit_refused};
+ghost use Rattle.reshape.specs.Told.{TellsFit, TellsFailedRead, TellsFailedWrite, AnswersFault, AnswersUnfit};
 
 use crate::document::read;
 use crate::editing::apply_all;
@@ -29,11 +26,15 @@ fn pass<S: Source, K: Sink>(
     rules: Rules,
 ) -> Result<()>
     requires few { length edits.now < 2 ^ 32 }
-    ensures done { OnOk result (Reshapes (rules_of rules) (map edit_of edits.now) (layout_of style.entry) (S.state source.old) (S.state source.new) (K.state sink.old) (K.state sink.new)) }
-    ensures refused { IfErr result (λ e. Refuses (rules_of rules) (map edit_of edits.now) (layout_of style.entry) (S.state source.old) (S.state source.new) (K.state sink.old) (K.state sink.new) e.code e.place) }
+    ensures done { OnOk result (Reshapes (rules_of rules) (map edit_of edits.now)
+        (layout_of style.entry) (S.state source.old) (S.state source.new)
+        (K.state sink.old) (K.state sink.new)) }
+    ensures refused { IfErr result (λ e. Refuses (rules_of rules) (map edit_of edits.now)
+        (layout_of style.entry) (S.state source.old) (S.state source.new)
+        (K.state sink.old) (K.state sink.new) e.code e.place) }
     ensures taken { TakesAtMost (most + 1) (S.state source.old) (S.state source.new) }
-    ensures read_told { (S.state source.old).faults < (S.state source.new).faults → IsErrOf result reading_failed }
-    ensures write_told { (K.state sink.old).faults < (K.state sink.new).faults → IsErrOf result writing_failed }
+    ensures read_told { TellsFailedRead (S.state source.old) (S.state source.new) result }
+    ensures write_told { TellsFailedWrite (K.state sink.old) (K.state sink.new) result }
 {
     let doc = read(alloc, source, rules)?;
     let mut value = Value::from_place(alloc, &doc, doc.root())?;
@@ -57,19 +58,22 @@ pub fn reshape_with<S: Source, K: Sink>(
     rules: Rules,
 ) -> Result<()>
     requires few { length edits.now < 2 ^ 32 }
-    ensures done { OnOk result (Reshapes (rules_of rules) (map edit_of edits.now) (layout_of style.entry) (S.state source.old) (S.state source.new) (K.state sink.old) (K.state sink.new)) }
-    ensures refused { IfErr result (λ e. Refuses (rules_of rules) (map edit_of edits.now) (layout_of style.entry) (S.state source.old) (S.state source.new) (K.state sink.old) (K.state sink.new) e.code e.place) }
+    ensures done { OnOk result (Reshapes (rules_of rules) (map edit_of edits.now)
+        (layout_of style.entry) (S.state source.old) (S.state source.new)
+        (K.state sink.old) (K.state sink.new)) }
+    ensures refused { IfErr result (λ e. Refuses (rules_of rules) (map edit_of edits.now)
+        (layout_of style.entry) (S.state source.old) (S.state source.new)
+        (K.state sink.old) (K.state sink.new) e.code e.place) }
     ensures taken { TakesAtMost (most + 1) (S.state source.old) (S.state source.new) }
-    ensures read_told { (S.state source.old).faults < (S.state source.new).faults → IsErrOf result reading_failed }
-    ensures write_told { (K.state sink.old).faults < (K.state sink.new).faults → IsErrOf result writing_failed }
-    ensures complete { TellsFit (rules_of rules) (map edit_of edits.now) (S.state source.old) (S.state source.new)
-        (K.state sink.old) (K.state sink.new) → IsOkUnless result no_memory }
-    ensures unfit { (number : ℕ) (why : Refusal)
-        → TellsUnfit (rules_of rules) (map edit_of edits.now) (S.state source.old) (S.state source.new) number why
-        → IsErrOf result (edit_refused number why) ⊎ IsErrOf result no_memory }
-    ensures exact { (code : ErrorCode) (place : Place)
-        → TellsFault (rules_of rules) (S.state source.old) (S.state source.new) code place
-        → IsErrOf result (record { code = code; place = place }) ⊎ IsErrOf result no_memory }
+    ensures read_told { TellsFailedRead (S.state source.old) (S.state source.new) result }
+    ensures write_told { TellsFailedWrite (K.state sink.old) (K.state sink.new) result }
+    ensures complete { TellsFit (rules_of rules) (map edit_of edits.now)
+        (S.state source.old) (S.state source.new) (K.state sink.old) (K.state sink.new)
+        → IsOkUnless result no_memory }
+    ensures unfit { AnswersUnfit (rules_of rules) (map edit_of edits.now)
+        (S.state source.old) (S.state source.new) result }
+    ensures exact { AnswersFault (rules_of rules)
+        (S.state source.old) (S.state source.new) result }
 {
     pass(alloc, source, sink, edits, style, rules)
 }
@@ -83,19 +87,22 @@ pub fn reshape<S: Source, K: Sink>(
     style: Style<'_>,
 ) -> Result<()>
     requires few { length edits.now < 2 ^ 32 }
-    ensures done { OnOk result (Reshapes usual_rules (map edit_of edits.now) (layout_of style.entry) (S.state source.old) (S.state source.new) (K.state sink.old) (K.state sink.new)) }
-    ensures refused { IfErr result (λ e. Refuses usual_rules (map edit_of edits.now) (layout_of style.entry) (S.state source.old) (S.state source.new) (K.state sink.old) (K.state sink.new) e.code e.place) }
+    ensures done { OnOk result (Reshapes usual_rules (map edit_of edits.now)
+        (layout_of style.entry) (S.state source.old) (S.state source.new)
+        (K.state sink.old) (K.state sink.new)) }
+    ensures refused { IfErr result (λ e. Refuses usual_rules (map edit_of edits.now)
+        (layout_of style.entry) (S.state source.old) (S.state source.new)
+        (K.state sink.old) (K.state sink.new) e.code e.place) }
     ensures taken { TakesAtMost (most + 1) (S.state source.old) (S.state source.new) }
-    ensures read_told { (S.state source.old).faults < (S.state source.new).faults → IsErrOf result reading_failed }
-    ensures write_told { (K.state sink.old).faults < (K.state sink.new).faults → IsErrOf result writing_failed }
-    ensures complete { TellsFit usual_rules (map edit_of edits.now) (S.state source.old) (S.state source.new)
-        (K.state sink.old) (K.state sink.new) → IsOkUnless result no_memory }
-    ensures unfit { (number : ℕ) (why : Refusal)
-        → TellsUnfit usual_rules (map edit_of edits.now) (S.state source.old) (S.state source.new) number why
-        → IsErrOf result (edit_refused number why) ⊎ IsErrOf result no_memory }
-    ensures exact { (code : ErrorCode) (place : Place)
-        → TellsFault usual_rules (S.state source.old) (S.state source.new) code place
-        → IsErrOf result (record { code = code; place = place }) ⊎ IsErrOf result no_memory }
+    ensures read_told { TellsFailedRead (S.state source.old) (S.state source.new) result }
+    ensures write_told { TellsFailedWrite (K.state sink.old) (K.state sink.new) result }
+    ensures complete { TellsFit usual_rules (map edit_of edits.now)
+        (S.state source.old) (S.state source.new) (K.state sink.old) (K.state sink.new)
+        → IsOkUnless result no_memory }
+    ensures unfit { AnswersUnfit usual_rules (map edit_of edits.now)
+        (S.state source.old) (S.state source.new) result }
+    ensures exact { AnswersFault usual_rules
+        (S.state source.old) (S.state source.new) result }
 {
     reshape_with(alloc, source, sink, edits, style, Rules::usual())
 }

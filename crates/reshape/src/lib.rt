@@ -18,13 +18,11 @@ mod command;
 mod document;
 mod editing;
 mod edits;
-mod edits_word;
 mod engine;
 pub mod laws;
 mod made;
 mod options;
 mod output;
-mod path_word;
 mod top;
 mod words;
 
@@ -34,16 +32,3 @@ pub use edits::Edits;
 pub use engine::{reshape, reshape_with};
 pub use top::run;
 pub use words::asked;
-
-#[cfg(test)]
-mod edit_tests;
-#[cfg(test)]
-mod option_tests;
-#[cfg(test)]
-mod readme_tests;
-#[cfg(test)]
-mod system_tests;
-#[cfg(test)]
-mod tests;
-#[cfg(test)]
-mod words_tests;

@@ -1,11 +1,12 @@
 // A large input that is made from a number, and the summary of it and of its text.
-ghost use Rattle.std.specs.Prelude.{◌≡◌, ◌++◌, ◌<◌, ◌≤◌, sum, decimal, OnOk, IfOk, IfErr, IsErrOf};
+ghost use Rattle.std.specs.Prelude.{◌≡◌, ◌++◌, ◌≤◌, sum, decimal, OnOk, IfOk, IfErr};
 ghost use Rattle.json_grammar.specs.Tree.{Tree};
-ghost use Rattle.json_text.specs.Errors.{no_memory, writing_failed};
+ghost use Rattle.json_text.specs.Errors.{no_memory};
 ghost use Rattle.json_text.specs.Ruled.{usual_rules};
 ghost use Rattle.reshape.specs.Input.{IsInput};
 ghost use Rattle.reshape.specs.Reshape.{layout_of};
 ghost use Rattle.reshape.specs.Printing.{Prints};
+ghost use Rattle.reshape.specs.Told.{TellsFailedWrite};
 ghost use Rattle.reshape.specs.Made as spec;
 ghost use Rattle.reshape.specs.Made.{made_record, totals, sorted_compact, IsSummary, IsPrinted, GainsSummary, SummaryFails};
 
@@ -59,7 +60,8 @@ fn make(alloc: Global, records: u32) -> Result<Vec<u8>>
 // The text of made input, compact and sorted.
 fn printed(alloc: Global, input: &[u8]) -> Result<Vec<u8>>
     ensures ok { IfOk result (λ v. IsPrinted input.now v.items) }
-    ensures err { (tree : Tree) → IsInput usual_rules input.now tree → IfErr result (λ e. e ≡ no_memory) }
+    ensures err { (tree : Tree) → IsInput usual_rules input.now tree
+        → IfErr result (λ e. e ≡ no_memory) }
 {
     let mut source = SliceSource::new(input);
     let mut sink = VecSink::new(alloc);
@@ -125,8 +127,9 @@ fn send<K: Sink>(sink: &mut K, text: &[u8]) -> Result<()>
 pub fn write_summary<K: Sink>(alloc: Global, records: u32, sink: &mut K) -> Result<()>
     requires { records ≤ 100000 }
     ensures ok { OnOk result (GainsSummary records (K.state sink.old) (K.state sink.new)) }
-    ensures refused { IfErr result (λ e. SummaryFails records (K.state sink.old) (K.state sink.new) e.code e.place) }
-    ensures told { (K.state sink.old).faults < (K.state sink.new).faults → IsErrOf result writing_failed }
+    ensures refused { IfErr result (λ e. SummaryFails records
+        (K.state sink.old) (K.state sink.new) e.code e.place) }
+    ensures told { TellsFailedWrite (K.state sink.old) (K.state sink.new) result }
 {
     let text = summary(alloc, records)?;
     send(sink, &text)

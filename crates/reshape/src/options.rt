@@ -151,8 +151,10 @@ fn role_of(word: &str) -> Option<Role<'_>>
 impl<'a> Options<'a> {
     // With one more word; none where it is unknown, or another like it was there.
     fn take_word(self, word: &'a str) -> Option<Options<'a>>
-        ensures taken { IfSome result (λ o. (ws : List (List ℕ)) → Gathered ws self.entry → Gathered (ws ++ word.now ∷ []) o) }
-        ensures refused { IfNone result ((ws more : List (List ℕ)) → Gathered ws self.entry → ¬ (IsReshaping (ws ++ word.now ∷ more))) }
+        ensures taken { IfSome result (λ o. (ws : List (List ℕ))
+            → Gathered ws self.entry → Gathered (ws ++ word.now ∷ []) o) }
+        ensures refused { IfNone result ((ws more : List (List ℕ))
+            → Gathered ws self.entry → ¬ (IsReshaping (ws ++ word.now ∷ more))) }
     {
         match role_of(word)? {
             Role::Indent(indent) if self.indent.is_none() => Some(Options {
@@ -182,7 +184,8 @@ impl<'a> Options<'a> {
     /// The rules that are asked for: the usual ones where nothing is said of them.
     pub fn rules(self) -> Rules
         requires { ForSome self.depth (λ n. n ≤ 1024) }
-        ensures { rules_of result ≡ record { limit = depth_or_usual self.entry.depth; unique = self.entry.unique } }
+        ensures { rules_of result
+            ≡ record { limit = depth_or_usual self.entry.depth; unique = self.entry.unique } }
     {
         let levels = self.depth.unwrap_or(Rules::usual().depth());
         match Rules::new(levels, self.unique) {

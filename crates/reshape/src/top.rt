@@ -1,15 +1,14 @@
 // The top call.
-ghost use Rattle.std.specs.Prelude.{ℕ, ◌+◌, ◌≡◌, ◌≢◌, ◌⊎◌, ◌<◌, OnOk, IfErr, IsErrOf};
+ghost use Rattle.std.specs.Prelude.{ℕ, ◌+◌, ◌≡◌, ◌≢◌, ◌⊎◌, ◌<◌, OnOk, IfErr};
 ghost use Rattle.json_text.specs.declared.error.ErrorCode.{ErrorCode};
 ghost use Rattle.json_text.specs.declared.error.Place.{Place};
-ghost use Rattle.json_text.specs.Errors.{reading_failed, writing_failed};
 ghost use Rattle.json_text.specs.FaultText.{text_of};
 ghost use Rattle.json_text.specs.Transfer.{TakesAtMost};
 ghost use Rattle.reshape.specs.Input.{most};
 ghost use Rattle.json_model.specs.Edit.{Refusal};
 ghost use Rattle.reshape.specs.Options.{IsAsked, IsMaking};
-ghost use Rattle.reshape.specs.Run.{status_of, Tells, Did, Fails, Done, Refused, IsGood, IsBad, IsUnfit};
-ghost use Rattle.reshape.specs.Told.{edit_refused};
+ghost use Rattle.reshape.specs.Run.{status_of, Tells, StatusTells, Did, Fails, Done, Refused, IsGood, IsBad, IsUnfit};
+ghost use Rattle.reshape.specs.Told.{edit_refused, TellsFailedRead, TellsFailedWrite};
 
 use crate::command::Asked;
 use crate::made::write_summary;
@@ -43,12 +42,14 @@ fn carry_out<S: Source, K: Sink>(
     source: &mut S,
     sink: &mut K,
 ) -> Result<()>
-    ensures done { OnOk result (Did words.now (S.state source.old) (S.state source.new) (K.state sink.old) (K.state sink.new)) }
+    ensures done { OnOk result (Did words.now (S.state source.old) (S.state source.new)
+        (K.state sink.old) (K.state sink.new)) }
     ensures unread { IsMaking words.now → S.state source.new ≡ S.state source.old }
-    ensures refused { IfErr result (λ e. Fails words.now (S.state source.old) (S.state source.new) (K.state sink.old) (K.state sink.new) e.code e.place) }
+    ensures refused { IfErr result (λ e. Fails words.now (S.state source.old) (S.state source.new)
+        (K.state sink.old) (K.state sink.new) e.code e.place) }
     ensures taken { TakesAtMost (most + 1) (S.state source.old) (S.state source.new) }
-    ensures read_told { (S.state source.old).faults < (S.state source.new).faults → IsErrOf result reading_failed }
-    ensures write_told { (K.state sink.old).faults < (K.state sink.new).faults → IsErrOf result writing_failed }
+    ensures read_told { TellsFailedRead (S.state source.old) (S.state source.new) result }
+    ensures write_told { TellsFailedWrite (K.state sink.old) (K.state sink.new) result }
 {
     let asked = asked(alloc, words)?;
     match asked {
@@ -72,20 +73,24 @@ pub fn run<S: Source, K: Sink, E: Sink>(
 ) -> u8
     ensures done { result ≡ 0 → Done words.now (S.state source.old) (S.state source.new)
         (K.state sink.old) (K.state sink.new) (E.state errs.old) (E.state errs.new) }
-    ensures refused { result ≢ 0 → Refused result words.now (S.state source.old) (S.state source.new)
+    ensures refused { result ≢ 0 → Refused result words.now
+        (S.state source.old) (S.state source.new)
         (K.state sink.old) (K.state sink.new) (E.state errs.old) (E.state errs.new) }
     ensures taken { TakesAtMost (most + 1) (S.state source.old) (S.state source.new) }
     ensures read_told { (S.state source.old).faults < (S.state source.new).faults → result ≡ 4 }
     ensures write_told { (K.state sink.old).faults < (K.state sink.new).faults → result ≡ 5 }
-    ensures complete { IsGood words.now (S.state source.old) (S.state source.new) (K.state sink.old) (K.state sink.new)
-        → (result ≡ 0) ⊎ (result ≡ 6) }
-    ensures unfit { (number : ℕ) (why : Refusal) → IsUnfit words.now (S.state source.old) (S.state source.new) number why
-        → ((result ≡ 3) × Tells (text_of (edit_refused number why)) (E.state errs.old) (E.state errs.new)) ⊎ (result ≡ 6) }
+    ensures complete { IsGood words.now (S.state source.old) (S.state source.new)
+        (K.state sink.old) (K.state sink.new) → (result ≡ 0) ⊎ (result ≡ 6) }
+    ensures unfit { (number : ℕ) (why : Refusal)
+        → IsUnfit words.now (S.state source.old) (S.state source.new) number why
+        → StatusTells 3 (edit_refused number why) (E.state errs.old) (E.state errs.new) result }
     ensures unread { IsMaking words.now → S.state source.new ≡ S.state source.old }
     ensures made { IsMaking words.now → (result ≡ 0) ⊎ (result ≡ 5) ⊎ (result ≡ 6) }
     ensures words { ¬ (IsAsked words.now) → (result ≡ 2) ⊎ (result ≡ 6) }
-    ensures exact { (code : ErrorCode) (place : Place) → IsBad words.now (S.state source.old) (S.state source.new) code place
-        → ((result ≡ 1) × Tells (text_of (record { code = code; place = place })) (E.state errs.old) (E.state errs.new)) ⊎ (result ≡ 6) }
+    ensures exact { (code : ErrorCode) (place : Place)
+        → IsBad words.now (S.state source.old) (S.state source.new) code place
+        → StatusTells 1 (record { code = code; place = place })
+        (E.state errs.old) (E.state errs.new) result }
 {
     match carry_out(alloc, words, source, sink) {
         Ok(()) => 0,

@@ -2,7 +2,10 @@
 ghost use Rattle.std.specs.Prelude.{◌≡◌, ◌≢◌, ◌⊎◌, List, IfOk, IfErr, option_map, option_to_list};
 ghost use Rattle.json_text.specs.Errors.{no_memory, bad_words};
 ghost use Rattle.json_text.specs.declared.error.ErrorCode.TheVariants.{NoMemory};
-ghost use Rattle.json_model.specs.Edit.{Edit};
+ghost use Rattle.json_model.specs.Edit.{Edit as TreeEdit};
+ghost use Rattle.json_text.specs.Ruled.{usual_rules};
+ghost use Rattle.json_value.specs.Denotes.{tree_of};
+ghost use Rattle.reshape.specs.Input.{IsInput};
 ghost use Rattle.reshape.specs.Words.{Spells, AsksEdits};
 ghost use Rattle.reshape.specs.Options.{IsAsked};
 ghost use Rattle.reshape.specs.Asked.{edits_of, AsksFor};
@@ -10,15 +13,21 @@ ghost use Rattle.reshape.specs.Asked.{edits_of, AsksFor};
 use crate::asked_style::AskedStyle;
 use crate::command::Asked;
 use crate::edits::Edits;
-use crate::edits_word::read_edits;
 use crate::options::{gather, made_asked};
-use crate::path_word::BAD_WORDS;
+use json_data::from_value;
 use json_doc::read_document;
 use json_text::{Error, ErrorCode, Place, Result, Words};
+use json_value::{Edit, Value};
 use std::alloc::Global;
 
 /// The most bytes of a word.
 const MOST: usize = 4_294_967_295;
+
+/// The refusal of words that have another form.
+const BAD_WORDS: Error = Error {
+    code: ErrorCode::BadWords,
+    place: Place::None,
+};
 
 // The refusal of a word that could not be read, or is no text.
 fn refusal(code: ErrorCode) -> Error
@@ -33,24 +42,42 @@ fn refusal(code: ErrorCode) -> Error
     }
 }
 
-// The edits that a word spells.
-fn read_word(alloc: Global, word: &str) -> Result<Edits>
-    ensures ok { IfOk result (λ es. Spells word.now (edits_of es)) }
-    ensures err { IfErr result (λ e. (e ≡ no_memory) ⊎ ((e ≡ bad_words) × ((es : List Edit) → ¬ (Spells word.now es)))) }
+// The value of a word that is a text, by the usual rules.
+fn read_value(alloc: Global, word: &str) -> Result<Value>
+    ensures ok { IfOk result (λ v. IsInput usual_rules word.now (tree_of v)) }
+    ensures err { IfErr result (λ e. (e ≡ no_memory)
+        ⊎ ((e ≡ bad_words) × ((es : List TreeEdit) → ¬ (Spells word.now es)))) }
 {
     if word.len() > MOST {
         return Err(BAD_WORDS);
     }
     match read_document(alloc, word) {
-        Ok(doc) => read_edits(alloc, &doc),
+        Ok(doc) => Value::from_place(alloc, &doc, doc.root()),
+        Err(error) => Err(refusal(error.code)),
+    }
+}
+
+// The edits that a word spells.
+fn read_word(alloc: Global, word: &str) -> Result<Edits>
+    ensures ok { IfOk result (λ es. Spells word.now (edits_of es)) }
+    ensures err { IfErr result (λ e. (e ≡ no_memory)
+        ⊎ ((e ≡ bad_words) × ((es : List TreeEdit) → ¬ (Spells word.now es)))) }
+{
+    let value = read_value(alloc, word)?;
+    match from_value::<Vec<Edit>>(alloc, &value) {
+        Ok(list) => Ok(Edits { list }),
         Err(error) => Err(refusal(error.code)),
     }
 }
 
 // The edits that the edits word spells, or none without that word.
 fn read_edits_word(alloc: Global, word: Option<&str>) -> Result<Edits>
-    ensures ok { IfOk result (λ es. AsksEdits (option_to_list (option_map (λ s. s.now) word.entry)) (edits_of es)) }
-    ensures err { IfErr result (λ e. (e ≡ no_memory) ⊎ ((e ≡ bad_words) × ((es : List Edit) → ¬ (AsksEdits (option_to_list (option_map (λ s. s.now) word.entry)) es)))) }
+    ensures ok { IfOk result (λ es.
+        AsksEdits (option_to_list (option_map (λ s. s.now) word.entry)) (edits_of es)) }
+    ensures err { IfErr result (λ e. (e ≡ no_memory)
+        ⊎ ((e ≡ bad_words)
+        × ((es : List TreeEdit)
+        → ¬ (AsksEdits (option_to_list (option_map (λ s. s.now) word.entry)) es)))) }
 {
     match word {
         None => Ok(Edits::none(alloc)),

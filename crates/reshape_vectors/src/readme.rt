@@ -1,9 +1,9 @@
-// The examples of the README.
-use crate::run;
+// The examples of README.md.
 use json_doc::{JsonType, read_document};
 use json_print::Serializer;
 use json_text::{SliceSource, VecSink, Words};
 use json_value::{Edit, Path, PointerNode, Text, Value, View};
+use reshape::run;
 use std::alloc::Global;
 use std::test::Fail;
 

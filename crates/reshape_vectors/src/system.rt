@@ -1,6 +1,6 @@
 // What failures of a reader and a writer of the system come to.
-use super::*;
 use json_text::{SliceSource, StdSink, StdSource, VecSink, Words};
+use reshape::run;
 use std::io::{self, ErrorKind, Read, Write};
 use std::test::Fail;
 

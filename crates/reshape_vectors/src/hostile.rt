@@ -1,4 +1,5 @@
 // Sources, sinks and callers that fail.
+use json_print::{Events, Serializer};
 use json_text::{FakeSink, FakeSource, SliceSource, VecSink, Words};
 use reshape::run;
 use std::alloc::Global;
@@ -8,7 +9,7 @@ const INPUT: &[u8] = b"{\"a\": 1, \"b\": true, \"c\": null}";
 
 const OUTPUT: &[u8] = b"{\"a\":1,\"b\":true,\"c\":null}";
 
-// The 30 bytes come by 30 calls, and the next tells the end.
+// The 30 bytes come by 30 calls, and the next tells the end. What is told is taken three bytes a call.
 #[test]
 fn a_source_that_fails_at_each_call(rt: HostRuntime) {
     let alloc = rt.alloc();
@@ -16,7 +17,7 @@ fn a_source_that_fails_at_each_call(rt: HostRuntime) {
     for call in 0..32 {
         let failing = [call];
         let mut source = FakeSource::new(INPUT, 1, &failing);
-        let (mut sink, mut errs) = (VecSink::new(alloc), VecSink::new(alloc));
+        let (mut sink, mut errs) = (VecSink::new(alloc), FakeSink::new(alloc, 3, &[]));
         let status = run(alloc, &words, &mut source, &mut sink, &mut errs);
         let (expected, text, told) = if call <= 30 {
             (4, "".as_bytes(), "Io while reading\n")
@@ -61,37 +62,38 @@ fn a_refusal_that_cannot_be_told(rt: HostRuntime) {
     assert!(rt; sink.as_slice().is_empty() && errs.as_slice().is_empty());
 }
 
-fn push_repeated(text: &mut String, piece: &str, count: usize) -> Result<(), Fail> {
-    for _ in 0..count {
-        text.push_str(piece)?;
-    }
+// The opening quote of 20,000 bytes is sent alone, and the next call fails.
+#[test]
+fn a_sink_that_fails_at_a_long_string(rt: HostRuntime) -> Result<(), Fail> {
+    let alloc = rt.alloc();
+    let mut text = Vec::new(alloc);
+    text.push(b'"')?;
+    text.resize(19_999, b'a')?;
+    text.push(b'"')?;
+    let mut source = SliceSource::new(&text);
+    let mut sink = FakeSink::new(alloc, 4_096, &[1]);
+    let mut errs = VecSink::new(alloc);
+    let status = run(alloc, &Words::new(alloc), &mut source, &mut sink, &mut errs);
+    assert_eq!(rt; status, 5);
+    assert_eq!(rt; sink.as_slice(), b"\"".as_slice());
+    assert_eq!(rt; errs.as_slice(), b"Io while writing\n".as_slice());
     Ok(())
 }
 
-// So many opening brackets, and as many closing ones.
-fn push_levels(text: &mut String, count: usize) -> Result<(), Fail> {
-    push_repeated(text, "[", count)?;
-    push_repeated(text, "]", count)
-}
-
-// 253 steps lead into 254 levels, and what is pushed there has 252 more.
+// The refusal comes again at each later call, and no more is written.
 #[test]
-fn levels_are_added_by_a_long_path(rt: HostRuntime) -> Result<(), Fail> {
+fn a_serializer_whose_sink_failed_once(rt: HostRuntime) -> Result<(), Fail> {
     let alloc = rt.alloc();
-    let mut input = String::new(alloc);
-    push_levels(&mut input, 254)?;
-    let mut word = String::from_str(alloc, "[[\"push\",[0")?;
-    push_repeated(&mut word, ",0", 252)?;
-    word.push_str("],")?;
-    push_levels(&mut word, 252)?;
-    word.push_str("]]")?;
-    let mut words = Words::new(alloc);
-    words.push(word.as_str())?;
-    let mut source = SliceSource::new(input.as_bytes());
-    let (mut sink, mut errs) = (VecSink::new(alloc), VecSink::new(alloc));
-    assert_eq!(rt; run(alloc, &words, &mut source, &mut sink, &mut errs), 0);
-    let mut output = String::new(alloc);
-    push_levels(&mut output, 506)?;
-    assert!(rt; sink.as_slice() == output.as_bytes());
+    let mut out = Serializer::new(alloc, FakeSink::new(alloc, 2, &[1]));
+    out.begin_array(None)?;
+    match out.boolean(true) {
+        Ok(()) => assert!(rt; false, "the sink failed"),
+        Err(error) => {
+            assert_eq!(rt; out.null(), Err(error));
+            assert_eq!(rt; out.null(), Err(error));
+            assert_eq!(rt; out.null(), Err(error));
+        }
+    }
+    assert_eq!(rt; out.into_inner().as_slice(), b"[".as_slice());
     Ok(())
 }
