@@ -1,7 +1,9 @@
-//! Tests alone: worked examples of values that are made, edited and copied, and of places that are lent. They stand here and not
+//! Callers that write into what is lent to them, to copy from ([`callers`]), and tests: worked examples of values that are made,
+//! edited and copied, and of places that are lent. They stand here and not
 //! in their libraries, since a library with tests is proved twice; what is read and printed stands in `json_vectors`.
 #![tactic(auto)]
 
+pub mod callers;
 #[cfg(test)]
 mod edits;
 #[cfg(test)]
