@@ -218,9 +218,9 @@ impl<'a> Parser<'a> {
         is_whole(self.spot, self.kinds.top())
     }
 
-    /// The next event, if nothing was refused.
+    /// The next event, if nothing was refused: a copy for each use.
     #[inline(always)]
-    fn step(&mut self) -> std::result::Result<Event<'a>, Fault>
+    fn step<const USE: u8>(&mut self) -> std::result::Result<Event<'a>, Fault>
         requires { self.old.failure ≡ None }
         ensures same { SameInput self.old self.new }
         ensures failure { self.new.failure ≡ self.old.failure }
@@ -321,10 +321,31 @@ impl<'a> Parser<'a> {
         ensures reads { OnOk result (¬ (IsWhole self.old) → IsWhole self.new → HasRead self.new) }
         ensures begins { EventsBegin self.new }
     {
+        self.next_by::<0>()
+    }
+
+    /// The same as `next`, by a copy of its own for each use: a loop whose use no other caller names has it in line,
+    /// which `next` is only where one loop of the program calls it.
+    #[inline(always)]
+    pub fn next_by<const USE: u8>(&mut self) -> Result<Event<'a>>
+        ensures same { SameInput self.old self.new }
+        ensures ok { IfOk result
+            (λ e. (self.old.failure ≡ None) × (self.new.failure ≡ None) × Goes self.old e self.new) }
+        ensures tight { IfOk result (λ e. IsTight self.old e self.new) }
+        ensures between { IfOk result (λ e. IsLent e self.new) }
+        ensures err { IfErr result (λ e. Refuses self.old e self.new) }
+        ensures needs { IfErr result (λ e. self.old.failure ≡ None → IsDue self.old e) }
+        ensures inside { IfErr result (λ e. ¬ (IsWhole self.old) → IsInValue e.code) }
+        ensures in_value { IfErr result (λ e. ¬ (IsWhole self.old)
+            → ValueFaultFrom self.old.lossy self.old.limit self.old.start self.old.text e.code e.place) }
+        ensures whole { IfOk result (λ e. e ≡ Event.End → IsWhole self.old) }
+        ensures reads { OnOk result (¬ (IsWhole self.old) → IsWhole self.new → HasRead self.new) }
+        ensures begins { EventsBegin self.new }
+    {
         if self.failure.is_some() {
             return Err(self.refusal());
         }
-        match self.step() {
+        match self.step::<USE>() {
             Ok(event) => Ok(event),
             Err(fault) => {
                 self.refuse(fault);

@@ -1,6 +1,6 @@
 use Rattle.std.proofs.Common.{sym, ap, ◌∙◌, ◌++◌}
 use Rattle.json_text.proofs.Pieces.{piece_eight, eight_on}
-use Rattle.json_text.proofs.unescape.append_eight.Goals as goal
+use Rattle.json_text.proofs.append.append_eight.Goals as goal
 
 pub returns-clause-items : goal.returns-clause-items
 returns-clause-items c =

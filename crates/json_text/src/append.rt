@@ -1,0 +1,212 @@
+// Bytes appended where there is room for them. std's append of a slice does not say that the capacity stays.
+ghost use Rattle.std.specs.Prelude.{◌≡◌, ◌+◌, ◌≤◌, ◌++◌, length, vec_len, vec_capacity};
+ghost use Rattle.json_grammar.specs.Given.{piece};
+
+use std::mem;
+
+/// Appends four of the bytes, for which there is room.
+#[inline(always)]
+fn append_four(out: &mut Vec<u8>, bytes: &[u8], at: usize)
+    requires within { at + 4 ≤ length bytes.now }
+    requires room { vec_len out.old + 4 ≤ vec_capacity out.old }
+    ensures items { out.new.items ≡ out.old.items ++ piece bytes.now at (at + 4) }
+    ensures len { vec_len out.new ≡ vec_len out.old + 4 }
+    ensures capacity { vec_capacity out.new ≡ vec_capacity out.old }
+{
+    let first = bytes[at];
+    let second = bytes[at + 1];
+    let third = bytes[at + 2];
+    let fourth = bytes[at + 3];
+    out.push_reserved(first);
+    out.push_reserved(second);
+    out.push_reserved(third);
+    out.push_reserved(fourth);
+}
+
+/// Appends eight of the bytes, for which there is room.
+#[inline(always)]
+fn append_eight(out: &mut Vec<u8>, bytes: &[u8], at: usize)
+    requires within { at + 8 ≤ length bytes.now }
+    requires room { vec_len out.old + 8 ≤ vec_capacity out.old }
+    ensures items { out.new.items ≡ out.old.items ++ piece bytes.now at (at + 8) }
+    ensures len { vec_len out.new ≡ vec_len out.old + 8 }
+    ensures capacity { vec_capacity out.new ≡ vec_capacity out.old }
+{
+    let first = bytes[at];
+    let second = bytes[at + 1];
+    let third = bytes[at + 2];
+    let fourth = bytes[at + 3];
+    let fifth = bytes[at + 4];
+    let sixth = bytes[at + 5];
+    let seventh = bytes[at + 6];
+    let eighth = bytes[at + 7];
+    out.push_reserved(first);
+    out.push_reserved(second);
+    out.push_reserved(third);
+    out.push_reserved(fourth);
+    out.push_reserved(fifth);
+    out.push_reserved(sixth);
+    out.push_reserved(seventh);
+    out.push_reserved(eighth);
+}
+
+/// Appends sixteen of the bytes, for which there is room.
+#[inline(always)]
+fn append_sixteen(out: &mut Vec<u8>, bytes: &[u8], at: usize)
+    requires within { at + 16 ≤ length bytes.now }
+    requires room { vec_len out.old + 16 ≤ vec_capacity out.old }
+    ensures items { out.new.items ≡ out.old.items ++ piece bytes.now at (at + 16) }
+    ensures len { vec_len out.new ≡ vec_len out.old + 16 }
+    ensures capacity { vec_capacity out.new ≡ vec_capacity out.old }
+{
+    append_eight(out, bytes, at);
+    append_eight(out, bytes, at + 8);
+}
+
+/// Appends the first of sixteen bytes, where there is room for all.
+#[inline(always)]
+pub fn append_of_block(out: &mut Vec<u8>, bytes: &[u8], at: usize, count: usize)
+    requires within { at + 16 ≤ length bytes.now }
+    requires few { count ≤ 16 }
+    requires room { vec_len out.old + 16 ≤ vec_capacity out.old }
+    ensures items { out.new.items ≡ out.old.items ++ piece bytes.now at (at + count) }
+    ensures len { vec_len out.new ≡ vec_len out.old + count }
+    ensures capacity { vec_capacity out.new ≡ vec_capacity out.old }
+{
+    let len = out.len();
+    append_sixteen(out, bytes, at);
+    out.truncate(len + count);
+}
+
+/// Appends bytes one after another, for which there is room.
+#[inline(always)]
+pub fn append_few(out: &mut Vec<u8>, bytes: &[u8])
+    requires { vec_len out.old + length bytes.now ≤ vec_capacity out.old }
+    ensures items { out.new.items ≡ out.old.items ++ bytes.now }
+    ensures len { vec_len out.new ≡ vec_len out.old + length bytes.now }
+    ensures capacity { vec_capacity out.new ≡ vec_capacity out.old }
+{
+    for &byte in bytes {
+        out.push_reserved(byte);
+    }
+}
+
+/// Appends four to 8 bytes by two blocks that may overlap: what the last one brings again is taken back first.
+#[inline(always)]
+fn append_by_four(out: &mut Vec<u8>, bytes: &[u8])
+    requires long { 4 ≤ length bytes.now }
+    requires short { length bytes.now ≤ 8 }
+    requires room { vec_len out.old + length bytes.now ≤ vec_capacity out.old }
+    ensures items { out.new.items ≡ out.old.items ++ bytes.now }
+    ensures len { vec_len out.new ≡ vec_len out.old + length bytes.now }
+    ensures capacity { vec_capacity out.new ≡ vec_capacity out.old }
+{
+    let back = bytes.len() - 4;
+    let end = out.len() + back;
+    append_four(out, bytes, 0);
+    out.truncate(end);
+    append_four(out, bytes, back);
+}
+
+/// Appends eight to 16 bytes by two blocks that may overlap: what the last one brings again is taken back first.
+#[inline(always)]
+fn append_by_eight(out: &mut Vec<u8>, bytes: &[u8])
+    requires long { 8 ≤ length bytes.now }
+    requires short { length bytes.now ≤ 16 }
+    requires room { vec_len out.old + length bytes.now ≤ vec_capacity out.old }
+    ensures items { out.new.items ≡ out.old.items ++ bytes.now }
+    ensures len { vec_len out.new ≡ vec_len out.old + length bytes.now }
+    ensures capacity { vec_capacity out.new ≡ vec_capacity out.old }
+{
+    let back = bytes.len() - 8;
+    let end = out.len() + back;
+    append_eight(out, bytes, 0);
+    out.truncate(end);
+    append_eight(out, bytes, back);
+}
+
+/// Appends sixteen to 32 bytes by two blocks that may overlap: what the last one brings again is taken back first.
+#[inline(always)]
+fn append_by_sixteen(out: &mut Vec<u8>, bytes: &[u8])
+    requires long { 16 ≤ length bytes.now }
+    requires short { length bytes.now ≤ 32 }
+    requires room { vec_len out.old + length bytes.now ≤ vec_capacity out.old }
+    ensures items { out.new.items ≡ out.old.items ++ bytes.now }
+    ensures len { vec_len out.new ≡ vec_len out.old + length bytes.now }
+    ensures capacity { vec_capacity out.new ≡ vec_capacity out.old }
+{
+    let back = bytes.len() - 16;
+    let end = out.len() + back;
+    append_sixteen(out, bytes, 0);
+    out.truncate(end);
+    append_sixteen(out, bytes, back);
+}
+
+/// The vector with 16 bytes or more appended by blocks, the last of them up to the end: what it brings again is taken
+/// back first.
+#[inline(never)]
+fn extended_long(mut out: Vec<u8>, bytes: &[u8]) -> Vec<u8>
+    requires long { 16 ≤ length bytes.now }
+    requires room { vec_len out + length bytes.now ≤ vec_capacity out }
+    ensures items { result.items ≡ out.items ++ bytes.now }
+    ensures len { vec_len result ≡ vec_len out + length bytes.now }
+    ensures capacity { vec_capacity result ≡ vec_capacity out }
+{
+    let back = bytes.len() - 16;
+    let end = out.len() + back;
+    let mut at = 0;
+    'rest: while at < back {
+        append_sixteen(&mut out, bytes, at);
+        at += 16;
+    }
+    out.truncate(end);
+    append_sixteen(&mut out, bytes, back);
+    out
+}
+
+/// The vector, in whose place one without room stands until it comes back. Held by value its pointer is not read
+/// again at each byte, as it is behind a reference.
+#[inline(always)]
+pub fn taken(out: &mut Vec<u8>) -> Vec<u8>
+    ensures { result ≡ out.old }
+{
+    let alloc = *out.allocator();
+    mem::replace(out, Vec::new(alloc))
+}
+
+/// Appends bytes to a vector that the caller holds by value.
+#[inline(always)]
+pub fn extend_local(out: &mut Vec<u8>, bytes: &[u8])
+    requires { vec_len out.old + length bytes.now ≤ vec_capacity out.old }
+    ensures items { out.new.items ≡ out.old.items ++ bytes.now }
+    ensures len { vec_len out.new ≡ vec_len out.old + length bytes.now }
+    ensures capacity { vec_capacity out.new ≡ vec_capacity out.old }
+{
+    match bytes.len() {
+        0..4 => append_few(out, bytes),
+        4..8 => append_by_four(out, bytes),
+        8..16 => append_by_eight(out, bytes),
+        16..33 => append_by_sixteen(out, bytes),
+        _ => *out = extended_long(taken(out), bytes),
+    }
+}
+
+/// Appends bytes for which the vector has room, and takes no memory: its capacity stays.
+///
+/// ```
+/// use json_text::extend_reserved;
+/// let mut text = Vec::with_capacity(alloc, 6)?;
+/// extend_reserved(&mut text, b"[1, 2]");
+/// assert_eq!(rt; text.as_slice(), b"[1, 2]".as_slice());
+/// ```
+#[inline(always)]
+pub fn extend_reserved(out: &mut Vec<u8>, bytes: &[u8])
+    requires { vec_len out.old + length bytes.now ≤ vec_capacity out.old }
+    ensures items { out.new.items ≡ out.old.items ++ bytes.now }
+    ensures len { vec_len out.new ≡ vec_len out.old + length bytes.now }
+    ensures capacity { vec_capacity out.new ≡ vec_capacity out.old }
+{
+    let mut text = taken(out);
+    extend_local(&mut text, bytes);
+    *out = text;
+}
