@@ -1,5 +1,5 @@
 -- What the reader of one value rests on.
-use Rattle.std.proofs.Common.{◌≡◌, ◌≢◌, ◌∙◌, ◌⊎◌, inl, inr, Bool, ℕ, drop, None, ◌≤◌, List, [], ◌∷◌, ◌++◌, take, append-nil, refl, sym, ap, subst}
+use Rattle.std.proofs.Common.{◌≡◌, ◌∙◌, ◌⊎◌, inl, inr, Bool, ℕ, drop, None, ◌≤◌, List, [], ◌∷◌, take, sym, ap, subst}
 use Rattle.std.proofs.lemmas.List.{nil_from_length}
 use Rattle.json_grammar.specs.Tree.{Tree, depth, null, boolean, num, text, list, pairs, Token, tokens}
 use Rattle.json_grammar.specs.Place.{reading}

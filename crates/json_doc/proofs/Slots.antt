@@ -1,5 +1,5 @@
 -- What has to come where a text stands.
-use Rattle.std.proofs.Common.{◌≡◌, ◌≢◌, ◌∙◌, Bool, ℕ, List, [], ◌∷◌, ◌++◌, length, Option, Some, None, refl, sym, ap, subst, append-nil}
+use Rattle.std.proofs.Common.{◌≡◌, ◌≢◌, ◌∙◌, Bool, ℕ, List, [], ◌∷◌, ◌++◌, length, Some, refl, sym, ap, subst, append-nil}
 use Rattle.std.specs.Prelude.{option_and_then}
 use Rattle.json_grammar.specs.declared.Kind.{Kind}
 use Rattle.json_grammar.specs.declared.Kind.TheVariants.{Array as array, Object as object}

@@ -10,8 +10,7 @@ use Rattle.json_text.specs.declared.event.Event.TheVariants as event
 use Rattle.json_text.specs.Events.{Means, raw_size}
 use Rattle.json_text.specs.Faults.{IsInValue}
 use Rattle.json_text.specs.Parsing.{ParserState, input, HasGiven, SameInput, IsWhole, HasRead, Goes, IsTight, IsDue}
-use Rattle.json_doc.specs.Awaited.{Slot, a_value, past_token, awaits, Begins}
-use Rattle.json_doc.specs.State.{MayCome}
+use Rattle.json_doc.specs.Awaited.{Slot, a_value, awaits, Begins}
 use Rattle.json_doc.specs.Recorded.{visitor_state, Holds, SameRoom}
 use Rattle.json_doc.specs.Reading.{EventIsNumber, HasRoomFor, Follows}
 use Rattle.json_doc.specs.OneValue.{BeginsValue, levels_behind, HandedOut, ReadsValue, RefusesValue}

@@ -8,7 +8,7 @@ mod room;
 use crate::cell::Cell;
 use crate::doc::Doc;
 use crate::visitor::JsonVisitor;
-use json_text::{Result, Span};
+use json_text::{Result, Span, extend_reserved};
 use std::alloc::Global;
 use std::rc::Rc;
 
@@ -163,6 +163,7 @@ impl DocumentVisitor {
         requires { vec_len self.old.text + length literal.now ≤ self.old.text_room }
         ensures cell { result ≡ Cell.Raw (vec_len self.old.text) (length literal.now) }
         ensures text { self.new.text.items ≡ self.old.text.items ++ literal.now }
+        ensures capacity { vec_capacity self.new.text ≡ vec_capacity self.old.text }
         ensures cells { self.new.cells ≡ self.old.cells }
         ensures parent { self.new.parent ≡ self.old.parent }
         ensures count { self.new.count ≡ self.old.count }
@@ -170,7 +171,7 @@ impl DocumentVisitor {
         ensures room { SameRoom self.old self.new }
     {
         let start = self.text.len() as u32;
-        append_bytes(&mut self.text, literal.as_bytes());
+        extend_reserved(&mut self.text, literal.as_bytes());
         Cell::Raw {
             start,
             len: literal.len() as u32,
@@ -185,8 +186,7 @@ impl DocumentVisitor {
             → result ≡ Cell.Str (vec_len self.old.text) (length t) }
         ensures text { (t : List ℕ) → chars s.entry.lossy t s.entry.raw.now
             → self.new.text.items ≡ self.old.text.items ++ t }
-        ensures capacity { ¬ (NoEscape s.entry.raw.now)
-            → vec_capacity self.new.text ≡ vec_capacity self.old.text }
+        ensures capacity { vec_capacity self.new.text ≡ vec_capacity self.old.text }
         ensures cells { self.new.cells ≡ self.old.cells }
         ensures parent { self.new.parent ≡ self.old.parent }
         ensures count { self.new.count ≡ self.old.count }
@@ -321,19 +321,6 @@ impl DocumentVisitor {
     }
 }
 
-// Appends bytes for which there is room.
-#[inline(always)]
-fn append_bytes(out: &mut Vec<u8>, bytes: &[u8])
-    requires { vec_len out.old + length bytes.now ≤ vec_capacity out.old }
-    ensures items { out.new.items ≡ out.old.items ++ bytes.now }
-    ensures capacity { vec_capacity out.old ≤ vec_capacity out.new }
-{
-    match out.extend_from_slice(bytes) {
-        Ok(()) => {}
-        Err(_) => unreachable!(),
-    }
-}
-
 // Appends a text for which there is room.
 #[inline(always)]
 fn append_text(out: &mut Vec<u8>, s: Span<'_>)
@@ -342,11 +329,10 @@ fn append_text(out: &mut Vec<u8>, s: Span<'_>)
         → out.new.items ≡ out.old.items ++ t }
     ensures grows { vec_len out.old ≤ vec_len out.new }
     ensures len { vec_len out.new ≤ vec_len out.old + length s.entry.raw.now }
-    ensures capacity { vec_capacity out.old ≤ vec_capacity out.new }
-    ensures unescaped { ¬ (NoEscape s.entry.raw.now) → vec_capacity out.new ≡ vec_capacity out.old }
+    ensures capacity { vec_capacity out.new ≡ vec_capacity out.old }
 {
     match s.plain() {
-        Some(text) => append_bytes(out, text.as_bytes()),
+        Some(text) => extend_reserved(out, text.as_bytes()),
         None => s.unescape_into(out),
     }
 }

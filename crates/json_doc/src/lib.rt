@@ -35,6 +35,7 @@ pub use doc::Doc;
 pub use document_visitor::DocumentVisitor;
 pub use json_type::JsonType;
 pub use node::DocNode;
+pub use open_keys::front_number;
 pub use pairs::DocPairs;
 pub use reader::{read_document, read_document_with, read_front};
 pub use value_reader::read_value;

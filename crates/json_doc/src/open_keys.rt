@@ -27,8 +27,16 @@ fn byte_at(bytes: &[u8], at: usize) -> u8
     }
 }
 
-// The number of a name's first eight bytes.
-fn front(name: &str) -> u64
+/// The number of a name's first eight bytes, the first byte the highest, with zeros behind the name's end. Of two names
+/// whose numbers differ the one of the lower number has the lower bytes.
+///
+/// ```
+/// use json_doc::front_number;
+/// assert_eq!(rt; front_number("b"), 0x62_00_00_00_00_00_00_00);
+/// assert!(rt; front_number("altitude") < front_number("b"));
+/// assert_eq!(rt; front_number("latitude 1"), front_number("latitude 2"));
+/// ```
+pub fn front_number(name: &str) -> u64
     ensures { result ≡ front_of name.now }
 {
     let bytes = name.as_bytes();
@@ -120,7 +128,10 @@ impl<'a> OpenKeys<'a> {
         ensures { result
             ≡ names_have (drop self.now.start self.now.few.items) self.now.many name.now }
     {
-        self.in_row(name) || self.many.contains(&(front(name), CowStr::Borrowed(name)))
+        self.in_row(name)
+            || self
+                .many
+                .contains(&(front_number(name), CowStr::Borrowed(name)))
     }
 
     // Whether the innermost container had the name. If not, the name goes into the set.
@@ -134,7 +145,7 @@ impl<'a> OpenKeys<'a> {
         if self.in_row(name.as_str()) {
             return Ok(true);
         }
-        let front = front(name.as_str());
+        let front = front_number(name.as_str());
         let added = self.many.insert((front, name))?;
         Ok(!added)
     }

@@ -25,6 +25,9 @@ use json_text::{Error, ErrorCode, Event, Parser, Result, Rules, Span, place_of};
 use std::alloc::Global;
 use std::rc::Rc;
 
+// The use of the parser by the loop below, which no other names.
+const HERE: u8 = 1;
+
 // Whether the number was recorded: an integer by value, every other by its literal.
 #[inline(always)]
 fn record_number(visitor: &mut DocumentVisitor, literal: &str) -> bool
@@ -165,7 +168,7 @@ pub fn read_document_with(alloc: Global, text: &str, rules: Rules) -> Result<Rc<
     let mut parser = Parser::new(text).depth(rules.depth());
     let mut keys = OpenKeys::new(alloc);
     'events: loop {
-        match parser.next()? {
+        match parser.next_by::<HERE>()? {
             Event::End => break,
             event => {
                 check_names(rules, &mut keys, event, text, parser.index())?;
@@ -188,8 +191,8 @@ pub fn read_document(alloc: Global, text: &str) -> Result<Rc<Doc>>
 }
 
 /// The document of one value, whatever follows it: the parser, which has handed out no event, goes on to the end of the
-/// value and stands right behind it. It reads in its mode, strict or lossy. Its text has at most 4,294,967,295 bytes. Each
-/// fault of what it reads, as a value, is told with its place in the text; or memory runs out.
+/// value and stands right behind it. It reads in its mode, strict or lossy. Each fault of what it reads, as a value, is told
+/// with its place in the text; or memory runs out.
 ///
 /// ```
 /// use json_doc::read_front;
@@ -199,8 +202,7 @@ pub fn read_document(alloc: Global, text: &str) -> Result<Rc<Doc>>
 /// assert_eq!(rt; parser.index(), 3);
 /// ```
 pub fn read_front(alloc: Global, parser: &mut Parser<'_>) -> Result<Rc<Doc>>
-    requires fresh { HasGiven parser.old [] }
-    requires size { length parser.old.text < 2 ^ 32 }
+    requires { HasGiven parser.old [] }
     ensures same { SameInput parser.old parser.new }
     ensures ok { IfOk result (λ d. (t : Tree)
         × reads parser.old.lossy (input parser.old) t (taken parser.new)

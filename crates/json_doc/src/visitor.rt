@@ -15,8 +15,7 @@ use json_text::Span;
 ///
 /// Each call answers whether the event was recorded. None is recorded where the room is full, nor after
 /// one that was not. While all were recorded, the events so far and this one begin the events of a tree.
-/// An event takes no memory, but for one that appends a literal or a text without escapes: that has to
-/// have its room, which `append` of std is not said to keep.
+/// No event takes memory.
 ///
 /// ```
 /// use json_doc::{DocumentVisitor, JsonVisitor};
@@ -84,7 +83,8 @@ pub trait JsonVisitor {
         ensures state { state self.new
             ≡ after_event result 1 (length literal.now) (state self.old) }
         ensures held { OnTrue result
-            (HoldsMore (holds self.old) (holds self.new) (num_token literal.now)) };
+            (HoldsMore (holds self.old) (holds self.new) (num_token literal.now)) }
+        ensures memory { keeps_memory self.old self.new };
 
     /// A string by what stands between its quotes.
     fn visit_str(&mut self, s: Span<'_>) -> bool
@@ -95,7 +95,7 @@ pub trait JsonVisitor {
             → state self.new ≡ after_event result 1 (length t) (state self.old) }
         ensures held { OnTrue result ((t : List ℕ) → chars s.entry.lossy t s.entry.raw.now
             → HoldsMore (holds self.old) (holds self.new) (text_token t)) }
-        ensures memory { ¬ (NoEscape s.entry.raw.now) → keeps_memory self.old self.new };
+        ensures memory { keeps_memory self.old self.new };
 
     /// A key by what stands between its quotes.
     fn visit_key(&mut self, s: Span<'_>) -> bool
@@ -106,7 +106,7 @@ pub trait JsonVisitor {
             → state self.new ≡ after_event result 1 (length t) (state self.old) }
         ensures held { OnTrue result ((t : List ℕ) → chars s.entry.lossy t s.entry.raw.now
             → HoldsMore (holds self.old) (holds self.new) (key_token t)) }
-        ensures memory { ¬ (NoEscape s.entry.raw.now) → keeps_memory self.old self.new };
+        ensures memory { keeps_memory self.old self.new };
 
     /// An array begins.
     fn visit_array_start(&mut self) -> bool

@@ -71,8 +71,8 @@ events-preserved c =
 pub finish-requires : goal.finish-requires
 finish-requires c =
     let k = c.events.invariant in
-    let at_end = subst (λ (e : Event). Goes c.events.parser e c.next.new.self) c.in-End.is c.in_ok-event.ensures.ok.2 in
-    let t = keeps_end (rules_of c.args.rules) c.events.parser c.next.new.self c.events.visitor c.events.keys c.args.text.now k.0 k.1 k.2 at_end in
+    let at_end = subst (λ (e : Event). Goes c.events.parser e c.next_by.new.self) c.in-End.is c.in_ok-event.ensures.ok.2 in
+    let t = keeps_end (rules_of c.args.rules) c.events.parser c.next_by.new.self c.events.visitor c.events.keys c.args.text.now k.0 k.1 k.2 at_end in
     (t.0, t.3)
 
 err_is : {X : Type 0} (r : Result X Error) (e : Error) (P : Error → Type 0) → IsErrAnd r (λ x. x ≡ e) → P e → IfErr r P
@@ -94,12 +94,12 @@ returns-in_err-check_names-in_default-clause-err c =
     let h = c.in_err-check_names-in_default.ensures.err in
     let event = c.in_ok-event.event in
     err_is c.from_residual-in_err-check_names-in_default.result e _ c.from_residual-in_err-check_names-in_default.ensures.1
-    (repeated_fails (rules_of c.args.rules) c.events.parser c.next.new.self c.events.visitor c.events.keys c.args.text.now k.0 event e h.0 k.1 k.2 n.ok.2 n.tight n.same
+    (repeated_fails (rules_of c.args.rules) c.events.parser c.next_by.new.self c.events.visitor c.events.keys c.args.text.now k.0 event e h.0 k.1 k.2 n.ok.2 n.tight n.same
     (subst (λ j. RefusesName c.events.keys event c.args.text.now j e) c.index.ensures h.1))
 
 pub returns-clause-ok : goal.returns-clause-ok
 returns-clause-ok c =
     let k = c.events.invariant in
-    let at_end = subst (λ (e : Event). Goes c.events.parser e c.next.new.self) c.in-End.is c.in_ok-event.ensures.ok.2 in
-    let t = keeps_end (rules_of c.args.rules) c.events.parser c.next.new.self c.events.visitor c.events.keys c.args.text.now k.0 k.1 k.2 at_end in
+    let at_end = subst (λ (e : Event). Goes c.events.parser e c.next_by.new.self) c.in-End.is c.in_ok-event.ensures.ok.2 in
+    let t = keeps_end (rules_of c.args.rules) c.events.parser c.next_by.new.self c.events.visitor c.events.keys c.args.text.now k.0 k.1 k.2 at_end in
     IfOk-weaker c.finish.result _ _ (λ d h. (t.0, t.1, t.2, h t.0 t.3)) c.finish.ensures.ok

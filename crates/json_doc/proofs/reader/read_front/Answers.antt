@@ -1,4 +1,4 @@
-use Rattle.std.proofs.Common.{◌≡◌, ◌∙◌, Result, Ok, Err, refl, sym, subst}
+use Rattle.std.proofs.Common.{◌≡◌, Result, Ok, Err, refl, sym, subst}
 use Rattle.std.proofs.lemmas.Result.{IfOk-weaker}
 use Rattle.std.specs.Result.{IsErrAnd, IfErr}
 use Rattle.json_text.specs.declared.error.Error.{Error}
@@ -8,7 +8,7 @@ use Rattle.json_doc.proofs.reader.read_front.Goals as goal
 pub record_value-requires-clause-first : goal.record_value-requires-clause-first
 record_value-requires-clause-first c =
     let n = c.in_ok-first.ensures in
-    first_out c.args.parser.now c.next.new.self c.in_ok-first.first c.requires.fresh n.whole n.ok.2 n.ok.1
+    first_out c.args.parser.now c.next.new.self c.in_ok-first.first c.requires n.whole n.ok.2 n.ok.1
 
 err_is : {X : Type 0} (r : Result X Error) (e : Error) (P : Error → Type 0) → IsErrAnd r (λ x. x ≡ e) → P e → IfErr r P
 err_is (Ok x) e P h p = tt
@@ -19,7 +19,7 @@ returns-in_err-first-clause-err c =
     let p = c.args.parser.now in
     let e = c.in_err-first.field-0.0 in
     err_is c.from_residual-in_err-first.result e _ c.from_residual-in_err-first.ensures.1
-    (front_fails p p e.code e.place (record { text = refl; start = refl; limit = refl; lossy = refl }) (c.in_err-first.ensures.in_value (fresh_not_whole p c.requires.fresh)))
+    (front_fails p p e.code e.place (record { text = refl; start = refl; limit = refl; lossy = refl }) (c.in_err-first.ensures.in_value (fresh_not_whole p c.requires)))
 
 pub finish-requires : goal.finish-requires
 finish-requires c =
@@ -36,5 +36,5 @@ pub returns-clause-ok : goal.returns-clause-ok
 returns-clause-ok c =
     let n = c.in_ok-first.ensures in
     let r = c.in_ok-record_value.ensures in
-    let t = front_read c.args.parser.now c.next.new.self c.record_value.new.parser c.in_ok-first.first c.record_value.new.visitor c.requires.fresh n.whole n.ok.2 n.same r.same n.reads r.whole r.ok in
+    let t = front_read c.args.parser.now c.next.new.self c.record_value.new.parser c.in_ok-first.first c.record_value.new.visitor c.requires n.whole n.ok.2 n.same r.same n.reads r.whole r.ok in
     IfOk-weaker c.finish.result _ _ (λ d h. (t.0, t.1, t.2, h t.0 t.3)) c.finish.ensures.ok

@@ -31,13 +31,13 @@ returns-in_err-event-clause-err c =
     let n = c.in_err-event.ensures in
     let e = c.in_err-event.field-0.0 in
     err_is c.from_residual-in_err-event.result e _ c.from_residual-in_err-event.ensures.1
-    (inr (refuses_value c.events.parser c.next.new.self e n.err.kept (n.needs k.unfailed) (n.inside (still_open k (c.levels_behind-levels.ensures k.token k.means) c.if-levels-eq0.false))))
+    (inr (refuses_value c.events.parser c.next_by.new.self e n.err.kept (n.needs k.unfailed) (n.inside (still_open k (c.levels_behind-levels.ensures k.token k.means) c.if-levels-eq0.false))))
 
 pub events-smaller : goal.events-smaller
 events-smaller c =
     let k = c.events.invariant in
     let n = c.in_ok-event.ensures in
-    goes_forward k (c.levels_behind-levels.ensures k.token k.means) c.next.new.self c.in_ok-event.event c.if-levels-eq0.false n.whole n.tight n.same
+    goes_forward k (c.levels_behind-levels.ensures k.token k.means) c.next_by.new.self c.in_ok-event.event c.if-levels-eq0.false n.whole n.tight n.same
 
 pub events-preserved : goal.events-preserved
 events-preserved c =
@@ -48,7 +48,7 @@ events-preserved c =
     let n = c.in_ok-event.ensures in
     let b = c.levels_behind-levels.ensures k.token k.means in
     let h = here_recorded k c.make_room.new.self w c.lent_len.result m.held m.full m.nodes c.lent_len.ensures m.bytes (r.room k.token k.means) r.follows in
-    records_on k b w h.0 h.1 (subst (λ n. n ≤ (visitor_state w).nodes) (sym b) h.2) c.next.new.self c.in_ok-event.event c.if-levels-eq0.false n.whole n.ok.2 n.tight n.same n.ok.1 n.reads
+    records_on k b w h.0 h.1 (subst (λ n. n ≤ (visitor_state w).nodes) (sym b) h.2) c.next_by.new.self c.in_ok-event.event c.if-levels-eq0.false n.whole n.ok.2 n.tight n.same n.ok.1 n.reads
 
 pub returns-in_err-event-clause-whole : goal.returns-in_err-event-clause-whole
 returns-in_err-event-clause-whole c = λ before w.

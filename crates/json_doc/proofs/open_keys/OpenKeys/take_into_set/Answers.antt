@@ -14,8 +14,8 @@ returns-clause-ok c all h =
     let name = c.args.name in
     let added = c.in_ok-added.ensures in
     let row = drop s.start s.few.items in
-    let f : c.front-front.result ≡ front_of (cow_str_bytes name) = c.front-front.ensures ∙ ap front_of c.as_str-2.ensures.value in
+    let f : c.front_number-front.result ≡ front_of (cow_str_bytes name) = c.front_number-front.ensures ∙ ap front_of c.as_str-2.ensures.value in
     let a = subst (λ g. c.in_ok-added.added ≡ not (contains by_front s.many (g, name))) f added.added in (
       told_by_set row s.many (innermost_keys all) (cow_str_bytes name) c.in_row.result c.in_ok-added.added h.here (c.in_row.ensures ∙ ap (row_has row) c.as_str.ensures.value) c.if-in_row.false a,
-      λ e. stand_set s.few.items s.start s.many new s.outer.items all (cow_str_bytes name) h c.requires.inside (set_updated s.many new c.front-front.result name f added.updates),
+      λ e. stand_set s.few.items s.start s.many new s.outer.items all (cow_str_bytes name) h c.requires.inside (set_updated s.many new c.front_number-front.result name f added.updates),
     )
