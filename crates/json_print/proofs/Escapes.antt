@@ -35,11 +35,15 @@ pub plain_all : (l : List ℕ) → plain l → shown_bytes l ≡ l
 plain_all [] h = refl
 plain_all (x ∷ l) h = ap₂ (λ a b. a ++ b) (plain_shown x h.0.1 h.0.2 h.0.0) (plain_all l h.1)
 
+-- the bytes behind what was shown
+pub batch_shown : (b : List ℕ) (i j : ℕ) → i ≤ j → shown_bytes (take i b) ++ shown_bytes (piece b i j) ≡ shown_bytes (take j b)
+batch_shown b i j l =
+    let e : i + (j - i) ≡ j = omega (arith, l) in
+    sym (shown_append (take i b) (piece b i j)) ∙ ap shown_bytes (sym (take-add i (j - i) b)) ∙ ap (λ n. shown_bytes (take n b)) e
+
 -- a plain run behind what was shown
 pub run_shown : (b : List ℕ) (i j : ℕ) → i ≤ j → plain (piece b i j) → shown_bytes (take i b) ++ piece b i j ≡ shown_bytes (take j b)
-run_shown b i j l h =
-    let e : i + (j - i) ≡ j = omega (arith, l) in
-    ap (λ x. shown_bytes (take i b) ++ x) (sym (plain_all (piece b i j) h)) ∙ sym (shown_append (take i b) _) ∙ ap shown_bytes (sym (take-add i (j - i) b)) ∙ ap (λ n. shown_bytes (take n b)) e
+run_shown b i j l h = ap (λ x. shown_bytes (take i b) ++ x) (sym (plain_all (piece b i j) h)) ∙ batch_shown b i j l
 
 -- where the run reaches the end, no byte is special
 pub whole_plain : (b : List ℕ) (j : ℕ) → j ≡ length b → plain (piece b 0 j) → plain b
@@ -63,13 +67,9 @@ pub run_put : (a b c : SinkState) (value : List ℕ) (i j : ℕ) (r : Result (Un
     → Adds a c (shown_bytes (take j value)) r
 run_put a b c value i j r l h p q = subst (λ l. Adds a c l r) (run_shown value i j l h) (Adds-then a b c _ _ tt r p q)
 
-pub byte_put : (a b c : SinkState) (value : List ℕ) (i : ℕ) (r : Result (Unit {0}) SinkError) → i < length value → Adds a b (shown_bytes (take i value)) (Ok tt) → Adds b c (shown_byte (get_or value i 0)) r
-    → Adds a c (shown_bytes (take (i + 1) value)) r
-byte_put a b c value i r h p q = subst (λ l. Adds a c l r) (byte_shown value i h) (Adds-then a b c _ _ tt r p q)
+pub batch_put : (a b c : SinkState) (value : List ℕ) (i j : ℕ) (r : Result (Unit {0}) SinkError) → i ≤ j → Adds a b (shown_bytes (take i value)) (Ok tt) → Adds b c (shown_bytes (piece value i j)) r → Adds a c (shown_bytes (take j value)) r
+batch_put a b c value i j r l p q = subst (λ s. Adds a c s r) (batch_shown value i j l) (Adds-then a b c _ _ tt r p q)
 
 pub shown_failed : (a b : SinkState) (value : List ℕ) (i : ℕ) (e : SinkError) → Adds a b (shown_bytes (take i value)) (Err e) → Adds a b (shown_bytes value) (Err e)
 shown_failed a b value i e p =
     subst (λ l. Adds a b l (Err e)) (sym (shown_append (take i value) (drop i value)) ∙ ap shown_bytes (take-append-drop i value)) (Adds-first a b _ (shown_bytes (drop i value)) e p)
-
-pub all_put : (a b : SinkState) (value : List ℕ) (i : ℕ) → i ≡ length value → Adds a b (shown_bytes (take i value)) (Ok tt) → Adds a b (shown_bytes value) (Ok tt)
-all_put a b value i e p = subst (λ l. Adds a b (shown_bytes l) (Ok tt)) (take_all i value (omega arith)) p

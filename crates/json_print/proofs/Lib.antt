@@ -26,3 +26,4 @@ pub mod Emptying
 pub mod Overlapping
 pub mod PlainBlocks
 pub mod Decimals
+pub mod ShownBytes

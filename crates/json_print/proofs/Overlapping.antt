@@ -1,12 +1,12 @@
 -- A piece that is stored by two blocks, which may overlap.
-use Rattle.std.proofs.Common.{◌≡◌, ℕ, ◌+◌, ◌-◌, ◌≤◌, List, ◌++◌, length, take, drop, sym, ap, ap₂, ◌∙◌, arith}
+use Rattle.std.proofs.Common.{◌≡◌, ℕ, ◌+◌, ◌-◌, ◌≤◌, List, ◌++◌, length, take, drop, sym, ap, ◌∙◌, arith}
 use Rattle.std.proofs.Math.Seq.{take-append-add}
 use Rattle.std.proofs.lemmas.List.{take-take, take_all, take-append-drop, length-take, length-drop, append_assoc}
 use Rattle.std.proofs.lemmas.Simd.{length-put_chunk, length-chunk, take_more_put_chunk}
 use lib.Lanes.{chunk, put_chunk}
 
 -- what stands before the second block, once the first is stored
-before_back : (b q : List ℕ) (at k : ℕ) → at + length q ≤ length b → k ≤ length q → take (at + k) (put_chunk at b q) ≡ take at b ++ take k q
+pub before_back : (b q : List ℕ) (at k : ℕ) → at + length q ≤ length b → k ≤ length q → take (at + k) (put_chunk at b q) ≡ take at b ++ take k q
 before_back b q at k room short =
     let whole : take (at + length q) (put_chunk at b q) ≡ take at b ++ q = take_more_put_chunk at b q (at + length q) (omega arith) room in
     let front : length (take at b) ≡ at = omega (arith, length-take at b) in

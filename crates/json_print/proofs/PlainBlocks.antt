@@ -1,5 +1,5 @@
 -- Blocks of bytes that stand for themselves in a string.
-use Rattle.std.proofs.Common.{◌≡◌, ℕ, zero, suc, ◌+◌, ◌%◌, ◌^◌, ◌<◌, ◌≤◌, ◌==◌, true, cond, not, List, [], ◌∷◌, map, length, get_or, Fits, w8, refl, ap, arith, inl, inr}
+use Rattle.std.proofs.Common.{◌≡◌, ℕ, suc, ◌+◌, ◌%◌, ◌^◌, ◌<◌, ◌≤◌, ◌==◌, true, cond, not, List, [], ◌∷◌, map, length, get_or, Fits, w8, refl, ap, arith, inl, inr}
 use Rattle.std.proofs.lemmas.Bool.{agree_below, cases_lt}
 use Rattle.std.specs.Int.Count.{count_trailing_zeros}
 use lib.Lanes.{chunk, mask_l, top}

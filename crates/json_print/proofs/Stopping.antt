@@ -169,3 +169,41 @@ popped (x ∷ xs) p e =
 
 pub shut_same : {F : Type 0} (a x : Out F) (o : List Kind) → a ≡ x → o ≡ outside a.opened → ◌≡◌ {A = Out F} (record a { opened = o }) (shut x)
 shut_same {F = F} a x o e h = ap (λ (c : List Kind). let r : Out F = record a { opened = c } in r) h ∙ ap shut e
+
+-- ---- a scalar
+
+-- it stopped before the value, at the value, or came to what stands behind it
+pub scalar_begun : {F : Type 0} (m : Form F) (old new : Out F) (c : Call) (f : Option Error) (r : Result (Unit {0}) Halted) (halted : Halted) → (y : Halted) × (r ≡ Err y) × (y ≡ halted) → Stopped old new (value_begun m old) f → Steps old new (took_scalar m old c) f r
+scalar_begun m old new c f r halted p h = exits old new _ f r halted p (Stopped-on old new _ _ f h (scalar_rest m old c))
+
+pub scalar_called : {F : Type 0} (m : Form F) (old mid new : Out F) (c : Call) (f : Option Error) (r : Result (Unit {0}) Halted) (halted : Halted) → (y : Halted) × (r ≡ Err y) × (y ≡ halted) → mid ≡ value_begun m old → Steps mid new (call m mid c) f (Err halted)
+    → Steps old new (took_scalar m old c) f r
+scalar_called m old mid new c f r halted p e h =
+    exits old new _ f r halted p (Stopped-step old (value_begun m old) mid new _ (λ s. call m s c) f halted (begun_begins m old) (begun_calm m old) e h (ended_begins m (call m (value_begun m old) c)))
+
+pub scalar_ended : {F : Type 0} (m : Form F) (old mid last new : Out F) (c : Call) (f : Option Error) (r : Result (Unit {0}) Halted) → mid ≡ value_begun m old → last ≡ call m mid c → Steps last new (value_ended m last) f r → Steps old new (took_scalar m old c) f r
+scalar_ended {F = F} m old mid last new c f r e k h =
+    Steps-from old (call m (value_begun m old) c) last new (value_ended m) f r (begin_called m old c) (begun_calm m old) (k ∙ ap (λ (s : Out F). call m s c) e) h
+
+-- ---- a key
+
+-- a key and what stands around it, the first or not
+abbrev pub key_by : {F : Type 0} → Form F → Out F → Bool → List ℕ → Out F
+key_by m s first k = call m (call m (call m s (begin_key first)) (string_call true k)) end_key
+
+-- it stopped before the key, at the key, or came to what stands behind it
+pub key_begun : {F : Type 0} (m : Form F) (old new : Out F) (first : Bool) (k : List ℕ) (f : Option Error) (r : Result (Unit {0}) Halted) (halted : Halted) → (y : Halted) × (r ≡ Err y) × (y ≡ halted) → Stopped old new (call m old (begin_key first)) f → Steps old new (key_by m old first k) f r
+key_begun m old new first k f r halted p h =
+    let a = call m old (begin_key first) in
+    exits old new _ f r halted p (Stopped-on old new _ _ f h (Begins-trans _ _ _ (call_begins m a (string_call true k)) (call_begins m (call m a (string_call true k)) end_key)))
+
+pub key_called : {F : Type 0} (m : Form F) (old mid new : Out F) (first : Bool) (k : List ℕ) (f : Option Error) (r : Result (Unit {0}) Halted) (halted : Halted) → (y : Halted) × (r ≡ Err y) × (y ≡ halted) → mid ≡ call m old (begin_key first) → Steps mid new (call m mid (string_call true k)) f (Err halted)
+    → Steps old new (key_by m old first k) f r
+key_called m old mid new first k f r halted p e h =
+    let a = call m old (begin_key first) in
+    exits old new _ f r halted p (Stopped-step old a mid new _ (λ s. call m s (string_call true k)) f halted (call_begins m old (begin_key first)) (refl, refl) e h (call_begins m (call m a (string_call true k)) end_key))
+
+pub key_ended : {F : Type 0} (m : Form F) (old mid last new : Out F) (first : Bool) (k : List ℕ) (f : Option Error) (r : Result (Unit {0}) Halted) → mid ≡ call m old (begin_key first) → last ≡ call m mid (string_call true k) → Steps last new (call m last end_key) f r → Steps old new (key_by m old first k) f r
+key_ended {F = F} m old mid last new first k f r e g h =
+    let a = call m old (begin_key first) in
+    Steps-from old (call m a (string_call true k)) last new (λ s. call m s end_key) f r (Begins-trans _ _ _ (call_begins m old (begin_key first)) (call_begins m a (string_call true k))) (refl, refl) (g ∙ ap (λ (s : Out F). call m s (string_call true k)) e) h

@@ -19,3 +19,4 @@ pub mod Serializing
 pub mod Orders
 pub mod Members
 pub mod Rows
+pub mod Closing

@@ -1,71 +1,43 @@
 // Strings and numbers.
-ghost use Rattle.std.specs.Prelude.{◌≡◌, ◌+◌, ◌<◌, ◌≤◌, MatchOption};
-ghost use Rattle.std.specs.Char.{digit_char};
+ghost use Rattle.std.specs.Prelude.{◌≡◌, ◌+◌, ◌<◌, ◌≤◌, length};
 ghost use Rattle.std.specs.Fmt.{decimal};
-ghost use Rattle.json_model.specs.Print.{quoted, shown_byte, shown_bytes, unit_escape};
+ghost use Rattle.json_model.specs.Print.{quoted, shown_bytes};
+ghost use Rattle.json_grammar.specs.Given.{piece};
 ghost use Rattle.json_print.specs.Adding.{Adds};
 ghost use Rattle.json_print.specs.Calls.{string_text};
-ghost use Rattle.json_text.specs.Runs.{IsPlain, plain};
+ghost use Rattle.json_text.specs.Runs.{plain};
 
 use crate::adding::{Added, add};
 use crate::plain::is_plain_short;
+use crate::shown::{BATCH, add_batch};
 use itoa::{Buffer, Integer};
 use json_text::{Sink, plain_run};
 
-#[inline(always)]
-fn hexadecimal(digit: u8) -> u8
-    requires { digit < 16 }
-    ensures { result ≡ digit_char digit }
+// How many bytes go by tables behind a long run.
+const FEW: usize = 4;
+
+// The end of the run of plain bytes from a place on, where it is long: a short one goes by tables, with what is behind it.
+fn long_run(value: &[u8], from: usize) -> usize
+    requires { from ≤ length value.now }
+    ensures within { (from ≤ result) × (result ≤ length value.now) }
+    ensures run { plain (piece value.now from result) }
 {
-    if digit < 10 {
-        b'0' + digit
-    } else {
-        b'a' + (digit - 10)
-    }
+    let end = plain_run(value, from);
+    if end - from < BATCH { from } else { end }
 }
 
-fn unit_escape_of(byte: u8) -> [u8; 6]
-    ensures { result ≡ unit_escape byte }
-{
-    [
-        b'\\',
-        b'u',
-        b'0',
-        b'0',
-        hexadecimal(byte / 16),
-        hexadecimal(byte % 16),
-    ]
-}
-
-// The backslash and the letter that stand for the byte, where two characters do.
-#[tactic(auto, using(crate::proofs::Escapes::control_shown), unfolding(json_model::specs::Print::shown_byte))]
+// How far the bytes behind a run go by tables: a few behind a long run, whose next bytes are likely plain as well.
 #[inline(always)]
-pub(crate) fn short_escape(byte: u8) -> Option<&'static str>
-    requires { ¬ (IsPlain byte) }
-    ensures { MatchOption result (shown_byte byte ≡ unit_escape byte)
-        (λ escape. escape.now ≡ shown_byte byte) }
+fn batch_end(value: &[u8], from: usize, run: usize) -> usize
+    requires order { from ≤ run }
+    requires within { run ≤ length value.now }
+    requires left { from < length value.now }
+    ensures within { (run ≤ result) × (result ≤ length value.now) }
+    ensures few { result ≤ run + 16 }
+    ensures more { from < result }
 {
-    match byte {
-        b'"' => Some("\\\""),
-        b'\\' => Some("\\\\"),
-        0x08 => Some("\\b"),
-        b'\t' => Some("\\t"),
-        b'\n' => Some("\\n"),
-        0x0c => Some("\\f"),
-        b'\r' => Some("\\r"),
-        _ => None,
-    }
-}
-
-#[inline(always)]
-fn add_escape<W: Sink>(writer: &mut W, byte: u8) -> Added
-    requires { ¬ (IsPlain byte) }
-    ensures { Adds (W.state writer.old) (W.state writer.new) (shown_byte byte) result }
-{
-    match short_escape(byte) {
-        Some(escape) => add(writer, escape.as_bytes()),
-        None => add(writer, &unit_escape_of(byte)),
-    }
+    let most = if run > from { FEW } else { BATCH };
+    value.len().min(run + most)
 }
 
 // The bytes of a string, escaped where they have to be.
@@ -73,21 +45,19 @@ fn add_escaped<W: Sink>(writer: &mut W, value: &[u8]) -> Added
     ensures { Adds (W.state writer.old) (W.state writer.new) (shown_bytes value.now) result }
 {
     let mut at = 0;
-    'runs: loop {
-        let end = plain_run(value, at);
+    'runs: while at < value.len() {
+        let end = long_run(value, at);
         match add(writer, &value[at..end]) {
             Ok(()) => {}
             Err(error) => return Err(error),
         }
-        if end == value.len() {
-            return Ok(());
-        }
-        match add_escape(writer, value[end]) {
+        at = batch_end(value, at, end);
+        match add_batch(writer, &value[end..at]) {
             Ok(()) => {}
             Err(error) => return Err(error),
         }
-        at = end + 1;
     }
+    Ok(())
 }
 
 #[inline(never)]

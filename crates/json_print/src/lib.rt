@@ -29,6 +29,7 @@ mod plain;
 mod pretty;
 mod quoted;
 mod serializer;
+mod shown;
 mod sorted;
 mod style;
 

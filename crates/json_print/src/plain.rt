@@ -43,10 +43,10 @@ fn is_plain_by<const N: usize>(text: &[u8]) -> bool
     requires short { length text.now ≤ N + N }
     ensures { IsTrue result → plain text.now }
 {
-    if !is_plain_block::<N>(text, 0) {
-        return false;
-    }
-    is_plain_block::<N>(text, text.len() - N)
+    let front = is_plain_block::<N>(text, 0);
+    let back = is_plain_block::<N>(text, text.len() - N);
+    // By one branch.
+    front & back
 }
 
 // The same of few bytes, one after another.

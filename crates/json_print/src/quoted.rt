@@ -1,10 +1,9 @@
 // Strings by std's formatting.
-ghost use Rattle.std.specs.Prelude.{◌≡◌, Some};
+ghost use Rattle.std.specs.Prelude.{◌≡◌, Some, MatchOption};
 ghost use Rattle.std.specs.Fmt.{WritesOnOk};
-ghost use Rattle.json_model.specs.Print.{quoted, shown_byte, shown_bytes};
+ghost use Rattle.json_model.specs.Print.{quoted, shown_byte, shown_bytes, unit_escape};
 ghost use Rattle.json_text.specs.Runs.{IsPlain};
 
-use crate::escape::short_escape;
 use json_text::plain_run;
 use std::fmt;
 
@@ -42,6 +41,25 @@ fn write_escaped<W: fmt::Write>(text: &str, f: &mut fmt::Formatter<W>) -> fmt::R
         }
         write_escape(bytes[end], f)?;
         at = end + 1;
+    }
+}
+
+// The backslash and the letter that stand for the byte, where two characters do.
+#[tactic(auto, using(crate::proofs::Escapes::control_shown), unfolding(json_model::specs::Print::shown_byte))]
+fn short_escape(byte: u8) -> Option<&'static str>
+    requires { ¬ (IsPlain byte) }
+    ensures { MatchOption result (shown_byte byte ≡ unit_escape byte)
+        (λ escape. escape.now ≡ shown_byte byte) }
+{
+    match byte {
+        b'"' => Some("\\\""),
+        b'\\' => Some("\\\\"),
+        0x08 => Some("\\b"),
+        b'\t' => Some("\\t"),
+        b'\n' => Some("\\n"),
+        0x0c => Some("\\f"),
+        b'\r' => Some("\\r"),
+        _ => None,
     }
 }
 

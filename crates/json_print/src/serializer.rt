@@ -10,6 +10,7 @@ ghost use Rattle.json_print.specs.Written.{Written};
 
 mod puts;
 mod steps;
+mod straight;
 
 use crate::part::Part;
 use crate::sorted::SortedObject;

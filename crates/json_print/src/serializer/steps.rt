@@ -1,6 +1,7 @@
 // The steps of a serializer.
 ghost use Rattle.std.specs.Prelude.{◌≡◌, None, Some, true};
 ghost use Rattle.json_print.specs.Calls.{boolean_call, null_call, number_call, string_call, unsigned_call};
+ghost use Rattle.json_print.specs.Closing.{closed};
 ghost use Rattle.json_print.specs.Parts.{meaning};
 ghost use Rattle.json_print.specs.Printer.{emptied, emptied_in, filed_in, is_first, key_kept, key_written, keyed, layered_in, members_put, no_layer, opened_up, took_begin, took_end, took_key, took_scalar, value_begun, value_ended};
 ghost use Rattle.json_print.specs.Rows.{IsOrderOf, members_written};
@@ -25,17 +26,17 @@ fn first_key(turn: Turn) -> bool
 }
 
 impl<W: Sink, F: Formatter> Serializer<W, F> {
-    // What stands before a value.
-    #[inline(always)]
+    // What stands before a value, where members wait.
+    #[inline(never)]
     fn value_begin(&mut self) -> Step
         requires { self.old.failed ≡ None }
         ensures { StepsBy W.state self.old self.new (value_begun F.form) result }
     {
         match self.turn {
             Turn::Value | Turn::Key(_) | Turn::Done => Ok(()),
-            Turn::Element(first) => self.put_begin_element(first),
+            Turn::Element(first) => self.call_waiting(Part::BeginElement(first)),
             Turn::Member if self.sorts => Ok(()),
-            Turn::Member => self.put_begin_member(),
+            Turn::Member => self.call_waiting(Part::BeginMember),
         }
     }
 
@@ -54,8 +55,8 @@ impl<W: Sink, F: Formatter> Serializer<W, F> {
         }
     }
 
-    // What stands behind a value.
-    #[inline(always)]
+    // What stands behind a value, where members wait.
+    #[inline(never)]
     fn value_end(&mut self) -> Step
         requires { self.old.failed ≡ None }
         ensures { StepsBy W.state self.old self.new (value_ended F.form) result }
@@ -67,39 +68,68 @@ impl<W: Sink, F: Formatter> Serializer<W, F> {
             }
             Some(Kind::Array) => {
                 self.turn = Turn::Element(false);
-                self.put_end_element()
+                self.call_waiting(Part::EndElement)
             }
             Some(Kind::Object) => {
                 self.turn = Turn::Key(false);
                 if self.sorts {
                     self.file()
                 } else {
-                    self.put_end_member()
+                    self.call_waiting(Part::EndMember)
                 }
             }
         }
+    }
+
+    // A scalar where members wait.
+    #[inline(never)]
+    fn scalar_waiting(&mut self, part: Part<'_>) -> Step
+        requires { self.old.failed ≡ None }
+        ensures { StepsBy W.state self.old self.new
+            (λ s. took_scalar F.form s (meaning part.entry)) result }
+    {
+        self.value_begin()?;
+        self.call_waiting(part)?;
+        self.value_end()
+    }
+
+    // A string where members wait.
+    #[inline(never)]
+    fn string_waiting(&mut self, text: &str) -> Step
+        requires { self.old.failed ≡ None }
+        ensures { StepsBy W.state self.old self.new
+            (λ s. took_scalar F.form s (string_call true text.now)) result }
+    {
+        self.scalar_waiting(Part::Text(text))
     }
 
     // The scalars, each out of line: what is in line where tokens are given stays small.
     #[inline(never)]
     pub(super) fn null_value(&mut self) -> Step
         requires { self.old.failed ≡ None }
-        ensures { StepsBy W.state self.old self.new (λ s. took_scalar F.form s null_call) result }
+        ensures { StepsBy W.state self.old self.new
+            (λ s. took_scalar F.form s null_call) result }
     {
-        self.value_begin()?;
-        self.put_null()?;
-        self.value_end()
+        if !self.objects.is_empty() {
+            return self.scalar_waiting(Part::Null);
+        }
+        self.value_begin_straight()?;
+        self.null_straight()?;
+        self.value_end_straight()
     }
 
     #[inline(never)]
     pub(super) fn boolean_value(&mut self, b: bool) -> Step
         requires { self.old.failed ≡ None }
-        ensures { StepsBy W.state self.old self.new (λ s.
-            took_scalar F.form s (boolean_call b)) result }
+        ensures { StepsBy W.state self.old self.new
+            (λ s. took_scalar F.form s (boolean_call b)) result }
     {
-        self.value_begin()?;
-        self.put_boolean(b)?;
-        self.value_end()
+        if !self.objects.is_empty() {
+            return self.scalar_waiting(Part::Bool(b));
+        }
+        self.value_begin_straight()?;
+        self.boolean_straight(b)?;
+        self.value_end_straight()
     }
 
     #[inline(never)]
@@ -108,9 +138,12 @@ impl<W: Sink, F: Formatter> Serializer<W, F> {
         ensures { StepsBy W.state self.old self.new
             (λ s. took_scalar F.form s (meaning part.entry)) result }
     {
-        self.value_begin()?;
-        self.put_scalar(part)?;
-        self.value_end()
+        if !self.objects.is_empty() {
+            return self.scalar_waiting(part);
+        }
+        self.value_begin_straight()?;
+        self.part_straight(part)?;
+        self.value_end_straight()
     }
 
     #[inline(never)]
@@ -119,9 +152,12 @@ impl<W: Sink, F: Formatter> Serializer<W, F> {
         ensures { StepsBy W.state self.old self.new
             (λ s. took_scalar F.form s (unsigned_call n)) result }
     {
-        self.value_begin()?;
-        self.put_unsigned(n)?;
-        self.value_end()
+        if !self.objects.is_empty() {
+            return self.scalar_waiting(Part::Uint(n));
+        }
+        self.value_begin_straight()?;
+        self.unsigned_straight(n)?;
+        self.value_end_straight()
     }
 
     #[inline(never)]
@@ -130,9 +166,12 @@ impl<W: Sink, F: Formatter> Serializer<W, F> {
         ensures { StepsBy W.state self.old self.new
             (λ s. took_scalar F.form s (number_call literal.now)) result }
     {
-        self.value_begin()?;
-        self.put_number(literal)?;
-        self.value_end()
+        if !self.objects.is_empty() {
+            return self.scalar_waiting(Part::Number(literal));
+        }
+        self.value_begin_straight()?;
+        self.number_straight(literal)?;
+        self.value_end_straight()
     }
 
     #[inline(never)]
@@ -141,9 +180,12 @@ impl<W: Sink, F: Formatter> Serializer<W, F> {
         ensures { StepsBy W.state self.old self.new
             (λ s. took_scalar F.form s (string_call true text.now)) result }
     {
-        self.value_begin()?;
-        self.put_text(text)?;
-        self.value_end()
+        if !self.objects.is_empty() {
+            return self.string_waiting(text);
+        }
+        self.value_begin_straight()?;
+        self.text_straight(text)?;
+        self.value_end_straight()
     }
 
     // An object without members, in memory that was used before where there is some.
@@ -200,13 +242,27 @@ impl<W: Sink, F: Formatter> Serializer<W, F> {
         }
     }
 
+    // The beginning of a container where members wait.
+    #[inline(never)]
+    fn begin_waiting(&mut self, kind: Kind) -> Step
+        requires { self.old.failed ≡ None }
+        ensures { StepsBy W.state self.old self.new (λ s. took_begin F.form s kind) result }
+    {
+        self.value_begin()?;
+        self.call_waiting(Part::Begin(kind))?;
+        self.open(kind)
+    }
+
     #[inline(never)]
     pub(super) fn begin(&mut self, kind: Kind) -> Step
         requires { self.old.failed ≡ None }
         ensures { StepsBy W.state self.old self.new (λ s. took_begin F.form s kind) result }
     {
-        self.value_begin()?;
-        self.put_begin(kind)?;
+        if !self.objects.is_empty() {
+            return self.begin_waiting(kind);
+        }
+        self.value_begin_straight()?;
+        self.begin_straight(kind)?;
         self.open(kind)
     }
 
@@ -273,15 +329,38 @@ impl<W: Sink, F: Formatter> Serializer<W, F> {
         }
     }
 
+    // The end of a container behind its members, where members wait around it.
+    #[inline(never)]
+    fn close_waiting(&mut self, kind: Kind) -> Step
+        requires { self.old.failed ≡ None }
+        ensures { StepsBy W.state self.old self.new (λ s. closed F.form s kind) result }
+    {
+        self.call_waiting(Part::End(kind))?;
+        let _ = self.opened.pop();
+        self.value_end()
+    }
+
+    // The end of a container behind its members.
+    #[inline(always)]
+    fn close(&mut self, kind: Kind) -> Step
+        requires { self.old.failed ≡ None }
+        ensures { StepsBy W.state self.old self.new (λ s. closed F.form s kind) result }
+    {
+        if !self.objects.is_empty() {
+            return self.close_waiting(kind);
+        }
+        self.end_straight(kind)?;
+        let _ = self.opened.pop();
+        self.value_end_straight()
+    }
+
     #[inline(never)]
     pub(super) fn end(&mut self, kind: Kind) -> Step
         requires { self.old.failed ≡ None }
         ensures { StepsBy W.state self.old self.new (λ s. took_end F.form s kind) result }
     {
         self.empty(kind)?;
-        self.put_end(kind)?;
-        let _ = self.opened.pop();
-        self.value_end()
+        self.close(kind)
     }
 
     // The key of the open member of the innermost object.
@@ -299,16 +378,31 @@ impl<W: Sink, F: Formatter> Serializer<W, F> {
         }
     }
 
+    // A key and what stands around it, where members wait.
+    #[inline(never)]
+    fn key_waiting(&mut self, key: &str) -> Step
+        requires { self.old.failed ≡ None }
+        ensures { StepsBy W.state self.old self.new (λ s. key_written F.form s key.now) result }
+    {
+        let first = first_key(self.turn);
+        self.call_waiting(Part::BeginKey(first))?;
+        self.call_waiting(Part::Text(key))?;
+        self.call_waiting(Part::EndKey)
+    }
+
     // A key and what stands around it.
     #[inline(always)]
     fn write_key(&mut self, key: &str) -> Step
         requires { self.old.failed ≡ None }
         ensures { StepsBy W.state self.old self.new (λ s. key_written F.form s key.now) result }
     {
+        if !self.objects.is_empty() {
+            return self.key_waiting(key);
+        }
         let first = first_key(self.turn);
-        self.put_begin_key(first)?;
-        self.put_text(key)?;
-        self.put_end_key()
+        self.begin_key_straight(first)?;
+        self.text_straight(key)?;
+        self.end_key_straight()
     }
 
     #[inline(always)]

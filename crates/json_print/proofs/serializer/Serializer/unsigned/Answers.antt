@@ -1,28 +1,14 @@
-use Rattle.std.proofs.Common.{◌∙◌, ap}
 use Rattle.std.proofs.lemmas.Result.{err_from_is_err_and}
 use Rattle.json_print.specs.Calls.{unsigned_call}
-use Rattle.json_print.specs.Printer.{Out, call, value_begun, value_ended}
-use Rattle.json_print.specs.Serializing.{out_of}
-use Rattle.json_print.proofs.Stopping.{exits, Stopped-on, Stopped-step, Steps-from, scalar_rest, begun_begins, begun_calm, begin_called, ended_begins}
+use Rattle.json_print.proofs.Stopping.{scalar_begun, scalar_called, scalar_ended}
 use Rattle.json_print.proofs.serializer.Serializer.unsigned.Goals as goal
 
-pub returns-in_err-value_begin : goal.returns-in_err-value_begin
-returns-in_err-value_begin g c =
-    let m = g.F.Formatter.form in
-    let old : Out g.row.F.Denot = out_of g.W.Sink.state c.args.self.now in
-    exits old _ _ _ _ _ (err_from_is_err_and c.from_residual.result c.from_residual.ensures.1)
-    (Stopped-on old _ _ _ _ c.in_err-value_begin.ensures.stops (scalar_rest m old (unsigned_call c.args.n)))
+pub returns-in_err-value_begin_straight : goal.returns-in_err-value_begin_straight
+returns-in_err-value_begin_straight g c = scalar_begun g.F.Formatter.form _ _ (unsigned_call c.args.n) _ _ _ (err_from_is_err_and c.from_residual.result c.from_residual.ensures.1) c.in_err-value_begin_straight.ensures.steps.stops
 
-pub returns-in_err-put_unsigned : goal.returns-in_err-put_unsigned
-returns-in_err-put_unsigned g c =
-    let m = g.F.Formatter.form in
-    let old : Out g.row.F.Denot = out_of g.W.Sink.state c.args.self.now in
-    exits old _ _ _ _ _ (err_from_is_err_and c.from_residual-in_err-put_unsigned.result c.from_residual-in_err-put_unsigned.ensures.1)
-    (Stopped-step old (value_begun m old) _ _ _ (λ s. call m s (unsigned_call c.args.n)) _ _ (begun_begins m old) (begun_calm m old) c.in_ok-value_begin.ensures.ok c.in_err-put_unsigned.ensures (ended_begins m _))
+pub returns-in_err-unsigned_straight : goal.returns-in_err-unsigned_straight
+returns-in_err-unsigned_straight g c =
+    scalar_called g.F.Formatter.form _ _ _ (unsigned_call c.args.n) _ _ _ (err_from_is_err_and c.from_residual-in_err-unsigned_straight.result c.from_residual-in_err-unsigned_straight.ensures.1) c.in_ok-value_begin_straight.ensures.steps.ok c.in_err-unsigned_straight.ensures.steps
 
 pub returns : goal.returns
-returns g c =
-    let m = g.F.Formatter.form in
-    let old : Out g.row.F.Denot = out_of g.W.Sink.state c.args.self.now in
-    Steps-from old (call m (value_begun m old) (unsigned_call c.args.n)) _ _ (value_ended m) _ _ (begin_called m old (unsigned_call c.args.n)) (begun_calm m old) (c.in_ok-put_unsigned.ensures.ok ∙ ap (λ (s : Out g.row.F.Denot). call m s (unsigned_call c.args.n)) c.in_ok-value_begin.ensures.ok)
-    c.value_end.ensures
+returns g c = scalar_ended g.F.Formatter.form _ _ _ _ (unsigned_call c.args.n) _ _ c.in_ok-value_begin_straight.ensures.steps.ok c.in_ok-unsigned_straight.ensures.steps.ok c.value_end_straight.ensures
