@@ -39,4 +39,6 @@ pub mod WhereStepsLead
 pub mod RefusedCalls
 pub mod EditsAlong
 pub mod KeyOrders
+pub mod KeyFronts
 pub mod SortedGiven
+pub mod Walking

@@ -1,5 +1,5 @@
 -- A tree, given in turn in the order of its keys.
-use Rattle.std.proofs.Common.{◌≡◌, ℕ, List, [], ◌∷◌, ◌++◌, Option, Some, None, Ok, Err, Result, map, refl, sym, ap, subst, ◌∙◌, inl, inr}
+use Rattle.std.proofs.Common.{◌≡◌, ℕ, List, [], ◌∷◌, ◌++◌, Option, Some, None, Ok, Err, Result, map, refl, ap, subst, ◌∙◌, inl, inr}
 use Rattle.json_grammar.specs.declared.Kind.TheVariants.{Object as object}
 use Rattle.json_grammar.specs.Tree.{Tree, list, pairs, list_trees, list_pairs, begin, end, key_token}
 use Rattle.json_text.specs.declared.error.Error.{Error}
@@ -36,11 +36,11 @@ needs_none after stopped old new (Some x) err' gs (Err e) h =
 pub same_given : {S : Type 0} (after : S → Given → S) (stopped : S → Given → S → Error → Type 0) (old new : S) (err err' : Option Error) (gs hs : List Given) (r : Result (Unit {0}) Error) → gs ≡ hs → EmitsOrLacks after stopped old new err err' gs r → EmitsOrLacks after stopped old new err err' hs r
 same_given after stopped old new err err' gs hs r e h = subst (λ x. EmitsOrLacks after stopped old new err err' x r) e h
 
--- one of them was refused, and it was the answer
-pub refused : {S : Type 0} (after : S → Given → S) (stopped : S → Given → S → Error → Type 0) (old new : S) (err err' : Option Error) (gs : List Given) (r : Result (Unit {0}) Error) (e : Error)
-    → err ≡ None → (y : Error) × (r ≡ Err y) × (y ≡ e) → StopsAmong after (StopsOrLacks stopped err') old new gs e → EmitsOrLacks after stopped old new err err' gs r
-refused after stopped old new None err' gs r e f p h = subst (λ z. EmitsOrLacks after stopped old new None err' gs z) (sym (p.1 ∙ ap Err p.2)) (record { all = tt; fresh = tt; stops = λ g. h; again = tt })
-refused after stopped old new (Some x) err' gs r e f p h = absurd (cc)
+-- one of them was refused
+pub refused : {S : Type 0} (after : S → Given → S) (stopped : S → Given → S → Error → Type 0) (old new : S) (err err' : Option Error) (gs : List Given) (e : Error)
+    → err ≡ None → StopsAmong after (StopsOrLacks stopped err') old new gs e → EmitsOrLacks after stopped old new err err' gs (Err e)
+refused after stopped old new None err' gs e f h = record { all = tt; fresh = tt; stops = λ g. h; again = tt }
+refused after stopped old new (Some x) err' gs e f h = absurd (cc)
 
 -- behind the first tokens something comes, for which memory was lacking
 next_of : (qs : List (List ℕ × Tree)) → (x : Given) × (xs : List Given) × (all_pairs qs ++ given (end object) ∷ [] ≡ x ∷ xs)

@@ -23,12 +23,11 @@ emits_one after stopped old new err err' x ts (Ok u) e h = record { all = rw e h
 emits_one after stopped old new err err' x ts (Err y) e h =
     record { all = tt; fresh = tt; failed = h.failed; stops = λ f. record { front = []; at = x; back = []; whole = e; left = h.stopped f }; again = h.again }
 
--- the first was refused, and it was the answer
-pub emits_none : {S : Type 0} (after : S → Given → S) (stopped : S → Given → S → Error → Type 0) (old new : S) (err err' : Option Error) (x : Given) (rest ts : List Given) (r : Result (Unit {0}) Error) (e : Error)
-    → (y : Error) × (r ≡ Err y) × (y ≡ e) → ts ≡ x ∷ rest → Takes after stopped old new err err' x (Err e) → Emits after stopped old new err err' ts r
-emits_none after stopped old new err err' x rest ts r e p w h =
-    subst (λ z. Emits after stopped old new err err' ts z) (sym (p.1 ∙ ap Err p.2))
-    (record { all = tt; fresh = tt; failed = h.failed; stops = λ f. record { front = []; at = x; back = rest; whole = w; left = h.stopped f }; again = h.again })
+-- the first was refused
+pub emits_none : {S : Type 0} (after : S → Given → S) (stopped : S → Given → S → Error → Type 0) (old new : S) (err err' : Option Error) (x : Given) (rest ts : List Given) (e : Error)
+    → ts ≡ x ∷ rest → Takes after stopped old new err err' x (Err e) → Emits after stopped old new err err' ts (Err e)
+emits_none after stopped old new err err' x rest ts e w h =
+    record { all = tt; fresh = tt; failed = h.failed; stops = λ f. record { front = []; at = x; back = rest; whole = w; left = h.stopped f }; again = h.again }
 
 -- one is taken only where no error was answered
 pub was_fresh : {S : Type 0} (after : S → Given → S) (stopped : S → Given → S → Error → Type 0) (old new : S) (err err' : Option Error) (x : Given) (u : Unit {0}) → Takes after stopped old new err err' x (Ok u) → err ≡ None
@@ -162,10 +161,9 @@ stops_within after stopped first old new pre mid post ts e s w h =
       left = subst (λ z. stopped z h.at new e) (ap (λ z. after_all after z h.front) s ∙ sym (after_append after first pre h.front)) h.left;
     }
 
-pub emits_refused : {S : Type 0} (after : S → Given → S) (stopped : S → Given → S → Error → Type 0) (old new : S) (err err' : Option Error) (ts : List Given) (r : Result (Unit {0}) Error) (e : Error)
-    → err ≡ None → err' ≡ Some e → (y : Error) × (r ≡ Err y) × (y ≡ e) → StopsAmong after stopped old new ts e → Emits after stopped old new err err' ts r
-emits_refused after stopped old new err err' ts r e f k p h =
-    subst (λ z. Emits after stopped old new err err' ts z) (sym (p.1 ∙ ap Err p.2)) (record { all = tt; fresh = tt; failed = k; stops = λ g. h; again = if_none err _ f })
+pub emits_refused : {S : Type 0} (after : S → Given → S) (stopped : S → Given → S → Error → Type 0) (old new : S) (err err' : Option Error) (ts : List Given) (e : Error)
+    → err ≡ None → err' ≡ Some e → StopsAmong after stopped old new ts e → Emits after stopped old new err err' ts (Err e)
+emits_refused after stopped old new err err' ts e f k h = record { all = tt; fresh = tt; failed = k; stops = λ g. h; again = if_none err _ f }
 
 -- ---- arrays
 
@@ -289,8 +287,3 @@ emits_last after stopped first old new begun err err' pre x ts (Err e) b s fresh
       stops = λ f. stops_within after stopped first old new pre (x ∷ []) [] ts e s w (stops_one after stopped old new err err' x e fresh h);
       again = if_none begun _ b;
     }
-
--- of equal trees the same is given
-pub emits_same : {S : Type 0} (after : S → Given → S) (stopped : S → Given → S → Error → Type 0) (old new : S) (err err' : Option Error) (t u : Tree) (r : Result (Unit {0}) Error)
-    → t ≡ u → Emits after stopped old new err err' (tree_given t) r → Emits after stopped old new err err' (tree_given u) r
-emits_same after stopped old new err err' t u r e h = subst (λ x. Emits after stopped old new err err' (tree_given x) r) e h

@@ -1,11 +1,12 @@
 -- What it is to give a tree to events.
-use Rattle.std.specs.Prelude.{◌≡◌, ℕ, ℤ, List, [], ◌∷◌, ◌++◌, Option, None, Some, Result, Err, OnOk, IfErr, IfSome}
+use Rattle.std.specs.Prelude.{◌≡◌, ℕ, ℤ, List, [], ◌∷◌, ◌++◌, Option, None, Some, Result, Ok, Err, OnOk, IfErr, IfSome}
 use Rattle.json_grammar.specs.declared.Kind.TheVariants.{Array as array, Object as object}
 use Rattle.json_grammar.specs.Tree.{Tree, null, boolean, num, text, list, pairs, Trees, no_trees, tree_and, Pairs, no_pairs, pair_and, null_token, boolean_token, num_token, text_token, begin, end, key_token}
 use Rattle.json_text.specs.declared.error.Error.{Error}
 use Rattle.json_number.specs.Integers.{integer_in}
 use Rattle.json_print.specs.Given.{Given, given, given_integer}
 use Rattle.json_print.specs.Taking.{after_all, StopsAmong}
+use Rattle.json_value.specs.declared.walk.Stopped.{Stopped}
 
 -- a number is given as its integer, where that lies in i64 or u64, else by its literal
 abbrev pub number_given : Option ℤ → List ℕ → Given
@@ -38,3 +39,8 @@ pub record Emits {S : Type 0} (after : S → Given → S) (stopped : S → Given
   pub failed : IfErr result (λ e. err' ≡ Some e)
   pub stops : err ≡ None → IfErr result (StopsAmong after stopped old new gs)
   pub again : IfSome err (λ e. (result ≡ Err e) × (new ≡ old))
+
+-- a walk that went on has given them all; one that stopped has met an error, which the events keep
+abbrev pub Walks : {S : Type 0} → (S → Given → S) → (S → Given → S → Error → Type 0) → S → S → Option Error → Option Error → List Given → Result (Unit {0}) Stopped → Type 0
+Walks after stopped old new err err' gs (Ok u) = Emits after stopped old new err err' gs (Ok u)
+Walks after stopped old new err err' gs (Err s) = (e : Error) × Emits after stopped old new err err' gs (Err e)

@@ -3,27 +3,27 @@ ghost use Rattle.std.specs.Prelude.{◌≡◌, map, None};
 ghost use Rattle.json_grammar.specs.Tree.{list, list_trees, pairs, list_pairs};
 ghost use Rattle.json_print.specs.Standing.{TakesValue};
 ghost use Rattle.json_value.specs.Denotes.{tree_of, pair_of};
-ghost use Rattle.json_value.specs.Emitting.{Emits, tree_given};
+ghost use Rattle.json_value.specs.Emitting.{Walks, tree_given};
 
 use crate::container::Form;
 use crate::emit_packed::{emit_elements, emit_members, emit_no_pairs, emit_no_values, emit_number};
 use crate::pair::Pair;
 use crate::value::Value;
+use crate::walk::{Walked, taken};
 use json_print::Events;
-use json_text::Result;
 
 #[cycle(value)]
-pub(crate) fn emit_value<E: Events>(value: &Value, out: &mut E) -> Result<()>
+pub(crate) fn emit_value<E: Events>(value: &Value, out: &mut E) -> Walked
     requires { E.failed out.old ≡ None → TakesValue (E.stand (E.state out.old)).turn }
-    ensures { Emits E.after E.stopped (E.state out.old) (E.state out.new)
+    ensures { Walks E.after E.stopped (E.state out.old) (E.state out.new)
         (E.failed out.old) (E.failed out.new) (tree_given (tree_of value.now)) result }
 {
     match value {
-        Value::Null => out.null(),
-        Value::Bool(boolean) => out.boolean(*boolean),
+        Value::Null => taken(out.null()),
+        Value::Bool(boolean) => taken(out.boolean(*boolean)),
         Value::Number(number) => emit_number(*number, out),
-        Value::Raw(literal) => out.raw_number(literal.as_str()),
-        Value::Text(text) => out.text(text.as_str()),
+        Value::Raw(literal) => taken(out.raw_number(literal.as_str())),
+        Value::Text(text) => taken(out.text(text.as_str())),
         Value::Array(array) => match &array.form {
             Form::Empty => emit_no_values(out),
             Form::Owned(values) => emit_values(values, out),
@@ -38,30 +38,30 @@ pub(crate) fn emit_value<E: Events>(value: &Value, out: &mut E) -> Result<()>
 }
 
 #[cycle(value)]
-fn emit_values<E: Events>(values: &Vec<Value>, out: &mut E) -> Result<()>
+fn emit_values<E: Events>(values: &Vec<Value>, out: &mut E) -> Walked
     requires { E.failed out.old ≡ None → TakesValue (E.stand (E.state out.old)).turn }
-    ensures { Emits E.after E.stopped (E.state out.old) (E.state out.new)
+    ensures { Walks E.after E.stopped (E.state out.old) (E.state out.new)
         (E.failed out.old) (E.failed out.new)
         (tree_given (list (list_trees (map tree_of values.now.items)))) result }
 {
-    out.begin_array(Some(values.len()))?;
+    taken(out.begin_array(Some(values.len())))?;
     for value in values {
         emit_value(value, out)?;
     }
-    out.end_array()
+    taken(out.end_array())
 }
 
 #[cycle(value)]
-fn emit_pairs<E: Events>(values: &Vec<Pair>, out: &mut E) -> Result<()>
+fn emit_pairs<E: Events>(values: &Vec<Pair>, out: &mut E) -> Walked
     requires { E.failed out.old ≡ None → TakesValue (E.stand (E.state out.old)).turn }
-    ensures { Emits E.after E.stopped (E.state out.old) (E.state out.new)
+    ensures { Walks E.after E.stopped (E.state out.old) (E.state out.new)
         (E.failed out.old) (E.failed out.new)
         (tree_given (pairs (list_pairs (map pair_of values.now.items)))) result }
 {
-    out.begin_object(Some(values.len()))?;
+    taken(out.begin_object(Some(values.len())))?;
     for pair in values {
-        out.key(pair.key.as_str())?;
+        taken(out.key(pair.key.as_str()))?;
         emit_value(&pair.value, out)?;
     }
-    out.end_object()
+    taken(out.end_object())
 }

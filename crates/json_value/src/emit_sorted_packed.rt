@@ -7,25 +7,25 @@ ghost use Rattle.json_doc.specs.Readings.{elements};
 ghost use Rattle.json_doc.specs.Seen.{view_tree};
 ghost use Rattle.json_print.specs.Standing.{TakesValue};
 ghost use Rattle.json_value.specs.Emitting.{tree_given};
-ghost use Rattle.json_value.specs.EmittingSorted.{EmitsOrLacks};
+ghost use Rattle.json_value.specs.EmittingSorted.{SortWalks};
 ghost use Rattle.json_value.specs.Readings.{members};
 
 use crate::emit_packed::{emit_document, emit_no_pairs, emit_no_values};
 use crate::key_order::{Keys, packed_in_order, packed_never_fall};
+use crate::walk::{SortStopped, SortWalked, taken};
 use json_doc::{Doc, DocChildren, DocNode, DocPairs, DocView};
 use json_print::Events;
-use json_text::Result;
 use std::alloc::Global;
 
 // Gives the tokens of the tree that is seen, sorted, to `out`, up to the first that meets an error or lacks memory.
 #[cycle(sorted_document)]
-pub(crate) fn sort_document<E: Events>(view: DocView<'_>, alloc: Global, out: &mut E) -> Result<()>
+pub(crate) fn sort_document<E: Events>(view: DocView<'_>, alloc: Global, out: &mut E) -> SortWalked
     requires { E.failed out.old ≡ None → TakesValue (E.stand (E.state out.old)).turn }
-    ensures { EmitsOrLacks E.after E.stopped (E.state out.old) (E.state out.new)
+    ensures { SortWalks E.after E.stopped (E.state out.old) (E.state out.new)
         (E.failed out.old) (E.failed out.new) (tree_given (sorted (view_tree view.entry))) result }
 {
     match view.node() {
-        DocNode::Array(children) => sort_children(children, view.len(), alloc, out),
+        DocNode::Array(children) => sort_children(children, alloc, out),
         DocNode::Object(members) => {
             if keys_in_order(view) {
                 sort_in_place(members, alloc, out)
@@ -33,7 +33,7 @@ pub(crate) fn sort_document<E: Events>(view: DocView<'_>, alloc: Global, out: &m
                 sort_by_places(view.doc(), members, alloc, out)
             }
         }
-        _ => emit_document(view, out),
+        _ => Ok(emit_document(view, out)?),
     }
 }
 
@@ -47,41 +47,38 @@ fn keys_in_order(view: DocView<'_>) -> bool
     }
 }
 
-// Gives the tokens of an array; `count` is how many elements there are.
+// Gives the tokens of an array of these elements.
 #[cycle(sorted_document)]
-fn sort_children<E: Events>(
-    children: DocChildren<'_>,
-    count: usize,
-    alloc: Global,
-    out: &mut E,
-) -> Result<()>
+fn sort_children<E: Events>(children: DocChildren<'_>, alloc: Global, out: &mut E) -> SortWalked
     requires { E.failed out.old ≡ None → TakesValue (E.stand (E.state out.old)).turn }
-    ensures { EmitsOrLacks E.after E.stopped (E.state out.old) (E.state out.new)
+    ensures { SortWalks E.after E.stopped (E.state out.old) (E.state out.new)
         (E.failed out.old) (E.failed out.new)
         (tree_given (sorted (list (list_trees (children_left children.entry))))) result }
 {
-    out.begin_array(Some(count))?;
+    taken(out.begin_array(Some(children.len())))?;
     for child in children {
         sort_document(child, alloc, out)?;
     }
-    out.end_array()
+    taken(out.end_array())?;
+    Ok(())
 }
 
 // Gives the tokens of an object whose keys stand in order.
 #[cycle(sorted_document)]
-fn sort_in_place<E: Events>(members: DocPairs<'_>, alloc: Global, out: &mut E) -> Result<()>
+fn sort_in_place<E: Events>(members: DocPairs<'_>, alloc: Global, out: &mut E) -> SortWalked
     requires come { E.failed out.old ≡ None → TakesValue (E.stand (E.state out.old)).turn }
     requires ordered { NeverFall (list_pairs (pairs_left members)) }
-    ensures { EmitsOrLacks E.after E.stopped (E.state out.old) (E.state out.new)
+    ensures { SortWalks E.after E.stopped (E.state out.old) (E.state out.new)
         (E.failed out.old) (E.failed out.new)
         (tree_given (sorted (pairs (list_pairs (pairs_left members.entry))))) result }
 {
-    out.begin_object(Some(members.len()))?;
+    taken(out.begin_object(Some(members.len())))?;
     for (key, value) in members {
-        out.key(key)?;
+        taken(out.key(key))?;
         sort_document(value, alloc, out)?;
     }
-    out.end_object()
+    taken(out.end_object())?;
+    Ok(())
 }
 
 // Gives the tokens of an object of the document by an index of its members.
@@ -91,42 +88,45 @@ fn sort_by_places<E: Events>(
     members: DocPairs<'_>,
     alloc: Global,
     out: &mut E,
-) -> Result<()>
+) -> SortWalked
     requires come { E.failed out.old ≡ None → TakesValue (E.stand (E.state out.old)).turn }
     requires doc { pairs_doc members ≡ doc.now }
-    ensures { EmitsOrLacks E.after E.stopped (E.state out.old) (E.state out.new)
+    ensures { SortWalks E.after E.stopped (E.state out.old) (E.state out.new)
         (E.failed out.old) (E.failed out.new)
         (tree_given (sorted (pairs (list_pairs (pairs_left members.entry))))) result }
 {
-    out.begin_object(Some(members.len()))?;
-    let order = packed_in_order(alloc, doc, members)?;
-    for place in &order {
-        out.key(doc.key(*place))?;
-        sort_document(doc.view_at(*place as u32), alloc, out)?;
+    taken(out.begin_object(Some(members.len())))?;
+    let Ok(order) = packed_in_order(alloc, doc, members) else {
+        return Err(SortStopped::NoMemory);
+    };
+    for entry in &order {
+        taken(out.key(doc.key(entry.number)))?;
+        sort_document(doc.view_at(entry.number as u32), alloc, out)?;
     }
-    out.end_object()
+    taken(out.end_object())?;
+    Ok(())
 }
 
-fn sort_no_values<E: Events>(out: &mut E) -> Result<()>
+fn sort_no_values<E: Events>(out: &mut E) -> SortWalked
     requires { E.failed out.old ≡ None → TakesValue (E.stand (E.state out.old)).turn }
-    ensures { EmitsOrLacks E.after E.stopped (E.state out.old) (E.state out.new)
+    ensures { SortWalks E.after E.stopped (E.state out.old) (E.state out.new)
         (E.failed out.old) (E.failed out.new) (tree_given (sorted (list no_trees))) result }
 {
-    emit_no_values(out)
+    Ok(emit_no_values(out)?)
 }
 
-fn sort_no_pairs<E: Events>(out: &mut E) -> Result<()>
+fn sort_no_pairs<E: Events>(out: &mut E) -> SortWalked
     requires { E.failed out.old ≡ None → TakesValue (E.stand (E.state out.old)).turn }
-    ensures { EmitsOrLacks E.after E.stopped (E.state out.old) (E.state out.new)
+    ensures { SortWalks E.after E.stopped (E.state out.old) (E.state out.new)
         (E.failed out.old) (E.failed out.new) (tree_given (sorted (pairs no_pairs))) result }
 {
-    emit_no_pairs(out)
+    Ok(emit_no_pairs(out)?)
 }
 
 // Gives the tokens of the array of the elements that are seen.
-pub(crate) fn sort_elements<E: Events>(view: DocView<'_>, alloc: Global, out: &mut E) -> Result<()>
+pub(crate) fn sort_elements<E: Events>(view: DocView<'_>, alloc: Global, out: &mut E) -> SortWalked
     requires { E.failed out.old ≡ None → TakesValue (E.stand (E.state out.old)).turn }
-    ensures { EmitsOrLacks E.after E.stopped (E.state out.old) (E.state out.new)
+    ensures { SortWalks E.after E.stopped (E.state out.old) (E.state out.new)
         (E.failed out.old) (E.failed out.new)
         (tree_given (sorted (list (list_trees (elements (view_tree view.entry)))))) result }
 {
@@ -137,9 +137,9 @@ pub(crate) fn sort_elements<E: Events>(view: DocView<'_>, alloc: Global, out: &m
 }
 
 // Gives the tokens of the object of the members that are seen.
-pub(crate) fn sort_members<E: Events>(view: DocView<'_>, alloc: Global, out: &mut E) -> Result<()>
+pub(crate) fn sort_members<E: Events>(view: DocView<'_>, alloc: Global, out: &mut E) -> SortWalked
     requires { E.failed out.old ≡ None → TakesValue (E.stand (E.state out.old)).turn }
-    ensures { EmitsOrLacks E.after E.stopped (E.state out.old) (E.state out.new)
+    ensures { SortWalks E.after E.stopped (E.state out.old) (E.state out.new)
         (E.failed out.old) (E.failed out.new)
         (tree_given (sorted (pairs (list_pairs (members (view_tree view.entry)))))) result }
 {

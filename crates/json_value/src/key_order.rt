@@ -9,13 +9,21 @@ ghost use Rattle.json_doc.specs.Left.{pairs_doc, pairs_left, pairs_places};
 ghost use Rattle.json_print.specs.Orders.{Rise};
 ghost use Rattle.json_value.specs.Denotes.{pair_of};
 ghost use Rattle.json_value.specs.Failures.{OnlyNoMemory};
-ghost use Rattle.json_value.specs.KeyOrder.{keyed, IsKeyOrder, place_key, numbers_from, owned_key};
+ghost use Rattle.json_value.specs.KeyOrder.{keyed, AreEntries, IsEntry, IsKeyOrder, place_key, numbers_from, numbers_in, owned_key};
 
 use crate::pair::Pair;
-use json_doc::{Doc, DocPairs};
+use json_doc::{Doc, DocPairs, front_number};
 use json_text::Result;
 use std::alloc::Global;
 use std::cmp::Ordering;
+
+// A member in an index. Most keys differ in their first eight bytes, whose number stands here: then no look is needed at
+// the keys, which lie far apart in memory.
+#[derive(Clone, Copy)]
+pub(crate) struct Entry {
+    front: u64,
+    pub(crate) number: usize,
+}
 
 // What has the keys of members.
 pub(crate) trait Keys {
@@ -60,9 +68,20 @@ fn is_less(a: &[u8], b: &[u8]) -> bool
     a < b
 }
 
+fn entry_of<K: Keys>(keys: &K, number: usize) -> Entry
+    ensures number { result.number ≡ number }
+    ensures entry { IsEntry (K.key_of keys.now) result }
+{
+    let key = keys.key(number);
+    Entry {
+        front: front_number(key),
+        number,
+    }
+}
+
 // By the bytes of the keys, and then by the numbers.
 #[inline]
-fn compare<K: Keys>(keys: &K, a: usize, b: usize) -> Ordering
+fn compare_keys<K: Keys>(keys: &K, a: usize, b: usize) -> Ordering
     ensures { result ≡ ordering_then
         (slice_cmp nat_cmp (K.key_of keys.now a) (K.key_of keys.now b)) (nat_cmp a b) }
 {
@@ -72,11 +91,25 @@ fn compare<K: Keys>(keys: &K, a: usize, b: usize) -> Ordering
     }
 }
 
-fn sort_by_key<K: Keys>(keys: &K, numbers: &mut [usize])
-    requires { Rise (map (keyed (K.key_of keys.now)) numbers.old) }
-    ensures { IsKeyOrder (K.key_of keys.now) numbers.old numbers.new }
+// By the first bytes of the keys, and where these are the same by all of them.
+#[inline]
+fn compare<K: Keys>(keys: &K, a: Entry, b: Entry) -> Ordering
+    ensures { result ≡ ordering_then (nat_cmp a.front b.front) (ordering_then
+        (slice_cmp nat_cmp (K.key_of keys.now a.number) (K.key_of keys.now b.number))
+        (nat_cmp a.number b.number)) }
 {
-    numbers.sort_unstable_by(|a, b| compare(keys, *a, *b));
+    match a.front.cmp(&b.front) {
+        Ordering::Equal => compare_keys(keys, a.number, b.number),
+        unequal => unequal,
+    }
+}
+
+fn sort_by_key<K: Keys>(keys: &K, entries: &mut [Entry])
+    requires entries { AreEntries (K.key_of keys.now) entries.old }
+    requires rise { Rise (map (keyed (K.key_of keys.now)) (numbers_in entries.old)) }
+    ensures { IsKeyOrder (K.key_of keys.now) (numbers_in entries.old) (numbers_in entries.new) }
+{
+    entries.sort_unstable_by(|a, b| compare(keys, *a, *b));
 }
 
 // Whether no key is smaller than the key before it.
@@ -108,47 +141,51 @@ pub(crate) fn owned_never_fall(pairs: &Vec<Pair>) -> bool
     true
 }
 
-fn places_of(alloc: Global, pairs: DocPairs<'_>) -> Result<Vec<usize>>
-    ensures places { IfOk result (λ v. v.items ≡ pairs_places pairs.entry) }
+fn entries_of_doc(alloc: Global, doc: &Doc, pairs: DocPairs<'_>) -> Result<Vec<Entry>>
+    ensures places { IfOk result (λ v. numbers_in v.items ≡ pairs_places pairs.entry) }
+    ensures entries { IfOk result (λ v. AreEntries (place_key doc.now) v.items) }
     ensures only { OnlyNoMemory result }
 {
-    let mut places = Vec::with_capacity(alloc, pairs.len())?;
+    let mut entries = Vec::with_capacity(alloc, pairs.len())?;
     for (_, value) in pairs {
-        places.push(value.place() as usize)?;
+        entries.push(entry_of(doc, value.place() as usize))?;
     }
-    Ok(places)
+    Ok(entries)
 }
 
-fn numbers_of(alloc: Global, count: usize) -> Result<Vec<usize>>
-    ensures numbers { IfOk result (λ v. v.items ≡ numbers_from 0 count) }
+fn entries_of_pairs(alloc: Global, pairs: &Vec<Pair>) -> Result<Vec<Entry>>
+    ensures numbers { IfOk result (λ v. numbers_in v.items
+        ≡ numbers_from 0 (length pairs.now.items)) }
+    ensures entries { IfOk result (λ v. AreEntries (owned_key pairs.now.items) v.items) }
     ensures only { OnlyNoMemory result }
 {
-    let mut numbers = Vec::with_capacity(alloc, count)?;
+    let count = pairs.len();
+    let mut entries = Vec::with_capacity(alloc, count)?;
     for number in 0..count {
-        numbers.push(number)?;
+        entries.push(entry_of(pairs, number))?;
     }
-    Ok(numbers)
+    Ok(entries)
 }
 
-// The places of the values of the pairs, which are of the document, in the order of their keys.
-pub(crate) fn packed_in_order(alloc: Global, doc: &Doc, pairs: DocPairs<'_>) -> Result<Vec<usize>>
+// The entries of the values of the pairs, which are of the document, in the order of their keys.
+pub(crate) fn packed_in_order(alloc: Global, doc: &Doc, pairs: DocPairs<'_>) -> Result<Vec<Entry>>
     requires { pairs_doc pairs ≡ doc.now }
     ensures order { IfOk result (λ order. IsKeyOrder (place_key doc.now)
-        (pairs_places pairs.entry) order.items) }
+        (pairs_places pairs.entry) (numbers_in order.items)) }
     ensures only { OnlyNoMemory result }
 {
-    let mut places = places_of(alloc, pairs)?;
-    sort_by_key(doc, &mut places);
-    Ok(places)
+    let mut entries = entries_of_doc(alloc, doc, pairs)?;
+    sort_by_key(doc, &mut entries);
+    Ok(entries)
 }
 
-// The numbers of the members in the order of their keys.
-pub(crate) fn owned_in_order(alloc: Global, pairs: &Vec<Pair>) -> Result<Vec<usize>>
+// The entries of the members in the order of their keys.
+pub(crate) fn owned_in_order(alloc: Global, pairs: &Vec<Pair>) -> Result<Vec<Entry>>
     ensures order { IfOk result (λ order. IsKeyOrder (owned_key pairs.now.items)
-        (numbers_from 0 (length pairs.now.items)) order.items) }
+        (numbers_from 0 (length pairs.now.items)) (numbers_in order.items)) }
     ensures only { OnlyNoMemory result }
 {
-    let mut numbers = numbers_of(alloc, pairs.len())?;
-    sort_by_key(pairs, &mut numbers);
-    Ok(numbers)
+    let mut entries = entries_of_pairs(alloc, pairs)?;
+    sort_by_key(pairs, &mut entries);
+    Ok(entries)
 }

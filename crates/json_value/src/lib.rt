@@ -38,6 +38,7 @@ mod places;
 mod text;
 mod value;
 mod view;
+mod walk;
 
 pub use array::Array;
 pub use array_view::{ArrayIter, ArrayView};

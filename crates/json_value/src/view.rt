@@ -18,8 +18,8 @@ ghost use Rattle.json_value.specs.Steps.{child, tree_at, tree_or_null};
 ghost use Rattle.json_doc.specs.Docs.{doc_cells, doc_tree};
 ghost use Rattle.json_print.specs.Standing.{TakesValue};
 ghost use Rattle.json_print.specs.Given.{given_tokens};
-ghost use Rattle.json_value.specs.Emitting.{Emits, tree_given};
-ghost use Rattle.json_value.specs.EmittingSorted.{EmitsOrLacks};
+ghost use Rattle.json_value.specs.Emitting.{Emits, Walks, tree_given};
+ghost use Rattle.json_value.specs.EmittingSorted.{EmitsOrLacks, SortWalks};
 ghost use Rattle.json_value.specs.Failures.{OnlyNoMemory};
 
 use crate::array_view::ArrayView;
@@ -32,10 +32,11 @@ use crate::object_view::ObjectView;
 use crate::packed_view::PackedView;
 use crate::path::PointerNode;
 use crate::value::Value;
+use crate::walk::{SortStopped, SortWalked, Stopped, Walked, taken};
 use json_doc::{Doc, DocView, JsonType};
 use json_number::Number;
 use json_print::Events;
-use json_text::Result;
+use json_text::{Error, ErrorCode, Place, Result};
 use std::alloc::Global;
 
 #[derive(Clone, Copy)]
@@ -277,16 +278,16 @@ impl<'a> View<'a> {
             (E.failed out.old) (E.failed out.new) (tree_given (seen self.entry)) result }
         ensures tokens { given_tokens (tree_given (seen self.entry)) ≡ tokens (seen self.entry) }
     {
-        match self.form {
-            ViewForm::Packed(packed) => emit_document(packed.view, out),
-            ViewForm::Whole(value) => emit_value(value, out),
-            ViewForm::Absent => out.null(),
+        match walk(self, out) {
+            Ok(()) => Ok(()),
+            // which gives nothing, and answers the error that was met
+            Err(Stopped) => out.null(),
         }
     }
 
     /// Gives the tokens of the tree that is seen, with the members of each object in the order of their
     /// keys and those of one key in the order in which they stand, to `out`, as `emit` does. Takes memory
-    /// for an object whose keys fall: 8 bytes a member, until its end was given. Where that is lacking
+    /// for an object whose keys fall: 16 bytes a member, until its end was given. Where that is lacking
     /// `NoMemory` is answered; then the events have taken the first of these tokens, and no error.
     pub fn emit_sorted<E: Events>(self, alloc: Global, out: &mut E) -> Result<()>
         requires { E.failed out.old ≡ None → TakesValue (E.stand (E.state out.old)).turn }
@@ -295,11 +296,39 @@ impl<'a> View<'a> {
         ensures tokens { given_tokens (tree_given (sorted (seen self.entry)))
             ≡ tokens (sorted (seen self.entry)) }
     {
-        match self.form {
-            ViewForm::Packed(packed) => sort_document(packed.view, alloc, out),
-            ViewForm::Whole(value) => sort_value(value, alloc, out),
-            ViewForm::Absent => out.null(),
+        match walk_sorted(self, alloc, out) {
+            Ok(()) => Ok(()),
+            // as above
+            Err(SortStopped::Failed) => out.null(),
+            Err(SortStopped::NoMemory) => Err(Error {
+                code: ErrorCode::NoMemory,
+                place: Place::None,
+            }),
         }
+    }
+}
+
+fn walk<E: Events>(view: View<'_>, out: &mut E) -> Walked
+    requires { E.failed out.old ≡ None → TakesValue (E.stand (E.state out.old)).turn }
+    ensures { Walks E.after E.stopped (E.state out.old) (E.state out.new)
+        (E.failed out.old) (E.failed out.new) (tree_given (seen view.entry)) result }
+{
+    match view.form {
+        ViewForm::Packed(packed) => emit_document(packed.view, out),
+        ViewForm::Whole(value) => emit_value(value, out),
+        ViewForm::Absent => taken(out.null()),
+    }
+}
+
+fn walk_sorted<E: Events>(view: View<'_>, alloc: Global, out: &mut E) -> SortWalked
+    requires { E.failed out.old ≡ None → TakesValue (E.stand (E.state out.old)).turn }
+    ensures { SortWalks E.after E.stopped (E.state out.old) (E.state out.new)
+        (E.failed out.old) (E.failed out.new) (tree_given (sorted (seen view.entry))) result }
+{
+    match view.form {
+        ViewForm::Packed(packed) => sort_document(packed.view, alloc, out),
+        ViewForm::Whole(value) => sort_value(value, alloc, out),
+        ViewForm::Absent => Ok(taken(out.null())?),
     }
 }
 

@@ -4,7 +4,7 @@ use Rattle.json_grammar.specs.Tree.{list_trees, list_pairs}
 use Rattle.json_model.specs.Sort.{sorted}
 use Rattle.json_print.specs.Taking.{after_all}
 use Rattle.json_value.specs.Denotes.{tree_of, pair_of}
-use Rattle.json_value.specs.KeyOrder.{owned_key}
+use Rattle.json_value.specs.KeyOrder.{numbers_in, owned_key}
 use Rattle.json_value.proofs.KeyOrders.{owned_tree, paired, sorted_at, sorted_pair}
 use Rattle.json_value.proofs.TokensGiven.{array_front, object_front}
 use Rattle.json_value.proofs.emit_sorted.+sorted_value.Given as goal
@@ -34,7 +34,7 @@ invariant-sort_in_place-loop-pair g l =
     (g.E.Events.state l.out ≡ after_all g.E.Events.after (g.E.Events.state l.fn.out) (object_front (map sorted_pair (map pair_of l.fn.values.items)) l.pair-index))
     × (g.E.Events.failed l.out ≡ None) × (g.E.Events.failed l.fn.out ≡ None)
 
-abbrev pub invariant-sort_by_numbers-loop-number : goal.invariant-sort_by_numbers-loop-number
-invariant-sort_by_numbers-loop-number g l =
-    (g.E.Events.state l.out ≡ after_all g.E.Events.after (g.E.Events.state l.fn.out) (object_front (map (paired (owned_key l.fn.values.items) (sorted_at (owned_tree l.fn.values.items))) l.number-items) l.number-index))
+abbrev pub invariant-sort_by_numbers-loop-entry : goal.invariant-sort_by_numbers-loop-entry
+invariant-sort_by_numbers-loop-entry g l =
+    (g.E.Events.state l.out ≡ after_all g.E.Events.after (g.E.Events.state l.fn.out) (object_front (map (paired (owned_key l.fn.values.items) (sorted_at (owned_tree l.fn.values.items))) (numbers_in l.entry-items)) l.entry-index))
     × (g.E.Events.failed l.out ≡ None) × (g.E.Events.failed l.fn.out ≡ None)

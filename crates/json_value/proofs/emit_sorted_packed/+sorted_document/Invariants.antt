@@ -6,7 +6,7 @@ use Rattle.json_doc.specs.Docs.{doc_tree}
 use Rattle.json_doc.specs.Left.{children_left, pairs_left}
 use Rattle.json_doc.specs.Seen.{view_tree}
 use Rattle.json_print.specs.Taking.{after_all}
-use Rattle.json_value.specs.KeyOrder.{place_key}
+use Rattle.json_value.specs.KeyOrder.{numbers_in, place_key}
 use Rattle.json_value.proofs.KeyOrders.{paired, sorted_at, sorted_pair}
 use Rattle.json_value.proofs.TokensGiven.{array_front, object_front}
 use Rattle.json_value.proofs.emit_sorted_packed.+sorted_document.Given as goal
@@ -37,7 +37,7 @@ invariant-sort_in_place-loop-key g l =
     × (g.E.Events.state l.out ≡ after_all g.E.Events.after (g.E.Events.state l.fn.out) (object_front (map sorted_pair (pairs_left l.fn.members)) i))
     × (g.E.Events.failed l.out ≡ None) × (g.E.Events.failed l.fn.out ≡ None)
 
-abbrev pub invariant-sort_by_places-loop-place : goal.invariant-sort_by_places-loop-place
-invariant-sort_by_places-loop-place g l =
-    (g.E.Events.state l.out ≡ after_all g.E.Events.after (g.E.Events.state l.fn.out) (object_front (map (paired (place_key l.fn.doc) (sorted_at (doc_tree l.fn.doc))) l.place-items) l.place-index))
+abbrev pub invariant-sort_by_places-loop-entry : goal.invariant-sort_by_places-loop-entry
+invariant-sort_by_places-loop-entry g l =
+    (g.E.Events.state l.out ≡ after_all g.E.Events.after (g.E.Events.state l.fn.out) (object_front (map (paired (place_key l.fn.doc) (sorted_at (doc_tree l.fn.doc))) (numbers_in l.entry-items)) l.entry-index))
     × (g.E.Events.failed l.out ≡ None) × (g.E.Events.failed l.fn.out ≡ None)

@@ -1,10 +1,13 @@
-use Rattle.std.proofs.Common.{map, sym, subst, ◌∙◌}
+use Rattle.std.proofs.Common.{length, map, sym, ap, subst, ◌∙◌}
 use Rattle.json_print.specs.Orders.{Rise}
-use Rattle.json_value.specs.KeyOrder.{keyed, owned_key}
+use Rattle.json_value.specs.KeyOrder.{keyed, AreEntries, numbers_in, owned_key}
 use Rattle.json_value.proofs.KeyOrders.{numbers_rise}
 use Rattle.json_value.proofs.key_order.owned_in_order.Goals as goal
 
-pub sort_by_key-requires : goal.sort_by_key-requires
-sort_by_key-requires c =
+pub sort_by_key-requires-clause-entries : goal.sort_by_key-requires-clause-entries
+sort_by_key-requires-clause-entries c = subst (AreEntries (owned_key c.args.pairs.now.items)) (sym c.deref_mut.ensures.value) c.in_ok-entries.ensures.entries
+
+pub sort_by_key-requires-clause-rise : goal.sort_by_key-requires-clause-rise
+sort_by_key-requires-clause-rise c =
     let key = owned_key c.args.pairs.now.items in
-    subst (λ ns. Rise (map (keyed key) ns)) (sym (c.deref_mut.ensures.value ∙ c.in_ok-numbers.ensures.numbers)) (numbers_rise key 0 c.len.result)
+    subst (λ ns. Rise (map (keyed key) ns)) (sym (ap numbers_in c.deref_mut.ensures.value ∙ c.in_ok-entries.ensures.numbers)) (numbers_rise key 0 (length c.args.pairs.now.items))

@@ -1,15 +1,16 @@
-use Rattle.std.proofs.Common.{ap}
-use Rattle.json_value.specs.Emitting.{tree_given}
-use Rattle.json_value.specs.Seen.{form_seen, seen}
-use Rattle.json_value.proofs.TokensGiven.{emits_one}
+use Rattle.json_value.specs.Seen.{seen}
 use Rattle.json_value.proofs.GivenTrees.{seen_proper, tokens_given}
+use Rattle.json_value.proofs.Walking.{answered}
 use Rattle.json_value.proofs.view.View.emit.Goals as goal
 
-pub returns-in-Absent-clause-given : goal.returns-in-Absent-clause-given
-returns-in-Absent-clause-given g c = emits_one _ _ _ _ _ _ _ _ _ (ap (λ f. tree_given (form_seen f)) c.in-Absent.is) c.null.ensures
+pub null-requires : goal.null-requires
+null-requires g c = λ f. let k = c.in-Err.ensures.1.failed in absurd (cc)
 
-pub returns-in-Packed-clause-tokens : goal.returns-in-Packed-clause-tokens
-returns-in-Packed-clause-tokens g c = tokens_given (seen c.args.self) (seen_proper c.args.self)
+pub returns-in-Err-clause-given : goal.returns-in-Err-clause-given
+returns-in-Err-clause-given g c = answered _ _ _ _ _ _ _ c.in-Err.ensures.1 c.null.ensures
 
-pub returns-in-Whole-clause-tokens : goal.returns-in-Whole-clause-tokens
-returns-in-Whole-clause-tokens g c = tokens_given (seen c.args.self) (seen_proper c.args.self)
+pub returns-in-Ok-clause-tokens : goal.returns-in-Ok-clause-tokens
+returns-in-Ok-clause-tokens g c = tokens_given (seen c.args.self) (seen_proper c.args.self)
+
+pub returns-in-Err-clause-tokens : goal.returns-in-Err-clause-tokens
+returns-in-Err-clause-tokens g c = tokens_given (seen c.args.self) (seen_proper c.args.self)

@@ -1,0 +1,6 @@
+use Rattle.std.proofs.Common.{◌≡◌}
+use Rattle.json_value.specs.KeyOrder.{AreEntries, numbers_from, numbers_in, owned_key}
+use Rattle.json_value.proofs.key_order.entries_of_pairs.Given as goal
+
+abbrev pub invariant-loop-number : goal.invariant-loop-number
+invariant-loop-number l = (numbers_in l.entries.items ≡ numbers_from 0 l.number) × AreEntries (owned_key l.fn.pairs.items) l.entries.items
