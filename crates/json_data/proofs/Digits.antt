@@ -1,6 +1,11 @@
 -- Digits of literals.
-use Rattle.std.proofs.Common.{◌≡◌, ◌≢◌, ◌∙◌, ◌&&◌, ◌⊎◌, inl, inr, Bool, true, false, ℕ, zero, suc, ◌<◌, ◌≤◌, ◌^◌, ℤ, pos, negsuc, if◌then◌else◌, nat_le, nat_lt, ◌==◌, List, [], ◌∷◌, length, get_or, drop, Option, Some, None, Result, Ok, Err, refl, sym, ap, subst, arith}
+use Rattle.std.proofs.Common.{◌≡◌, ◌≢◌, ◌∙◌, ◌&&◌, ◌+◌, ◌-◌, ◌*◌, take, ◌⊎◌, inl, inr, Bool, true, false, ℕ, zero, suc, ◌<◌, ◌≤◌, ◌^◌, ℤ, pos, negsuc, if◌then◌else◌, nat_le, nat_lt, ◌==◌, List, [], ◌∷◌, length, get_or, drop, Option, Some, None, Result, Ok, Err, refl, sym, ap, subst, arith, add-one}
+use Rattle.std.proofs.Math.Nat.{pow-le-pow_right}
+use Rattle.std.proofs.Math.Seq.{drop-cons}
 use Rattle.std.proofs.lemmas.Bool.{cases_lt, ne_eqb, lt-ltb}
+use Rattle.std.proofs.lemmas.Bool.Decides.{nat_tests}
+use Rattle.std.proofs.lemmas.Int.Digits.{digits_value_more}
+use Rattle.std.specs.Char.{is_ascii_digit, digit_value}
 use Rattle.std.proofs.lemmas.Str.Parse.{IsNumeralModel, numerals_by_value, tells_all_ascii_digits, parse_digits}
 use Rattle.std.specs.Result.{OkIff}
 use Rattle.json_grammar.specs.Grammar.{number}
@@ -100,6 +105,32 @@ beyond l whole.Beyond e (zero, k, inr h) n = absurd (omega arith)
 
 pub no_integer : (l : List ℕ) → integer_in l ≡ None → whole_in l ≡ None → read_number (num l) ≡ refuses TypeUnmatched
 no_integer l e h = rw (e, h)
+
+-- ---- short literals
+
+-- one digit more has room
+pub room_for_digit : (at v : ℕ) → at < 19 → v < 10 ^ at → v * 10 + 9 < 2 ^ 64
+room_for_digit at v h k = let m : 10 ^ at ≤ 10 ^ 18 = pow-le-pow_right (omega arith) {j = 18} (omega arith) in omega arith
+
+pub one_digit_more : (ds : List ℕ) (i v : ℕ) → i < length ds → is_ascii_digit (get_or ds i 0) ≡ true → v ≡ digits_value 10 (take i ds) → v * 10 + (get_or ds i 0 - 48) ≡ digits_value 10 (take (i + 1) ds)
+one_digit_more ds i v inside digit value =
+    let worth : digit_value (get_or ds i 0) ≡ get_or ds i 0 - 48 = grind (arith, nat_tests) in
+    rw (digits_value_more 10 ds i inside, worth, value)
+
+pub digits_step : (ds : List ℕ) (i : ℕ) → i < length ds → is_ascii_digit (get_or ds i 0) ≡ true → all_ascii_digits (drop i ds) ≡ all_ascii_digits ds → all_ascii_digits (drop (i + 1) ds) ≡ all_ascii_digits ds
+digits_step ds i inside digit rest =
+    let e : drop i ds ≡ get_or ds i 0 ∷ drop (i + 1) ds = rw (add-one, drop-cons ds i 0 inside) refl in
+    sym (rw digit) ∙ sym (ap all_ascii_digits e) ∙ rest
+
+pub plain_integer : (l : List ℕ) (n : ℕ) → get_or l 0 0 ≢ 45 → 0 < length l → all_ascii_digits l ≡ true → n ≡ digits_value 10 l → n < 2 ^ 64 → integer_in l ≡ Some (pos n)
+unfolding integer_in
+plain_integer [] n e h d v s = absurd (omega arith)
+plain_integer (x ∷ b) n e h d v s = rw (ne_eqb x 45 e, d, ← v, lt-ltb n (2 ^ 64) s)
+
+pub plain_other : (l : List ℕ) → get_or l 0 0 ≢ 45 → 0 < length l → all_ascii_digits l ≡ false → integer_in l ≡ None
+unfolding integer_in
+plain_other [] e h d = absurd (omega arith)
+plain_other (x ∷ b) e h d = rw (ne_eqb x 45 e, d)
 
 -- ---- keys
 

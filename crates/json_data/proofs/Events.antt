@@ -1,10 +1,10 @@
 -- One event more.
-use Rattle.std.proofs.Common.{◌≡◌, ◌≢◌, ◌≤◌, ◌∙◌, List, [], ◌∷◌, ◌++◌, length, take, true, false, None, refl, sym, ap, subst, arith}
+use Rattle.std.proofs.Common.{◌≡◌, ◌≢◌, ◌≤◌, ◌∙◌, List, [], ◌∷◌, ◌++◌, length, take, true, None, refl, sym, ap, subst, arith}
 use Rattle.json_grammar.specs.declared.Kind.{Kind}
 use Rattle.json_grammar.specs.declared.Kind.TheVariants.{Array as array, Object as object}
 use Rattle.json_grammar.specs.declared.Spot.{Spot as Place}
 use Rattle.json_grammar.specs.declared.Spot.TheVariants.{Value as at_value, First as first, Key as at_key, KeyOrEnd as key_or_close, Colon as colon, Done as done}
-use Rattle.json_grammar.specs.Tree.{Tree, Token as Tok, num_token, text_token, key_token, tokens}
+use Rattle.json_grammar.specs.Tree.{Tree, Token as Tok, num_token, tokens}
 use Rattle.json_text.specs.declared.event.Event.{Event}
 use Rattle.json_text.specs.declared.event.Event.TheVariants as event
 use Rattle.json_text.specs.Events.{Means}

@@ -1,5 +1,5 @@
 -- Members of an object, one after another.
-use Rattle.std.proofs.Common.{◌≡◌, ◌∙◌, ℕ, List, Bool, true, false, refl, sym, ap, subst}
+use Rattle.std.proofs.Common.{◌≡◌, ◌∙◌, ℕ, List, ap}
 use Rattle.json_grammar.specs.Tree.{Tree, Token as Tok, Pairs, no_pairs, pair_and}
 use Rattle.json_model.specs.Datum.{Datum}
 use Rattle.json_text.specs.declared.error.Error.{Error}

@@ -1,7 +1,7 @@
 -- Steps of a source, one after another.
 use Rattle.json_grammar.proofs.StringsUnique.{chars_same}
 use Rattle.json_data.specs.Pieces.{Says}
-use Rattle.std.proofs.Common.{◌≡◌, ℕ, ℤ, Bool, true, false, List, [], ◌∷◌, ◌++◌, Option, Some, None, refl, sym, ◌∙◌, subst, append_assoc, arith, inl, inr, ◌⊎◌}
+use Rattle.std.proofs.Common.{◌≡◌, ℕ, ℤ, Bool, List, [], ◌∷◌, ◌++◌, Option, Some, None, refl, sym, ◌∙◌, subst, append_assoc, arith, inl, inr, ◌⊎◌}
 use Rattle.json_data.specs.declared.token.TokenKind.{TokenKind}
 use Rattle.json_data.specs.declared.token.TokenKind.TheVariants.{BeginArray, EndArray, BeginObject, EndObject}
 use Rattle.json_grammar.specs.Tree.{Tree, Token as Tok, tokens, begin, end, null_token, boolean_token, num_token, text_token, key_token}

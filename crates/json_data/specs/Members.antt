@@ -1,6 +1,6 @@
 -- What is read of an object, one member after another: a datum stands for what was read so far.
 use Rattle.std.specs.Prelude.{ℕ, List}
-use Rattle.json_grammar.specs.Tree.{Tree, list, pairs, Pairs, no_pairs, pair_and}
+use Rattle.json_grammar.specs.Tree.{Tree, pairs, Pairs, no_pairs, pair_and}
 use Rattle.json_model.specs.Datum.{Datum}
 use Rattle.json_text.specs.declared.error.ErrorCode.TheVariants.{TypeUnmatched}
 use Rattle.json_data.specs.Reading.{Reading, gives, refuses}

@@ -1,5 +1,5 @@
 -- What the tokens of a text are.
-use Rattle.std.specs.Prelude.{◌≡◌, ◌⊎◌, ℕ, ◌+◌, ◌-◌, ◌<◌, ◌≤◌, List, [], ◌∷◌, ◌++◌, length, false, Option, Some, None, IfSome, option_map}
+use Rattle.std.specs.Prelude.{◌≡◌, ◌⊎◌, ℕ, ℤ, ◌+◌, ◌-◌, ◌<◌, ◌≤◌, List, [], ◌∷◌, ◌++◌, length, false, Option, Some, None, IfSome, option_map}
 use Rattle.json_grammar.specs.declared.Kind.{Kind}
 use Rattle.json_grammar.specs.declared.Kind.TheVariants.{Array as array, Object as object}
 use Rattle.json_grammar.specs.declared.Spot.{Spot as Place}
@@ -62,6 +62,11 @@ event_kind event.EndArray = kind.EndArray
 event_kind event.BeginObject = kind.BeginObject
 event_kind event.EndObject = kind.EndObject
 event_kind event.End = kind.Null
+
+-- the integer by value of an event that is a number
+abbrev pub event_integer : Event → Option ℤ
+event_integer (event.Number l) = integer_in l.now
+event_integer _ = None
 
 -- where it is of a number, its literal is a number
 abbrev pub EventIsNumber : Event → Type 0

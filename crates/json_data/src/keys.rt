@@ -112,6 +112,7 @@ impl<S: Lent, K: FromKey<S>> FromKey<S> for Option<K> {
 }
 
 // The key that comes next.
+#[inline(always)]
 pub(crate) fn next_key<S: Lent, T: Tokens<S>>(tokens: &mut T) -> Result<Piece<S>>
     requires whole { NotWhole (T.stand tokens.old) }
     requires told { (T.stand tokens.old).told ≡ Some TokenKind.Key }

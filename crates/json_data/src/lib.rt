@@ -2,6 +2,7 @@
 #![tactic(auto)]
 
 mod ahead;
+mod by_value;
 mod calls;
 mod characters;
 mod deserialize;

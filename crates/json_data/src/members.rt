@@ -3,12 +3,14 @@ ghost use Rattle.std.specs.Prelude.{ℕ, List, OnOk, IfErr};
 ghost use Rattle.json_grammar.specs.Tree.{Tree};
 ghost use Rattle.json_model.specs.Datum.{Datum};
 ghost use Rattle.json_data.specs.Members.{read_members as spec_read_members};
+ghost use Rattle.json_data.specs.Pieces.{Says};
 ghost use Rattle.json_data.specs.Reader.{Reads, Stops};
 ghost use Rattle.json_data.specs.Reading.{Reading, gives};
 ghost use Rattle.json_data.specs.Stand.{WantsValue};
 
 use crate::keys::next_key;
 use crate::lent::Lent;
+use crate::piece::Piece;
 use crate::readers::leave_after;
 use crate::refusals::refusal;
 use crate::token::TokenKind;
@@ -34,8 +36,33 @@ pub trait Members<S: Lent>: Sized {
             Stops T.taken T.stand (step (so_far self.old) name.now) tokens.old tokens.new e) };
 }
 
+// Takes the value of the member whose name a piece says.
+#[inline(always)]
+fn read_member<S: Lent, M: Members<S>, T: Tokens<S>>(
+    alloc: Global,
+    members: &mut M,
+    key: Piece<S>,
+    tokens: &mut T,
+) -> Result<()>
+    requires { WantsValue (T.stand tokens.old) }
+    ensures ok { (s : List ℕ) → Says s key.escaped (S.bytes key.text)
+        → OnOk result (Reads T.taken T.stand (M.step (M.so_far members.old) s)
+        tokens.old tokens.new (gives (M.so_far members.new))) }
+    ensures err { (s : List ℕ) → Says s key.escaped (S.bytes key.text)
+        → IfErr result (λ e.
+        Stops T.taken T.stand (M.step (M.so_far members.old) s) tokens.old tokens.new e) }
+{
+    match key.lent() {
+        Some(name) => members.member(alloc, name.as_text(), tokens),
+        None => {
+            let name = key.copy(alloc)?;
+            members.member(alloc, name.as_str(), tokens)
+        }
+    }
+}
+
 /// Takes an object, each member in its order. `TypeUnmatched` comes where another value comes; a refusal of a member,
-/// after the whole object was taken. `NoMemory` comes where a name cannot be copied.
+/// after the whole object was taken. `NoMemory` comes where a name that has an escape cannot be copied.
 pub fn read_members<S: Lent, M: Members<S>, T: Tokens<S>>(
     alloc: Global,
     members: &mut M,
@@ -55,8 +82,7 @@ pub fn read_members<S: Lent, M: Members<S>, T: Tokens<S>>(
     let _begin = tokens.next()?;
     'each: while tokens.peek()? != TokenKind::EndObject {
         let key = next_key(tokens)?;
-        let name = key.copy(alloc)?;
-        match members.member(alloc, name.as_str(), tokens) {
+        match read_member(alloc, members, key, tokens) {
             Ok(()) => {}
             Err(e) => return Err(leave_after(tokens, e)),
         }

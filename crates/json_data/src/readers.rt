@@ -25,6 +25,7 @@ impl<S: Lent> DeserializeFrom<S> for bool {
 
     ghost from_tree = { read_boolean };
 
+    #[inline]
     fn deserialize<T: Tokens<S>>(alloc: Global, tokens: &mut T) -> Result<bool> {
         let _ = alloc;
         if tokens.peek()? != TokenKind::Bool {
@@ -39,6 +40,7 @@ impl<S: Lent> DeserializeFrom<S> for bool {
 }
 
 // The text that comes next.
+#[inline(always)]
 pub(crate) fn next_text<S: Lent, T: Tokens<S>>(tokens: &mut T) -> Result<Piece<S>>
     requires whole { NotWhole (T.stand tokens.old) }
     requires told { (T.stand tokens.old).told ≡ Some TokenKind.Text }
@@ -57,6 +59,7 @@ impl<S: Lent> DeserializeFrom<S> for String {
 
     ghost from_tree = { read_text };
 
+    #[inline(always)]
     fn deserialize<T: Tokens<S>>(alloc: Global, tokens: &mut T) -> Result<String> {
         if tokens.peek()? != TokenKind::Text {
             tokens.skip()?;
@@ -89,6 +92,7 @@ impl<S: Lent, V: DeserializeFrom<S>> DeserializeFrom<S> for Option<V> {
 
     ghost from_tree = { read_option V.from_tree };
 
+    #[inline]
     fn deserialize<T: Tokens<S>>(alloc: Global, tokens: &mut T) -> Result<Option<V>> {
         if tokens.peek()? == TokenKind::Null {
             tokens.skip()?;
@@ -131,6 +135,8 @@ impl<S: Lent> DeserializeFrom<S> for IgnoredAny {
 }
 
 // Where a refusal e was met within a list, what is left of the list is taken too.
+#[cold]
+#[inline(never)]
 pub fn leave_after<S: Lent, T: Tokens<S>>(tokens: &mut T, e: Error) -> Error
     requires { spec_is_refusal e.code ≡ true → IsOpen (T.stand tokens.old).spot }
     ensures left { spec_is_refusal e.code ≡ true

@@ -1,5 +1,5 @@
 // The tokens of a text.
-ghost use Rattle.std.specs.Prelude.{◌≡◌, ◌≤◌, ◌^◌, length, List, [], true, false, Err, None, OnOk, IfOk, IfErr, IfSome};
+ghost use Rattle.std.specs.Prelude.{◌≡◌, ◌≤◌, ◌^◌, length, List, [], true, false, Err, None, OnOk, IfOk, IfErr, IfSome, IsSome, IsTrue, false};
 ghost use Rattle.json_grammar.specs.Tree.{Tree, Token as Tok, tokens, depth};
 ghost use Rattle.json_value.specs.Denotes.{tree_of};
 ghost use Rattle.json_data.specs.Kinds.{StandsFor};
@@ -7,12 +7,13 @@ ghost use Rattle.json_data.specs.TextValues.{IsPacked};
 ghost use Rattle.json_data.specs.Spots.{IsOpen, over};
 ghost use Rattle.json_data.specs.Stand.{NotWhole, WantsValue, Takes, Peeks, TakesOne, TakesTree, Leaves, Fails};
 ghost use Rattle.json_data.specs.Text.{IsFresh, text_taken, text_stand, TextFails, HasReadValue};
+ghost use Rattle.json_data.specs.declared.token.TokenKind.{TokenKind as Kind};
 ghost use Rattle.std.specs.Str.{IsCharBoundary};
 ghost use Rattle.json_text.specs.Faults.{FaultFrom};
 ghost use Rattle.json_text.specs.Parsing.{input};
 ghost use Rattle.json_grammar.specs.Grammar.{is_text};
 
-use crate::ahead::{event_kind, event_token, read_ahead};
+use crate::ahead::{Ahead, read_ahead};
 use crate::packed_value::packed_value;
 use crate::token::{TokenKind, TokenOf};
 use crate::tokens::Tokens;
@@ -26,18 +27,19 @@ use std::marker::Model;
 pub struct TextTokens<'a> {
     parser: Parser<'a>,
     // an event that was read and not taken yet
-    ahead: Option<Event<'a>>,
+    ahead: Option<Ahead<'a>>,
     failed: Option<Error>,
 }
 
 impl<'a> Model for TextTokens<'a> {
+    ghost use Rattle.std.specs.Prelude.{option_map};
     ghost use Rattle.json_data.specs.Text.{TextState, IsReading};
 
     ghost Value = { TextState };
 
-    ghost view = { λ a. record { parser = a.parser; ahead = a.ahead; failed = a.failed } };
+    ghost view = { λ a. record { parser = a.parser; ahead = option_map (λ h. h.event) a.ahead; failed = a.failed } };
 
-    ghost invariant = { λ a. IsReading (record { parser = a.parser; ahead = a.ahead; failed = a.failed }) };
+    ghost invariant = { λ a. IsReading (record { parser = a.parser; ahead = option_map (λ h. h.event) a.ahead; failed = a.failed }) };
 }
 
 impl<'a> TextTokens<'a> {
@@ -137,17 +139,49 @@ impl<'a> TextTokens<'a> {
             self.entry.parser.text e.code e.place) }
     {
         let mut parser = self.parser;
-        let event = match parser.next() {
-            Ok(event) => event,
-            Err(error) => return Err(error),
-        };
-        match event {
-            Event::End => Ok(()),
-            _ => unreachable!(),
+        parser.end()
+    }
+
+    /// What was answered in the place of a token.
+    #[inline(always)]
+    fn refusal(&self) -> Error
+        requires { IsSome self.now.failed }
+        ensures { self.now.failed ≡ Some result }
+    {
+        match self.failed {
+            Some(error) => error,
+            None => unreachable!(),
+        }
+    }
+
+    /// Reads the next event, where none waits. Whether one waits then; else it failed.
+    #[inline(never)]
+    fn read(&mut self) -> bool
+        requires whole { NotWhole (text_stand self.old) }
+        requires none { self.old.ahead ≡ None }
+        requires unfailed { self.old.failed ≡ None }
+        ensures ok { IsTrue result
+            → (k : Kind) × Peeks (text_stand self.old) (text_stand self.new) k }
+        ensures none { IsTrue result → Takes text_taken self.old [] self.new }
+        ensures unfailed { IsTrue result → self.new.failed ≡ None }
+        ensures failed { result ≡ false → IsSome self.new.failed }
+        ensures err { IfSome self.new.failed (λ e.
+            Fails (text_stand self.old) (text_stand self.new) e) }
+    {
+        match read_ahead(&mut self.parser) {
+            Ok(event) => {
+                self.ahead = Some(Ahead::new(event));
+                true
+            }
+            Err(error) => {
+                self.failed = Some(error);
+                false
+            }
         }
     }
 
     /// The kind of the next token.
+    #[inline(always)]
     fn look(&mut self) -> Result<TokenKind>
         requires { NotWhole (text_stand self.old) }
         ensures ok { IfOk result (λ k. Peeks (text_stand self.old) (text_stand self.new) k) }
@@ -156,25 +190,23 @@ impl<'a> TextTokens<'a> {
         ensures again { IfSome self.old.failed (λ e. result ≡ Err e) }
         ensures unfailed { OnOk result (self.new.failed ≡ None) }
     {
-        if let Some(error) = self.failed {
-            return Err(error);
+        if self.failed.is_some() {
+            return Err(self.refusal());
         }
-        if let Some(event) = self.ahead {
-            return Ok(event_kind(event));
+        if let Some(ahead) = self.ahead {
+            return Ok(ahead.kind);
         }
-        match read_ahead(&mut self.parser) {
-            Ok(event) => {
-                self.ahead = Some(event);
-                Ok(event_kind(event))
-            }
-            Err(error) => {
-                self.failed = Some(error);
-                Err(error)
-            }
+        if !self.read() {
+            return Err(self.refusal());
+        }
+        match self.ahead {
+            Some(ahead) => Ok(ahead.kind),
+            None => unreachable!(),
         }
     }
 
     /// Takes the next token.
+    #[inline(always)]
     fn take(&mut self) -> Result<TokenOf<&'a str>>
         requires { NotWhole (text_stand self.old) }
         ensures ok { IfOk result (λ y. (x : Tok) × StandsFor (λ s. s.now) y x
@@ -184,9 +216,9 @@ impl<'a> TextTokens<'a> {
     {
         self.look()?;
         match self.ahead {
-            Some(event) => {
+            Some(ahead) => {
                 self.ahead = None;
-                Ok(event_token(event))
+                Ok(ahead.token())
             }
             None => unreachable!(),
         }
@@ -203,7 +235,7 @@ impl<'a> TextTokens<'a> {
     {
         self.look()?;
         let event = match self.ahead {
-            Some(event) => event,
+            Some(ahead) => ahead.event,
             None => unreachable!(),
         };
         self.ahead = None;
@@ -259,10 +291,12 @@ impl<'a> Tokens<&'a str> for TextTokens<'a> {
 
     ghost stand = { text_stand };
 
+    #[inline(always)]
     fn peek(&mut self) -> Result<TokenKind> {
         self.look()
     }
 
+    #[inline(always)]
     fn next(&mut self) -> Result<TokenOf<&'a str>> {
         self.take()
     }

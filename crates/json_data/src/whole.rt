@@ -88,6 +88,7 @@ pub(crate) fn whole_of(literal: &str) -> Whole
 }
 
 /// A number by value.
+#[inline(always)]
 pub(crate) fn whole_of_number(n: Number) -> Whole
     ensures { (o : Option ℤ) → o ≡ Some (value_of n) → IsWhole o result }
 {
@@ -101,6 +102,7 @@ pub(crate) fn whole_of_number(n: Number) -> Whole
 }
 
 // The integer by value that comes next.
+#[inline(always)]
 pub(crate) fn next_int<S: Lent, T: Tokens<S>>(tokens: &mut T) -> Result<Number>
     requires whole { NotWhole (T.stand tokens.old) }
     requires told { (T.stand tokens.old).told ≡ Some TokenKind.Int }
@@ -117,6 +119,7 @@ pub(crate) fn next_int<S: Lent, T: Tokens<S>>(tokens: &mut T) -> Result<Number>
 }
 
 // The literal of another number that comes next.
+#[inline(never)]
 pub(crate) fn next_raw<S: Lent, T: Tokens<S>>(tokens: &mut T) -> Result<S>
     requires whole { NotWhole (T.stand tokens.old) }
     requires told { (T.stand tokens.old).told ≡ Some TokenKind.Raw }
@@ -132,6 +135,7 @@ pub(crate) fn next_raw<S: Lent, T: Tokens<S>>(tokens: &mut T) -> Result<S>
 }
 
 /// The integer of the tree that comes next.
+#[inline(always)]
 pub(crate) fn read_whole<S: Lent, T: Tokens<S>>(tokens: &mut T) -> Result<Whole>
     requires { WantsValue (T.stand tokens.old) }
     ensures ok { IfOk result (λ w. (t : Tree) × TakesTree T.taken T.stand tokens.old tokens.new t
@@ -152,6 +156,7 @@ pub(crate) fn read_whole<S: Lent, T: Tokens<S>>(tokens: &mut T) -> Result<Whole>
 }
 
 /// An integer from -low on and below high, of at most 127 bits and a sign.
+#[inline(always)]
 pub(crate) fn fit(whole: Whole, low: u128, high: u128) -> Result<i128>
     requires low { low ≤ 2 ^ 127 }
     requires high { high ≤ 2 ^ 127 }
@@ -172,6 +177,7 @@ pub(crate) fn fit(whole: Whole, low: u128, high: u128) -> Result<i128>
 }
 
 /// The next integer, from -low on and below high.
+#[inline(always)]
 pub(crate) fn read_between<S: Lent, T: Tokens<S>>(
     tokens: &mut T,
     low: u128,

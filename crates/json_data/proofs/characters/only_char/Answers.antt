@@ -1,4 +1,4 @@
-use Rattle.std.proofs.Common.{◌≡◌, ◌∙◌, sym}
+use Rattle.std.proofs.Common.{◌∙◌, sym}
 use Rattle.json_data.proofs.CharTexts.{only_one, one_more}
 use Rattle.json_data.proofs.characters.only_char.Goals as goal
 

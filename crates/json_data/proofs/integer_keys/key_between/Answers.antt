@@ -1,4 +1,4 @@
-use Rattle.std.proofs.Common.{◌≡◌, ◌∙◌, ℕ, ℤ, List, ap, sym, SFits, to_z-of_z, rules}
+use Rattle.std.proofs.Common.{◌∙◌, ℕ, ℤ, List, ap, sym, SFits, to_z-of_z, rules}
 use Rattle.std.specs.Int.{w128}
 use Rattle.json_model.specs.Datum.{integer_datum}
 use Rattle.json_data.specs.Pieces.{Says}

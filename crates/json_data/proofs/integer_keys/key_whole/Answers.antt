@@ -1,4 +1,4 @@
-use Rattle.std.proofs.Common.{◌≡◌, ◌≢◌, ◌∙◌, ℕ, List, Bool, true, false, inr, sym, ap, subst}
+use Rattle.std.proofs.Common.{◌≡◌, ◌∙◌, ℕ, List, true, false, inr, sym, subst}
 use Rattle.json_grammar.specs.Grammar.{number}
 use Rattle.json_data.specs.Reading.{whole_in}
 use Rattle.json_data.specs.Wholes.{IsWhole}

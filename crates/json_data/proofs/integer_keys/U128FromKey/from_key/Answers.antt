@@ -1,4 +1,4 @@
-use Rattle.std.proofs.Common.{◌≡◌, ◌∙◌, ◌^◌, ℕ, List, pos}
+use Rattle.std.proofs.Common.{◌^◌, ℕ, List, pos}
 use Rattle.json_data.specs.Pieces.{Says}
 use Rattle.json_data.specs.Reading.{between, whole_in}
 use Rattle.json_data.proofs.Digits.{fits_in, low_enough}

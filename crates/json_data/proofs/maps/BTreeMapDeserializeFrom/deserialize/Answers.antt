@@ -1,4 +1,4 @@
-use Rattle.std.proofs.Common.{◌≡◌, ◌∙◌, ℕ, List, [], refl, ap, sym, subst, rules}
+use Rattle.std.proofs.Common.{◌≡◌, ◌∙◌, List, [], ap, sym, subst, rules}
 use Rattle.std.specs.BTreeMap.{insert_entry}
 use Rattle.json_grammar.specs.Tree.{pairs, no_pairs, pair_and}
 use Rattle.json_model.specs.Datum.{rows_datum, Rows}

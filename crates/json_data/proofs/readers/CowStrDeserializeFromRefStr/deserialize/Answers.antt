@@ -11,7 +11,7 @@ returns-in-Some-clause-ok g c =
     record {
       tree = text r.0;
       takes = peek_tree c.in_ok-peek.ensures.ok c.in_ok-peek.ensures.none r.2;
-      answer = ap (λ (s : List ℕ). gives (text_datum s)) (c.in-Some.ensures r.0 r.1);
+      answer = ap (λ (s : List ℕ). gives (text_datum s)) (c.in-Some.ensures.text r.0 r.1);
     }
 
 pub returns-in_ok-copy-in-None-clause-ok : goal.returns-in_ok-copy-in-None-clause-ok

@@ -1,28 +1,29 @@
-use Rattle.std.proofs.Common.{◌≡◌, ◌∙◌, List, [], Option, Some, sym, ap, subst}
+use Rattle.std.proofs.Common.{◌≡◌, ◌∙◌, List, [], Option, Some, sym, ap, subst, option_map}
 use Rattle.json_grammar.specs.Tree.{Token as Tok}
-use Rattle.json_text.specs.declared.event.Event.{Event}
+use Rattle.json_data.specs.declared.ahead.Ahead.{Ahead}
 use Rattle.json_data.specs.Stand.{Peeks, Takes}
 use Rattle.json_data.specs.Text.{TextState, TakenBefore, text_taken, text_stand}
 use Rattle.json_data.proofs.Events.{event_number}
 use Rattle.json_data.proofs.TextSteps.{takes_next}
 use Rattle.json_data.proofs.text_tokens.TextTokens.take.Goals as goal
 
-pub event_token-requires : goal.event_token-requires
-event_token-requires c =
+pub token-requires : goal.token-requires
+token-requires c =
     let i = c.self.invariant.given in
     let p = c.self.inside.parser in
-    let g : TakenBefore (Some c.in-Some.event) p i.0 = subst (λ (o : Option Event). TakenBefore o p i.0) c.in-Some.is i.1 in
-    record { number = event_number p c.in-Some.event i.0 g.0 g.1 g.2 }
+    let e = c.in-Some.ahead.event in
+    let g : TakenBefore (Some e) p i.0 = subst (λ (o : Option Ahead). TakenBefore (option_map (λ (h : Ahead). h.event) o) p i.0) c.in-Some.is i.1 in
+    record { number = event_number p e i.0 g.0 g.1 g.2 }
 
 pub returns-clause-ok : goal.returns-clause-ok
 returns-clause-ok c =
     let s = c.self.inside in
     let i = c.self.invariant.given in
-    let e = c.in-Some.event in
+    let e = c.in-Some.ahead.event in
     let m : TextState = record { parser = s.parser; ahead = Some e; failed = s.failed } in
-    let w : c.look.new.self ≡ m = sym c.self.view_is ∙ ap (λ (o : Option Event). record { parser = s.parser; ahead = o; failed = s.failed }) c.in-Some.is in
-    let g : (ts : List Tok) × TakenBefore (Some e) s.parser ts = (i.0, subst (λ (o : Option Event). TakenBefore o s.parser i.0) c.in-Some.is i.1) in
+    let w : c.look.new.self ≡ m = sym c.self.view_is ∙ ap (λ (o : Option Ahead). record { parser = s.parser; ahead = option_map (λ (h : Ahead). h.event) o; failed = s.failed }) c.in-Some.is in
+    let g : (ts : List Tok) × TakenBefore (Some e) s.parser ts = (i.0, subst (λ (o : Option Ahead). TakenBefore (option_map (λ (h : Ahead). h.event) o) s.parser i.0) c.in-Some.is i.1) in
     let r = takes_next c.args.self.now s.parser s.failed e c.in_ok-look.field-0 g
     (subst (λ (n : TextState). Peeks (text_stand c.args.self.now) (text_stand n) c.in_ok-look.field-0) w c.in_ok-look.ensures.ok)
     (subst (λ (n : TextState). Takes text_taken c.args.self.now [] n) w c.in_ok-look.ensures.none) in
-    (r.0, c.event_token.ensures r.0 r.1, r.2)
+    (r.0, c.token.ensures r.0 r.1, r.2)
