@@ -42,7 +42,7 @@ told_within (deep (p, x, r, e, l, v, o, m)) = omega (arith, l, ap length e ∙ l
 told_within (short (e, v, o, m)) = omega (arith, e)
 told_within (other r) = omega (arith, r.offset, ap length r.long.bytes ∙ length-append r.p (r.x ∷ r.long.rest))
 
-fault_within : (lossy : Bool) (limit : ℕ) (b : List ℕ) (c : ErrorCode) (k : ℕ) → IsFault lossy limit b c k → k ≤ length b
+pub fault_within : (lossy : Bool) (limit : ℕ) (b : List ℕ) (c : ErrorCode) (k : ℕ) → IsFault lossy limit b c k → k ≤ length b
 fault_within lossy limit b c k h = let s = stands (λ row. fault lossy limit b row k) c h in told_within (told lossy (viable_prefix lossy) ((t : Tree) × is_text lossy t b) limit b s.row k s.holds)
 
 -- whitespace before a gap

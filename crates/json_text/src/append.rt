@@ -1,7 +1,8 @@
 // Bytes appended where there is room for them. std's append of a slice does not say that the capacity stays.
-ghost use Rattle.std.specs.Prelude.{◌≡◌, ◌+◌, ◌≤◌, ◌++◌, length, vec_len, vec_capacity};
+ghost use Rattle.std.specs.Prelude.{◌≡◌, ◌+◌, ◌-◌, ◌≤◌, ◌++◌, length, vec_len, vec_capacity};
 ghost use Rattle.json_grammar.specs.Given.{piece};
 
+use crate::lanes::BLOCK;
 use std::mem;
 
 /// Appends four of the bytes, for which there is room.
@@ -209,4 +210,29 @@ pub fn extend_reserved(out: &mut Vec<u8>, bytes: &[u8])
     let mut text = taken(out);
     extend_local(&mut text, bytes);
     *out = text;
+}
+
+/// Appends the bytes from `start` up to `end` as `extend_reserved` does. At most 16 are one block where as many follow
+/// `start` and as many have room, so that nothing depends on how many they are.
+///
+/// ```
+/// use json_text::extend_reserved_from;
+/// let mut text = Vec::with_capacity(alloc, 16)?;
+/// extend_reserved_from(&mut text, b"{\"name\": 1, \"age\": 2}", 2, 6);
+/// assert_eq!(rt; text.as_slice(), b"name".as_slice());
+/// ```
+#[inline(always)]
+pub fn extend_reserved_from(out: &mut Vec<u8>, bytes: &[u8], start: usize, end: usize)
+    requires within { (start ≤ end) × (end ≤ length bytes.now) }
+    requires room { vec_len out.old + (end - start) ≤ vec_capacity out.old }
+    ensures items { out.new.items ≡ out.old.items ++ piece bytes.now start end }
+    ensures len { vec_len out.new ≡ vec_len out.old + (end - start) }
+    ensures capacity { vec_capacity out.new ≡ vec_capacity out.old }
+{
+    let count = end - start;
+    if count <= BLOCK && bytes.len() - start >= BLOCK && out.capacity() - out.len() >= BLOCK {
+        append_of_block(out, bytes, start, count);
+        return;
+    }
+    extend_reserved(out, &bytes[start..end]);
 }

@@ -16,11 +16,15 @@ use crate::event::Event;
 use crate::fault::Fault;
 use crate::place::place_of;
 use crate::runs::ws_run;
-use crate::spot::{closing, ready};
+use crate::spot::closing;
 use crate::stack::Kinds;
-use crate::token::take_event;
+use crate::steps::{is_whole, step};
 use json_grammar::{Kind, Spot};
 use std::marker::Model;
+
+mod expected;
+
+pub use expected::Integer;
 
 /// The most levels of a tree, where the caller chooses none (RFC 8259, section 9).
 const LEVELS: usize = 254;
@@ -61,16 +65,6 @@ impl<'a> Model for Parser<'a> {
     ghost view = { λ a. state_of a.text.now a.start a.lossy a.limit a.at a.kinds a.spot a.failure };
 
     ghost invariant = { λ a. IsSound a.rest.now (state_of a.text.now a.start a.lossy a.limit a.at a.kinds a.spot a.failure) };
-}
-
-#[inline(always)]
-fn is_whole(spot: Spot, kind: Option<Kind>) -> bool
-    ensures { IsTrue result ↔ ((spot ≡ Spot.Done) × (kind ≡ None)) }
-{
-    match spot {
-        Spot::Done => kind.is_none(),
-        _ => false,
-    }
 }
 
 // Why a container of the kind does not end at a byte.
@@ -220,7 +214,7 @@ impl<'a> Parser<'a> {
 
     /// The next event, if nothing was refused: a copy for each use.
     #[inline(always)]
-    fn step<const USE: u8>(&mut self) -> std::result::Result<Event<'a>, Fault>
+    fn advance<const USE: u8>(&mut self) -> std::result::Result<Event<'a>, Fault>
         requires { self.old.failure ≡ None }
         ensures same { SameInput self.old self.new }
         ensures failure { self.new.failure ≡ self.old.failure }
@@ -234,24 +228,10 @@ impl<'a> Parser<'a> {
         ensures inside { IfErr result (λ f. ¬ (IsWhole self.old) → IsInValue f.code) }
         ensures kept { OnErr result (self.new ≡ self.old) }
     {
-        let bytes = self.rest.as_bytes();
-        let stand = match ready(bytes, self.at, self.spot, &self.kinds) {
-            Ok(stand) => stand,
-            Err(fault) => return Err(fault),
-        };
-        if stand.at == bytes.len() {
-            if is_whole(stand.spot, self.kinds.top()) {
-                return Ok(Event::End);
-            }
-            return Err(Fault {
-                code: ErrorCode::EofWhileParsing,
-                offset: stand.at,
-            });
-        }
-        match take_event(
+        match step::<USE>(
             self.rest,
-            stand.at,
-            stand.spot,
+            self.at,
+            self.spot,
             self.limit,
             self.lossy,
             &mut self.kinds,
@@ -345,7 +325,7 @@ impl<'a> Parser<'a> {
         if self.failure.is_some() {
             return Err(self.refusal());
         }
-        match self.step::<USE>() {
+        match self.advance::<USE>() {
             Ok(event) => Ok(event),
             Err(fault) => {
                 self.refuse(fault);

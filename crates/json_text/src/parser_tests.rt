@@ -1,5 +1,6 @@
 // What a parser hands out, and what it refuses.
-use crate::{Error, ErrorCode, Event, Parser, Place};
+use crate::{Error, ErrorCode, Event, Kinds, Parser, Place, step_by_spot};
+use json_grammar::Spot;
 use std::test::Fail;
 
 // A letter for each event.
@@ -148,4 +149,28 @@ fn levels_up_to_the_limit(rt: HostRuntime) -> std::result::Result<(), Fail> {
     let deep = refusal_of(text.as_str()).map(|error| (error.code, error.offset()));
     assert_eq!(rt; deep, Some((ErrorCode::RecursionLimitExceeded, Some(254))));
     Ok(())
+}
+
+// The letter of the first event and the place behind it, or what is refused and its offset.
+fn first_step(text: &str) -> std::result::Result<(u8, usize), (ErrorCode, usize)> {
+    match step_by_spot(text, 0, Spot::Value, 254, false, &mut Kinds::new()) {
+        Ok(read) => Ok((letter(read.event), read.end)),
+        Err(fault) => Err((fault.code, fault.offset)),
+    }
+}
+
+#[test]
+fn a_step_from_the_beginning_of_a_text(rt: HostRuntime) {
+    let table = [
+        (" [1]", Ok((b'[', 2))),
+        ("{\"a\": 1}", Ok((b'{', 1))),
+        ("-1.5e3 ", Ok((b'1', 6))),
+        ("\"a\\n\"", Ok((b's', 5))),
+        ("null", Ok((b'n', 4))),
+        ("", Err((ErrorCode::EofWhileParsing, 0))),
+        (" ]", Err((ErrorCode::InvalidJsonValue, 1))),
+    ];
+    for (text, want) in table {
+        assert_eq!(rt; first_step(text), want, "at {text}");
+    }
 }

@@ -68,7 +68,7 @@ pub(crate) struct Quote<'a> {
 
 /// The string that begins at `at`.
 #[inline(always)]
-fn string_at<'a>(text: &'a str, at: usize, lossy: bool) -> Result<Quote<'a>, Fault>
+pub(crate) fn string_at<'a>(text: &'a str, at: usize, lossy: bool) -> Result<Quote<'a>, Fault>
     requires { ByteAt text.now at 34 }
     ensures ok { IfOk result (λ q. Quoted lossy text.now at q.span.raw.now q.end) }
     ensures mode { IfOk result (λ q. q.span.lossy ≡ lossy) }
@@ -89,7 +89,7 @@ fn string_at<'a>(text: &'a str, at: usize, lossy: bool) -> Result<Quote<'a>, Fau
 
 /// One more part of a text, the offset in bytes behind it, and what may come there. The parser hands out the event.
 #[derive(Clone, Copy)]
-pub(crate) struct Read<'a> {
+pub struct Read<'a> {
     pub event: Event<'a>,
     pub end: usize,
     pub spot: Spot,

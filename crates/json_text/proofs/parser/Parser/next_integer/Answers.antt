@@ -1,0 +1,85 @@
+use Rattle.std.proofs.Common.{◌≡◌, ◌∙◌, ◌≤◌, [], ◌∷◌, ◌++◌, length, true, IsUtf8, Option, None, IfSome, refl, sym, ap, subst, arith, rules}
+use Rattle.std.specs.Str.{all_ascii_digits}
+use Rattle.json_grammar.specs.declared.Spot.TheVariants.{Done as done}
+use Rattle.json_grammar.specs.Given.{piece}
+use Rattle.json_grammar.specs.Place.{TakesValue}
+use Rattle.json_grammar.specs.Tree.{num_token}
+use Rattle.json_text.specs.declared.error.Error.{Error}
+use Rattle.json_text.specs.declared.event.Event.TheVariants as event
+use Rattle.json_text.specs.Faults.{IsInValue}
+use Rattle.json_text.specs.Numbers.{NumberTo}
+use Rattle.json_text.specs.Parsing.{ParserState}
+use Rattle.json_text.specs.Standing.{Stood}
+use Rattle.json_text.proofs.Behind.{event_reads}
+use Rattle.json_text.proofs.Going.{to_rest, from_rest, within_text, takes_token}
+use Rattle.json_text.proofs.Integers.{begins_digit}
+use Rattle.json_text.proofs.Tokens.{stood_number, number_cut, number_cut_from, tight_number}
+use Rattle.json_text.proofs.parser.Parser.next_integer.Goals as goal
+
+pub range-requires-clause-start_boundary : goal.range-requires-clause-start_boundary
+range-requires-clause-start_boundary c =
+    let b = c.self.inside.rest.now in
+    let n = subst (λ b. NumberTo b c.in-Ok.stand.at c.in-Some.digits.end) c.as_bytes-bytes.ensures.value c.in-Some.ensures.number in
+    let d = subst (λ b. all_ascii_digits (piece b c.in-Ok.stand.at c.in-Some.digits.end) ≡ true) c.as_bytes-bytes.ensures.value c.in-Some.ensures.digits in
+    let s = c.in-Some.ensures.some in
+    let w = n.at.within in
+    λ _. number_cut_from b c.in-Ok.stand.at (omega arith) (begins_digit b c.in-Ok.stand.at c.in-Some.digits.end s.0 w d)
+
+pub range-requires-clause-end_boundary : goal.range-requires-clause-end_boundary
+range-requires-clause-end_boundary c =
+    let b = c.self.inside.rest.now in
+    let n = subst (λ b. NumberTo b c.in-Ok.stand.at c.in-Some.digits.end) c.as_bytes-bytes.ensures.value c.in-Some.ensures.number in
+    let d = subst (λ b. all_ascii_digits (piece b c.in-Ok.stand.at c.in-Some.digits.end) ≡ true) c.as_bytes-bytes.ensures.value c.in-Some.ensures.digits in
+    let s = c.in-Some.ensures.some in
+    let w = n.at.within in
+    let u : IsUtf8 b = search rules in
+    number_cut b c.in-Ok.stand.at c.in-Some.digits.end u (omega arith) (begins_digit b c.in-Ok.stand.at c.in-Some.digits.end s.0 w d) n
+
+pub invariant_of-self : goal.invariant_of-self
+invariant_of-self c =
+    let s = c.self.inside in let v = c.self.invariant in let i = v.given in let g = c.as_bytes-bytes.ensures.value in let st = c.in-Ok.stand in let b = c.as_bytes-bytes.result.now in
+    let e = c.in-Some.digits.end in
+    let r = c.in-Ok.ensures.ok s.lossy s.limit i.0 (to_rest s.lossy s.limit s.start s.at s.text.now b s.kinds s.spot i.0 (g ∙ v.rest_is) i.1) in
+    let t : TakesValue st.spot = c.takes_value.ensures (search rules) in
+    let x = stood_number s.lossy s.limit b st.at e s.kinds st.spot i.0 r t c.in-Some.ensures.number in
+    let o = v.order in
+    let w = v.within in
+    let n = c.in-Some.ensures.number.at.within in
+    let none : s.failure ≡ None = ap (λ (p : ParserState). p.failure) c.self.view_is ∙ c.requires.fresh in
+    record {
+      rest_is = v.rest_is;
+      given = (i.0 ++ num_token (piece b st.at e) ∷ [], from_rest s.lossy s.limit s.start e s.text.now b s.kinds done (i.0 ++ num_token (piece b st.at e) ∷ []) (g ∙ v.rest_is) x);
+      failed = v.failed;
+      inside = λ n. subst (λ (f : Option Error). IfSome f (λ e. IsInValue e.code)) (sym none) tt;
+      order = omega arith;
+      within = within_text s.text.now b s.start e (g ∙ v.rest_is) n (omega arith);
+      most = v.most;
+    }
+
+pub returns-clause-ok : goal.returns-clause-ok
+returns-clause-ok c =
+    let s = c.self.inside in let v = c.self.invariant in let g = c.as_bytes-bytes.ensures.value in let st = c.in-Ok.stand in let b = c.as_bytes-bytes.result.now in
+    let e = c.in-Some.digits.end in
+    let t : TakesValue st.spot = c.takes_value.ensures (search rules) in
+    rw (← c.self.view_is)
+    (λ ts h.
+    let r = c.in-Ok.ensures.ok s.lossy s.limit ts (to_rest s.lossy s.limit s.start s.at s.text.now b s.kinds s.spot ts (g ∙ v.rest_is) h) in
+    let x = stood_number s.lossy s.limit b st.at e s.kinds st.spot ts r t c.in-Some.ensures.number in
+    let l : c.range.result.now ≡ piece b st.at e = subst (λ b. c.range.result.now ≡ piece b st.at e) (sym g) c.range.ensures.value in
+    let y = subst (λ o. Stood s.lossy s.limit b e s.kinds done (ts ++ num_token o ∷ [])) (sym l) x in
+    (num_token c.range.result.now, refl, from_rest s.lossy s.limit s.start e s.text.now b s.kinds done (ts ++ num_token c.range.result.now ∷ []) (g ∙ v.rest_is) y))
+
+pub returns-clause-tight : goal.returns-clause-tight
+returns-clause-tight c =
+    let s = c.self.inside in let g = c.as_bytes-bytes.ensures.value in let st = c.in-Ok.stand in let b = c.as_bytes-bytes.result.now in
+    let e = c.in-Some.digits.end in
+    let l : c.range.result.now ≡ piece b st.at e = subst (λ b. c.range.result.now ≡ piece b st.at e) (sym g) c.range.ensures.value in
+    rw (← c.self.view_is)
+    (takes_token _ _ (event.Number c.range.result) b s.at st.at e (g ∙ c.self.invariant.rest_is) refl refl refl c.in-Ok.ensures.within.0 c.in-Ok.ensures.gap
+    (tight_number s.lossy b st.at e (event.Number c.range.result) (ap length l) l c.in-Some.ensures.number tt))
+
+pub returns-clause-reads : goal.returns-clause-reads
+returns-clause-reads c = λ w.
+    let order : c.args.self.now.start ≤ c.args.self.now.index = subst (λ (p : ParserState). p.start ≤ p.index) c.self.view_is c.self.invariant.order in
+    let same : c.self.inside.start ≡ c.args.self.now.start = ap (λ (p : ParserState). p.start) c.self.view_is in
+    event_reads _ _ (event.Number c.range.result) (returns-clause-tight c) (λ is. absurd (cc)) (omega arith) w

@@ -1,0 +1,71 @@
+use Rattle.std.proofs.Common.{◌≡◌, ◌∙◌, ◌≤◌, [], ◌∷◌, ◌++◌, Option, None, IfSome, refl, sym, ap, subst, arith, rules}
+use Rattle.json_grammar.specs.declared.Spot.TheVariants.{Done as spot_behind}
+use Rattle.json_grammar.specs.Given.{piece}
+use Rattle.json_grammar.specs.Grammar.{chars}
+use Rattle.json_grammar.specs.Needs.{IsGap}
+use Rattle.json_grammar.specs.Place.{TakesValue}
+use Rattle.json_grammar.specs.Tree.{text_token}
+use Rattle.json_text.specs.declared.error.Error.{Error}
+use Rattle.json_text.specs.declared.event.Event.TheVariants as event
+use Rattle.json_text.specs.Faults.{IsInValue}
+use Rattle.json_text.specs.Parsing.{ParserState}
+use Rattle.json_text.specs.Runs.{ByteAt}
+use Rattle.json_text.specs.Standing.{Stood}
+use Rattle.json_text.proofs.Behind.{event_reads}
+use Rattle.json_text.proofs.Going.{to_rest, from_rest, within_text, takes_token}
+use Rattle.json_text.proofs.Tokens.{stood_text, tight_quoted}
+use Rattle.json_text.proofs.parser.Parser.next_text.Goals as goal
+
+pub string_at-requires : goal.string_at-requires
+string_at-requires c = subst (λ b. ByteAt b c.in-Ok.stand.at 34) c.as_bytes-bytes.ensures.value (c.byte_is.ensures.0 (search rules))
+
+pub invariant_of-self : goal.invariant_of-self
+invariant_of-self c =
+    let s = c.self.inside in let v = c.self.invariant in let i = v.given in let g = c.as_bytes-bytes.ensures.value in let st = c.in-Ok.stand in let b = s.rest.now in
+    let e = c.in-Ok-string_at.quote.end in
+    let q = c.in-Ok-string_at.ensures.ok in
+    let r = c.in-Ok.ensures.ok s.lossy s.limit i.0 (to_rest s.lossy s.limit s.start s.at s.text.now c.as_bytes-bytes.result.now s.kinds s.spot i.0 (g ∙ v.rest_is) i.1) in
+    let t : TakesValue st.spot = c.takes_value.ensures (search rules) in
+    let x = stood_text s.lossy s.limit b c.in-Ok-string_at.quote.span.raw.now st.at e s.kinds st.spot i.0 (subst (λ b. Stood s.lossy s.limit b st.at s.kinds st.spot i.0) g r) t q in
+    let o = v.order in
+    let w = v.within in
+    let none : s.failure ≡ None = ap (λ (p : ParserState). p.failure) c.self.view_is ∙ c.requires.fresh in
+    record {
+      rest_is = v.rest_is;
+      given = (i.0 ++ text_token q.text ∷ [], from_rest s.lossy s.limit s.start e s.text.now b s.kinds spot_behind (i.0 ++ text_token q.text ∷ []) v.rest_is x);
+      failed = v.failed;
+      inside = λ n. subst (λ (f : Option Error). IfSome f (λ e. IsInValue e.code)) (sym none) tt;
+      order = omega arith;
+      within = within_text s.text.now b s.start e v.rest_is q.within (omega arith);
+      most = v.most;
+    }
+
+pub returns-clause-ok : goal.returns-clause-ok
+returns-clause-ok c =
+    let s = c.self.inside in let v = c.self.invariant in let g = c.as_bytes-bytes.ensures.value in let st = c.in-Ok.stand in let b = s.rest.now in
+    let e = c.in-Ok-string_at.quote.end in
+    let q = c.in-Ok-string_at.ensures.ok in
+    let t : TakesValue st.spot = c.takes_value.ensures (search rules) in
+    rw (← c.self.view_is)
+    (λ ts h.
+    let r = c.in-Ok.ensures.ok s.lossy s.limit ts (to_rest s.lossy s.limit s.start s.at s.text.now c.as_bytes-bytes.result.now s.kinds s.spot ts (g ∙ v.rest_is) h) in
+    let x = stood_text s.lossy s.limit b c.in-Ok-string_at.quote.span.raw.now st.at e s.kinds st.spot ts (subst (λ b. Stood s.lossy s.limit b st.at s.kinds st.spot ts) g r) t q in (
+      text_token q.text,
+      (q.text, subst (λ y. chars y q.text c.in-Ok-string_at.quote.span.raw.now) (sym c.in-Ok-string_at.ensures.mode) q.spells, refl),
+      from_rest s.lossy s.limit s.start e s.text.now b s.kinds spot_behind (ts ++ text_token q.text ∷ []) v.rest_is x,
+    ))
+
+pub returns-clause-tight : goal.returns-clause-tight
+returns-clause-tight c =
+    let s = c.self.inside in let g = c.as_bytes-bytes.ensures.value in let st = c.in-Ok.stand in let b = s.rest.now in
+    let e = c.in-Ok-string_at.quote.end in
+    let p = c.in-Ok-string_at.quote.span in
+    rw (← c.self.view_is)
+    (takes_token _ _ (event.Str p) b s.at st.at e c.self.invariant.rest_is refl refl refl c.in-Ok.ensures.within.0 (subst (λ b. IsGap (piece b s.at st.at)) g c.in-Ok.ensures.gap)
+    (tight_quoted s.lossy b p.raw.now st.at e (event.Str p) refl refl c.in-Ok-string_at.ensures.ok c.in-Ok-string_at.ensures.mode))
+
+pub returns-clause-reads : goal.returns-clause-reads
+returns-clause-reads c = λ w.
+    let order : c.args.self.now.start ≤ c.args.self.now.index = subst (λ (p : ParserState). p.start ≤ p.index) c.self.view_is c.self.invariant.order in
+    let same : c.self.inside.start ≡ c.args.self.now.start = ap (λ (p : ParserState). p.start) c.self.view_is in
+    event_reads _ _ (event.Str c.in-Ok-string_at.quote.span) (returns-clause-tight c) (λ is. absurd (cc)) (omega arith) w

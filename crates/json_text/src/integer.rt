@@ -1,0 +1,84 @@
+// Integers of few digits, by value.
+ghost use Rattle.std.specs.Prelude.{◌≡◌, ◌+◌, ◌<◌, ◌≤◌, true, false, length, IfSome};
+ghost use Rattle.std.specs.Str.{all_ascii_digits};
+ghost use Rattle.std.specs.Str.Parse.{digits_value};
+ghost use Rattle.json_grammar.specs.Given.{piece};
+ghost use Rattle.json_text.specs.Numbers.{NumberTo, NoDigit};
+ghost use Rattle.json_text.specs.Runs.{ByteAt};
+
+use crate::runs::{byte_is, digit_is};
+
+/// So many digits are always an integer of 64 bits.
+const MOST_DIGITS: usize = 19;
+
+/// The number that digits write, and the place behind them.
+#[derive(Clone, Copy)]
+pub(crate) struct Digits {
+    pub value: u64,
+    pub end: usize,
+}
+
+/// Behind the most digits that are looked at.
+#[inline(always)]
+fn farthest(len: usize, from: usize) -> usize
+    requires { from ≤ len }
+    ensures { (from ≤ result) × (result ≤ len) × (result ≤ from + 19) }
+{
+    if len - from > MOST_DIGITS {
+        from + MOST_DIGITS
+    } else {
+        len
+    }
+}
+
+/// Digits from `from` on, at most 19.
+#[inline(always)]
+fn few_digits(bytes: &[u8], from: usize) -> Digits
+    requires { from ≤ length bytes.now }
+    ensures within { (from ≤ result.end) × (result.end ≤ length bytes.now) }
+    ensures few { result.end ≤ from + 19 }
+    ensures digits { all_ascii_digits (piece bytes.now from result.end) ≡ true }
+    ensures value { result.value ≡ digits_value 10 (piece bytes.now from result.end) }
+{
+    let limit = farthest(bytes.len(), from);
+    let mut value: u64 = 0;
+    let mut at = from;
+    'digits: while at < limit && bytes[at].is_ascii_digit() {
+        value = value * 10 + u64::from(bytes[at] - b'0');
+        at += 1;
+    }
+    Digits { value, end: at }
+}
+
+/// Whether a number that has come behind digits may go on with the byte there.
+#[inline(always)]
+fn goes_on(bytes: &[u8], at: usize) -> bool
+    ensures digit { result ≡ false → NoDigit bytes.now at }
+    ensures dot { result ≡ false → ¬ (ByteAt bytes.now at 46) }
+    ensures exponent { result ≡ false → ¬ (ByteAt bytes.now at 101) }
+    ensures capital { result ≡ false → ¬ (ByteAt bytes.now at 69) }
+{
+    digit_is(bytes, at)
+        || byte_is(bytes, at, b'.')
+        || byte_is(bytes, at, b'e')
+        || byte_is(bytes, at, b'E')
+}
+
+/// The longest number that begins at `from`, where it has at most 19 digits and nothing else.
+#[inline(always)]
+pub(crate) fn integer_at(bytes: &[u8], from: usize) -> Option<Digits>
+    requires { from ≤ length bytes.now }
+    ensures number { IfSome result (λ d. NumberTo bytes.now from d.end) }
+    ensures some { IfSome result (λ d. (from < d.end) × (d.end ≤ from + 19)) }
+    ensures digits { IfSome result (λ d. all_ascii_digits (piece bytes.now from d.end) ≡ true) }
+    ensures value { IfSome result (λ d. d.value ≡ digits_value 10 (piece bytes.now from d.end)) }
+{
+    let digits = few_digits(bytes, from);
+    if digits.end == from || goes_on(bytes, digits.end) {
+        return None;
+    }
+    if bytes[from] == b'0' && digits.end > from + 1 {
+        return None;
+    }
+    Some(digits)
+}

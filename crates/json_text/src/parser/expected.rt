@@ -1,0 +1,153 @@
+// Parts that are taken at once where they come next.
+ghost use Rattle.std.specs.Prelude.{◌≡◌, ◌≤◌, None, true, length, IfSome};
+ghost use Rattle.std.specs.Str.{all_ascii_digits};
+ghost use Rattle.std.specs.Str.Parse.{digits_value};
+ghost use Rattle.json_text.specs.declared.event.Event.TheVariants as Event;
+ghost use Rattle.json_text.specs.Parsing.{SameInput, IsWhole, Goes, IsTight, HasRead};
+ghost use Rattle.json_grammar.specs.Place.{TakesValue, TakesKey};
+
+use crate::integer::integer_at;
+use crate::parser::Parser;
+use crate::runs::byte_is;
+use crate::span::Span;
+use crate::spot::ready;
+use crate::token::string_at;
+use json_grammar::Spot;
+
+/// A number that is an integer by value, with its literal.
+#[derive(Clone, Copy)]
+pub struct Integer<'a> {
+    pub literal: &'a str,
+    pub value: u64,
+}
+
+/// Whether a value may begin.
+#[inline(always)]
+fn takes_value(spot: Spot) -> bool
+    ensures { result ≡ true → TakesValue spot }
+{
+    match spot {
+        Spot::Value | Spot::First => true,
+        _ => false,
+    }
+}
+
+/// Whether a name may begin.
+#[inline(always)]
+fn takes_key(spot: Spot) -> bool
+    ensures { result ≡ true → TakesKey spot }
+{
+    match spot {
+        Spot::Key | Spot::KeyOrEnd => true,
+        _ => false,
+    }
+}
+
+impl<'a> Parser<'a> {
+    /// Takes the next event where it is a number of at most 19 digits, without a sign, a fraction or an exponent, that is
+    /// at most `most`, and answers its value too. Else nothing is taken, and `next` tells what comes.
+    ///
+    /// ```
+    /// use json_text::{Event, Parser};
+    /// let mut parser = Parser::new("[17, 1.5]");
+    /// assert!(rt; matches!(parser.next()?, Event::BeginArray));
+    /// assert!(rt; matches!(parser.next_integer(100), Some(n) if n.value == 17));
+    /// assert!(rt; parser.next_integer(100).is_none());
+    /// assert!(rt; matches!(parser.next()?, Event::Number("1.5")));
+    /// ```
+    #[inline(always)]
+    pub fn next_integer(&mut self, most: u64) -> Option<Integer<'a>>
+        requires fresh { self.old.failure ≡ None }
+        requires inside { ¬ (IsWhole self.old) }
+        ensures same { SameInput self.old self.new }
+        ensures failure { self.new.failure ≡ None }
+        ensures ok { IfSome result (λ n. Goes self.old (Event.Number n.literal) self.new) }
+        ensures tight { IfSome result (λ n. IsTight self.old (Event.Number n.literal) self.new) }
+        ensures digits { IfSome result (λ n. (all_ascii_digits n.literal.now ≡ true)
+            × (length n.literal.now ≤ 19)) }
+        ensures value { IfSome result (λ n. n.value ≡ digits_value 10 n.literal.now) }
+        ensures most { IfSome result (λ n. n.value ≤ most) }
+        ensures reads { IfSome result (λ _. IsWhole self.new → HasRead self.new) }
+        ensures kept { result ≡ None → self.new ≡ self.old }
+    {
+        let bytes = self.rest.as_bytes();
+        let stand = match ready(bytes, self.at, self.spot, &self.kinds) {
+            Ok(stand) => stand,
+            Err(_) => return None,
+        };
+        if !takes_value(stand.spot) {
+            return None;
+        }
+        let digits = match integer_at(bytes, stand.at) {
+            Some(digits) => digits,
+            None => return None,
+        };
+        if digits.value > most {
+            return None;
+        }
+        self.at = digits.end;
+        self.spot = Spot::Done;
+        Some(Integer {
+            literal: &self.rest[stand.at..digits.end],
+            value: digits.value,
+        })
+    }
+
+    /// Takes the next event where it is a string that is a value. Else nothing is taken, and `next` tells what comes.
+    #[inline(always)]
+    pub fn next_text(&mut self) -> Option<Span<'a>>
+        requires fresh { self.old.failure ≡ None }
+        requires inside { ¬ (IsWhole self.old) }
+        ensures same { SameInput self.old self.new }
+        ensures failure { self.new.failure ≡ None }
+        ensures ok { IfSome result (λ s. Goes self.old (Event.Str s) self.new) }
+        ensures tight { IfSome result (λ s. IsTight self.old (Event.Str s) self.new) }
+        ensures reads { IfSome result (λ _. IsWhole self.new → HasRead self.new) }
+        ensures kept { result ≡ None → self.new ≡ self.old }
+    {
+        let bytes = self.rest.as_bytes();
+        let stand = match ready(bytes, self.at, self.spot, &self.kinds) {
+            Ok(stand) => stand,
+            Err(_) => return None,
+        };
+        if !takes_value(stand.spot) || !byte_is(bytes, stand.at, b'"') {
+            return None;
+        }
+        let quote = match string_at(self.rest, stand.at, self.lossy) {
+            Ok(quote) => quote,
+            Err(_) => return None,
+        };
+        self.at = quote.end;
+        self.spot = Spot::Done;
+        Some(quote.span)
+    }
+
+    /// Takes the next event where it is the name of a member. Else nothing is taken, and `next` tells what comes.
+    #[inline(always)]
+    pub fn next_key(&mut self) -> Option<Span<'a>>
+        requires fresh { self.old.failure ≡ None }
+        requires inside { ¬ (IsWhole self.old) }
+        ensures same { SameInput self.old self.new }
+        ensures failure { self.new.failure ≡ None }
+        ensures ok { IfSome result (λ s. Goes self.old (Event.Key s) self.new) }
+        ensures tight { IfSome result (λ s. IsTight self.old (Event.Key s) self.new) }
+        ensures reads { IfSome result (λ _. IsWhole self.new → HasRead self.new) }
+        ensures kept { result ≡ None → self.new ≡ self.old }
+    {
+        let bytes = self.rest.as_bytes();
+        let stand = match ready(bytes, self.at, self.spot, &self.kinds) {
+            Ok(stand) => stand,
+            Err(_) => return None,
+        };
+        if !takes_key(stand.spot) || !byte_is(bytes, stand.at, b'"') {
+            return None;
+        }
+        let quote = match string_at(self.rest, stand.at, self.lossy) {
+            Ok(quote) => quote,
+            Err(_) => return None,
+        };
+        self.at = quote.end;
+        self.spot = Spot::Colon;
+        Some(quote.span)
+    }
+}

@@ -1,0 +1,114 @@
+// One step of a reader, where the caller keeps its place.
+ghost use Rattle.std.specs.Prelude.{◌≡◌, ◌≤◌, ◌↔◌, List, IsTrue, None, length, IfOk, IfErr, OnErr};
+ghost use Rattle.json_grammar.specs.Tree.{Token};
+ghost use Rattle.json_text.specs.Faults.{IsFault, IsInValue};
+ghost use Rattle.json_text.specs.Due.{NextNeeds};
+ghost use Rattle.json_text.specs.Standing.{Stood};
+ghost use Rattle.json_text.specs.Steps.{Advances, StandsBehindGap, IsDone};
+
+use crate::error::ErrorCode;
+use crate::event::Event;
+use crate::fault::Fault;
+use crate::spot::ready;
+use crate::stack::Kinds;
+use crate::token::{Read, take_event};
+use json_grammar::{Kind, Spot};
+
+/// Whether a value is whole: it was read, and the kind of no container is open.
+#[inline(always)]
+pub(crate) fn is_whole(spot: Spot, kind: Option<Kind>) -> bool
+    ensures { IsTrue result ↔ ((spot ≡ Spot.Done) × (kind ≡ None)) }
+{
+    match spot {
+        Spot::Done => kind.is_none(),
+        _ => false,
+    }
+}
+
+/// The next event of a text, for a loop that keeps the place in bytes, what may come there and the open containers
+/// itself. Where the caller knows what may come, no choice by it is left. Each use has a copy of its own.
+///
+/// `End` comes where the value is whole and only whitespace is left. A fault has one of the codes from
+/// `EofWhileParsing` to `RecursionLimitExceeded`, as `Parser::next` tells it, at its offset in the text.
+///
+/// ```
+/// use json_grammar::Spot;
+/// use json_text::{Event, Kinds, step};
+/// let mut kinds = Kinds::new();
+/// let first = step::<0>("[1.50]", 0, Spot::Value, 254, false, &mut kinds).ok().ok_or("no value")?;
+/// assert!(rt; matches!(first.event, Event::BeginArray) && kinds.len() == 1);
+/// let second = step::<0>("[1.50]", first.end, first.spot, 254, false, &mut kinds).ok().ok_or("no element")?;
+/// assert!(rt; matches!(second.event, Event::Number("1.50")) && second.end == 5);
+/// ```
+#[inline(always)]
+pub fn step<'a, const USE: u8>(
+    text: &'a str,
+    at: usize,
+    spot: Spot,
+    limit: usize,
+    lossy: bool,
+    kinds: &mut Kinds,
+) -> Result<Read<'a>, Fault>
+    requires given { (ts : List Token) × Stood lossy limit text.now at kinds.old spot ts }
+    requires most { limit ≤ 1024 }
+    ensures ok { IfOk result (λ r.
+        Advances lossy limit text.now at kinds.old spot r.event r.end kinds.new r.spot) }
+    ensures tight { IfOk result (λ r. StandsBehindGap lossy text.now at r.event r.end) }
+    ensures whole { IfOk result (λ r. r.event ≡ Event.End → IsDone spot kinds.old) }
+    ensures err { IfErr result (λ f. IsFault lossy limit text.now f.code f.offset) }
+    ensures needs { IfErr result (λ f. NextNeeds lossy text.now at f.code f.offset) }
+    ensures inside { IfErr result (λ f. ¬ (IsDone spot kinds.old) → IsInValue f.code) }
+    ensures within { IfErr result (λ f. f.offset ≤ length text.now) }
+    ensures kept { OnErr result (kinds.new ≡ kinds.old) }
+{
+    let bytes = text.as_bytes();
+    let stand = match ready(bytes, at, spot, kinds) {
+        Ok(stand) => stand,
+        Err(fault) => return Err(fault),
+    };
+    if stand.at == bytes.len() {
+        if is_whole(stand.spot, kinds.top()) {
+            return Ok(Read {
+                event: Event::End,
+                end: at,
+                spot,
+            });
+        }
+        return Err(Fault {
+            code: ErrorCode::EofWhileParsing,
+            offset: stand.at,
+        });
+    }
+    take_event(text, stand.at, stand.spot, limit, lossy, kinds)
+}
+
+/// The same, by a copy for each of what may come, so that each of them leaves out what can't come there.
+#[inline(always)]
+pub fn step_by_spot<'a>(
+    text: &'a str,
+    at: usize,
+    spot: Spot,
+    limit: usize,
+    lossy: bool,
+    kinds: &mut Kinds,
+) -> Result<Read<'a>, Fault>
+    requires given { (ts : List Token) × Stood lossy limit text.now at kinds.old spot ts }
+    requires most { limit ≤ 1024 }
+    ensures ok { IfOk result (λ r.
+        Advances lossy limit text.now at kinds.old spot r.event r.end kinds.new r.spot) }
+    ensures tight { IfOk result (λ r. StandsBehindGap lossy text.now at r.event r.end) }
+    ensures whole { IfOk result (λ r. r.event ≡ Event.End → IsDone spot kinds.old) }
+    ensures err { IfErr result (λ f. IsFault lossy limit text.now f.code f.offset) }
+    ensures needs { IfErr result (λ f. NextNeeds lossy text.now at f.code f.offset) }
+    ensures inside { IfErr result (λ f. ¬ (IsDone spot kinds.old) → IsInValue f.code) }
+    ensures within { IfErr result (λ f. f.offset ≤ length text.now) }
+    ensures kept { OnErr result (kinds.new ≡ kinds.old) }
+{
+    match spot {
+        Spot::First => step::<2>(text, at, Spot::First, limit, lossy, kinds),
+        Spot::KeyOrEnd => step::<3>(text, at, Spot::KeyOrEnd, limit, lossy, kinds),
+        Spot::Colon => step::<4>(text, at, Spot::Colon, limit, lossy, kinds),
+        Spot::Done => step::<5>(text, at, Spot::Done, limit, lossy, kinds),
+        Spot::Value | Spot::Key => step::<6>(text, at, spot, limit, lossy, kinds),
+    }
+}
