@@ -16,7 +16,7 @@ fn has_minus(literal: &str) -> bool
     !bytes.is_empty() && bytes[0] == b'-'
 }
 
-fn below_zero(literal: &str) -> Option<Number>
+fn below_zero<const USE: u8>(literal: &str) -> Option<Number>
     requires { slice_index literal.now 0 ≡ 45 }
     ensures { option_map value_of result ≡ integer_in literal.now }
 {
@@ -26,7 +26,7 @@ fn below_zero(literal: &str) -> Option<Number>
     }
 }
 
-fn from_zero(literal: &str) -> Option<Number>
+fn from_zero<const USE: u8>(literal: &str) -> Option<Number>
     requires minus { slice_index literal.now 0 ≢ 45 }
     requires plus { slice_index literal.now 0 ≢ 43 }
     ensures { option_map value_of result ≡ integer_in literal.now }
@@ -43,12 +43,20 @@ pub fn integer_of(literal: &str) -> Option<Number>
     requires { number literal.now }
     ensures { option_map value_of result ≡ integer_in literal.now }
 {
+    integer_of_by::<0>(literal)
+}
+
+/// The same as `integer_of`, by a copy of its own for each use: a caller whose use no other names has it in line.
+pub fn integer_of_by<const USE: u8>(literal: &str) -> Option<Number>
+    requires { number literal.now }
+    ensures { option_map value_of result ≡ integer_in literal.now }
+{
     if literal.len() > LONGEST {
         return None;
     }
     if has_minus(literal) {
-        below_zero(literal)
+        below_zero::<USE>(literal)
     } else {
-        from_zero(literal)
+        from_zero::<USE>(literal)
     }
 }

@@ -19,7 +19,7 @@ mod raw_number;
 #[cfg(test)]
 mod tests;
 
-pub use integer::integer_of;
+pub use integer::{integer_of, integer_of_by};
 pub use json_number_trait::JsonNumberTrait;
 pub use number::Number;
 pub use raw_number::RawNumber;
