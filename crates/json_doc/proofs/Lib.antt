@@ -15,6 +15,7 @@ pub mod Shown
 pub mod Fitting
 pub mod Following
 pub mod Keeping
+pub mod Stepping
 pub mod NameSets
 pub mod Fronts
 pub mod Subtrees

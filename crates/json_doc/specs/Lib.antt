@@ -18,6 +18,7 @@ pub mod CellReadings
 pub mod Seen
 pub mod Left
 pub mod Nodes
+pub mod Lent
 pub mod Reading
 pub mod Laws
 pub mod OpenNames

@@ -2,13 +2,15 @@
 ghost use Rattle.std.specs.Prelude.{◌≡◌, ◌+◌, ◌/◌, ◌<◌, ◌≤◌, ◌^◌, ◌↔◌, List, ℕ, [], ◌∷◌, ◌++◌, length, true, false, IsTrue, IfOk, IfErr, vec_len, vec_capacity, slice_index_or, slice_set};
 ghost use Rattle.json_grammar.specs.Grammar.{chars};
 ghost use Rattle.json_text.specs.Spelled.{NoEscape};
+ghost use Rattle.json_doc.specs.Lent.{IsLentBy};
 
+mod lent;
 mod room;
 
 use crate::cell::Cell;
 use crate::doc::Doc;
 use crate::visitor::JsonVisitor;
-use json_text::{Result, Span, extend_reserved};
+use json_text::{Result, Span, extend_reserved, extend_reserved_from};
 use std::alloc::Global;
 use std::rc::Rc;
 
@@ -120,25 +122,10 @@ impl DocumentVisitor {
         let nodes_left = self.room - self.cells.len();
         let bytes_left = self.text_room - self.text.len();
         if self.full || nodes > nodes_left || bytes > bytes_left {
-            return self.refuse();
+            self.full = true;
+            return false;
         }
         true
-    }
-
-    // Nothing more is recorded.
-    #[cold]
-    #[inline(never)]
-    fn refuse(&mut self) -> bool
-        ensures answer { result ≡ false }
-        ensures full { self.new.full ≡ true }
-        ensures cells { self.new.cells ≡ self.old.cells }
-        ensures text { self.new.text ≡ self.old.text }
-        ensures parent { self.new.parent ≡ self.old.parent }
-        ensures count { self.new.count ≡ self.old.count }
-        ensures room { SameRoom self.old self.new }
-    {
-        self.full = true;
-        false
     }
 
     // The cell of a scalar or a key, one more in the innermost open container.
@@ -178,10 +165,11 @@ impl DocumentVisitor {
         }
     }
 
-    // The text of a string or a key appended, and its cell.
+    // The text of a string or a key appended, which stands in the input from `from` on, and its cell.
     #[inline(always)]
-    fn push_text(&mut self, s: Span<'_>) -> Cell
-        requires { vec_len self.old.text + length s.raw.now ≤ self.old.text_room }
+    fn push_text(&mut self, s: Span<'_>, input: &[u8], from: usize) -> Cell
+        requires room { vec_len self.old.text + length s.raw.now ≤ self.old.text_room }
+        requires lent { IsLentBy s input.now from }
         ensures cell { (t : List ℕ) → chars s.entry.lossy t s.entry.raw.now
             → result ≡ Cell.Str (vec_len self.old.text) (length t) }
         ensures text { (t : List ℕ) → chars s.entry.lossy t s.entry.raw.now
@@ -194,7 +182,7 @@ impl DocumentVisitor {
         ensures room { SameRoom self.old self.new }
     {
         let start = self.text.len();
-        append_text(&mut self.text, s);
+        append_text(&mut self.text, s, input, from);
         Cell::Str {
             start: start as u32,
             len: (self.text.len() - start) as u32,
@@ -321,10 +309,11 @@ impl DocumentVisitor {
     }
 }
 
-// Appends a text for which there is room.
+// Appends a text for which there is room, and which stands in the input from `from` on.
 #[inline(always)]
-fn append_text(out: &mut Vec<u8>, s: Span<'_>)
-    requires { vec_len out.old + length s.raw.now ≤ vec_capacity out.old }
+fn append_text(out: &mut Vec<u8>, s: Span<'_>, input: &[u8], from: usize)
+    requires room { vec_len out.old + length s.raw.now ≤ vec_capacity out.old }
+    requires lent { IsLentBy s input.now from }
     ensures items { (t : List ℕ) → chars s.entry.lossy t s.entry.raw.now
         → out.new.items ≡ out.old.items ++ t }
     ensures grows { vec_len out.old ≤ vec_len out.new }
@@ -332,7 +321,7 @@ fn append_text(out: &mut Vec<u8>, s: Span<'_>)
     ensures capacity { vec_capacity out.new ≡ vec_capacity out.old }
 {
     match s.plain() {
-        Some(text) => extend_reserved(out, text.as_bytes()),
+        Some(text) => extend_reserved_from(out, input, from, from + text.len()),
         None => s.unescape_into(out),
     }
 }
@@ -394,22 +383,12 @@ impl JsonVisitor for DocumentVisitor {
 
     #[inline(always)]
     fn visit_str(&mut self, s: Span<'_>) -> bool {
-        if !self.admit(1, s.raw_len()) {
-            return false;
-        }
-        let cell = self.push_text(s);
-        self.push(cell);
-        true
+        self.take_str(s, s.raw.as_bytes(), 0)
     }
 
     #[inline(always)]
     fn visit_key(&mut self, s: Span<'_>) -> bool {
-        if !self.admit(1, s.raw_len()) {
-            return false;
-        }
-        let cell = self.push_text(s);
-        self.push(cell);
-        true
+        self.take_key(s, s.raw.as_bytes(), 0)
     }
 
     #[inline(always)]

@@ -9,6 +9,7 @@ ghost use Rattle.json_text.specs.Parsing.{input, taken, HasGiven, SameInput};
 ghost use Rattle.json_text.specs.Positions.{place_at};
 ghost use Rattle.json_text.specs.Ruled.{rules_of};
 ghost use Rattle.json_doc.specs.Awaited.{Begins};
+ghost use Rattle.json_doc.specs.Lent.{EventIsLentBy, from_of};
 ghost use Rattle.json_doc.specs.State.{MayCome};
 ghost use Rattle.json_doc.specs.Recorded.{visitor_state, Holds, SameRoom};
 ghost use Rattle.json_doc.specs.Reading.{ReadingFails, ReadingFailsWith, FrontFails, RefusesName, EventIsNumber, HasRoomFor, Follows};
@@ -20,17 +21,20 @@ use crate::document_visitor::DocumentVisitor;
 use crate::open_keys::OpenKeys;
 use crate::value_reader::record_value;
 use crate::visitor::JsonVisitor;
-use json_number::{JsonNumberTrait, integer_of};
-use json_text::{Error, ErrorCode, Event, Parser, Result, Rules, Span, place_of};
+use json_grammar::Spot;
+use json_number::{JsonNumberTrait, integer_of_by};
+use json_text::{
+    Error, ErrorCode, Event, Kinds, Parser, Result, Rules, Span, place_of, step_by_spot,
+};
 use std::alloc::Global;
 use std::rc::Rc;
 
-// The use of the parser by the loop below, which no other names.
+// The use of what records an event by the loop below, which no other names.
 const HERE: u8 = 1;
 
 // Whether the number was recorded: an integer by value, every other by its literal.
 #[inline(always)]
-fn record_number(visitor: &mut DocumentVisitor, literal: &str) -> bool
+fn record_number<const USE: u8>(visitor: &mut DocumentVisitor, literal: &str) -> bool
     requires number { number literal.now }
     requires come { (visitor_state visitor.old).full ≡ false
         → MayCome (Holds visitor.old) (num_token literal.now) }
@@ -40,7 +44,7 @@ fn record_number(visitor: &mut DocumentVisitor, literal: &str) -> bool
         → Follows visitor.new (ts ++ num_token literal.now ∷ []) }
     ensures room { SameRoom visitor.old visitor.new }
 {
-    match integer_of(literal) {
+    match integer_of_by::<USE>(literal) {
         Some(number) => match number.as_u64() {
             Some(n) => visitor.visit_u64(n),
             None => match number.as_i64() {
@@ -52,10 +56,16 @@ fn record_number(visitor: &mut DocumentVisitor, literal: &str) -> bool
     }
 }
 
-// Whether the event was recorded. There is nothing to record of the end.
+// Whether the event was recorded, whose text stands in the input from `from` on. There is nothing to record of the end.
 #[inline(always)]
-pub(crate) fn record_event(visitor: &mut DocumentVisitor, event: Event<'_>) -> bool
+pub(crate) fn record_event<const USE: u8>(
+    visitor: &mut DocumentVisitor,
+    event: Event<'_>,
+    input: &[u8],
+    from: usize,
+) -> bool
     requires number { EventIsNumber event }
+    requires lent { EventIsLentBy event input.now from }
     requires come { (visitor_state visitor.old).full ≡ false
         → (x : Token) × Means event x × MayCome (Holds visitor.old) x }
     ensures follows { (x : Token) (ts : List Token) → Means event.entry x
@@ -66,14 +76,26 @@ pub(crate) fn record_event(visitor: &mut DocumentVisitor, event: Event<'_>) -> b
     match event {
         Event::Null => visitor.visit_null(),
         Event::Bool(b) => visitor.visit_bool(b),
-        Event::Number(literal) => record_number(visitor, literal),
-        Event::Str(s) => visitor.visit_str(s),
-        Event::Key(s) => visitor.visit_key(s),
+        Event::Number(literal) => record_number::<USE>(visitor, literal),
+        Event::Str(s) => visitor.take_str(s, input, from),
+        Event::Key(s) => visitor.take_key(s, input, from),
         Event::BeginArray => visitor.visit_array_start(),
         Event::EndArray => visitor.visit_array_end(),
         Event::BeginObject => visitor.visit_object_start(),
         Event::EndObject => visitor.visit_object_end(),
         Event::End => true,
+    }
+}
+
+// Where what stands between the quotes of a string or a name begins, where `end` is the place behind it.
+#[inline(always)]
+fn lent_from(event: Event<'_>, end: usize) -> usize
+    requires { length (token_bytes event) ≤ end }
+    ensures { result ≡ from_of event.entry end }
+{
+    match event {
+        Event::Str(s) | Event::Key(s) => end - 1 - s.raw_len(),
+        _ => 0,
     }
 }
 
@@ -165,16 +187,26 @@ pub fn read_document_with(alloc: Global, text: &str, rules: Rules) -> Result<Rc<
     ensures err { IfErr result (λ e. ReadingFailsWith (rules_of rules) text.now e.code e.place) }
 {
     let mut visitor = DocumentVisitor::new(alloc, text.len())?;
-    let mut parser = Parser::new(text).depth(rules.depth());
     let mut keys = OpenKeys::new(alloc);
+    let limit = rules.depth() as usize;
+    let mut kinds = Kinds::new();
+    let mut at = 0;
+    let mut spot = Spot::Value;
     'events: loop {
-        match parser.next_by::<HERE>()? {
+        let read = match step_by_spot(text, at, spot, limit, false, &mut kinds) {
+            Ok(read) => read,
+            Err(fault) => return Err(fault.error_in(text)),
+        };
+        match read.event {
             Event::End => break,
             event => {
-                check_names(rules, &mut keys, event, text, parser.index())?;
-                let _recorded = record_event(&mut visitor, event);
+                let from = lent_from(event, read.end);
+                let _recorded = record_event::<HERE>(&mut visitor, event, text.as_bytes(), from);
+                check_names(rules, &mut keys, event, text, read.end)?;
             }
         }
+        at = read.end;
+        spot = read.spot;
     }
     visitor.finish(alloc)
 }

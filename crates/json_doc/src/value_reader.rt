@@ -5,6 +5,7 @@ ghost use Rattle.json_text.specs.Errors.{no_memory};
 ghost use Rattle.json_text.specs.Events.{Means, raw_size};
 ghost use Rattle.json_text.specs.Parsing.{HasGiven, HasRead, IsWhole, SameInput};
 ghost use Rattle.json_doc.specs.Docs.{IsDocOf};
+ghost use Rattle.json_doc.specs.Lent.{EventIsLentBy};
 ghost use Rattle.json_doc.specs.OneValue.{HandedOut, ReadsValue, RefusesValue, levels_behind as spec_levels_behind};
 ghost use Rattle.json_doc.specs.Recorded.{visitor_state, Holds};
 
@@ -26,6 +27,16 @@ fn lent_len(event: Event<'_>) -> usize
         Event::Number(literal) => literal.len(),
         Event::Str(s) | Event::Key(s) => s.raw_len(),
         _ => 0,
+    }
+}
+
+// What the event lends of the text between quotes.
+fn lent_bytes(event: Event<'_>) -> &[u8]
+    ensures { EventIsLentBy event.entry result.now 0 }
+{
+    match event {
+        Event::Str(s) | Event::Key(s) => s.raw.as_bytes(),
+        _ => b"",
     }
 }
 
@@ -63,7 +74,7 @@ pub(crate) fn record_value<'a>(
     let mut levels = 0;
     'events: loop {
         visitor.make_room(lent_len(event))?;
-        let _recorded = record_event(visitor, event);
+        let _recorded = record_event::<HERE>(visitor, event, lent_bytes(event), 0);
         levels = levels_behind(event, levels);
         if levels == 0 {
             return Ok(());

@@ -1,105 +1,129 @@
-use Rattle.std.proofs.Common.{[], ◌∷◌, ◌++◌, ◌≡◌, Result, Ok, Err, sym, ap, ◌∙◌, subst, arith}
+use Rattle.std.proofs.Common.{[], ◌∷◌, ◌++◌, ◌≡◌, ◌+◌, Result, Ok, Err, None, false, refl, sym, subst, arith}
 use Rattle.std.proofs.lemmas.Result.{IfOk-weaker}
 use Rattle.std.specs.Result.{IsErrAnd, IfErr}
+use Rattle.json_grammar.specs.declared.Spot.TheVariants.{Value as at_value}
 use Rattle.json_text.specs.declared.error.Error.{Error}
-use Rattle.json_text.specs.declared.event.Event.{Event}
-use Rattle.json_text.specs.Parsing.{Goes}
+use Rattle.json_text.specs.Parsing.{state_of}
 use Rattle.json_text.specs.Ruled.{rules_of}
-use Rattle.json_doc.specs.Reading.{RefusesName}
+use Rattle.json_text.specs.Standing.{Stood}
+use Rattle.json_text.proofs.Stands.{stood_start}
+use Rattle.json_doc.specs.Reading.{ReadingFailsWith, RefusesName}
 use Rattle.json_doc.proofs.Keeping.{keeps_start, differ_start, next_token, next_number, next_begins, next_behind, goes_forward, next_fits, keeps_on, keeps_end, refused_fails, repeated_fails}
+use Rattle.json_text.proofs.Going.{is_lent}
+use Rattle.json_doc.specs.Lent.{EventIsLentBy}
+use Rattle.json_doc.proofs.Stepping.{stepped, ended, due_in, lent_in}
 use Rattle.json_doc.proofs.reader.read_document_with.Goals as goal
 
 pub events-init : goal.events-init
 events-init c =
     let v = c.in_ok-visitor.visitor in
     let q = c.in_ok-visitor.ensures in
-    let new = c.new-2.ensures in
-    let p = c.depth-parser.ensures in
+    let b = c.args.text.now in
+    let n = c.depth-limit.result in
     let r = rules_of c.args.rules in
-    ([], keeps_start r.limit c.depth-parser.result v c.args.text.now (ap (λ y. y.text) p.limit ∙ new.text) (ap (λ y. y.start) p.limit ∙ new.start.0) (ap (λ y. y.limit) p.limit ∙ c.depth.ensures.depth) (ap (λ y. y.lossy) p.limit ∙ new.strict) p.fresh.0 p.fresh.1 q.room q.held, differ_start r c.new-keys.result c.new-keys.ensures)
+    let stood = subst (λ k. Stood false n b 0 k at_value []) (sym c.new-kinds.ensures) (stood_start false n b) in
+    ([], keeps_start r.limit (state_of b 0 false n 0 c.new-kinds.result at_value None) v b refl refl c.depth-limit.ensures.depth refl stood refl q.room q.held, differ_start r c.new-keys.result c.new-keys.ensures, omega arith)
+
+pub returns-in-Err-clause-err : goal.returns-in-Err-clause-err
+returns-in-Err-clause-err c =
+    let k = c.events.invariant in let f = c.in-Err.fault in let l = c.events in let b = c.args.text.now in
+    let n = c.depth-limit.result in
+    subst (λ (e : Error). ReadingFailsWith (rules_of c.args.rules) b e.code e.place) (sym c.error_in.ensures)
+    (refused_fails (rules_of c.args.rules) (state_of b 0 false n l.at l.kinds l.spot None) l.visitor l.keys b k.0 _ k.1 k.2
+    (due_in b n l.at l.kinds l.spot f.code f.offset c.in-Err.ensures.err c.in-Err.ensures.needs))
+
+pub lent_from-from-requires : goal.lent_from-from-requires
+lent_from-from-requires c =
+    let l = c.events in let r = c.in-Ok.read in let s = stepped c.args.text.now c.depth-limit.result l.at r.end l.kinds c.step_by_spot.new.kinds l.spot r.spot r.event c.in-Ok.ensures.ok c.in-Ok.ensures.tight in
+    let behind = next_behind c.events.invariant.1 c.in_default.not-End s.goes s.tight s.same in
+    omega (arith, behind)
+
+pub record_event-recorded-requires-clause-lent : goal.record_event-recorded-requires-clause-lent
+record_event-recorded-requires-clause-lent c =
+    let l = c.events in let r = c.in-Ok.read in let s = stepped c.args.text.now c.depth-limit.result l.at r.end l.kinds c.step_by_spot.new.kinds l.spot r.spot r.event c.in-Ok.ensures.ok c.in-Ok.ensures.tight in
+    let k = c.events.invariant.1 in
+    let behind = next_behind k c.in_default.not-End s.goes s.tight s.same in
+    let on = goes_forward k c.in_default.not-End s.goes s.tight s.same in
+    let b = c.args.text.now in
+    let zeroth : 0 + r.end ≡ r.end = omega arith in
+    subst (λ y. EventIsLentBy r.event y c.lent_from-from.result) (sym c.as_bytes.ensures.value)
+    (subst (λ i. EventIsLentBy r.event b i) (sym c.lent_from-from.ensures)
+    (lent_in b (state_of b 0 false c.depth-limit.result r.end c.step_by_spot.new.kinds r.spot None) r.event r.end refl zeroth (omega (arith, behind)) (omega (arith, on.1)) (is_lent _ _ r.event s.tight)))
+
+pub record_event-recorded-requires-clause-number : goal.record_event-recorded-requires-clause-number
+record_event-recorded-requires-clause-number c =
+    let l = c.events in let r = c.in-Ok.read in let s = stepped c.args.text.now c.depth-limit.result l.at r.end l.kinds c.step_by_spot.new.kinds l.spot r.spot r.event c.in-Ok.ensures.ok c.in-Ok.ensures.tight in
+    next_number c.events.invariant.1 c.in_default.not-End s.goes s.tight s.same
+
+pub record_event-recorded-requires-clause-come : goal.record_event-recorded-requires-clause-come
+record_event-recorded-requires-clause-come c full =
+    let k = c.events.invariant in
+    let l = c.events in let r = c.in-Ok.read in let s = stepped c.args.text.now c.depth-limit.result l.at r.end l.kinds c.step_by_spot.new.kinds l.spot r.spot r.event c.in-Ok.ensures.ok c.in-Ok.ensures.tight in
+    let next = next_token k.1 c.in_default.not-End s.goes s.tight s.same in
+    (next.0, next.1, (k.0, k.1.follows.held full, next_begins k.1 c.in_default.not-End s.goes s.tight s.same))
 
 pub check_names-requires-clause-some : goal.check_names-requires-clause-some
 check_names-requires-clause-some c u = (_, (c.events.invariant.2 u).1)
 
 pub check_names-requires-clause-means : goal.check_names-requires-clause-means
 check_names-requires-clause-means c =
-    let e = c.in_ok-event.ensures in
-    let next = next_token c.events.invariant.1 c.in_default.not-End e.ok.2 e.tight e.same in
+    let l = c.events in let r = c.in-Ok.read in let s = stepped c.args.text.now c.depth-limit.result l.at r.end l.kinds c.step_by_spot.new.kinds l.spot r.spot r.event c.in-Ok.ensures.ok c.in-Ok.ensures.tight in
+    let next = next_token c.events.invariant.1 c.in_default.not-End s.goes s.tight s.same in
     (next.0, next.1)
 
 pub check_names-requires-clause-begins : goal.check_names-requires-clause-begins
 check_names-requires-clause-begins c =
-    let e = c.in_ok-event.ensures in
-    let behind = next_behind c.events.invariant.1 c.in_default.not-End e.ok.2 e.tight e.same in
+    let l = c.events in let r = c.in-Ok.read in let s = stepped c.args.text.now c.depth-limit.result l.at r.end l.kinds c.step_by_spot.new.kinds l.spot r.spot r.event c.in-Ok.ensures.ok c.in-Ok.ensures.tight in
+    let behind = next_behind c.events.invariant.1 c.in_default.not-End s.goes s.tight s.same in
     omega (arith, behind)
 
 pub check_names-requires-clause-within : goal.check_names-requires-clause-within
 check_names-requires-clause-within c =
-    let e = c.in_ok-event.ensures in
-    let on = goes_forward c.events.invariant.1 c.in_default.not-End e.ok.2 e.tight e.same in
+    let l = c.events in let r = c.in-Ok.read in let s = stepped c.args.text.now c.depth-limit.result l.at r.end l.kinds c.step_by_spot.new.kinds l.spot r.spot r.event c.in-Ok.ensures.ok c.in-Ok.ensures.tight in
+    let on = goes_forward c.events.invariant.1 c.in_default.not-End s.goes s.tight s.same in
     omega (arith, on.1)
-
-pub record_event-recorded-requires-clause-come : goal.record_event-recorded-requires-clause-come
-record_event-recorded-requires-clause-come c full =
-    let k = c.events.invariant in
-    let e = c.in_ok-event.ensures in
-    let next = next_token k.1 c.in_default.not-End e.ok.2 e.tight e.same in
-    (next.0, next.1, (k.0, k.1.follows.held full, next_begins k.1 c.in_default.not-End e.ok.2 e.tight e.same))
-
-pub record_event-recorded-requires-clause-number : goal.record_event-recorded-requires-clause-number
-record_event-recorded-requires-clause-number c = let e = c.in_ok-event.ensures in next_number c.events.invariant.1 c.in_default.not-End e.ok.2 e.tight e.same
-
-pub events-smaller : goal.events-smaller
-events-smaller c =
-    let e = c.in_ok-event.ensures in
-    let on = goes_forward c.events.invariant.1 c.in_default.not-End e.ok.2 e.tight e.same in
-    omega (arith, on.0, on.1)
 
 pub events-preserved : goal.events-preserved
 events-preserved c =
     let k = c.events.invariant in
-    let e = c.in_ok-event.ensures in
-    let next = next_token k.1 c.in_default.not-End e.ok.2 e.tight e.same in
-    let begins = next_begins k.1 c.in_default.not-End e.ok.2 e.tight e.same in
-    let fits = next_fits k.1 c.in_default.not-End e.ok.2 e.tight e.same in
-    let r = c.record_event-recorded.ensures in (
+    let l = c.events in let r = c.in-Ok.read in let s = stepped c.args.text.now c.depth-limit.result l.at r.end l.kinds c.step_by_spot.new.kinds l.spot r.spot r.event c.in-Ok.ensures.ok c.in-Ok.ensures.tight in
+    let next = next_token k.1 c.in_default.not-End s.goes s.tight s.same in
+    let begins = next_begins k.1 c.in_default.not-End s.goes s.tight s.same in
+    let fits = next_fits k.1 c.in_default.not-End s.goes s.tight s.same in
+    let on = goes_forward k.1 c.in_default.not-End s.goes s.tight s.same in
+    let f = c.record_event-recorded.ensures in (
       k.0 ++ next.0 ∷ [],
-      keeps_on k.1 c.in_default.not-End e.ok.2 e.tight e.same c.record_event-recorded.new.visitor (r.follows next.0 k.0 next.1 k.1.follows begins fits) (r.room next.0 next.1) e.ok.1,
+      keeps_on k.1 c.in_default.not-End s.goes s.tight s.same c.record_event-recorded.new.visitor (f.follows next.0 k.0 next.1 k.1.follows begins fits) (f.room next.0 next.1) refl,
       c.in_ok-check_names-in_default.ensures.ok next.0 k.0 next.1 k.2,
+      omega (arith, on.1),
     )
-
-pub finish-requires : goal.finish-requires
-finish-requires c =
-    let k = c.events.invariant in
-    let at_end = subst (λ (e : Event). Goes c.events.parser e c.next_by.new.self) c.in-End.is c.in_ok-event.ensures.ok.2 in
-    let t = keeps_end (rules_of c.args.rules) c.events.parser c.next_by.new.self c.events.visitor c.events.keys c.args.text.now k.0 k.1 k.2 at_end in
-    (t.0, t.3)
 
 err_is : {X : Type 0} (r : Result X Error) (e : Error) (P : Error → Type 0) → IsErrAnd r (λ x. x ≡ e) → P e → IfErr r P
 err_is (Ok x) e P h p = tt
 err_is (Err x) e P h p = subst P (sym h) p
 
-pub returns-in_err-event-clause-err : goal.returns-in_err-event-clause-err
-returns-in_err-event-clause-err c =
-    let k = c.events.invariant in
-    let e = c.in_err-event.field-0.0 in
-    err_is c.from_residual-in_err-event.result e _ c.from_residual-in_err-event.ensures.1
-    (refused_fails (rules_of c.args.rules) c.events.parser c.events.visitor c.events.keys c.args.text.now k.0 e k.1 k.2 (c.in_err-event.ensures.needs k.1.unfailed))
-
 pub returns-in_err-check_names-in_default-clause-err : goal.returns-in_err-check_names-in_default-clause-err
 returns-in_err-check_names-in_default-clause-err c =
     let k = c.events.invariant in
-    let n = c.in_ok-event.ensures in
+    let l = c.events in let r = c.in-Ok.read in let s = stepped c.args.text.now c.depth-limit.result l.at r.end l.kinds c.step_by_spot.new.kinds l.spot r.spot r.event c.in-Ok.ensures.ok c.in-Ok.ensures.tight in
     let e = c.in_err-check_names-in_default.field-0.0 in
     let h = c.in_err-check_names-in_default.ensures.err in
-    let event = c.in_ok-event.event in
+    let zeroth : r.end ≡ 0 + r.end = omega arith in
     err_is c.from_residual-in_err-check_names-in_default.result e _ c.from_residual-in_err-check_names-in_default.ensures.1
-    (repeated_fails (rules_of c.args.rules) c.events.parser c.next_by.new.self c.events.visitor c.events.keys c.args.text.now k.0 event e h.0 k.1 k.2 n.ok.2 n.tight n.same
-    (subst (λ j. RefusesName c.events.keys event c.args.text.now j e) c.index.ensures h.1))
+    (repeated_fails (rules_of c.args.rules) _ _ l.visitor l.keys c.args.text.now k.0 r.event e h.0 k.1 k.2 s.goes s.tight s.same (subst (λ j. RefusesName l.keys r.event c.args.text.now j e) zeroth h.1))
+
+pub finish-requires : goal.finish-requires
+finish-requires c =
+    let k = c.events.invariant in
+    let l = c.events in let r = c.in-Ok.read in let s = stepped c.args.text.now c.depth-limit.result l.at r.end l.kinds c.step_by_spot.new.kinds l.spot r.spot r.event c.in-Ok.ensures.ok c.in-Ok.ensures.tight in
+    let at_end = ended _ _ r.event c.in-End.is s.goes in
+    let t = keeps_end (rules_of c.args.rules) _ _ l.visitor l.keys c.args.text.now k.0 k.1 k.2 at_end in
+    (t.0, t.3)
 
 pub returns-clause-ok : goal.returns-clause-ok
 returns-clause-ok c =
     let k = c.events.invariant in
-    let at_end = subst (λ (e : Event). Goes c.events.parser e c.next_by.new.self) c.in-End.is c.in_ok-event.ensures.ok.2 in
-    let t = keeps_end (rules_of c.args.rules) c.events.parser c.next_by.new.self c.events.visitor c.events.keys c.args.text.now k.0 k.1 k.2 at_end in
+    let l = c.events in let r = c.in-Ok.read in let s = stepped c.args.text.now c.depth-limit.result l.at r.end l.kinds c.step_by_spot.new.kinds l.spot r.spot r.event c.in-Ok.ensures.ok c.in-Ok.ensures.tight in
+    let at_end = ended _ _ r.event c.in-End.is s.goes in
+    let t = keeps_end (rules_of c.args.rules) _ _ l.visitor l.keys c.args.text.now k.0 k.1 k.2 at_end in
     IfOk-weaker c.finish.result _ _ (λ d h. (t.0, t.1, t.2, h t.0 t.3)) c.finish.ensures.ok

@@ -1,0 +1,57 @@
+// Strings and keys that stand in an input.
+ghost use Rattle.std.specs.Prelude.{◌≡◌, List, ℕ, length, false, IsTrue, ◌↔◌};
+ghost use Rattle.std.specs.Bool.{OnTrue};
+ghost use Rattle.json_grammar.specs.Tree.{text_token, key_token};
+ghost use Rattle.json_grammar.specs.Grammar.{chars};
+ghost use Rattle.json_doc.specs.Lent.{IsLentBy};
+ghost use Rattle.json_doc.specs.Recorded.{visitor_state, Holds, TakesNoMemory};
+ghost use Rattle.json_doc.specs.State.{Fits, after_event, MayCome, HoldsMore};
+
+use super::DocumentVisitor;
+use json_text::Span;
+
+impl DocumentVisitor {
+    /// `visit_str`, of a string that stands in the input from `from` on.
+    #[inline(always)]
+    pub(crate) fn take_str(&mut self, s: Span<'_>, input: &[u8], from: usize) -> bool
+        requires come { (visitor_state self.old).full ≡ false
+            → (t : List ℕ) × chars s.lossy t s.raw.now × MayCome (Holds self.old) (text_token t) }
+        requires lent { IsLentBy s input.now from }
+        ensures answer { IsTrue result
+            ↔ Fits (visitor_state self.old) 1 (length s.entry.raw.now) }
+        ensures state { (t : List ℕ) → chars s.entry.lossy t s.entry.raw.now
+            → visitor_state self.new ≡ after_event result 1 (length t) (visitor_state self.old) }
+        ensures held { OnTrue result ((t : List ℕ) → chars s.entry.lossy t s.entry.raw.now
+            → HoldsMore (Holds self.old) (Holds self.new) (text_token t)) }
+        ensures memory { TakesNoMemory self.old self.new }
+    {
+        if !self.admit(1, s.raw_len()) {
+            return false;
+        }
+        let cell = self.push_text(s, input, from);
+        self.push(cell);
+        true
+    }
+
+    /// `visit_key`, of a key that stands in the input from `from` on.
+    #[inline(always)]
+    pub(crate) fn take_key(&mut self, s: Span<'_>, input: &[u8], from: usize) -> bool
+        requires come { (visitor_state self.old).full ≡ false
+            → (t : List ℕ) × chars s.lossy t s.raw.now × MayCome (Holds self.old) (key_token t) }
+        requires lent { IsLentBy s input.now from }
+        ensures answer { IsTrue result
+            ↔ Fits (visitor_state self.old) 1 (length s.entry.raw.now) }
+        ensures state { (t : List ℕ) → chars s.entry.lossy t s.entry.raw.now
+            → visitor_state self.new ≡ after_event result 1 (length t) (visitor_state self.old) }
+        ensures held { OnTrue result ((t : List ℕ) → chars s.entry.lossy t s.entry.raw.now
+            → HoldsMore (Holds self.old) (Holds self.new) (key_token t)) }
+        ensures memory { TakesNoMemory self.old self.new }
+    {
+        if !self.admit(1, s.raw_len()) {
+            return false;
+        }
+        let cell = self.push_text(s, input, from);
+        self.push(cell);
+        true
+    }
+}
