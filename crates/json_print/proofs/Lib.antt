@@ -1,4 +1,5 @@
 pub mod Pieces
+pub mod ShownParts
 pub mod Escapes
 pub mod Breaks
 pub mod Elements
@@ -24,6 +25,7 @@ pub mod RowPieces
 pub mod Layers
 pub mod Emptying
 pub mod Overlapping
+pub mod PlacedItems
 pub mod PlainBlocks
 pub mod Decimals
 pub mod ShownBytes

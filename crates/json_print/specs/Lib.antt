@@ -2,6 +2,7 @@ pub mod Calls
 pub mod Layouts
 pub mod Indents
 pub mod Shown
+pub mod Showing
 pub mod Styles
 pub mod Adding
 pub mod Buffered

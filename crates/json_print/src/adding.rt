@@ -53,7 +53,7 @@ fn add_rest<W: Sink>(sink: &mut W, piece: &[u8], from: usize) -> Added
 
 // Why a call of the sink failed, to a caller. It is built in place: an answer behind a call would be cleared at each token.
 #[inline(always)]
-fn refusal(error: SinkError) -> Error
+pub(crate) fn refusal(error: SinkError) -> Error
     ensures failed { error ≡ SinkError.Failed → result ≡ writing_failed }
     ensures no_memory { error ≡ SinkError.NoMemory → result ≡ no_memory }
 {

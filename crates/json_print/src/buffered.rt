@@ -3,9 +3,14 @@ ghost use Rattle.std.specs.Prelude.{◌≡◌, ◌≤◌, ◌+◌, ◌++◌, len
 ghost use Rattle.std.specs.Io.{WritesAtMost};
 ghost use Rattle.json_text.specs.Errors.{no_memory};
 ghost use Rattle.json_text.specs.Outside.{Writes};
+ghost use Rattle.std.specs.Prelude.{◌∷◌, [], IsTrue, Ok, false};
+ghost use Rattle.json_model.specs.Print.{quoted};
+ghost use Rattle.json_print.specs.Adding.{Adds};
 ghost use Rattle.json_print.specs.Buffered.{held_behind};
+ghost use Rattle.json_print.specs.Calls.{comma};
 
 use crate::adding::send;
+use crate::placing::{ITEM, place_item, place_key};
 use json_text::{Result, Sink, SinkError};
 use std::alloc::Global;
 use std::simd::prelude::*;
@@ -67,7 +72,7 @@ pub struct BufferedWriter<W> {
 
 // Copies a piece of N bytes up to twice as many, by two blocks that may overlap.
 #[inline(always)]
-fn fill_by<const N: usize>(buffer: &mut [u8], at: usize, piece: &[u8])
+pub(crate) fn fill_by<const N: usize>(buffer: &mut [u8], at: usize, piece: &[u8])
     requires lanes { N ≤ 64 }
     requires room { at + length piece.now ≤ length buffer.old }
     requires long { N ≤ length piece.now }
@@ -134,6 +139,48 @@ impl<W: Sink> BufferedWriter<W> {
             × (⟦<BufferedWriter<W> as Sink>⟧.state self ≡ held_behind (W.state result) held) }
     {
         self.inner
+    }
+
+    // Puts a short string that needs no escape behind a comma, unless it is the first, by one test of room. Where
+    // that cannot be done nothing is put.
+    #[inline(always)]
+    pub(crate) fn put_item(&mut self, first: bool, text: &[u8]) -> bool
+        ensures put { IsTrue result → Adds (⟦<BufferedWriter<W> as Sink>⟧.state self.old)
+            (⟦<BufferedWriter<W> as Sink>⟧.state self.new) (comma first ++ quoted text.now) (Ok tt) }
+        ensures kept { result ≡ false → ⟦<BufferedWriter<W> as Sink>⟧.state self.new
+            ≡ ⟦<BufferedWriter<W> as Sink>⟧.state self.old }
+    {
+        if CAPACITY - self.end < ITEM {
+            return false;
+        }
+        match place_item(&mut self.buffer, self.end, first, text) {
+            Some(end) => {
+                self.end = end;
+                true
+            }
+            None => false,
+        }
+    }
+
+    // The same of a key, with a colon behind it.
+    #[inline(always)]
+    pub(crate) fn put_key(&mut self, first: bool, key: &[u8]) -> bool
+        ensures put { IsTrue result → Adds (⟦<BufferedWriter<W> as Sink>⟧.state self.old)
+            (⟦<BufferedWriter<W> as Sink>⟧.state self.new)
+            (comma first ++ (quoted key.now ++ 58 ∷ [])) (Ok tt) }
+        ensures kept { result ≡ false → ⟦<BufferedWriter<W> as Sink>⟧.state self.new
+            ≡ ⟦<BufferedWriter<W> as Sink>⟧.state self.old }
+    {
+        if CAPACITY - self.end < ITEM {
+            return false;
+        }
+        match place_key(&mut self.buffer, self.end, first, key) {
+            Some(end) => {
+                self.end = end;
+                true
+            }
+            None => false,
+        }
     }
 
     // Sends what is held, and then takes the piece.

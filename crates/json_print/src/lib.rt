@@ -25,10 +25,12 @@ mod indent;
 mod layout;
 mod order;
 mod part;
+mod placing;
 mod plain;
 mod pretty;
 mod quoted;
 mod serializer;
+mod showing;
 mod shown;
 mod sorted;
 mod style;
@@ -40,4 +42,7 @@ pub use formatter::Formatter;
 pub use pretty::PrettyFormatter;
 pub use quoted::Quoted;
 pub use serializer::Serializer;
+pub use showing::{
+    Layout, ManyLines, OneLine, answered, show_piece, show_signed, show_text, show_unsigned,
+};
 pub use style::Style;

@@ -8,7 +8,7 @@ use std::simd::prelude::*;
 const LAST_CONTROL: u8 = 31;
 
 #[inline(always)]
-fn is_plain(byte: u8) -> bool
+pub(crate) fn is_plain(byte: u8) -> bool
     ensures { IsTrue result → IsPlain byte }
 {
     byte > LAST_CONTROL && byte != b'"' && byte != b'\\'
@@ -37,7 +37,7 @@ fn is_plain_block<const N: usize>(bytes: &[u8], at: usize) -> bool
 
 // Whether no byte has to be escaped, of N bytes up to twice as many, by two blocks that may overlap.
 #[inline(always)]
-fn is_plain_by<const N: usize>(text: &[u8]) -> bool
+pub(crate) fn is_plain_by<const N: usize>(text: &[u8]) -> bool
     requires lanes { N ≤ 64 }
     requires long { N ≤ length text.now }
     requires short { length text.now ≤ N + N }

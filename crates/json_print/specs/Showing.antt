@@ -1,0 +1,36 @@
+-- What showing a text by parts does to a sink.
+use Rattle.std.specs.Prelude.{◌≡◌, ℕ, ◌≤◌, List, [], ◌∷◌, ◌++◌, Bool, true, false, Option, Result, OnOk, OnErr, IsErrOf}
+use Rattle.json_model.specs.Print.{line, quoted, colon_bytes}
+use Rattle.json_print.specs.Calls.{comma}
+use Rattle.json_text.specs.Known.{Appends}
+use Rattle.json_text.specs.declared.sink.SinkError.{SinkError}
+use Rattle.json_text.specs.declared.sink.SinkError.TheVariants as sink_error
+use Rattle.json_text.specs.Outside.{SinkState, Rose}
+use Rattle.json_text.specs.Transfer.{AppendsFront}
+
+-- this text was added, or a front of it. Where the sink failed its count of that rose; memory can also be lacking before a call of it
+pub record Shows (old new : SinkState) (text : List ℕ) (result : Result (Unit {0}) SinkError) : Type 0 where
+  pub ok : OnOk result (Appends old.gained new.gained text)
+  pub err : OnErr result (AppendsFront old.gained new.gained text)
+  pub faults_ok : OnOk result (new.faults ≡ old.faults)
+  pub failed : IsErrOf result sink_error.Failed → Rose old.faults new.faults
+  pub lacking : IsErrOf result sink_error.NoMemory → new.faults ≡ old.faults
+  pub later : old.faults ≤ new.faults
+  pub same_loan : new.loan ≡ old.loan
+
+-- what stands before an element or a key: a comma unless it is the first, and a new line
+abbrev pub lead : Option (List ℕ) → ℕ → Bool → List ℕ
+lead i d first = comma first ++ line i d
+
+-- a closing bracket: on a line of its own, unless no element and no member came before it
+abbrev pub closed_by : Option (List ℕ) → ℕ → Bool → ℕ → List ℕ
+closed_by i d true x = x ∷ []
+closed_by i d false x = line i d ++ x ∷ []
+
+-- a key, and what stands before and behind it
+abbrev pub key_shown : Option (List ℕ) → ℕ → Bool → List ℕ → List ℕ
+key_shown i d first k = lead i d first ++ (quoted k ++ colon_bytes i)
+
+-- a string, and what stands before it as an element
+abbrev pub text_shown : Option (List ℕ) → ℕ → Bool → List ℕ → List ℕ
+text_shown i d first s = lead i d first ++ quoted s

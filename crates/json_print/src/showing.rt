@@ -1,0 +1,271 @@
+// The parts of a text whose places are known where they are written, so that nothing of them is kept.
+ghost use Rattle.std.specs.Prelude.{◌≡◌, ◌∷◌, ◌++◌, [], ℕ, List, Option, None, Some};
+ghost use Rattle.std.specs.Fmt.{decimal, signed_decimal};
+ghost use Rattle.json_model.specs.Print.{quoted, colon_bytes};
+ghost use Rattle.json_text.specs.Outside.{SinkState};
+ghost use Rattle.json_print.specs.Adding.{Adds};
+ghost use Rattle.json_print.specs.Calls.{comma};
+ghost use Rattle.json_print.specs.Showing.{Shows, lead, closed_by, key_shown, text_shown};
+ghost use Rattle.json_print.specs.TextWriting.{WritesText};
+
+use crate::BufferedWriter;
+use crate::adding::{Added, add, refusal};
+use crate::escape::{add_number, add_quoted, add_unsigned};
+use crate::indent::{Indent, add_break};
+use json_text::{Result, Sink};
+
+/// How the parts of a text are laid out: what stands before elements and keys, behind keys, and before closing brackets.
+pub trait Layout: Copy {
+    /// The indent, or none for no whitespace.
+    ghost indent: { Self → Option (List ℕ) };
+
+    /// Writes what stands before an element that is no string.
+    fn lead<W: Sink>(self, out: &mut BufferedWriter<W>, level: usize, first: bool) -> Added
+        ensures { Shows (⟦<BufferedWriter<W> as Sink>⟧.state out.old)
+            (⟦<BufferedWriter<W> as Sink>⟧.state out.new) (lead (indent self) level first) result };
+
+    /// Writes an element that is a string, and what stands before it.
+    fn element<W: Sink>(
+        self,
+        out: &mut BufferedWriter<W>,
+        level: usize,
+        first: bool,
+        text: &str,
+    ) -> Added
+        ensures { Shows (⟦<BufferedWriter<W> as Sink>⟧.state out.old)
+            (⟦<BufferedWriter<W> as Sink>⟧.state out.new)
+            (text_shown (indent self) level first text.now) result };
+
+    /// Writes a key, and what stands before it and behind it.
+    fn key<W: Sink>(
+        self,
+        out: &mut BufferedWriter<W>,
+        level: usize,
+        first: bool,
+        key: &str,
+    ) -> Added
+        ensures { Shows (⟦<BufferedWriter<W> as Sink>⟧.state out.old)
+            (⟦<BufferedWriter<W> as Sink>⟧.state out.new)
+            (key_shown (indent self) level first key.now) result };
+
+    /// Writes what stands behind a key.
+    fn colon<W: Sink>(self, out: &mut BufferedWriter<W>) -> Added
+        ensures { Shows (⟦<BufferedWriter<W> as Sink>⟧.state out.old)
+            (⟦<BufferedWriter<W> as Sink>⟧.state out.new) (colon_bytes (indent self)) result };
+
+    /// Writes a closing bracket, and what stands before it. `empty` says that no element and no member came.
+    fn close<W: Sink>(
+        self,
+        out: &mut BufferedWriter<W>,
+        level: usize,
+        empty: bool,
+        bracket: u8,
+    ) -> Added
+        ensures { Shows (⟦<BufferedWriter<W> as Sink>⟧.state out.old)
+            (⟦<BufferedWriter<W> as Sink>⟧.state out.new)
+            (closed_by (indent self) level empty bracket) result };
+}
+
+// A string behind a comma, unless it is the first.
+#[inline(never)]
+fn add_item<W: Sink>(out: &mut W, first: bool, text: &[u8]) -> Added
+    ensures { Adds (W.state out.old) (W.state out.new) (comma first ++ quoted text.now) result }
+{
+    if first {
+        return add_quoted(out, text);
+    }
+    add(out, b",")?;
+    add_quoted(out, text)
+}
+
+// The same of a key, with a colon behind it.
+#[inline(never)]
+fn add_key<W: Sink>(out: &mut W, first: bool, key: &[u8]) -> Added
+    ensures { Adds (W.state out.old) (W.state out.new)
+        (comma first ++ (quoted key.now ++ 58 ∷ [])) result }
+{
+    add_item(out, first, key)?;
+    add(out, b":")
+}
+
+/// No whitespace between the tokens.
+#[derive(Clone, Copy, Debug)]
+pub struct OneLine;
+
+impl Layout for OneLine {
+    ghost indent = { λ _. None };
+
+    #[inline(always)]
+    fn lead<W: Sink>(self, out: &mut BufferedWriter<W>, level: usize, first: bool) -> Added {
+        let _ = level;
+        if first { Ok(()) } else { add(out, b",") }
+    }
+
+    #[inline(always)]
+    fn element<W: Sink>(
+        self,
+        out: &mut BufferedWriter<W>,
+        level: usize,
+        first: bool,
+        text: &str,
+    ) -> Added {
+        let _ = level;
+        if out.put_item(first, text.as_bytes()) {
+            return Ok(());
+        }
+        add_item(out, first, text.as_bytes())
+    }
+
+    #[inline(always)]
+    fn key<W: Sink>(
+        self,
+        out: &mut BufferedWriter<W>,
+        level: usize,
+        first: bool,
+        key: &str,
+    ) -> Added {
+        let _ = level;
+        if out.put_key(first, key.as_bytes()) {
+            return Ok(());
+        }
+        add_key(out, first, key.as_bytes())
+    }
+
+    #[inline(always)]
+    fn colon<W: Sink>(self, out: &mut BufferedWriter<W>) -> Added {
+        add(out, b":")
+    }
+
+    #[inline(always)]
+    fn close<W: Sink>(
+        self,
+        out: &mut BufferedWriter<W>,
+        level: usize,
+        empty: bool,
+        bracket: u8,
+    ) -> Added {
+        let _ = (level, empty);
+        add(out, &[bracket])
+    }
+}
+
+/// Each element and each member on a line of its own, behind one indent for each container around it.
+#[derive(Clone, Copy, Debug)]
+pub struct ManyLines<'a> {
+    indent: Indent<'a>,
+}
+
+impl<'a> ManyLines<'a> {
+    /// With an indent of these bytes.
+    pub fn new(indent: &'a [u8]) -> ManyLines<'a>
+        ensures { ⟦<ManyLines<'a> as Layout>⟧.indent result ≡ Some indent.now }
+    {
+        ManyLines {
+            indent: Indent::new(indent),
+        }
+    }
+}
+
+impl Layout for ManyLines<'_> {
+    ghost indent = { λ s. Some s.indent.bytes.now };
+
+    #[inline(always)]
+    fn lead<W: Sink>(self, out: &mut BufferedWriter<W>, level: usize, first: bool) -> Added {
+        add_break(out, self.indent, level, first)
+    }
+
+    #[inline(always)]
+    fn element<W: Sink>(
+        self,
+        out: &mut BufferedWriter<W>,
+        level: usize,
+        first: bool,
+        text: &str,
+    ) -> Added {
+        add_break(out, self.indent, level, first)?;
+        add_quoted(out, text.as_bytes())
+    }
+
+    #[inline(always)]
+    fn key<W: Sink>(
+        self,
+        out: &mut BufferedWriter<W>,
+        level: usize,
+        first: bool,
+        key: &str,
+    ) -> Added {
+        add_break(out, self.indent, level, first)?;
+        add_quoted(out, key.as_bytes())?;
+        add(out, b": ")
+    }
+
+    #[inline(always)]
+    fn colon<W: Sink>(self, out: &mut BufferedWriter<W>) -> Added {
+        add(out, b": ")
+    }
+
+    #[inline(always)]
+    fn close<W: Sink>(
+        self,
+        out: &mut BufferedWriter<W>,
+        level: usize,
+        empty: bool,
+        bracket: u8,
+    ) -> Added {
+        if empty {
+            return add(out, &[bracket]);
+        }
+        add_break(out, self.indent, level, true)?;
+        add(out, &[bracket])
+    }
+}
+
+/// Writes a piece of the text as it is.
+#[inline(always)]
+pub fn show_piece<W: Sink>(out: &mut BufferedWriter<W>, piece: &[u8]) -> Added
+    ensures { Shows (⟦<BufferedWriter<W> as Sink>⟧.state out.old)
+        (⟦<BufferedWriter<W> as Sink>⟧.state out.new) piece.now result }
+{
+    add(out, piece)
+}
+
+/// Writes a string, between quotes and escaped.
+#[inline(always)]
+pub fn show_text<W: Sink>(out: &mut BufferedWriter<W>, text: &str) -> Added
+    ensures { Shows (⟦<BufferedWriter<W> as Sink>⟧.state out.old)
+        (⟦<BufferedWriter<W> as Sink>⟧.state out.new) (quoted text.now) result }
+{
+    if out.put_item(true, text.as_bytes()) {
+        return Ok(());
+    }
+    add_item(out, true, text.as_bytes())
+}
+
+/// Writes an integer from zero on.
+#[inline(always)]
+pub fn show_unsigned<W: Sink>(out: &mut BufferedWriter<W>, number: u64) -> Added
+    ensures { Shows (⟦<BufferedWriter<W> as Sink>⟧.state out.old)
+        (⟦<BufferedWriter<W> as Sink>⟧.state out.new) (decimal number) result }
+{
+    add_unsigned(out, number)
+}
+
+/// Writes an integer.
+#[inline(always)]
+pub fn show_signed<W: Sink>(out: &mut BufferedWriter<W>, number: i64) -> Added
+    ensures { Shows (⟦<BufferedWriter<W> as Sink>⟧.state out.old)
+        (⟦<BufferedWriter<W> as Sink>⟧.state out.new) (signed_decimal number) result }
+{
+    add_number(out, number)
+}
+
+/// The answer to a caller: why a call of the sink failed, or that memory was lacking.
+pub fn answered(shown: Added) -> Result<()>
+    ensures { (old new : SinkState) (text : List ℕ) → Shows old new text shown
+        → WritesText old new text result }
+{
+    match shown {
+        Ok(()) => Ok(()),
+        Err(error) => Err(refusal(error)),
+    }
+}
