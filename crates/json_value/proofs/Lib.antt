@@ -42,3 +42,4 @@ pub mod KeyOrders
 pub mod KeyFronts
 pub mod SortedGiven
 pub mod Walking
+pub mod ShownTrees

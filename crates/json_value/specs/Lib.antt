@@ -27,3 +27,4 @@ pub mod Lending
 pub mod Laws
 pub mod Failures
 pub mod EditTrees
+pub mod ShownNodes

@@ -35,6 +35,8 @@ mod pair;
 mod path;
 mod place;
 mod places;
+mod show_owned;
+mod show_packed;
 mod text;
 mod value;
 mod view;

@@ -16,7 +16,10 @@ ghost use Rattle.json_model.specs.Sort.{sorted};
 ghost use Rattle.json_value.specs.Edits.{steps_of};
 ghost use Rattle.json_value.specs.Steps.{child, tree_at, tree_or_null};
 ghost use Rattle.json_doc.specs.Docs.{doc_cells, doc_tree};
+ghost use Rattle.json_model.specs.Print.{shown};
+ghost use Rattle.json_print.specs.Showing.{Shows};
 ghost use Rattle.json_print.specs.Standing.{TakesValue};
+ghost use Rattle.json_print.specs.TextWriting.{WritesText};
 ghost use Rattle.json_print.specs.Given.{given_tokens};
 ghost use Rattle.json_value.specs.Emitting.{Emits, Walks, tree_given};
 ghost use Rattle.json_value.specs.EmittingSorted.{EmitsOrLacks, SortWalks};
@@ -31,12 +34,14 @@ use crate::index::Index;
 use crate::object_view::ObjectView;
 use crate::packed_view::PackedView;
 use crate::path::PointerNode;
+use crate::show_owned::show_value;
+use crate::show_packed::{Showed, show_document};
 use crate::value::Value;
 use crate::walk::{SortStopped, SortWalked, Stopped, Walked, taken};
 use json_doc::{Doc, DocView, JsonType};
 use json_number::Number;
-use json_print::Events;
-use json_text::{Error, ErrorCode, Place, Result};
+use json_print::{BufferedWriter, Events, Layout, answered, show_piece};
+use json_text::{Error, ErrorCode, Place, Result, Sink};
 use std::alloc::Global;
 
 #[derive(Clone, Copy)]
@@ -285,6 +290,16 @@ impl<'a> View<'a> {
         }
     }
 
+    /// Writes the text of the tree that is seen, in the layout. Fails as the writer's inner sink does, or with
+    /// `NoMemory`; a front of the text was written then.
+    pub fn print<W: Sink, L: Layout>(self, layout: L, out: &mut BufferedWriter<W>) -> Result<()>
+        ensures { WritesText (⟦<BufferedWriter<W> as Sink>⟧.state out.old)
+            (⟦<BufferedWriter<W> as Sink>⟧.state out.new)
+            (shown (L.indent layout) 0 (seen self.entry)) result }
+    {
+        answered(show(self, layout, out))
+    }
+
     /// Gives the tokens of the tree that is seen, with the members of each object in the order of their
     /// keys and those of one key in the order in which they stand, to `out`, as `emit` does. Takes memory
     /// for an object whose keys fall: 16 bytes a member, until its end was given. Where that is lacking
@@ -305,6 +320,18 @@ impl<'a> View<'a> {
                 place: Place::None,
             }),
         }
+    }
+}
+
+fn show<W: Sink, L: Layout>(view: View<'_>, layout: L, out: &mut BufferedWriter<W>) -> Showed
+    ensures { Shows (⟦<BufferedWriter<W> as Sink>⟧.state out.old)
+        (⟦<BufferedWriter<W> as Sink>⟧.state out.new)
+        (shown (L.indent layout) 0 (seen view.entry)) result }
+{
+    match view.form {
+        ViewForm::Packed(packed) => show_document(packed.view, layout, 0, out),
+        ViewForm::Whole(value) => show_value(value, layout, 0, out),
+        ViewForm::Absent => show_piece(out, b"null"),
     }
 }
 
