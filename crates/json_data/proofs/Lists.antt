@@ -41,6 +41,10 @@ opens {taken = taken} {stand = stand} {a = a} {b = b} {c = c} {x = x} i y z r =
       as_told = record { may = h.may; told = h.again };
     }
 
+pub still_in : {S : Type 0} {taken : S → List Tok → Type 0} {stand : S → Stand} {a b c : S} {ts : Trees}
+    → c ≡ b → InList taken stand a b ts → InList taken stand a c ts
+still_in {S = S} {taken = taken} {stand = stand} {a = a} {ts = ts} e w = subst (λ (s : S). InList taken stand a s ts) (sym e) w
+
 pub peeks_on : {S : Type 0} {taken : S → List Tok → Type 0} {stand : S → Stand} {a b c : S} {k : TokenKind} {ts : Trees}
     → InList taken stand a b ts → Peeks (stand b) (stand c) k → Takes taken b [] c → InList taken stand a c ts
 peeks_on {taken = taken} {a = a} {c = c} {ts = ts} w h z = record {

@@ -73,6 +73,10 @@ pub record InMember {S : Type 0} (taken : S → List Tok → Type 0) (stand : S 
   pub left : (stand b).left < (stand a).left
   pub as_told : AsTold (stand a) BeginObject
 
+pub still_in_pairs : {S : Type 0} {taken : S → List Tok → Type 0} {stand : S → Stand} {a b c : S} {ps : Pairs}
+    → c ≡ b → InPairs taken stand a b ps → InPairs taken stand a c ps
+still_in_pairs {S = S} {taken = taken} {stand = stand} {a = a} {ps = ps} e w = subst (λ (s : S). InPairs taken stand a s ps) (sym e) w
+
 pub opens_pairs : {S : Type 0} {taken : S → List Tok → Type 0} {stand : S → Stand} {a b c : S} {x : Tok} {k : TokenKind}
     → k ≡ BeginObject → Peeks (stand a) (stand b) k → Takes taken a [] b → TakesOne taken stand b c x → InPairs taken stand a c no_pairs
 opens_pairs {taken = taken} {stand = stand} {a = a} {b = b} {c = c} {x = x} i y z r =

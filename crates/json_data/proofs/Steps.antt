@@ -32,6 +32,11 @@ peek_tree {taken = taken} {stand = stand} {a = a} {b = b} {c = c} {t = t} h z r 
   as_told = told_before h r.as_told;
 }
 
+-- nothing was taken before
+pub from_same : {S : Type 0} {taken : S → List Tok → Type 0} {stand : S → Stand} {a b c : S} {t : Tree}
+    → b ≡ a → TakesTree taken stand b c t → TakesTree taken stand a c t
+from_same {S = S} {taken = taken} {stand = stand} {c = c} {t = t} e r = subst (λ (s : S). TakesTree taken stand s c t) e r
+
 -- the tree that was taken begins as was told
 pub peek_kind : {S : Type 0} {taken : S → List Tok → Type 0} {stand : S → Stand} {b c : S} {a : Stand} {k : TokenKind} {t : Tree}
     → Peeks a (stand b) k → TakesTree taken stand b c t → first_kind t ≡ k

@@ -1,7 +1,8 @@
 -- What a call of a source of tokens takes.
-use Rattle.std.specs.Prelude.{◌≡◌, ◌<◌, ◌≤◌, ℕ, List, [], ◌∷◌, ◌++◌, Bool, Option, Some, None, true, false}
+use Rattle.std.specs.Prelude.{◌≡◌, ◌<◌, ◌≤◌, ℕ, pos, List, [], ◌∷◌, ◌++◌, Bool, Option, Some, None, true, false}
 use Rattle.json_grammar.specs.declared.Kind.TheVariants.{Array as array, Object as object}
-use Rattle.json_grammar.specs.Tree.{Tree, Trees, Pairs, tokens, trees_tokens, pairs_tokens, Token as Tok, end}
+use Rattle.json_grammar.specs.Tree.{Tree, num, text as text_tree, Trees, Pairs, tokens, trees_tokens, pairs_tokens, Token as Tok, key_token, end}
+use Rattle.json_number.specs.Integers.{integer_in}
 use Rattle.json_text.specs.declared.error.Error.{Error}
 use Rattle.json_data.specs.declared.token.TokenKind.{TokenKind}
 use Rattle.json_data.specs.Kinds.{kind_of, first_kind}
@@ -73,6 +74,18 @@ pub record TakesTree {S : Type 0} (taken : S → List Tok → Type 0) (stand : S
   pub moves : Moves (stand a) (stand b) (behind_value (stand a).spot)
   pub as_told : AsTold (stand a) (first_kind t)
 
+-- an integer by value from 0 on was taken
+pub record TakesInteger {S : Type 0} (taken : S → List Tok → Type 0) (stand : S → Stand) (a b : S) (n : ℕ) : Type 0 where
+  pub literal : List ℕ
+  pub value : integer_in literal ≡ Some (pos n)
+  pub takes : TakesTree taken stand a b (num literal)
+
+-- a text of which a piece says what it is was taken
+pub record TakesText {S : Type 0} (taken : S → List Tok → Type 0) (stand : S → Stand) (says : List ℕ → Type 0) (a b : S) : Type 0 where
+  pub text : List ℕ
+  pub said : says text
+  pub takes : TakesTree taken stand a b (text_tree text)
+
 -- what is left of the innermost open container, its end included
 abbrev pub Rest : Spot → List Tok → Type 0
 Rest top xs = ⊥
@@ -99,6 +112,12 @@ pub record TakesOne {S : Type 0} (taken : S → List Tok → Type 0) (stand : S 
   pub takes : Takes taken a (x ∷ []) b
   pub moves : Moves (stand a) (stand b) (after (stand a).spot x)
   pub as_told : AsTold (stand a) (kind_of x)
+
+-- a name of which a piece says what it is was taken
+pub record TakesKey {S : Type 0} (taken : S → List Tok → Type 0) (stand : S → Stand) (says : List ℕ → Type 0) (a b : S) : Type 0 where
+  pub name : List ℕ
+  pub said : says name
+  pub takes : TakesOne taken stand a b (key_token name)
 
 -- it answered e, which is no refusal of a tree
 pub record Fails (a b : Stand) (e : Error) : Type 0 where

@@ -80,13 +80,21 @@ pub fn read_members<S: Lent, M: Members<S>, T: Tokens<S>>(
         return Err(refusal(ErrorCode::TypeUnmatched));
     }
     let _begin = tokens.next()?;
-    'each: while tokens.peek()? != TokenKind::EndObject {
+    'each: loop {
+        if let Some(key) = tokens.key() {
+            match read_member(alloc, members, key, tokens) {
+                Ok(()) => continue,
+                Err(e) => return Err(leave_after(tokens, e)),
+            }
+        }
+        if tokens.peek()? == TokenKind::EndObject {
+            let _end = tokens.next()?;
+            return Ok(());
+        }
         let key = next_key(tokens)?;
         match read_member(alloc, members, key, tokens) {
             Ok(()) => {}
             Err(e) => return Err(leave_after(tokens, e)),
         }
     }
-    let _end = tokens.next()?;
-    Ok(())
 }

@@ -8,7 +8,8 @@ ghost use Rattle.json_model.specs.Datum.{null_datum, boolean_datum, text_datum, 
 ghost use Rattle.json_data.specs.Reading.{read_boolean, read_unit, read_text, read_option, read_list, read_pair, read_any};
 ghost use Rattle.json_data.specs.Refusals.{is_refusal as spec_is_refusal};
 ghost use Rattle.json_data.specs.Spots.{IsOpen};
-ghost use Rattle.json_data.specs.Stand.{NotWhole, TakesTree, Leaves, Fails};
+ghost use Rattle.json_data.specs.Stand.{NotWhole, WantsValue, TakesTree, TakesText, Leaves, Fails};
+ghost use Rattle.json_data.specs.Reader.{Stops};
 
 use crate::deserialize::DeserializeFrom;
 use crate::lent::Lent;
@@ -54,6 +55,24 @@ pub(crate) fn next_text<S: Lent, T: Tokens<S>>(tokens: &mut T) -> Result<Piece<S
     }
 }
 
+// The text that comes next, or a refusal of another value.
+#[inline(always)]
+pub(crate) fn expect_text<S: Lent, T: Tokens<S>>(tokens: &mut T) -> Result<Piece<S>>
+    requires { WantsValue (T.stand tokens.old) }
+    ensures ok { IfOk result (λ p.
+        TakesText T.taken T.stand (λ s. Says s p.escaped (S.bytes p.text)) tokens.old tokens.new) }
+    ensures err { IfErr result (λ e. Stops T.taken T.stand read_text tokens.old tokens.new e) }
+{
+    if let Some(piece) = tokens.text() {
+        return Ok(piece);
+    }
+    if tokens.peek()? != TokenKind::Text {
+        tokens.skip()?;
+        return Err(refusal(ErrorCode::TypeUnmatched));
+    }
+    next_text(tokens)
+}
+
 impl<S: Lent> DeserializeFrom<S> for String {
     ghost datum = { λ s. text_datum (string_bytes s) };
 
@@ -61,11 +80,7 @@ impl<S: Lent> DeserializeFrom<S> for String {
 
     #[inline(always)]
     fn deserialize<T: Tokens<S>>(alloc: Global, tokens: &mut T) -> Result<String> {
-        if tokens.peek()? != TokenKind::Text {
-            tokens.skip()?;
-            return Err(refusal(ErrorCode::TypeUnmatched));
-        }
-        next_text(tokens)?.copy(alloc)
+        expect_text(tokens)?.copy(alloc)
     }
 }
 
@@ -166,7 +181,17 @@ impl<S: Lent, V: DeserializeFrom<S> + Drop> DeserializeFrom<S> for Vec<V> {
         }
         let _begin = tokens.next()?;
         let mut all = Vec::new(alloc);
-        while tokens.peek()? != TokenKind::EndArray {
+        'each: loop {
+            if let Some(item) = V::at_once(tokens) {
+                if all.push(item).is_err() {
+                    return Err(refusal(ErrorCode::NoMemory));
+                }
+                continue;
+            }
+            if tokens.peek()? == TokenKind::EndArray {
+                let _end = tokens.next()?;
+                return Ok(all);
+            }
             match V::deserialize(alloc, tokens) {
                 Ok(item) => {
                     if all.push(item).is_err() {
@@ -176,8 +201,6 @@ impl<S: Lent, V: DeserializeFrom<S> + Drop> DeserializeFrom<S> for Vec<V> {
                 Err(e) => return Err(leave_after(tokens, e)),
             }
         }
-        let _end = tokens.next()?;
-        Ok(all)
     }
 }
 

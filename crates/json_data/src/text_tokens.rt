@@ -1,11 +1,12 @@
 // The tokens of a text.
-ghost use Rattle.std.specs.Prelude.{◌≡◌, ◌≤◌, ◌^◌, length, List, [], true, false, Err, None, OnOk, IfOk, IfErr, IfSome, IsSome, IsTrue, false};
+ghost use Rattle.std.specs.Prelude.{◌≡◌, ◌≤◌, ◌^◌, length, List, [], true, false, Err, None, OnOk, IfOk, IfErr, IfSome, IsSome, IsTrue, MatchOption};
 ghost use Rattle.json_grammar.specs.Tree.{Tree, Token as Tok, tokens, depth};
 ghost use Rattle.json_value.specs.Denotes.{tree_of};
 ghost use Rattle.json_data.specs.Kinds.{StandsFor};
 ghost use Rattle.json_data.specs.TextValues.{IsPacked};
 ghost use Rattle.json_data.specs.Spots.{IsOpen, over};
-ghost use Rattle.json_data.specs.Stand.{NotWhole, WantsValue, Takes, Peeks, TakesOne, TakesTree, Leaves, Fails};
+ghost use Rattle.json_data.specs.Stand.{NotWhole, WantsValue, Takes, Peeks, TakesOne, TakesTree, TakesInteger, TakesText, TakesKey, Leaves, Fails};
+ghost use Rattle.json_data.specs.Pieces.{Says};
 ghost use Rattle.json_data.specs.Text.{IsFresh, text_taken, text_stand, TextFails, HasReadValue};
 ghost use Rattle.json_data.specs.declared.token.TokenKind.{TokenKind as Kind};
 ghost use Rattle.std.specs.Str.{IsCharBoundary};
@@ -13,8 +14,9 @@ ghost use Rattle.json_text.specs.Faults.{FaultFrom};
 ghost use Rattle.json_text.specs.Parsing.{input};
 ghost use Rattle.json_grammar.specs.Grammar.{is_text};
 
-use crate::ahead::{Ahead, read_ahead};
+use crate::ahead::{Ahead, piece, read_ahead};
 use crate::packed_value::packed_value;
+use crate::piece::Piece;
 use crate::token::{TokenKind, TokenOf};
 use crate::tokens::Tokens;
 use json_text::{Error, Event, Parser, Result};
@@ -224,6 +226,64 @@ impl<'a> TextTokens<'a> {
         }
     }
 
+    /// Whether neither an event waits nor an error was answered.
+    #[inline(always)]
+    fn is_clear(&self) -> bool
+        ensures ahead { result ≡ true → self.now.ahead ≡ None }
+        ensures failed { result ≡ true → self.now.failed ≡ None }
+    {
+        self.ahead.is_none() && self.failed.is_none()
+    }
+
+    /// Takes the next token where it is an integer from 0 to `most`.
+    #[inline(always)]
+    fn take_integer(&mut self, most: u64) -> Option<u64>
+        requires { NotWhole (text_stand self.old) }
+        ensures most { IfSome result (λ n. n ≤ most) }
+        ensures takes { MatchOption result (self.new ≡ self.old)
+            (TakesInteger text_taken text_stand self.old self.new) }
+    {
+        if !self.is_clear() {
+            return None;
+        }
+        if let Some(integer) = self.parser.next_integer(most) {
+            return Some(integer.value);
+        }
+        None
+    }
+
+    /// Takes the next token where it is a text.
+    #[inline(always)]
+    fn take_text(&mut self) -> Option<Piece<&'a str>>
+        requires { NotWhole (text_stand self.old) }
+        ensures { MatchOption result (self.new ≡ self.old) (λ p.
+            TakesText text_taken text_stand (λ s. Says s p.escaped p.text.now) self.old self.new) }
+    {
+        if !self.is_clear() {
+            return None;
+        }
+        if let Some(span) = self.parser.next_text() {
+            return Some(piece(span));
+        }
+        None
+    }
+
+    /// Takes the next token where it is a name.
+    #[inline(always)]
+    fn take_key(&mut self) -> Option<Piece<&'a str>>
+        requires { NotWhole (text_stand self.old) }
+        ensures { MatchOption result (self.new ≡ self.old) (λ p.
+            TakesKey text_taken text_stand (λ s. Says s p.escaped p.text.now) self.old self.new) }
+    {
+        if !self.is_clear() {
+            return None;
+        }
+        if let Some(span) = self.parser.next_key() {
+            return Some(piece(span));
+        }
+        None
+    }
+
     /// Takes the tokens of one tree, and answers a value of it.
     fn keep(&mut self, alloc: Global) -> Result<Value>
         requires { WantsValue (text_stand self.old) }
@@ -319,5 +379,20 @@ impl<'a> Tokens<&'a str> for TextTokens<'a> {
 
     fn leave(&mut self) -> Result<()> {
         self.close()
+    }
+
+    #[inline(always)]
+    fn integer(&mut self, most: u64) -> Option<u64> {
+        self.take_integer(most)
+    }
+
+    #[inline(always)]
+    fn text(&mut self) -> Option<Piece<&'a str>> {
+        self.take_text()
+    }
+
+    #[inline(always)]
+    fn key(&mut self) -> Option<Piece<&'a str>> {
+        self.take_key()
     }
 }

@@ -1,5 +1,5 @@
 // Integers of literals.
-ghost use Rattle.std.specs.Prelude.{◌≡◌, ◌<◌, ℕ, ◌^◌, ◌≤◌, ℤ, pos, List, Option, Some, None, true, length, drop, IfOk, IfErr};
+ghost use Rattle.std.specs.Prelude.{◌≡◌, ◌<◌, ℕ, ◌^◌, ◌≤◌, ℤ, pos, List, Option, Some, None, true, length, drop, IfOk, IfErr, IfSome, MatchOption};
 ghost use Rattle.std.specs.Str.{all_ascii_digits};
 ghost use Rattle.json_grammar.specs.Tree.{Tree, num};
 ghost use Rattle.json_grammar.specs.Grammar.{number};
@@ -176,6 +176,34 @@ pub(crate) fn fit(whole: Whole, low: u128, high: u128) -> Result<i128>
     }
 }
 
+/// The next integer from 0 to `most`, where it is found at once.
+#[inline(always)]
+pub(crate) fn integer_at_once<S: Lent, T: Tokens<S>>(tokens: &mut T, most: u64) -> Option<u64>
+    requires { NotWhole (T.stand tokens.old) }
+    ensures most { IfSome result (λ n. n ≤ most) }
+    ensures takes { MatchOption result (tokens.new ≡ tokens.old) (λ n. (low high : ℕ) → most < high
+        → Reads T.taken T.stand (read_integer (between low high)) tokens.old tokens.new
+        (gives (integer_datum (pos n)))) }
+{
+    match tokens.integer(most) {
+        Some(n) => Some(n),
+        None => None,
+    }
+}
+
+/// The most that is below high and has 64 bits.
+#[inline(always)]
+fn most_below(high: u128) -> u64
+    requires { 0 < high }
+    ensures { result < high }
+{
+    if high > 18446744073709551615 {
+        18446744073709551615
+    } else {
+        (high - 1) as u64
+    }
+}
+
 /// The next integer, from -low on and below high.
 #[inline(always)]
 pub(crate) fn read_between<S: Lent, T: Tokens<S>>(
@@ -185,7 +213,7 @@ pub(crate) fn read_between<S: Lent, T: Tokens<S>>(
 ) -> Result<i128>
     requires wants { WantsValue (T.stand tokens.old) }
     requires low { low ≤ 2 ^ 127 }
-    requires high { high ≤ 2 ^ 127 }
+    requires high { (0 < high) × (high ≤ 2 ^ 127) }
     ensures ok { IfOk result (λ n.
         Reads T.taken T.stand (read_integer (between low high)) tokens.old tokens.new
         (gives (integer_datum n))) }
@@ -193,6 +221,9 @@ pub(crate) fn read_between<S: Lent, T: Tokens<S>>(
     ensures err { IfErr result (λ e.
         Stops T.taken T.stand (read_integer (between low high)) tokens.old tokens.new e) }
 {
+    if let Some(n) = integer_at_once(tokens, most_below(high)) {
+        return Ok(n as i128);
+    }
     let whole = read_whole(tokens)?;
     match fit(whole, low, high) {
         Ok(n) => Ok(n),

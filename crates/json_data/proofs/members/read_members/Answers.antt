@@ -1,9 +1,9 @@
 use Rattle.std.proofs.Common.{◌≡◌, refl}
 use Rattle.json_grammar.specs.Tree.{pairs, no_pairs, pair_and}
-use Rattle.json_data.specs.declared.token.TokenKind.TheVariants.{BeginObject, EndObject}
+use Rattle.json_data.specs.declared.token.TokenKind.TheVariants.{BeginObject}
 use Rattle.json_data.proofs.Objects.{members-more, members-stop}
-use Rattle.json_data.proofs.Pairs.{join_pairs, opens_pairs, peeks_pairs, one_key, one_member, closes_pairs, stop_member}
-use Rattle.json_data.proofs.Told.{is_kind-ne}
+use Rattle.json_data.proofs.Pairs.{join_pairs, opens_pairs, still_in_pairs, peeks_pairs, one_key, one_member, closes_pairs, stop_member}
+use Rattle.json_data.proofs.Told.{is_kind, is_kind-ne}
 use Rattle.json_data.proofs.members.read_members.Goals as goal
 
 pub each-init : goal.each-init
@@ -11,33 +11,54 @@ each-init g c =
     let e : c.in_ok-peek.field-0 ≡ BeginObject = is_kind-ne _ _ _ c.ne.ensures c.if-ne.false in
     (no_pairs, opens_pairs e c.in_ok-peek.ensures.ok c.in_ok-peek.ensures.none c.in_ok-_begin.ensures.ok.2, refl)
 
+pub each-preserved-in-Ok : goal.each-preserved-in-Ok
+each-preserved-in-Ok g c =
+    let i = c.each.invariant in
+    let k = c.in-Some.ensures in
+    let w = one_key i.1 k.takes in
+    let s = g.M.Members.step in
+    let r = c.in-Ok.ensures.ok k.name k.said in (
+      join_pairs i.0 (pair_and k.name r.tree no_pairs),
+      one_member w r.takes,
+      members-more s i.0 k.name r.tree _ (g.M.Members.so_far c.each.members) _ i.2 r.answer,
+    )
+
 pub returns-in-Err-clause-err : goal.returns-in-Err-clause-err
 returns-in-Err-clause-err g c =
     let i = c.each.invariant in
-    let k = c.in_ok-key.ensures.ok in
-    let w = one_key (peeks_pairs i.1 c.in_ok-peek-2.ensures.ok c.in_ok-peek-2.ensures.none) k.2 in
+    let k = c.in-Some.ensures in
+    let w = one_key i.1 k.takes in
     let s = g.M.Members.step in
-    stop_member w (c.in-Err.ensures.err k.0 k.1) c.leave_after.ensures.left c.leave_after.ensures.as_was
-    (λ t qs h. members-stop s i.0 qs k.0 t _ (g.M.Members.so_far c.each.members) c.in-Err.e.code i.2 h)
+    stop_member w (c.in-Err.ensures.err k.name k.said) c.leave_after.ensures.left c.leave_after.ensures.as_was
+    (λ t qs h. members-stop s i.0 qs k.name t _ (g.M.Members.so_far c.each.members) c.in-Err.e.code i.2 h)
+
+pub returns-then-eq-clause-ok : goal.returns-then-eq-clause-ok
+returns-then-eq-clause-ok g c =
+    let i = c.each.invariant in
+    let w = still_in_pairs c.in_default.ensures i.1 in
+    record {
+      tree = pairs i.0;
+      takes = closes_pairs (is_kind _ _ _ c.eq.ensures c.if-eq.true) w c.in_ok-peek-2.ensures.ok c.in_ok-peek-2.ensures.none c.in_ok-_end.ensures.ok.2;
+      answer = i.2;
+    }
 
 pub each-preserved : goal.each-preserved
 each-preserved g c =
     let i = c.each.invariant in
     let k = c.in_ok-key.ensures.ok in
-    let w = one_key (peeks_pairs i.1 c.in_ok-peek-2.ensures.ok c.in_ok-peek-2.ensures.none) k.2 in
+    let w = one_key (peeks_pairs (still_in_pairs c.in_default.ensures i.1) c.in_ok-peek-2.ensures.ok c.in_ok-peek-2.ensures.none) k.2 in
     let s = g.M.Members.step in
-    let r = c.in-Ok.ensures.ok k.0 k.1 in (
+    let r = c.in-Ok-read_member.ensures.ok k.0 k.1 in (
       join_pairs i.0 (pair_and k.0 r.tree no_pairs),
       one_member w r.takes,
       members-more s i.0 k.0 r.tree _ (g.M.Members.so_far c.each.members) _ i.2 r.answer,
     )
 
-pub returns-clause-ok : goal.returns-clause-ok
-returns-clause-ok g c =
+pub returns-in-Err-read_member-clause-err : goal.returns-in-Err-read_member-clause-err
+returns-in-Err-read_member-clause-err g c =
     let i = c.each.invariant in
-    let e : c.in_ok-peek-2.field-0 ≡ EndObject = is_kind-ne _ _ _ c.ne-in-each.ensures c.if-ne-2.false in
-    record {
-      tree = pairs i.0;
-      takes = closes_pairs e i.1 c.in_ok-peek-2.ensures.ok c.in_ok-peek-2.ensures.none c.in_ok-_end.ensures.ok.2;
-      answer = i.2;
-    }
+    let k = c.in_ok-key.ensures.ok in
+    let w = one_key (peeks_pairs (still_in_pairs c.in_default.ensures i.1) c.in_ok-peek-2.ensures.ok c.in_ok-peek-2.ensures.none) k.2 in
+    let s = g.M.Members.step in
+    stop_member w (c.in-Err-read_member.ensures.err k.0 k.1) c.leave_after-in-Err-read_member.ensures.left c.leave_after-in-Err-read_member.ensures.as_was
+    (λ t qs h. members-stop s i.0 qs k.0 t _ (g.M.Members.so_far c.each.members) c.in-Err-read_member.e.code i.2 h)

@@ -1,0 +1,95 @@
+-- A token that is taken where it is found at once.
+use Rattle.std.proofs.Common.{◌≡◌, ◌≢◌, ◌-◌, ◌^◌, ◌<◌, ◌≤◌, ℕ, List, [], ◌∷◌, ◌++◌, length, get_or, drop, true, Option, Some, None, refl, ap, subst, arith, length-take, length-drop}
+use Rattle.std.proofs.lemmas.Bool.{and_parts}
+use Rattle.std.specs.Char.{is_ascii_digit}
+use Rattle.std.specs.Str.{all_ascii_digits}
+use Rattle.std.specs.Str.Parse.{digits_value}
+use Rattle.json_grammar.specs.Given.{piece}
+use Rattle.json_grammar.specs.Grammar.{chars}
+use Rattle.json_grammar.specs.Tree.{Token as Tok, num, num_token, text, text_token}
+use Rattle.json_text.specs.declared.error.Error.{Error}
+use Rattle.json_text.specs.declared.event.Event.{Event}
+use Rattle.json_text.specs.declared.event.Event.TheVariants as event
+use Rattle.json_text.specs.Events.{Means}
+use Rattle.json_text.specs.Parsing.{ParserState, HasGiven, SameInput, Goes, IsTight, IsWhole, HasRead}
+use Rattle.json_data.specs.Stand.{Peeks, TakesOne, TakesInteger, TakesText, TakesKey}
+use Rattle.json_data.specs.Text.{TextState, text_taken, text_stand, event_kind, ReadsAhead, IsReading}
+use Rattle.json_data.proofs.Digits.{plain_integer}
+use Rattle.json_data.proofs.Events.{reads_ahead}
+use Rattle.json_data.proofs.Steps.{scalar}
+use Rattle.json_data.proofs.TextSteps.{takes_none, takes_next}
+
+abbrev pub clear : ParserState → Option Error → TextState
+clear p f = record { parser = p; ahead = None; failed = f }
+
+-- an event was read, and its kind was told
+pub told_ahead : (p q : ParserState) (f : Option Error) (e : Event) → ReadsAhead p e q → Peeks (text_stand (clear p f)) (text_stand (record { parser = q; ahead = Some e; failed = f })) (event_kind e)
+told_ahead p q f e r =
+    let s = r.same in
+    let text = s.text in let start = s.start in let lossy = s.lossy in let limit = s.limit in
+    let n : length q.text ≡ length p.text = ap length s.text in
+    let go = r.forward in
+    let within = r.inside in
+    record {
+      input = cc;
+      spot = r.spot;
+      told = refl;
+      left = omega arith;
+      may = r.may;
+      again = λ j h. absurd (cc);
+    }
+
+-- an event was read and taken
+pub taken_at_once : (p q : ParserState) (f : Option Error) (e : Event) (ts : List Tok) → HasGiven p ts → ReadsAhead p e q
+    → (x : Tok) × Means e x × TakesOne text_taken text_stand (clear p f) (clear q f) x
+taken_at_once p q f e ts h r = takes_next (clear p f) q f e (event_kind e) (ts, r.goes ts h) (told_ahead p q f e r) (takes_none p q f f e r)
+
+some_bytes : (b : List ℕ) (i j : ℕ) (l : List ℕ) → i < j → j ≤ length b → piece b i j ≡ l → 0 < length l
+some_bytes b i j l h w e = omega (arith, ap length e, length-take (j - i) (drop i b), length-drop i b)
+
+no_minus : (l : List ℕ) → all_ascii_digits l ≡ true → 0 < length l → get_or l 0 0 ≢ 45
+no_minus [] d h = absurd (omega arith)
+no_minus (x ∷ l) d h = λ e.
+    let p : (is_ascii_digit x ≡ true) × (all_ascii_digits l ≡ true) = and_parts _ _ d in
+    let q : is_ascii_digit 45 ≡ true = subst (λ y. is_ascii_digit y ≡ true) e p.0 in
+    cc
+
+-- the source goes on behind it
+pub still_reading : (p q : ParserState) (e : Event) (ts : List Tok) → HasGiven p ts → ReadsAhead p e q → p.start ≤ p.index → (IsWhole q → HasRead q) → IsReading (clear q None)
+still_reading p q e ts h r o w =
+    let g = r.goes ts h in
+    let start = r.same.start in
+    let more = r.forward in
+    record { given = (ts ++ g.0 ∷ [], g.2); failed = tt; fresh = λ _. r.fresh; order = omega arith; read = w }
+
+pub number_read : (p q : ParserState) (l : _) (ts : List Tok) → HasGiven p ts → SameInput p q → Goes p (event.Number l) q → IsTight p (event.Number l) q → q.failure ≡ None → ReadsAhead p (event.Number l) q
+number_read p q l ts h s g t f = reads_ahead p q (event.Number l) ts h (λ e. absurd (cc)) s g t f
+
+pub text_read : (p q : ParserState) (l : _) (ts : List Tok) → HasGiven p ts → SameInput p q → Goes p (event.Str l) q → IsTight p (event.Str l) q → q.failure ≡ None → ReadsAhead p (event.Str l) q
+text_read p q l ts h s g t f = reads_ahead p q (event.Str l) ts h (λ e. absurd (cc)) s g t f
+
+pub key_read : (p q : ParserState) (l : _) (ts : List Tok) → HasGiven p ts → SameInput p q → Goes p (event.Key l) q → IsTight p (event.Key l) q → q.failure ≡ None → ReadsAhead p (event.Key l) q
+key_read p q l ts h s g t f = reads_ahead p q (event.Key l) ts h (λ e. absurd (cc)) s g t f
+
+pub integer_taken : (p q : ParserState) (f : Option Error) (l : _) (n : ℕ) (ts : List Tok) → HasGiven p ts → ReadsAhead p (event.Number l) q → IsTight p (event.Number l) q
+    → all_ascii_digits l.now ≡ true → n ≡ digits_value 10 l.now → n < 2 ^ 64 → TakesInteger text_taken text_stand (clear p f) (clear q f) n
+integer_taken p q f l n ts h r t d v s =
+    let x = taken_at_once p q f (event.Number l) ts h r in
+    let some : 0 < length l.now = some_bytes q.text t.begins q.index l.now t.order.1 t.within t.bytes in
+    record {
+      literal = l.now;
+      value = plain_integer l.now n (no_minus l.now d some) some d v s;
+      takes = scalar (num l.now) (num_token l.now) x.1 refl refl refl x.2;
+    }
+
+pub text_taken_at_once : (p q : ParserState) (f : Option Error) (l : _) (says : List ℕ → Type 0) (ts : List Tok) → HasGiven p ts → ReadsAhead p (event.Str l) q
+    → ((s : List ℕ) → chars l.lossy s l.raw.now → says s) → TakesText text_taken text_stand says (clear p f) (clear q f)
+text_taken_at_once p q f l says ts h r k =
+    let x = taken_at_once p q f (event.Str l) ts h r in
+    record { text = x.1.0; said = k x.1.0 x.1.1; takes = scalar (text x.1.0) (text_token x.1.0) x.1.2 refl refl refl x.2 }
+
+pub key_taken_at_once : (p q : ParserState) (f : Option Error) (l : _) (says : List ℕ → Type 0) (ts : List Tok) → HasGiven p ts → ReadsAhead p (event.Key l) q
+    → ((s : List ℕ) → chars l.lossy s l.raw.now → says s) → TakesKey text_taken text_stand says (clear p f) (clear q f)
+key_taken_at_once p q f l says ts h r k =
+    let x = taken_at_once p q f (event.Key l) ts h r in
+    record { name = x.1.0; said = k x.1.0 x.1.1; takes = subst (λ (y : Tok). TakesOne text_taken text_stand (clear p f) (clear q f) y) x.1.2 x.2 }
