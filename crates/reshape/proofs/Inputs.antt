@@ -28,7 +28,7 @@ utf8_cause : (b : List ℕ) (c : ErrorCode) (p : Place) → Utf8Cause b c p → 
 utf8_cause b code.InvalidUTF8 p h = (refl, h)
 utf8_cause b c p h = absurd h
 
-utf8_no_fault : (b : List ℕ) (k : ℕ) → IsValidUpTo b k → ¬ (IsUtf8 b)
+pub utf8_no_fault : (b : List ℕ) (k : ℕ) → IsValidUpTo b k → ¬ (IsUtf8 b)
 utf8_no_fault b k v u = v.longest (length b) v.short (subst IsUtf8 (sym (take_all (length b) b (omega arith))) u)
 
 one_utf8_at : (b : List ℕ) (c c' : ErrorCode) (p p' : Place) → Utf8Cause b c p → Utf8Cause b c' p' → Same c c' p p'

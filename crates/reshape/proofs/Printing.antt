@@ -60,6 +60,10 @@ module _ {F : Type 0} (m : Form F) (f : F) (w new : SinkState) (first now : Out 
 pub in_style : (old new : SinkState) (r : Result (Unit {0}) Error) (i j : Option (List ℕ)) (s z : Bool) (t : Tree) → i ≡ j → s ≡ z → WritesText old new (shown_as i s t) r → WritesText old new (shown_as j z t) r
 in_style old new r i j s z t e f h = subst (λ x. WritesText old new (shown_as j x t) r) f (subst (λ x. WritesText old new (shown_as x s t) r) e h)
 
+-- ... of an equal tree
+pub of_tree : (old new : SinkState) (r : Result (Unit {0}) Error) (i : Option (List ℕ)) (t u : Tree) → t ≡ u → WritesText old new (shown_as i false t) r → WritesText old new (shown_as i false u) r
+of_tree old new r i t u e h = subst (λ x. WritesText old new (shown_as i false x) r) e h
+
 -- ---- a flush behind it
 
 stop_cause : (old mid new : SinkState) (code : ErrorCode) (place : Place) → mid.faults ≡ old.faults → WritingCause mid new code place → StopCause old.faults new.faults code place

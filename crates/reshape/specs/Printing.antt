@@ -1,7 +1,5 @@
 -- What becomes of a sink to which a text is written and which is then flushed.
-use Rattle.std.specs.Prelude.{◌≡◌, ◌⊎◌, ℕ, ◌<◌, List, Bool, false, cond, Result, OnOk, OnErr, IfErr, IsErrOf}
-use Rattle.json_grammar.specs.Tree.{Tree}
-use Rattle.json_model.specs.Sort.{sorted}
+use Rattle.std.specs.Prelude.{◌≡◌, ◌⊎◌, ℕ, ◌<◌, List, false, Result, OnOk, OnErr, IfErr, IsErrOf}
 use Rattle.json_text.specs.declared.error.Error.{Error}
 use Rattle.json_text.specs.declared.error.ErrorCode.{ErrorCode}
 use Rattle.json_text.specs.declared.error.ErrorCode.TheVariants.{NoMemory, Io}
@@ -12,10 +10,6 @@ use Rattle.json_text.specs.Known.{Appends, append_known}
 use Rattle.json_text.specs.Outside.{SinkState, Rose}
 use Rattle.json_text.specs.Transfer.{AppendsFront}
 use Rattle.json_print.specs.Printer.{Begins, StopCause}
-
--- the tree, with the members of each object in the order of their keys where that is asked for
-abbrev pub as_asked : Bool → Tree → Tree
-as_asked sorts t = cond sorts (sorted t) t
 
 -- the text was written and flushed, or what was gained is a prefix of the old bytes and the text
 pub record SendsText (old new : SinkState) (text : List ℕ) (result : Result (Unit {0}) Error) : Type 0 where

@@ -1,81 +1,136 @@
 // The text of a value's tree, written to a sink.
-ghost use Rattle.std.specs.Prelude.{◌≡◌, ℕ, List, Option, None, false};
-ghost use Rattle.json_grammar.specs.Tree.{tokens};
-ghost use Rattle.json_print.specs.Given.{given_tokens};
+ghost use Rattle.std.specs.Prelude.{◌≡◌, ℕ, List, Option, true, false};
 ghost use Rattle.json_print.specs.Layouts.{LaidOut};
 ghost use Rattle.json_print.specs.Shown.{shown_as};
-ghost use Rattle.json_print.specs.Standing.{TakesValue};
-ghost use Rattle.json_print.specs.Styles.{printed};
+ghost use Rattle.json_print.specs.Styles.{is_sorted, printed};
 ghost use Rattle.json_print.specs.TextWriting.{WritesText};
+ghost use Rattle.json_text.specs.Outside.{SinkState};
 ghost use Rattle.json_value.specs.Denotes.{tree_of};
-ghost use Rattle.json_value.specs.Emitting.{tree_given};
-ghost use Rattle.json_value.specs.EmittingSorted.{EmitsOrLacks};
-ghost use Rattle.reshape.specs.Printing.{as_asked, Prints, SendsText};
+ghost use Rattle.reshape.specs.Printing.{Prints, SendsText};
 
 use json_print::{
-    Buffer, BufferedWriter, CompactFormatter, Events, Formatter, PrettyFormatter, Serializer, Style,
+    Buffer, BufferedWriter, CompactFormatter, Formatter, Layout, ManyLines, OneLine,
+    PrettyFormatter, Serializer, Style,
 };
 use json_text::{LentSink, Result, Sink, flush_all};
 use json_value::Value;
 use std::alloc::Global;
 
-// Gives the tokens of the value's tree, where it is asked for with the members of each object in the order of their keys.
-fn give<E: Events>(alloc: Global, value: &Value, sorts: bool, out: &mut E) -> Result<()>
-    requires { E.failed out.old ≡ None → TakesValue (E.stand (E.state out.old)).turn }
-    ensures given { EmitsOrLacks E.after E.stopped (E.state out.old) (E.state out.new)
-        (E.failed out.old) (E.failed out.new) (tree_given (as_asked sorts (tree_of value.now))) result }
-    ensures tokens { given_tokens (tree_given (as_asked sorts (tree_of value.now)))
-        ≡ tokens (as_asked sorts (tree_of value.now)) }
-{
-    if sorts {
-        value.view().emit_sorted(alloc, out)
-    } else {
-        value.view().emit(out)
-    }
-}
-
-// The text by the calls of a formatter that has written nothing. Gives the writer back.
-fn formatted<W: Sink, F: Formatter + Drop>(
+// The text with the members of each object in the order of their keys, by the calls of a formatter that has written nothing.
+// Gives the writer back.
+fn in_order<W: Sink, F: Formatter + Drop>(
     alloc: Global,
     value: &Value,
-    sorted: bool,
     formatter: F,
     writer: W,
 ) -> (W, Result<()>)
     requires fresh { F.fresh formatter }
     ensures text { (indent : Option (List ℕ)) → LaidOut F.form formatter indent 0 false
-        → WritesText (W.state writer) (W.state result.0) (shown_as indent sorted (tree_of value.now)) result.1 }
+        → WritesText (W.state writer) (W.state result.0) (shown_as indent true (tree_of value.now)) result.1 }
 {
     let mut out = Serializer::with_formatter(alloc, writer, formatter);
-    let went = give(alloc, value, sorted, &mut out);
+    let went = value.view().emit_sorted(alloc, &mut out);
     (out.into_inner(), went)
 }
 
-// The text in the style.
-fn styled<W: Sink>(alloc: Global, value: &Value, style: Style<'_>, writer: W) -> (W, Result<()>)
+// The same in the order in which the members stand.
+fn as_it_stands<W: Sink, L: Layout>(
+    value: &Value,
+    layout: L,
+    writer: BufferedWriter<W>,
+) -> (BufferedWriter<W>, Result<()>)
+    ensures text { WritesText (⟦<BufferedWriter<W> as Sink>⟧.state writer)
+        (⟦<BufferedWriter<W> as Sink>⟧.state result.0)
+        (shown_as (L.indent layout) false (tree_of value.now)) result.1 }
+{
+    let mut out = writer;
+    let went = value.view().print(layout, &mut out);
+    (out, went)
+}
+
+// The text in the style, sorted.
+fn styled_in_order<W: Sink>(
+    alloc: Global,
+    value: &Value,
+    style: Style<'_>,
+    writer: W,
+) -> (W, Result<()>)
+    requires { is_sorted style ≡ true }
     ensures text { WritesText (W.state writer) (W.state result.0)
         (printed style.entry (tree_of value.now)) result.1 }
 {
     match style.indent() {
-        None => formatted(alloc, value, style.sorted(), CompactFormatter, writer),
+        None => in_order(alloc, value, CompactFormatter, writer),
         Some(indent) => {
             let formatter = PrettyFormatter::with_indent(indent.as_bytes());
-            formatted(alloc, value, style.sorted(), formatter, writer)
+            in_order(alloc, value, formatter, writer)
         }
     }
 }
 
-// The text in the style, flushed.
-fn sent<W: Sink>(alloc: Global, value: &Value, style: Style<'_>, writer: W) -> (W, Result<()>)
-    ensures text { SendsText (W.state writer) (W.state result.0)
+// The text in the style, not sorted.
+fn styled_as_it_stands<W: Sink>(
+    value: &Value,
+    style: Style<'_>,
+    writer: BufferedWriter<W>,
+) -> (BufferedWriter<W>, Result<()>)
+    requires { is_sorted style ≡ false }
+    ensures text { WritesText (⟦<BufferedWriter<W> as Sink>⟧.state writer)
+        (⟦<BufferedWriter<W> as Sink>⟧.state result.0)
         (printed style.entry (tree_of value.now)) result.1 }
 {
-    let (mut writer, written) = styled(alloc, value, style, writer);
-    let flushed = match written {
-        Ok(()) => flush_all(&mut writer),
-        Err(error) => Err(error),
-    };
-    (writer, flushed)
+    match style.indent() {
+        None => as_it_stands(value, OneLine, writer),
+        Some(indent) => as_it_stands(value, ManyLines::new(indent.as_bytes()), writer),
+    }
+}
+
+// The text in the style.
+fn styled<W: Sink>(
+    alloc: Global,
+    value: &Value,
+    style: Style<'_>,
+    writer: BufferedWriter<W>,
+) -> (BufferedWriter<W>, Result<()>)
+    ensures text { WritesText (⟦<BufferedWriter<W> as Sink>⟧.state writer)
+        (⟦<BufferedWriter<W> as Sink>⟧.state result.0)
+        (printed style.entry (tree_of value.now)) result.1 }
+{
+    if style.sorted() {
+        styled_in_order(alloc, value, style, writer)
+    } else {
+        styled_as_it_stands(value, style, writer)
+    }
+}
+
+// Flushes the writer where the text was written.
+fn flushed<W: Sink>(writer: W, written: Result<()>) -> (W, Result<()>)
+    ensures { (old : SinkState) (text : List ℕ) → WritesText old (W.state writer) text written
+        → SendsText old (W.state result.0) text result.1 }
+{
+    match written {
+        Ok(()) => {
+            let mut out = writer;
+            let answer = flush_all(&mut out);
+            (out, answer)
+        }
+        Err(error) => (writer, Err(error)),
+    }
+}
+
+// The text in the style, flushed.
+fn sent<W: Sink>(
+    alloc: Global,
+    value: &Value,
+    style: Style<'_>,
+    writer: BufferedWriter<W>,
+) -> (BufferedWriter<W>, Result<()>)
+    ensures text { SendsText (⟦<BufferedWriter<W> as Sink>⟧.state writer)
+        (⟦<BufferedWriter<W> as Sink>⟧.state result.0)
+        (printed style.entry (tree_of value.now)) result.1 }
+{
+    let (writer, written) = styled(alloc, value, style, writer);
+    flushed(writer, written)
 }
 
 /// Writes the text of the value's tree in the style by pieces of at most 8,192 bytes, and flushes the sink. Where the sink failed

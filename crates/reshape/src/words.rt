@@ -3,9 +3,6 @@ ghost use Rattle.std.specs.Prelude.{◌≡◌, ◌≢◌, ◌⊎◌, List, IfOk,
 ghost use Rattle.json_text.specs.Errors.{no_memory, bad_words};
 ghost use Rattle.json_text.specs.declared.error.ErrorCode.TheVariants.{NoMemory};
 ghost use Rattle.json_model.specs.Edit.{Edit as TreeEdit};
-ghost use Rattle.json_text.specs.Ruled.{usual_rules};
-ghost use Rattle.json_value.specs.Denotes.{tree_of};
-ghost use Rattle.reshape.specs.Input.{IsInput};
 ghost use Rattle.reshape.specs.Words.{Spells, AsksEdits};
 ghost use Rattle.reshape.specs.Options.{IsAsked};
 ghost use Rattle.reshape.specs.Asked.{edits_of, AsksFor};
@@ -14,14 +11,10 @@ use crate::asked_style::AskedStyle;
 use crate::command::Asked;
 use crate::edits::Edits;
 use crate::options::{gather, made_asked};
-use json_data::from_value;
-use json_doc::read_document;
+use json_data::from_str;
 use json_text::{Error, ErrorCode, Place, Result, Words};
-use json_value::{Edit, Value};
+use json_value::Edit;
 use std::alloc::Global;
-
-/// The most bytes of a word.
-const MOST: usize = 4_294_967_295;
 
 /// The refusal of words that have another form.
 const BAD_WORDS: Error = Error {
@@ -42,29 +35,13 @@ fn refusal(code: ErrorCode) -> Error
     }
 }
 
-// The value of a word that is a text, by the usual rules.
-fn read_value(alloc: Global, word: &str) -> Result<Value>
-    ensures ok { IfOk result (λ v. IsInput usual_rules word.now (tree_of v)) }
-    ensures err { IfErr result (λ e. (e ≡ no_memory)
-        ⊎ ((e ≡ bad_words) × ((es : List TreeEdit) → ¬ (Spells word.now es)))) }
-{
-    if word.len() > MOST {
-        return Err(BAD_WORDS);
-    }
-    match read_document(alloc, word) {
-        Ok(doc) => Value::from_place(alloc, &doc, doc.root()),
-        Err(error) => Err(refusal(error.code)),
-    }
-}
-
-// The edits that a word spells.
+// The edits that a word spells, by the usual rules.
 fn read_word(alloc: Global, word: &str) -> Result<Edits>
     ensures ok { IfOk result (λ es. Spells word.now (edits_of es)) }
     ensures err { IfErr result (λ e. (e ≡ no_memory)
         ⊎ ((e ≡ bad_words) × ((es : List TreeEdit) → ¬ (Spells word.now es)))) }
 {
-    let value = read_value(alloc, word)?;
-    match from_value::<Vec<Edit>>(alloc, &value) {
+    match from_str::<Vec<Edit>>(alloc, word) {
         Ok(list) => Ok(Edits { list }),
         Err(error) => Err(refusal(error.code)),
     }
