@@ -1,9 +1,10 @@
 // Integers of few digits, by value.
-ghost use Rattle.std.specs.Prelude.{◌≡◌, ◌+◌, ◌<◌, ◌≤◌, true, false, length, IfSome};
+ghost use Rattle.std.specs.Prelude.{◌≡◌, ℕ, ◌+◌, ◌<◌, ◌≤◌, true, false, length, None, IfSome};
 ghost use Rattle.std.specs.Str.{all_ascii_digits};
 ghost use Rattle.std.specs.Str.Parse.{digits_value};
 ghost use Rattle.json_grammar.specs.Given.{piece};
-ghost use Rattle.json_text.specs.Numbers.{NumberTo, NoDigit};
+ghost use Rattle.json_text.specs.Numbers.{NumberTo, NoDigit, GoesOn};
+ghost use Rattle.json_text.specs.Nexts.{IsShortInteger};
 ghost use Rattle.json_text.specs.Runs.{ByteAt};
 
 use crate::runs::{byte_is, digit_is};
@@ -22,7 +23,9 @@ pub(crate) struct Digits {
 #[inline(always)]
 fn farthest(len: usize, from: usize) -> usize
     requires { from ≤ len }
-    ensures { (from ≤ result) × (result ≤ len) × (result ≤ from + 19) }
+    ensures within { (from ≤ result) × (result ≤ len) }
+    ensures few { result ≤ from + 19 }
+    ensures most { result < from + 19 → result ≡ len }
 {
     if len - from > MOST_DIGITS {
         from + MOST_DIGITS
@@ -38,6 +41,7 @@ fn few_digits(bytes: &[u8], from: usize) -> Digits
     ensures within { (from ≤ result.end) × (result.end ≤ length bytes.now) }
     ensures few { result.end ≤ from + 19 }
     ensures digits { all_ascii_digits (piece bytes.now from result.end) ≡ true }
+    ensures stop { result.end < from + 19 → NoDigit bytes.now result.end }
     ensures value { result.value ≡ digits_value 10 (piece bytes.now from result.end) }
 {
     let limit = farthest(bytes.len(), from);
@@ -57,6 +61,7 @@ fn goes_on(bytes: &[u8], at: usize) -> bool
     ensures dot { result ≡ false → ¬ (ByteAt bytes.now at 46) }
     ensures exponent { result ≡ false → ¬ (ByteAt bytes.now at 101) }
     ensures capital { result ≡ false → ¬ (ByteAt bytes.now at 69) }
+    ensures on { result ≡ true → GoesOn bytes.now at }
 {
     digit_is(bytes, at)
         || byte_is(bytes, at, b'.')
@@ -72,6 +77,7 @@ pub(crate) fn integer_at(bytes: &[u8], from: usize) -> Option<Digits>
     ensures some { IfSome result (λ d. (from < d.end) × (d.end ≤ from + 19)) }
     ensures digits { IfSome result (λ d. all_ascii_digits (piece bytes.now from d.end) ≡ true) }
     ensures value { IfSome result (λ d. d.value ≡ digits_value 10 (piece bytes.now from d.end)) }
+    ensures none { result ≡ None → (e : ℕ) → ¬ (IsShortInteger bytes.now from e) }
 {
     let digits = few_digits(bytes, from);
     if digits.end == from || goes_on(bytes, digits.end) {

@@ -116,23 +116,3 @@ impl Repaired {
         }
     }
 }
-
-#[cfg(test)]
-mod tests {
-    use super::*;
-    use std::test::Fail;
-
-    #[test]
-    fn places_of_a_repaired_text(rt: HostRuntime) -> std::result::Result<(), Fail> {
-        let repaired = repair(rt.alloc(), b"\"\xff\"")?;
-        assert_eq!(rt;
-            repaired.as_str().as_bytes(),
-            b"\x22\xef\xbf\xbd\x22".as_slice()
-        );
-        for (offset, origin) in [(0, 0), (1, 1), (3, 1), (4, 2), (5, 3)] {
-            assert!(rt; offset <= repaired.as_str().len());
-            assert_eq!(rt; repaired.origin(offset), origin);
-        }
-        Ok(())
-    }
-}

@@ -1,17 +1,19 @@
 // What may come at a place.
-ghost use Rattle.std.specs.Prelude.{◌≡◌, ◌≢◌, ℕ, Bool, ◌+◌, ◌<◌, ◌≤◌, List, length, get_or, IfOk, IfErr, None};
+ghost use Rattle.std.specs.Prelude.{◌≡◌, ◌≢◌, ℕ, Bool, ◌+◌, ◌<◌, ◌≤◌, List, length, get_or, IfOk, IfErr, IsOkAnd, None};
 ghost use Rattle.json_grammar.specs.declared.Kind.{Kind};
+ghost use Rattle.json_grammar.specs.declared.Spot.{Spot};
 ghost use Rattle.json_grammar.specs.declared.Spot.TheVariants as Spot;
 ghost use Rattle.json_grammar.specs.Tree.{Token};
 ghost use Rattle.json_grammar.specs.Grammar.{IsWhitespace, ws};
 ghost use Rattle.json_grammar.specs.Given.{piece};
 ghost use Rattle.json_grammar.specs.Needs.{IsGap};
-ghost use Rattle.json_grammar.specs.Place.{after_comma as spec_after_comma, closing as spec_closing};
+ghost use Rattle.json_grammar.specs.Place.{TakesEnd, after_comma as spec_after_comma, closing as spec_closing};
 ghost use Rattle.json_text.specs.Stack.{top};
 ghost use Rattle.json_text.specs.Runs.{ByteAt};
 ghost use Rattle.json_text.specs.Faults.{IsFault, IsInValue};
 ghost use Rattle.json_text.specs.Due.{NextNeeds};
 ghost use Rattle.json_text.specs.Standing.{Stood};
+ghost use Rattle.json_text.specs.Nexts.{NextAt, SpaceTo};
 ghost use Rattle.json_text.specs.Misplaced.{misplaced as spec_misplaced};
 
 use crate::error::ErrorCode;
@@ -75,6 +77,14 @@ pub fn ready(bytes: &[u8], index: usize, spot: Spot, kinds: &Kinds) -> Result<St
     ensures needs { (lossy : Bool)
         → IfErr result (λ f. NextNeeds lossy bytes.now index f.code f.offset) }
     ensures inside { IfErr result (λ f. IsInValue f.code) }
+    ensures next { IfOk result (λ r. r.spot ≢ Spot.Done
+        → NextAt bytes.now index kinds.now spot r.at r.spot) }
+    ensures only { (k : ℕ) (v : Spot) → NextAt bytes.now index kinds.now spot k v
+        → IsOkAnd result (λ r. (r.at ≡ k) × (r.spot ≡ v)) }
+    ensures ends { (k : Kind) → IfOk result (λ r. TakesEnd k r.spot
+        → SpaceTo bytes.now index r.at × (r.spot ≡ spot)) }
+    ensures stays { (k : ℕ) → spot ≢ Spot.Colon → SpaceTo bytes.now index k → ¬ (ByteAt bytes.now k 44)
+        → IsOkAnd result (λ r. (r.at ≡ k) × (r.spot ≡ spot)) }
 {
     let here = settle(bytes, index, spot);
     match spot {

@@ -88,6 +88,14 @@ pub(crate) fn string_at<'a>(text: &'a str, at: usize, lossy: bool) -> Result<Quo
 }
 
 /// One more part of a text, the offset in bytes behind it, and what may come there. The parser hands out the event.
+///
+/// ```
+/// use json_grammar::Spot;
+/// use json_text::{Event, Kinds, step};
+/// let mut kinds = Kinds::new();
+/// let read = step::<0>(" null ", 0, Spot::Value, 254, false, &mut kinds).ok().ok_or("no value")?;
+/// assert!(rt; matches!(read.event, Event::Null) && matches!(read.spot, Spot::Done) && read.end == 5);
+/// ```
 #[derive(Clone, Copy)]
 pub struct Read<'a> {
     pub event: Event<'a>,
@@ -171,7 +179,7 @@ fn string<'a>(text: &'a str, at: usize, lossy: bool) -> Result<Read<'a>, Fault>
 }
 
 #[inline(always)]
-fn opened(kind: Kind) -> Spot
+pub(crate) fn opened(kind: Kind) -> Spot
     ensures { result ≡ spec_opened kind }
 {
     match kind {

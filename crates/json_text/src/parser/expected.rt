@@ -1,9 +1,10 @@
 // Parts that are taken at once where they come next.
-ghost use Rattle.std.specs.Prelude.{◌≡◌, ◌≤◌, None, true, length, IfSome};
+ghost use Rattle.std.specs.Prelude.{◌≡◌, ◌≤◌, ◌↔◌, None, true, length, IsTrue, IfSome, OnSome};
 ghost use Rattle.std.specs.Str.{all_ascii_digits};
 ghost use Rattle.std.specs.Str.Parse.{digits_value};
 ghost use Rattle.json_text.specs.declared.event.Event.TheVariants as Event;
 ghost use Rattle.json_text.specs.Parsing.{SameInput, IsWhole, Goes, IsTight, HasRead};
+ghost use Rattle.json_text.specs.Nexts.{IntegerNext, TextNext, NameNext};
 ghost use Rattle.json_grammar.specs.Place.{TakesValue, TakesKey};
 
 use crate::integer::integer_at;
@@ -23,8 +24,8 @@ pub struct Integer<'a> {
 
 /// Whether a value may begin.
 #[inline(always)]
-fn takes_value(spot: Spot) -> bool
-    ensures { result ≡ true → TakesValue spot }
+pub(crate) fn takes_value(spot: Spot) -> bool
+    ensures { IsTrue result ↔ TakesValue spot }
 {
     match spot {
         Spot::Value | Spot::First => true,
@@ -35,7 +36,7 @@ fn takes_value(spot: Spot) -> bool
 /// Whether a name may begin.
 #[inline(always)]
 fn takes_key(spot: Spot) -> bool
-    ensures { result ≡ true → TakesKey spot }
+    ensures { IsTrue result ↔ TakesKey spot }
 {
     match spot {
         Spot::Key | Spot::KeyOrEnd => true,
@@ -44,8 +45,9 @@ fn takes_key(spot: Spot) -> bool
 }
 
 impl<'a> Parser<'a> {
-    /// Takes the next event where it is a number of at most 19 digits, without a sign, a fraction or an exponent, that is
-    /// at most `most`, and answers its value too. Else nothing is taken, and `next` tells what comes.
+    /// Takes the next event exactly where it is a number of at most 19 digits, without a sign, a fraction or an exponent,
+    /// that is at most `most`, and answers its value too. Where it answers none, no such number comes next and nothing is
+    /// taken: `next` tells what comes.
     ///
     /// ```
     /// use json_text::{Event, Parser};
@@ -69,6 +71,8 @@ impl<'a> Parser<'a> {
         ensures most { IfSome result (λ n. n.value ≤ most) }
         ensures reads { IfSome result (λ _. IsWhole self.new → HasRead self.new) }
         ensures kept { result ≡ None → self.new ≡ self.old }
+        ensures some { OnSome result (IntegerNext self.old most) }
+        ensures none { result ≡ None → ¬ (IntegerNext self.old most) }
     {
         let bytes = self.rest.as_bytes();
         let stand = match ready(bytes, self.at, self.spot, &self.kinds) {
@@ -93,7 +97,8 @@ impl<'a> Parser<'a> {
         })
     }
 
-    /// Takes the next event where it is a string that is a value. Else nothing is taken, and `next` tells what comes.
+    /// Takes the next event exactly where it is a string that is a value. Where it answers none, no string comes next as a
+    /// value, or one with a fault, and nothing is taken: `next` tells what comes.
     #[inline(always)]
     pub fn next_text(&mut self) -> Option<Span<'a>>
         requires fresh { self.old.failure ≡ None }
@@ -104,6 +109,8 @@ impl<'a> Parser<'a> {
         ensures tight { IfSome result (λ s. IsTight self.old (Event.Str s) self.new) }
         ensures reads { IfSome result (λ _. IsWhole self.new → HasRead self.new) }
         ensures kept { result ≡ None → self.new ≡ self.old }
+        ensures some { OnSome result (TextNext self.old) }
+        ensures none { result ≡ None → ¬ (TextNext self.old) }
     {
         let bytes = self.rest.as_bytes();
         let stand = match ready(bytes, self.at, self.spot, &self.kinds) {
@@ -122,7 +129,8 @@ impl<'a> Parser<'a> {
         Some(quote.span)
     }
 
-    /// Takes the next event where it is the name of a member. Else nothing is taken, and `next` tells what comes.
+    /// Takes the next event exactly where it is the name of a member. Where it answers none, no name comes next, or one with
+    /// a fault, and nothing is taken: `next` tells what comes.
     #[inline(always)]
     pub fn next_key(&mut self) -> Option<Span<'a>>
         requires fresh { self.old.failure ≡ None }
@@ -133,6 +141,8 @@ impl<'a> Parser<'a> {
         ensures tight { IfSome result (λ s. IsTight self.old (Event.Key s) self.new) }
         ensures reads { IfSome result (λ _. IsWhole self.new → HasRead self.new) }
         ensures kept { result ≡ None → self.new ≡ self.old }
+        ensures some { OnSome result (NameNext self.old) }
+        ensures none { result ≡ None → ¬ (NameNext self.old) }
     {
         let bytes = self.rest.as_bytes();
         let stand = match ready(bytes, self.at, self.spot, &self.kinds) {

@@ -1,12 +1,15 @@
 use Rattle.std.proofs.Common.{◌≡◌, ◌∙◌, ◌≤◌, [], ◌∷◌, ◌++◌, length, true, IsUtf8, Option, None, IfSome, refl, sym, ap, subst, arith, rules}
+use Rattle.std.proofs.lemmas.Bool.{both_ways}
 use Rattle.std.specs.Str.{all_ascii_digits}
 use Rattle.json_grammar.specs.declared.Spot.TheVariants.{Done as done}
 use Rattle.json_grammar.specs.Given.{piece}
 use Rattle.json_grammar.specs.Place.{TakesValue}
 use Rattle.json_grammar.specs.Tree.{num_token}
+use Rattle.json_grammar.proofs.Reading.{takes_not_done}
 use Rattle.json_text.specs.declared.error.Error.{Error}
 use Rattle.json_text.specs.declared.event.Event.TheVariants as event
 use Rattle.json_text.specs.Faults.{IsInValue}
+use Rattle.json_text.specs.Nexts.{IsShortInteger}
 use Rattle.json_text.specs.Numbers.{NumberTo}
 use Rattle.json_text.specs.Parsing.{ParserState}
 use Rattle.json_text.specs.Standing.{Stood}
@@ -14,6 +17,8 @@ use Rattle.json_text.proofs.Behind.{event_reads}
 use Rattle.json_text.proofs.Going.{to_rest, from_rest, within_text, takes_token}
 use Rattle.json_text.proofs.Integers.{begins_digit}
 use Rattle.json_text.proofs.Tokens.{stood_number, number_cut, number_cut_from, tight_number}
+use Rattle.json_text.proofs.NextParts.{next_rest, rest_next}
+use Rattle.json_text.proofs.ShortIntegers.{one_value, moved, moved_value}
 use Rattle.json_text.proofs.parser.Parser.next_integer.Goals as goal
 
 pub range-requires-clause-start_boundary : goal.range-requires-clause-start_boundary
@@ -40,7 +45,7 @@ invariant_of-self c =
     let s = c.self.inside in let v = c.self.invariant in let i = v.given in let g = c.as_bytes-bytes.ensures.value in let st = c.in-Ok.stand in let b = c.as_bytes-bytes.result.now in
     let e = c.in-Some.digits.end in
     let r = c.in-Ok.ensures.ok s.lossy s.limit i.0 (to_rest s.lossy s.limit s.start s.at s.text.now b s.kinds s.spot i.0 (g ∙ v.rest_is) i.1) in
-    let t : TakesValue st.spot = c.takes_value.ensures (search rules) in
+    let t : TakesValue st.spot = c.takes_value.ensures.0 (search rules) in
     let x = stood_number s.lossy s.limit b st.at e s.kinds st.spot i.0 r t c.in-Some.ensures.number in
     let o = v.order in
     let w = v.within in
@@ -60,7 +65,7 @@ pub returns-clause-ok : goal.returns-clause-ok
 returns-clause-ok c =
     let s = c.self.inside in let v = c.self.invariant in let g = c.as_bytes-bytes.ensures.value in let st = c.in-Ok.stand in let b = c.as_bytes-bytes.result.now in
     let e = c.in-Some.digits.end in
-    let t : TakesValue st.spot = c.takes_value.ensures (search rules) in
+    let t : TakesValue st.spot = c.takes_value.ensures.0 (search rules) in
     rw (← c.self.view_is)
     (λ ts h.
     let r = c.in-Ok.ensures.ok s.lossy s.limit ts (to_rest s.lossy s.limit s.start s.at s.text.now b s.kinds s.spot ts (g ∙ v.rest_is) h) in
@@ -83,3 +88,44 @@ returns-clause-reads c = λ w.
     let order : c.args.self.now.start ≤ c.args.self.now.index = subst (λ (p : ParserState). p.start ≤ p.index) c.self.view_is c.self.invariant.order in
     let same : c.self.inside.start ≡ c.args.self.now.start = ap (λ (p : ParserState). p.start) c.self.view_is in
     event_reads _ _ (event.Number c.range.result) (returns-clause-tight c) (λ is. absurd (cc)) (omega arith) w
+
+pub returns-then-not-takes_value-clause-none : goal.returns-then-not-takes_value-clause-none
+returns-then-not-takes_value-clause-none c = λ _. rw (← c.self.view_is) (λ h.
+    let s = c.self.inside in let b = c.as_bytes-bytes.result.now in let e = c.as_bytes-bytes.ensures.value ∙ c.self.invariant.rest_is in
+    let o = c.in-Ok.ensures.only h.at h.spot (next_rest s.text.now b s.start s.at h.at s.kinds s.spot h.spot e h.next) in
+    both_ways _ c.if-not-takes_value.true (c.takes_value.ensures.1 (subst TakesValue (sym o.1) h.takes)))
+
+pub returns-in-None-clause-none : goal.returns-in-None-clause-none
+returns-in-None-clause-none c = λ _. rw (← c.self.view_is) (λ h.
+    let s = c.self.inside in let b = c.as_bytes-bytes.result.now in let e = c.as_bytes-bytes.ensures.value ∙ c.self.invariant.rest_is in
+    let o = c.in-Ok.ensures.only h.at h.spot (next_rest s.text.now b s.start s.at h.at s.kinds s.spot h.spot e h.next) in
+    c.in-None.ensures.none refl h.to (moved b _ c.in-Ok.stand.at h.at h.to e o.0 h.integer))
+
+pub returns-then-digits-most-clause-none : goal.returns-then-digits-most-clause-none
+returns-then-digits-most-clause-none c = λ _. rw (← c.self.view_is) (λ h.
+    let s = c.self.inside in let b = c.as_bytes-bytes.result.now in let e = c.as_bytes-bytes.ensures.value ∙ c.self.invariant.rest_is in
+    let o = c.in-Ok.ensures.only h.at h.spot (next_rest s.text.now b s.start s.at h.at s.kinds s.spot h.spot e h.next) in
+    let at = c.in-Ok.stand.at in let d = c.in-Some.digits in let i = c.in-Some.ensures in
+    let n : IsShortInteger b at d.end = record { number = i.number; digits = i.digits; few = i.some.1 } in
+    let v = one_value b at d.end h.to d.value n (moved b _ at h.at h.to e o.0 h.integer) i.value in
+    let l = moved_value b _ at h.at h.to c.args.most e o.0 h.value in
+    let m = c.if-digits-most.true in
+    omega arith)
+
+pub returns-clause-some : goal.returns-clause-some
+returns-clause-some c =
+    let s = c.self.inside in let b = c.as_bytes-bytes.result.now in let e = c.as_bytes-bytes.ensures.value ∙ c.self.invariant.rest_is in
+    let st = c.in-Ok.stand in let d = c.in-Some.digits in let i = c.in-Some.ensures in
+    let t : TakesValue st.spot = c.takes_value.ensures.0 (search rules) in
+    let n : IsShortInteger b st.at d.end = record { number = i.number; digits = i.digits; few = i.some.1 } in
+    let l : d.value ≤ c.args.most = search rules in
+    rw (← c.self.view_is)
+    (record {
+      at = st.at;
+      spot = st.spot;
+      next = rest_next s.text.now b s.start s.at st.at s.kinds s.spot st.spot e (c.in-Ok.ensures.next (takes_not_done t));
+      takes = t;
+      to = d.end;
+      integer = moved _ b st.at st.at d.end (sym e) refl n;
+      value = moved_value _ b st.at st.at d.end c.args.most (sym e) refl (subst (λ v. v ≤ c.args.most) i.value l);
+    })

@@ -5,6 +5,7 @@ use Rattle.json_grammar.specs.Grammar.{chars}
 use Rattle.json_grammar.specs.Needs.{IsGap}
 use Rattle.json_grammar.specs.Place.{TakesValue}
 use Rattle.json_grammar.specs.Tree.{text_token}
+use Rattle.json_grammar.proofs.Reading.{takes_not_done}
 use Rattle.json_text.specs.declared.error.Error.{Error}
 use Rattle.json_text.specs.declared.event.Event.TheVariants as event
 use Rattle.json_text.specs.Faults.{IsInValue}
@@ -14,6 +15,8 @@ use Rattle.json_text.specs.Standing.{Stood}
 use Rattle.json_text.proofs.Behind.{event_reads}
 use Rattle.json_text.proofs.Going.{to_rest, from_rest, within_text, takes_token}
 use Rattle.json_text.proofs.Tokens.{stood_text, tight_quoted}
+use Rattle.json_text.proofs.NextParts.{next_rest, rest_next}
+use Rattle.json_text.proofs.NoString.{stops_no_string, moved_string}
 use Rattle.json_text.proofs.parser.Parser.next_text.Goals as goal
 
 pub string_at-requires : goal.string_at-requires
@@ -25,7 +28,7 @@ invariant_of-self c =
     let e = c.in-Ok-string_at.quote.end in
     let q = c.in-Ok-string_at.ensures.ok in
     let r = c.in-Ok.ensures.ok s.lossy s.limit i.0 (to_rest s.lossy s.limit s.start s.at s.text.now c.as_bytes-bytes.result.now s.kinds s.spot i.0 (g ∙ v.rest_is) i.1) in
-    let t : TakesValue st.spot = c.takes_value.ensures (search rules) in
+    let t : TakesValue st.spot = c.takes_value.ensures.0 (search rules) in
     let x = stood_text s.lossy s.limit b c.in-Ok-string_at.quote.span.raw.now st.at e s.kinds st.spot i.0 (subst (λ b. Stood s.lossy s.limit b st.at s.kinds st.spot i.0) g r) t q in
     let o = v.order in
     let w = v.within in
@@ -45,7 +48,7 @@ returns-clause-ok c =
     let s = c.self.inside in let v = c.self.invariant in let g = c.as_bytes-bytes.ensures.value in let st = c.in-Ok.stand in let b = s.rest.now in
     let e = c.in-Ok-string_at.quote.end in
     let q = c.in-Ok-string_at.ensures.ok in
-    let t : TakesValue st.spot = c.takes_value.ensures (search rules) in
+    let t : TakesValue st.spot = c.takes_value.ensures.0 (search rules) in
     rw (← c.self.view_is)
     (λ ts h.
     let r = c.in-Ok.ensures.ok s.lossy s.limit ts (to_rest s.lossy s.limit s.start s.at s.text.now c.as_bytes-bytes.result.now s.kinds s.spot ts (g ∙ v.rest_is) h) in
@@ -69,3 +72,26 @@ returns-clause-reads c = λ w.
     let order : c.args.self.now.start ≤ c.args.self.now.index = subst (λ (p : ParserState). p.start ≤ p.index) c.self.view_is c.self.invariant.order in
     let same : c.self.inside.start ≡ c.args.self.now.start = ap (λ (p : ParserState). p.start) c.self.view_is in
     event_reads _ _ (event.Str c.in-Ok-string_at.quote.span) (returns-clause-tight c) (λ is. absurd (cc)) (omega arith) w
+
+pub returns-in-Err-string_at-clause-none : goal.returns-in-Err-string_at-clause-none
+returns-in-Err-string_at-clause-none c = λ _. rw (← c.self.view_is) (λ h.
+    let s = c.self.inside in let e = c.self.invariant.rest_is in let g = c.as_bytes-bytes.ensures.value in let at = c.in-Ok.stand.at in
+    let o = c.in-Ok.ensures.only h.at h.spot (next_rest s.text.now c.as_bytes-bytes.result.now s.start s.at h.at s.kinds s.spot h.spot (g ∙ e) h.next) in
+    let f = c.in-Err-string_at.field-0 in
+    let q = subst (λ b. ByteAt b at 34) g (c.byte_is.ensures.0 (search rules)) in
+    stops_no_string s.lossy s.rest.now h.raw at f.offset h.to f.code q c.in-Err-string_at.ensures.err (moved_string s.lossy s.rest.now _ h.raw at h.at h.to e o.0 h.string))
+
+pub returns-clause-some : goal.returns-clause-some
+returns-clause-some c =
+    let s = c.self.inside in let b = s.rest.now in let e = c.self.invariant.rest_is in let g = c.as_bytes-bytes.ensures.value in let st = c.in-Ok.stand in let q = c.in-Ok-string_at.quote in
+    let t : TakesValue st.spot = c.takes_value.ensures.0 (search rules) in
+    rw (← c.self.view_is)
+    (record {
+      at = st.at;
+      spot = st.spot;
+      next = rest_next s.text.now c.as_bytes-bytes.result.now s.start s.at st.at s.kinds s.spot st.spot (g ∙ e) (c.in-Ok.ensures.next (takes_not_done t));
+      takes = t;
+      raw = q.span.raw.now;
+      to = q.end;
+      string = moved_string s.lossy _ b q.span.raw.now st.at st.at q.end (sym e) refl c.in-Ok-string_at.ensures.ok;
+    })
