@@ -21,10 +21,6 @@ mod node;
 mod open_keys;
 mod pairs;
 mod reader;
-#[cfg(test)]
-mod rules_tests;
-#[cfg(test)]
-mod tests;
 mod value_reader;
 mod view;
 mod visitor;

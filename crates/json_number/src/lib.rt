@@ -16,8 +16,6 @@ pub mod laws;
 mod number;
 mod number_from;
 mod raw_number;
-#[cfg(test)]
-mod tests;
 
 pub use integer::{integer_of, integer_of_by};
 pub use json_number_trait::JsonNumberTrait;

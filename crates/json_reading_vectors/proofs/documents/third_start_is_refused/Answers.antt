@@ -6,7 +6,7 @@ use Rattle.json_doc.specs.Awaited.{Begins}
 use Rattle.json_doc.specs.State.{VisitorState, after_event, HoldsMore}
 use Rattle.json_doc.specs.Recorded.{visitor_state, Holds}
 use Rattle.json_doc.specs.declared.document_visitor.DocumentVisitor.{DocumentVisitor}
-use Rattle.json_doc.proofs.tests.third_start_is_refused.Goals as goal
+use Rattle.json_reading_vectors.proofs.documents.third_start_is_refused.Goals as goal
 
 nested : Tree → Tree
 nested t = list (tree_and t no_trees)
