@@ -15,6 +15,18 @@ use crate::indent::{Indent, add_break};
 use json_text::{Result, Sink};
 
 /// How the parts of a text are laid out: what stands before elements and keys, behind keys, and before closing brackets.
+///
+/// ```
+/// use json_print::{BufferedWriter, Layout, ManyLines, answered, show_unsigned};
+/// use json_text::{VecSink, flush_all};
+/// let mut out = BufferedWriter::new(alloc, VecSink::new(alloc))?;
+/// let lines = ManyLines::new(b"  ");
+/// answered(lines.key(&mut out, 1, true, "born"))?;
+/// answered(show_unsigned(&mut out, 1815))?;
+/// answered(lines.element(&mut out, 1, false, "Ada"))?;
+/// flush_all(&mut out)?;
+/// assert_eq!(rt; out.into_inner().as_slice(), b"\n  \"born\": 1815,\n  \"Ada\"".as_slice());
+/// ```
 pub trait Layout: Copy {
     /// The indent, or none for no whitespace.
     ghost indent: { Self → Option (List ℕ) };
