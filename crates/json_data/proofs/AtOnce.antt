@@ -4,14 +4,18 @@ use Rattle.std.proofs.lemmas.Bool.{and_parts}
 use Rattle.std.specs.Char.{is_ascii_digit}
 use Rattle.std.specs.Str.{all_ascii_digits}
 use Rattle.std.specs.Str.Parse.{digits_value}
+use Rattle.json_grammar.specs.declared.Kind.{Kind}
+use Rattle.json_grammar.specs.declared.Kind.TheVariants.{Array as array, Object as object}
 use Rattle.json_grammar.specs.Given.{piece}
 use Rattle.json_grammar.specs.Grammar.{chars}
-use Rattle.json_grammar.specs.Tree.{Token as Tok, num, num_token, text, text_token}
+use Rattle.json_grammar.specs.Tree.{Token as Tok, num, num_token, text, text_token, begin, end}
 use Rattle.json_text.specs.declared.error.Error.{Error}
 use Rattle.json_text.specs.declared.event.Event.{Event}
 use Rattle.json_text.specs.declared.event.Event.TheVariants as event
 use Rattle.json_text.specs.Events.{Means}
 use Rattle.json_text.specs.Parsing.{ParserState, HasGiven, SameInput, Goes, IsTight, IsWhole, HasRead}
+use Rattle.json_text.specs.Tokens.{begin_event, end_event}
+use Rattle.json_text.proofs.Bracketed.{begin_is_event, end_is_event}
 use Rattle.json_data.specs.Stand.{Peeks, TakesOne, TakesInteger, TakesText, TakesKey}
 use Rattle.json_data.specs.Text.{TextState, text_taken, text_stand, event_kind, ReadsAhead, IsReading}
 use Rattle.json_data.proofs.Digits.{plain_integer}
@@ -93,3 +97,29 @@ pub key_taken_at_once : (p q : ParserState) (f : Option Error) (l : _) (says : L
 key_taken_at_once p q f l says ts h r k =
     let x = taken_at_once p q f (event.Key l) ts h r in
     record { name = x.1.0; said = k x.1.0 x.1.1; takes = subst (λ (y : Tok). TakesOne text_taken text_stand (clear p f) (clear q f) y) x.1.2 x.2 }
+
+-- ---- brackets
+
+pub begin_read : (p q : ParserState) (k : Kind) (ts : List Tok) → HasGiven p ts → SameInput p q → Goes p (begin_event k) q → IsTight p (begin_event k) q → q.failure ≡ None → ReadsAhead p (begin_event k) q
+begin_read p q k ts h s g t f = reads_ahead p q (begin_event k) ts h (begin_is_event k) s g t f
+
+pub end_read : (p q : ParserState) (k : Kind) (ts : List Tok) → HasGiven p ts → SameInput p q → Goes p (end_event k) q → IsTight p (end_event k) q → q.failure ≡ None → ReadsAhead p (end_event k) q
+end_read p q k ts h s g t f = reads_ahead p q (end_event k) ts h (end_is_event k) s g t f
+
+means_begin : (k : Kind) (x : Tok) → Means (begin_event k) x → x ≡ begin k
+means_begin array x m = m
+means_begin object x m = m
+
+means_end : (k : Kind) (x : Tok) → Means (end_event k) x → x ≡ end k
+means_end array x m = m
+means_end object x m = m
+
+pub begin_taken : (p q : ParserState) (f : Option Error) (k : Kind) (ts : List Tok) → HasGiven p ts → ReadsAhead p (begin_event k) q → TakesOne text_taken text_stand (clear p f) (clear q f) (begin k)
+begin_taken p q f k ts h r =
+    let x = taken_at_once p q f (begin_event k) ts h r in
+    subst (λ (y : Tok). TakesOne text_taken text_stand (clear p f) (clear q f) y) (means_begin k x.0 x.1) x.2
+
+pub end_taken : (p q : ParserState) (f : Option Error) (k : Kind) (ts : List Tok) → HasGiven p ts → ReadsAhead p (end_event k) q → TakesOne text_taken text_stand (clear p f) (clear q f) (end k)
+end_taken p q f k ts h r =
+    let x = taken_at_once p q f (end_event k) ts h r in
+    subst (λ (y : Tok). TakesOne text_taken text_stand (clear p f) (clear q f) y) (means_end k x.0 x.1) x.2

@@ -41,6 +41,17 @@ opens {taken = taken} {stand = stand} {a = a} {b = b} {c = c} {x = x} i y z r =
       as_told = record { may = h.may; told = h.again };
     }
 
+pub begun : {S : Type 0} {taken : S → List Tok → Type 0} {stand : S → Stand} {a c : S} → TakesOne taken stand a c (begin array) → InList taken stand a c no_trees
+begun r = record { takes = r.takes; input = r.moves.input; spot = r.moves.spot; left = r.moves.left; as_told = r.as_told }
+
+pub ended : {S : Type 0} {taken : S → List Tok → Type 0} {stand : S → Stand} {a b c : S} {ts : Trees}
+    → InList taken stand a b ts → TakesOne taken stand b c (end array) → TakesTree taken stand a c (list ts)
+ended w r = record {
+  takes = joins w.takes r.takes;
+  moves = record { input = r.moves.input ∙ w.input; spot = r.moves.spot ∙ ap around w.spot; told = r.moves.told; left = omega (arith, w.left, r.moves.left) };
+  as_told = w.as_told;
+}
+
 pub still_in : {S : Type 0} {taken : S → List Tok → Type 0} {stand : S → Stand} {a b c : S} {ts : Trees}
     → c ≡ b → InList taken stand a b ts → InList taken stand a c ts
 still_in {S = S} {taken = taken} {stand = stand} {a = a} {ts = ts} e w = subst (λ (s : S). InList taken stand a s ts) (sym e) w

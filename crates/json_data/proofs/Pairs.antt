@@ -35,7 +35,7 @@ no_brace None k e (inr h) = cc
 no_brace (Some n) k e (inl h) = cc
 no_brace (Some n) k e (inr h) = cc
 
-is_begin : (x : Tok) → kind_of x ≡ BeginObject → x ≡ begin object
+pub is_begin : (x : Tok) → kind_of x ≡ BeginObject → x ≡ begin object
 is_begin null_token e = cc
 is_begin (boolean_token b) e = cc
 is_begin (num_token l) e = absurd (no_brace (integer_in l) BeginObject e (inl refl))
@@ -89,6 +89,17 @@ opens_pairs {taken = taken} {stand = stand} {a = a} {b = b} {c = c} {x = x} i y 
       left = omega (arith, h.left, r.moves.left);
       as_told = record { may = h.may; told = h.again };
     }
+
+pub begun_pairs : {S : Type 0} {taken : S → List Tok → Type 0} {stand : S → Stand} {a c : S} → TakesOne taken stand a c (begin object) → InPairs taken stand a c no_pairs
+begun_pairs r = record { takes = r.takes; input = r.moves.input; spot = r.moves.spot; left = r.moves.left; as_told = r.as_told }
+
+pub ended_pairs : {S : Type 0} {taken : S → List Tok → Type 0} {stand : S → Stand} {a b c : S} {ps : Pairs}
+    → InPairs taken stand a b ps → TakesOne taken stand b c (end object) → TakesTree taken stand a c (pairs ps)
+ended_pairs w r = record {
+  takes = joins w.takes r.takes;
+  moves = record { input = r.moves.input ∙ w.input; spot = r.moves.spot ∙ ap around w.spot; told = r.moves.told; left = omega (arith, w.left, r.moves.left) };
+  as_told = w.as_told;
+}
 
 pub peeks_pairs : {S : Type 0} {taken : S → List Tok → Type 0} {stand : S → Stand} {a b c : S} {k : TokenKind} {ps : Pairs}
     → InPairs taken stand a b ps → Peeks (stand b) (stand c) k → Takes taken b [] c → InPairs taken stand a c ps

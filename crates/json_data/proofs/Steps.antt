@@ -32,6 +32,15 @@ peek_tree {taken = taken} {stand = stand} {a = a} {b = b} {c = c} {t = t} h z r 
   as_told = told_before h r.as_told;
 }
 
+-- and then one token
+pub peek_one : {S : Type 0} {taken : S → List Tok → Type 0} {stand : S → Stand} {a b c : S} {k : TokenKind} {x : Tok}
+    → Peeks (stand a) (stand b) k → Takes taken a [] b → TakesOne taken stand b c x → TakesOne taken stand a c x
+peek_one {stand = stand} {a = a} {c = c} {x = x} h z r = record {
+  takes = joins z r.takes;
+  moves = subst (λ (p : Spot). Moves (stand a) (stand c) (after p x)) h.spot (peek_moves h r.moves);
+  as_told = told_before h r.as_told;
+}
+
 -- nothing was taken before
 pub from_same : {S : Type 0} {taken : S → List Tok → Type 0} {stand : S → Stand} {a b c : S} {t : Tree}
     → b ≡ a → TakesTree taken stand b c t → TakesTree taken stand a c t

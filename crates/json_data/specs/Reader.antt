@@ -1,8 +1,11 @@
 -- What a reader promises.
-use Rattle.std.specs.Prelude.{◌≡◌, ℕ, List, Some, true, false, ◌⊎◌}
-use Rattle.json_grammar.specs.Tree.{Tree, Token as Tok}
+use Rattle.std.specs.Prelude.{◌≡◌, ◌≢◌, ℕ, List, Some, true, false, ◌⊎◌}
+use Rattle.json_grammar.specs.declared.Kind.{Kind}
+use Rattle.json_grammar.specs.Tree.{Tree, Token as Tok, begin}
 use Rattle.json_text.specs.declared.error.Error.{Error}
+use Rattle.json_text.specs.declared.error.ErrorCode.TheVariants.{TypeUnmatched}
 use Rattle.json_text.specs.Errors.{no_memory}
+use Rattle.json_data.specs.Kinds.{kind_of, first_kind}
 use Rattle.json_data.specs.Refusals.{is_refusal, refusal}
 use Rattle.json_data.specs.Reading.{Reading, refuses}
 use Rattle.json_data.specs.Stand.{Stand, TakesTree}
@@ -28,3 +31,7 @@ pub record Stops {S : Type 0} (taken : S → List Tok → Type 0) (stand : S →
 pub record KeyRefused (says : List ℕ → Type 0) (f : List ℕ → Reading) (e : Error) : Type 0 where
   pub refused : is_refusal e.code ≡ true → (e ≡ refusal e.code) × ((s : List ℕ) → says s → f s ≡ refuses e.code)
   pub gave_up : is_refusal e.code ≡ false → e ≡ no_memory
+
+-- every tree but a container of the kind is refused
+abbrev pub RefusesOthers : Kind → (Tree → Reading) → Type 0
+RefusesOthers k f = (t : Tree) → first_kind t ≢ kind_of (begin k) → f t ≡ refuses TypeUnmatched

@@ -2,6 +2,7 @@
 #![tactic(auto)]
 
 mod ahead;
+mod brackets;
 mod by_value;
 mod calls;
 mod characters;

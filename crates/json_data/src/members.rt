@@ -8,14 +8,15 @@ ghost use Rattle.json_data.specs.Reader.{Reads, Stops};
 ghost use Rattle.json_data.specs.Reading.{Reading, gives};
 ghost use Rattle.json_data.specs.Stand.{WantsValue};
 
+use crate::brackets::open;
 use crate::keys::next_key;
 use crate::lent::Lent;
 use crate::piece::Piece;
 use crate::readers::leave_after;
-use crate::refusals::refusal;
 use crate::token::TokenKind;
 use crate::tokens::Tokens;
-use json_text::{ErrorCode, Result};
+use json_grammar::Kind;
+use json_text::Result;
 use std::alloc::Global;
 
 /// What is read so far of the members of an object.
@@ -75,17 +76,16 @@ pub fn read_members<S: Lent, M: Members<S>, T: Tokens<S>>(
     ensures err { IfErr result (λ e. Stops T.taken T.stand
         (spec_read_members M.step (M.so_far members.old)) tokens.old tokens.new e) }
 {
-    if tokens.peek()? != TokenKind::BeginObject {
-        tokens.skip()?;
-        return Err(refusal(ErrorCode::TypeUnmatched));
-    }
-    let _begin = tokens.next()?;
+    open(tokens, Kind::Object)?;
     'each: loop {
         if let Some(key) = tokens.key() {
             match read_member(alloc, members, key, tokens) {
                 Ok(()) => continue,
                 Err(e) => return Err(leave_after(tokens, e)),
             }
+        }
+        if tokens.ends(Kind::Object) {
+            return Ok(());
         }
         if tokens.peek()? == TokenKind::EndObject {
             let _end = tokens.next()?;

@@ -11,12 +11,14 @@ ghost use Rattle.json_data.specs.Spots.{IsOpen};
 ghost use Rattle.json_data.specs.Stand.{NotWhole, WantsValue, TakesTree, TakesText, Leaves, Fails};
 ghost use Rattle.json_data.specs.Reader.{Stops};
 
+use crate::brackets::open;
 use crate::deserialize::DeserializeFrom;
 use crate::lent::Lent;
 use crate::piece::Piece;
 use crate::refusals::{is_refusal, refusal};
 use crate::token::{Token, TokenKind};
 use crate::tokens::Tokens;
+use json_grammar::Kind;
 use json_text::{Error, ErrorCode, Result};
 use std::alloc::Global;
 use std::borrow::CowStr;
@@ -175,11 +177,7 @@ impl<S: Lent, V: DeserializeFrom<S> + Drop> DeserializeFrom<S> for Vec<V> {
     ghost from_tree = { read_list V.from_tree };
 
     fn deserialize<T: Tokens<S>>(alloc: Global, tokens: &mut T) -> Result<Vec<V>> {
-        if tokens.peek()? != TokenKind::BeginArray {
-            tokens.skip()?;
-            return Err(refusal(ErrorCode::TypeUnmatched));
-        }
-        let _begin = tokens.next()?;
+        open(tokens, Kind::Array)?;
         let mut all = Vec::new(alloc);
         'each: loop {
             if let Some(item) = V::at_once(tokens) {
@@ -187,6 +185,9 @@ impl<S: Lent, V: DeserializeFrom<S> + Drop> DeserializeFrom<S> for Vec<V> {
                     return Err(refusal(ErrorCode::NoMemory));
                 }
                 continue;
+            }
+            if tokens.ends(Kind::Array) {
+                return Ok(all);
             }
             if tokens.peek()? == TokenKind::EndArray {
                 let _end = tokens.next()?;

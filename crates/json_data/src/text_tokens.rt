@@ -1,6 +1,6 @@
 // The tokens of a text.
 ghost use Rattle.std.specs.Prelude.{◌≡◌, ◌≤◌, ◌^◌, length, List, [], true, false, Err, None, OnOk, IfOk, IfErr, IfSome, IsSome, IsTrue, MatchOption};
-ghost use Rattle.json_grammar.specs.Tree.{Tree, Token as Tok, tokens, depth};
+ghost use Rattle.json_grammar.specs.Tree.{Tree, Token as Tok, tokens, depth, begin as begin_token, end as end_token};
 ghost use Rattle.json_value.specs.Denotes.{tree_of};
 ghost use Rattle.json_data.specs.Kinds.{StandsFor};
 ghost use Rattle.json_data.specs.TextValues.{IsPacked};
@@ -8,7 +8,7 @@ ghost use Rattle.json_data.specs.Spots.{IsOpen, over};
 ghost use Rattle.json_data.specs.Stand.{NotWhole, WantsValue, Takes, Peeks, TakesOne, TakesTree, TakesInteger, TakesText, TakesKey, Leaves, Fails};
 ghost use Rattle.json_data.specs.Pieces.{Says};
 ghost use Rattle.json_data.specs.Text.{IsFresh, text_taken, text_stand, TextFails, HasReadValue};
-ghost use Rattle.json_data.specs.declared.token.TokenKind.{TokenKind as Kind};
+ghost use Rattle.json_data.specs.declared.token.TokenKind.{TokenKind as TokenKindOf};
 ghost use Rattle.std.specs.Str.{IsCharBoundary};
 ghost use Rattle.json_text.specs.Faults.{FaultFrom};
 ghost use Rattle.json_text.specs.Parsing.{input};
@@ -19,6 +19,7 @@ use crate::packed_value::packed_value;
 use crate::piece::Piece;
 use crate::token::{TokenKind, TokenOf};
 use crate::tokens::Tokens;
+use json_grammar::Kind;
 use json_text::{Error, Event, Parser, Result};
 use json_value::Value;
 use std::alloc::Global;
@@ -163,7 +164,7 @@ impl<'a> TextTokens<'a> {
         requires none { self.old.ahead ≡ None }
         requires unfailed { self.old.failed ≡ None }
         ensures ok { IsTrue result
-            → (k : Kind) × Peeks (text_stand self.old) (text_stand self.new) k }
+            → (k : TokenKindOf) × Peeks (text_stand self.old) (text_stand self.new) k }
         ensures none { IsTrue result → Takes text_taken self.old [] self.new }
         ensures unfailed { IsTrue result → self.new.failed ≡ None }
         ensures failed { result ≡ false → IsSome self.new.failed }
@@ -284,6 +285,40 @@ impl<'a> TextTokens<'a> {
         None
     }
 
+    /// Takes the next token where it is the bracket that opens a container of the kind.
+    #[inline(always)]
+    fn take_begin(&mut self, kind: Kind) -> bool
+        requires { NotWhole (text_stand self.old) }
+        ensures begun { result ≡ true
+            → TakesOne text_taken text_stand self.old self.new (begin_token kind) }
+        ensures kept { result ≡ false → self.new ≡ self.old }
+    {
+        if !self.is_clear() {
+            return false;
+        }
+        if self.parser.next_begin(kind) {
+            return true;
+        }
+        false
+    }
+
+    /// Takes the next token where it is the bracket that closes a container of the kind.
+    #[inline(always)]
+    fn take_end(&mut self, kind: Kind) -> bool
+        requires { NotWhole (text_stand self.old) }
+        ensures ended { result ≡ true
+            → TakesOne text_taken text_stand self.old self.new (end_token kind) }
+        ensures kept { result ≡ false → self.new ≡ self.old }
+    {
+        if !self.is_clear() {
+            return false;
+        }
+        if self.parser.next_end(kind) {
+            return true;
+        }
+        false
+    }
+
     /// Takes the tokens of one tree, and answers a value of it.
     fn keep(&mut self, alloc: Global) -> Result<Value>
         requires { WantsValue (text_stand self.old) }
@@ -394,5 +429,15 @@ impl<'a> Tokens<&'a str> for TextTokens<'a> {
     #[inline(always)]
     fn key(&mut self) -> Option<Piece<&'a str>> {
         self.take_key()
+    }
+
+    #[inline(always)]
+    fn begins(&mut self, kind: Kind) -> bool {
+        self.take_begin(kind)
+    }
+
+    #[inline(always)]
+    fn ends(&mut self, kind: Kind) -> bool {
+        self.take_end(kind)
     }
 }

@@ -1,0 +1,44 @@
+// Brackets of lists and objects.
+ghost use Rattle.std.specs.Prelude.{◌≡◌, OnOk, IfErr};
+ghost use Rattle.json_grammar.specs.Tree.{Tree, begin as begin_token};
+ghost use Rattle.json_data.specs.Kinds.{kind_of};
+ghost use Rattle.json_data.specs.Reader.{Stops, RefusesOthers};
+ghost use Rattle.json_data.specs.Reading.{Reading};
+ghost use Rattle.json_data.specs.Stand.{WantsValue, TakesOne};
+
+use crate::lent::Lent;
+use crate::refusals::refusal;
+use crate::token::TokenKind;
+use crate::tokens::Tokens;
+use json_grammar::Kind;
+use json_text::{ErrorCode, Result};
+
+#[inline(always)]
+fn begin_kind(kind: Kind) -> TokenKind
+    ensures { result ≡ kind_of (begin_token kind) }
+{
+    match kind {
+        Kind::Array => TokenKind::BeginArray,
+        Kind::Object => TokenKind::BeginObject,
+    }
+}
+
+/// Takes the bracket that opens a container of the kind. Another value is taken whole and refused.
+#[inline(always)]
+pub(crate) fn open<S: Lent, T: Tokens<S>>(tokens: &mut T, kind: Kind) -> Result<()>
+    requires { WantsValue (T.stand tokens.old) }
+    ensures ok { OnOk result
+        (TakesOne T.taken T.stand tokens.old tokens.new (begin_token kind)) }
+    ensures err { (f : Tree → Reading) → RefusesOthers kind f
+        → IfErr result (λ e. Stops T.taken T.stand f tokens.old tokens.new e) }
+{
+    if tokens.begins(kind) {
+        return Ok(());
+    }
+    if tokens.peek()? != begin_kind(kind) {
+        tokens.skip()?;
+        return Err(refusal(ErrorCode::TypeUnmatched));
+    }
+    let _begin = tokens.next()?;
+    Ok(())
+}
