@@ -6,6 +6,7 @@ pub mod Places
 pub mod ValueFaults
 pub mod Events
 pub mod TextSteps
+pub mod Waiting
 pub mod AtOnce
 pub mod Passing
 pub mod TextCalls

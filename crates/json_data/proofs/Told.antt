@@ -1,5 +1,5 @@
--- What a comparison of kinds tells.
-use Rattle.std.proofs.Common.{◌≡◌, ◌≢◌, Bool, true, false, not, rules}
+-- What a comparison of kinds, or an answer that is some, tells.
+use Rattle.std.proofs.Common.{◌≡◌, ◌≢◌, Bool, Option, Some, IfSome, true, false, not, rules, subst}
 use denote.Enum.Bare.{sameb}
 use Rattle.json_data.specs.contracts.token.TokenKind.{the_type}
 use Rattle.json_data.specs.declared.token.TokenKind.{TokenKind}
@@ -13,3 +13,6 @@ is_kind-ne k j r e t = search rules
 
 pub no_end-kind : (k : TokenKind) (r : Bool) → r ≡ not (sameb the_type k EndArray) → r ≡ true → k ≢ EndArray
 no_end-kind k r e t = search rules
+
+pub known : {A : Type 0} {o : Option A} {x : A} (P : A → Type 0) → IfSome o P → o ≡ Some x → P x
+known P h e = subst (λ o. IfSome o P) e h

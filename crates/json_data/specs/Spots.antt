@@ -91,3 +91,8 @@ abbrev pub IsOpen : Spot → Type 0
 IsOpen top = ⊥
 IsOpen over = ⊥
 IsOpen _ = Unit {0}
+
+-- before a key or the end of an object
+abbrev pub InObject : Spot → Type 0
+InObject (key_or_end c) = Unit {0}
+InObject _ = ⊥

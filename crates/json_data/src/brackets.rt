@@ -1,10 +1,10 @@
 // Brackets of lists and objects.
 ghost use Rattle.std.specs.Prelude.{◌≡◌, OnOk, IfErr};
-ghost use Rattle.json_grammar.specs.Tree.{Tree, begin as begin_token};
+ghost use Rattle.json_grammar.specs.Tree.{Tree, Token as Tok, begin as begin_token};
 ghost use Rattle.json_data.specs.Kinds.{kind_of};
 ghost use Rattle.json_data.specs.Reader.{Stops, RefusesOthers};
 ghost use Rattle.json_data.specs.Reading.{Reading};
-ghost use Rattle.json_data.specs.Stand.{WantsValue, TakesOne};
+ghost use Rattle.json_data.specs.Stand.{NotWhole, WantsValue, TakesOne, Fails};
 
 use crate::lent::Lent;
 use crate::refusals::refusal;
@@ -13,14 +13,43 @@ use crate::tokens::Tokens;
 use json_grammar::Kind;
 use json_text::{ErrorCode, Result};
 
+/// The kind of the token that opens a container of the kind.
 #[inline(always)]
-fn begin_kind(kind: Kind) -> TokenKind
+pub(crate) fn begin_kind(kind: Kind) -> TokenKind
     ensures { result ≡ kind_of (begin_token kind) }
 {
     match kind {
         Kind::Array => TokenKind::BeginArray,
         Kind::Object => TokenKind::BeginObject,
     }
+}
+
+/// Takes the next token.
+#[inline(never)]
+pub(crate) fn pass<S: Lent, T: Tokens<S>>(tokens: &mut T) -> Result<()>
+    requires { NotWhole (T.stand tokens.old) }
+    ensures ok { OnOk result ((x : Tok) × TakesOne T.taken T.stand tokens.old tokens.new x) }
+    ensures err { IfErr result (λ e. Fails (T.stand tokens.old) (T.stand tokens.new) e) }
+{
+    let _token = tokens.next()?;
+    Ok(())
+}
+
+/// What `open` does where the bracket is not found at once.
+#[inline(never)]
+fn open_by_kind<S: Lent, T: Tokens<S>>(tokens: &mut T, kind: Kind) -> Result<()>
+    requires { WantsValue (T.stand tokens.old) }
+    ensures ok { OnOk result
+        (TakesOne T.taken T.stand tokens.old tokens.new (begin_token kind)) }
+    ensures err { (f : Tree → Reading) → RefusesOthers kind f
+        → IfErr result (λ e. Stops T.taken T.stand f tokens.old tokens.new e) }
+{
+    if tokens.peek()? != begin_kind(kind) {
+        tokens.skip()?;
+        return Err(refusal(ErrorCode::TypeUnmatched));
+    }
+    let _begin = tokens.next()?;
+    Ok(())
 }
 
 /// Takes the bracket that opens a container of the kind. Another value is taken whole and refused.
@@ -35,10 +64,5 @@ pub(crate) fn open<S: Lent, T: Tokens<S>>(tokens: &mut T, kind: Kind) -> Result<
     if tokens.begins(kind) {
         return Ok(());
     }
-    if tokens.peek()? != begin_kind(kind) {
-        tokens.skip()?;
-        return Err(refusal(ErrorCode::TypeUnmatched));
-    }
-    let _begin = tokens.next()?;
-    Ok(())
+    open_by_kind(tokens, kind)
 }

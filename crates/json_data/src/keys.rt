@@ -1,20 +1,24 @@
 // Keys of maps.
-ghost use Rattle.std.specs.Prelude.{◌≡◌, ℕ, List, Some, IfOk, IfErr, string_bytes, refl};
+ghost use Rattle.std.specs.Prelude.{◌≡◌, ℕ, List, Some, None, IfOk, IfErr, IfSome, string_bytes, refl};
 ghost use Rattle.std.specs.Cow.{cow_str_bytes};
-ghost use Rattle.json_grammar.specs.Tree.{key_token};
+ghost use Rattle.json_grammar.specs.declared.Kind.TheVariants.{Object as object};
+ghost use Rattle.json_grammar.specs.Tree.{key_token, end as end_token};
 ghost use Rattle.json_model.specs.Datum.{Datum, boolean_datum, text_datum, option_datum};
 ghost use Rattle.json_data.specs.declared.token.TokenKind.TheVariants as TokenKind;
 ghost use Rattle.json_data.specs.Keys.{text_key, boolean_key, IsNamed, boolean_named, option_orders};
 ghost use Rattle.json_data.specs.Pieces.{Says};
 ghost use Rattle.json_data.specs.Reading.{Reading, gives, key_cmp};
 ghost use Rattle.json_data.specs.Reader.{KeyRefused};
-ghost use Rattle.json_data.specs.Stand.{NotWhole, TakesOne, Fails};
+ghost use Rattle.json_data.specs.Spots.{InObject};
+ghost use Rattle.json_data.specs.Stand.{NotWhole, TakesOne, TakesKey, Fails};
 
+use crate::brackets::pass;
 use crate::lent::Lent;
 use crate::piece::Piece;
 use crate::refusals::refusal;
-use crate::token::Token;
+use crate::token::{Token, TokenKind};
 use crate::tokens::Tokens;
+use json_grammar::Kind;
 use json_text::{ErrorCode, Result};
 use std::alloc::Global;
 use std::borrow::CowStr;
@@ -124,4 +128,28 @@ pub(crate) fn next_key<S: Lent, T: Tokens<S>>(tokens: &mut T) -> Result<Piece<S>
         Token::Key(piece) => Ok(piece),
         _ => unreachable!(),
     }
+}
+
+/// The name that comes next in an object, or none where the object ends there, which is taken.
+#[inline(always)]
+pub(crate) fn next_name<S: Lent, T: Tokens<S>>(tokens: &mut T) -> Result<Option<Piece<S>>>
+    requires { InObject (T.stand tokens.old).spot }
+    ensures name { IfOk result (λ r. IfSome r (λ p.
+        TakesKey T.taken T.stand (λ s. Says s p.escaped (S.bytes p.text)) tokens.old tokens.new)) }
+    ensures end { IfOk result (λ r. r ≡ None
+        → TakesOne T.taken T.stand tokens.old tokens.new (end_token object)) }
+    ensures err { IfErr result (λ e. Fails (T.stand tokens.old) (T.stand tokens.new) e) }
+{
+    if let Some(key) = tokens.key() {
+        return Ok(Some(key));
+    }
+    if tokens.ends(Kind::Object) {
+        return Ok(None);
+    }
+    if tokens.peek()? == TokenKind::EndObject {
+        pass(tokens)?;
+        return Ok(None);
+    }
+    let key = next_key(tokens)?;
+    Ok(Some(key))
 }

@@ -3,13 +3,14 @@ ghost use Rattle.std.specs.Prelude.{map};
 ghost use Rattle.json_model.specs.Datum.{rows_datum, list_rows, row_of};
 ghost use Rattle.json_data.specs.Reading.{read_map};
 
+use crate::brackets::open;
 use crate::deserialize::DeserializeFrom;
-use crate::keys::{FromKey, next_key};
+use crate::keys::{FromKey, next_name};
 use crate::lent::Lent;
 use crate::readers::leave_after;
 use crate::refusals::refusal;
-use crate::token::TokenKind;
 use crate::tokens::Tokens;
+use json_grammar::Kind;
 use json_text::{ErrorCode, Result};
 use std::alloc::Global;
 use std::collections::BTreeMap;
@@ -21,14 +22,13 @@ impl<S: Lent, K: FromKey<S> + Drop, V: DeserializeFrom<S> + Drop> DeserializeFro
     ghost from_tree = { read_map K.from_text V.from_tree };
 
     fn deserialize<T: Tokens<S>>(alloc: Global, tokens: &mut T) -> Result<BTreeMap<K, V>> {
-        if tokens.peek()? != TokenKind::BeginObject {
-            tokens.skip()?;
-            return Err(refusal(ErrorCode::TypeUnmatched));
-        }
-        let _begin = tokens.next()?;
+        open(tokens, Kind::Object)?;
         let mut all = BTreeMap::new(alloc);
-        while tokens.peek()? != TokenKind::EndObject {
-            let piece = next_key(tokens)?;
+        'each: loop {
+            let piece = match next_name(tokens)? {
+                Some(piece) => piece,
+                None => return Ok(all),
+            };
             let key = match K::from_key(alloc, &piece) {
                 Ok(key) => key,
                 Err(e) => return Err(leave_after(tokens, e)),
@@ -42,7 +42,5 @@ impl<S: Lent, K: FromKey<S> + Drop, V: DeserializeFrom<S> + Drop> DeserializeFro
                 Err(e) => return Err(leave_after(tokens, e)),
             }
         }
-        let _end = tokens.next()?;
-        Ok(all)
     }
 }

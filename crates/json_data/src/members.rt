@@ -9,11 +9,10 @@ ghost use Rattle.json_data.specs.Reading.{Reading, gives};
 ghost use Rattle.json_data.specs.Stand.{WantsValue};
 
 use crate::brackets::open;
-use crate::keys::next_key;
+use crate::keys::next_name;
 use crate::lent::Lent;
 use crate::piece::Piece;
 use crate::readers::leave_after;
-use crate::token::TokenKind;
 use crate::tokens::Tokens;
 use json_grammar::Kind;
 use json_text::Result;
@@ -53,13 +52,8 @@ fn read_member<S: Lent, M: Members<S>, T: Tokens<S>>(
         → IfErr result (λ e.
         Stops T.taken T.stand (M.step (M.so_far members.old) s) tokens.old tokens.new e) }
 {
-    match key.lent() {
-        Some(name) => members.member(alloc, name.as_text(), tokens),
-        None => {
-            let name = key.copy(alloc)?;
-            members.member(alloc, name.as_str(), tokens)
-        }
-    }
+    let name = key.to_text(alloc)?;
+    members.member(alloc, name.as_str(), tokens)
 }
 
 /// Takes an object, each member in its order. `TypeUnmatched` comes where another value comes; a refusal of a member,
@@ -78,20 +72,10 @@ pub fn read_members<S: Lent, M: Members<S>, T: Tokens<S>>(
 {
     open(tokens, Kind::Object)?;
     'each: loop {
-        if let Some(key) = tokens.key() {
-            match read_member(alloc, members, key, tokens) {
-                Ok(()) => continue,
-                Err(e) => return Err(leave_after(tokens, e)),
-            }
-        }
-        if tokens.ends(Kind::Object) {
-            return Ok(());
-        }
-        if tokens.peek()? == TokenKind::EndObject {
-            let _end = tokens.next()?;
-            return Ok(());
-        }
-        let key = next_key(tokens)?;
+        let key = match next_name(tokens)? {
+            Some(key) => key,
+            None => return Ok(()),
+        };
         match read_member(alloc, members, key, tokens) {
             Ok(()) => {}
             Err(e) => return Err(leave_after(tokens, e)),

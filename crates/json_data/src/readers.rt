@@ -11,7 +11,7 @@ ghost use Rattle.json_data.specs.Spots.{IsOpen};
 ghost use Rattle.json_data.specs.Stand.{NotWhole, WantsValue, TakesTree, TakesText, Leaves, Fails};
 ghost use Rattle.json_data.specs.Reader.{Stops};
 
-use crate::brackets::open;
+use crate::brackets::{open, pass};
 use crate::deserialize::DeserializeFrom;
 use crate::lent::Lent;
 use crate::piece::Piece;
@@ -57,6 +57,21 @@ pub(crate) fn next_text<S: Lent, T: Tokens<S>>(tokens: &mut T) -> Result<Piece<S
     }
 }
 
+// What `expect_text` does where the text is not found at once.
+#[inline(never)]
+fn text_by_kind<S: Lent, T: Tokens<S>>(tokens: &mut T) -> Result<Piece<S>>
+    requires { WantsValue (T.stand tokens.old) }
+    ensures ok { IfOk result (λ p.
+        TakesText T.taken T.stand (λ s. Says s p.escaped (S.bytes p.text)) tokens.old tokens.new) }
+    ensures err { IfErr result (λ e. Stops T.taken T.stand read_text tokens.old tokens.new e) }
+{
+    if tokens.peek()? != TokenKind::Text {
+        tokens.skip()?;
+        return Err(refusal(ErrorCode::TypeUnmatched));
+    }
+    next_text(tokens)
+}
+
 // The text that comes next, or a refusal of another value.
 #[inline(always)]
 pub(crate) fn expect_text<S: Lent, T: Tokens<S>>(tokens: &mut T) -> Result<Piece<S>>
@@ -68,11 +83,7 @@ pub(crate) fn expect_text<S: Lent, T: Tokens<S>>(tokens: &mut T) -> Result<Piece
     if let Some(piece) = tokens.text() {
         return Ok(piece);
     }
-    if tokens.peek()? != TokenKind::Text {
-        tokens.skip()?;
-        return Err(refusal(ErrorCode::TypeUnmatched));
-    }
-    next_text(tokens)
+    text_by_kind(tokens)
 }
 
 impl<S: Lent> DeserializeFrom<S> for String {
@@ -92,11 +103,7 @@ impl<'de> DeserializeFrom<&'de str> for CowStr<'de> {
     ghost from_tree = { read_text };
 
     fn deserialize<T: Tokens<&'de str>>(alloc: Global, tokens: &mut T) -> Result<CowStr<'de>> {
-        if tokens.peek()? != TokenKind::Text {
-            tokens.skip()?;
-            return Err(refusal(ErrorCode::TypeUnmatched));
-        }
-        let piece = next_text(tokens)?;
+        let piece = expect_text(tokens)?;
         match piece.lent() {
             Some(text) => Ok(CowStr::Borrowed(text)),
             None => Ok(CowStr::Owned(piece.copy(alloc)?)),
@@ -190,7 +197,7 @@ impl<S: Lent, V: DeserializeFrom<S> + Drop> DeserializeFrom<S> for Vec<V> {
                 return Ok(all);
             }
             if tokens.peek()? == TokenKind::EndArray {
-                let _end = tokens.next()?;
+                pass(tokens)?;
                 return Ok(all);
             }
             match V::deserialize(alloc, tokens) {
@@ -212,11 +219,7 @@ impl<S: Lent, A: DeserializeFrom<S> + Drop, B: DeserializeFrom<S> + Drop> Deseri
     ghost from_tree = { read_pair A.from_tree B.from_tree };
 
     fn deserialize<T: Tokens<S>>(alloc: Global, tokens: &mut T) -> Result<(A, B)> {
-        if tokens.peek()? != TokenKind::BeginArray {
-            tokens.skip()?;
-            return Err(refusal(ErrorCode::TypeUnmatched));
-        }
-        let _begin = tokens.next()?;
+        open(tokens, Kind::Array)?;
         if tokens.peek()? == TokenKind::EndArray {
             let _end = tokens.next()?;
             return Err(refusal(ErrorCode::TypeUnmatched));

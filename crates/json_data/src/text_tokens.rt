@@ -1,20 +1,22 @@
 // The tokens of a text.
 ghost use Rattle.std.specs.Prelude.{◌≡◌, ◌≤◌, ◌^◌, length, List, [], true, false, Err, None, OnOk, IfOk, IfErr, IfSome, IsSome, IsTrue, MatchOption};
-ghost use Rattle.json_grammar.specs.Tree.{Tree, Token as Tok, tokens, depth, begin as begin_token, end as end_token};
+ghost use Rattle.json_grammar.specs.Tree.{Tree, Token as Tok, tokens, depth};
 ghost use Rattle.json_value.specs.Denotes.{tree_of};
 ghost use Rattle.json_data.specs.Kinds.{StandsFor};
 ghost use Rattle.json_data.specs.TextValues.{IsPacked};
 ghost use Rattle.json_data.specs.Spots.{IsOpen, over};
-ghost use Rattle.json_data.specs.Stand.{NotWhole, WantsValue, Takes, Peeks, TakesOne, TakesTree, TakesInteger, TakesText, TakesKey, Leaves, Fails};
-ghost use Rattle.json_data.specs.Pieces.{Says};
+ghost use Rattle.json_data.specs.Stand.{NotWhole, WantsValue, Takes, Peeks, TakesOne, TakesTree, Leaves, Fails};
 ghost use Rattle.json_data.specs.Text.{IsFresh, text_taken, text_stand, TextFails, HasReadValue};
 ghost use Rattle.json_data.specs.declared.token.TokenKind.{TokenKind as TokenKindOf};
+ghost use Rattle.json_data.specs.declared.token.TokenKind.TheVariants as TokenKindAt;
 ghost use Rattle.std.specs.Str.{IsCharBoundary};
 ghost use Rattle.json_text.specs.Faults.{FaultFrom};
 ghost use Rattle.json_text.specs.Parsing.{input};
 ghost use Rattle.json_grammar.specs.Grammar.{is_text};
 
-use crate::ahead::{Ahead, piece, read_ahead};
+mod at_once;
+
+use crate::ahead::{Ahead, found_text, read_ahead};
 use crate::packed_value::packed_value;
 use crate::piece::Piece;
 use crate::token::{TokenKind, TokenOf};
@@ -157,9 +159,49 @@ impl<'a> TextTokens<'a> {
         }
     }
 
+    /// Reads the next event, where none waits, if it is the bracket that opens an object. Whether it is.
+    #[inline(always)]
+    fn find_object(&mut self) -> bool
+        requires whole { NotWhole (text_stand self.old) }
+        requires none { self.old.ahead ≡ None }
+        requires unfailed { self.old.failed ≡ None }
+        ensures ok { IsTrue result
+            → Peeks (text_stand self.old) (text_stand self.new) TokenKindAt.BeginObject }
+        ensures none { IsTrue result → Takes text_taken self.old [] self.new }
+        ensures unfailed { IsTrue result → self.new.failed ≡ None }
+        ensures kept { result ≡ false → self.new ≡ self.old }
+    {
+        if self.parser.next_begin(Kind::Object) {
+            self.ahead = Some(Ahead::new(Event::BeginObject));
+            return true;
+        }
+        false
+    }
+
+    /// Reads the next event, where none waits, if it is a text. Whether it is.
+    #[inline(always)]
+    fn find_text(&mut self) -> bool
+        requires whole { NotWhole (text_stand self.old) }
+        requires none { self.old.ahead ≡ None }
+        requires unfailed { self.old.failed ≡ None }
+        ensures ok { IsTrue result
+            → (k : TokenKindOf) × Peeks (text_stand self.old) (text_stand self.new) k }
+        ensures none { IsTrue result → Takes text_taken self.old [] self.new }
+        ensures unfailed { IsTrue result → self.new.failed ≡ None }
+        ensures kept { result ≡ false → self.new ≡ self.old }
+    {
+        match found_text(&mut self.parser) {
+            Some(event) => {
+                self.ahead = Some(Ahead::new(event));
+                true
+            }
+            None => false,
+        }
+    }
+
     /// Reads the next event, where none waits. Whether one waits then; else it failed.
     #[inline(never)]
-    fn read(&mut self) -> bool
+    fn read_any(&mut self) -> bool
         requires whole { NotWhole (text_stand self.old) }
         requires none { self.old.ahead ≡ None }
         requires unfailed { self.old.failed ≡ None }
@@ -183,6 +225,26 @@ impl<'a> TextTokens<'a> {
         }
     }
 
+    /// The same, sooner where it is a text.
+    #[inline(never)]
+    fn read(&mut self) -> bool
+        requires whole { NotWhole (text_stand self.old) }
+        requires none { self.old.ahead ≡ None }
+        requires unfailed { self.old.failed ≡ None }
+        ensures ok { IsTrue result
+            → (k : TokenKindOf) × Peeks (text_stand self.old) (text_stand self.new) k }
+        ensures none { IsTrue result → Takes text_taken self.old [] self.new }
+        ensures unfailed { IsTrue result → self.new.failed ≡ None }
+        ensures failed { result ≡ false → IsSome self.new.failed }
+        ensures err { IfSome self.new.failed (λ e.
+            Fails (text_stand self.old) (text_stand self.new) e) }
+    {
+        if self.find_text() {
+            return true;
+        }
+        self.read_any()
+    }
+
     /// The kind of the next token.
     #[inline(always)]
     fn look(&mut self) -> Result<TokenKind>
@@ -198,6 +260,9 @@ impl<'a> TextTokens<'a> {
         }
         if let Some(ahead) = self.ahead {
             return Ok(ahead.kind);
+        }
+        if self.find_object() {
+            return Ok(TokenKind::BeginObject);
         }
         if !self.read() {
             return Err(self.refusal());
@@ -225,98 +290,6 @@ impl<'a> TextTokens<'a> {
             }
             None => unreachable!(),
         }
-    }
-
-    /// Whether neither an event waits nor an error was answered.
-    #[inline(always)]
-    fn is_clear(&self) -> bool
-        ensures ahead { result ≡ true → self.now.ahead ≡ None }
-        ensures failed { result ≡ true → self.now.failed ≡ None }
-    {
-        self.ahead.is_none() && self.failed.is_none()
-    }
-
-    /// Takes the next token where it is an integer from 0 to `most`.
-    #[inline(always)]
-    fn take_integer(&mut self, most: u64) -> Option<u64>
-        requires { NotWhole (text_stand self.old) }
-        ensures most { IfSome result (λ n. n ≤ most) }
-        ensures takes { MatchOption result (self.new ≡ self.old)
-            (TakesInteger text_taken text_stand self.old self.new) }
-    {
-        if !self.is_clear() {
-            return None;
-        }
-        if let Some(integer) = self.parser.next_integer(most) {
-            return Some(integer.value);
-        }
-        None
-    }
-
-    /// Takes the next token where it is a text.
-    #[inline(always)]
-    fn take_text(&mut self) -> Option<Piece<&'a str>>
-        requires { NotWhole (text_stand self.old) }
-        ensures { MatchOption result (self.new ≡ self.old) (λ p.
-            TakesText text_taken text_stand (λ s. Says s p.escaped p.text.now) self.old self.new) }
-    {
-        if !self.is_clear() {
-            return None;
-        }
-        if let Some(span) = self.parser.next_text() {
-            return Some(piece(span));
-        }
-        None
-    }
-
-    /// Takes the next token where it is a name.
-    #[inline(always)]
-    fn take_key(&mut self) -> Option<Piece<&'a str>>
-        requires { NotWhole (text_stand self.old) }
-        ensures { MatchOption result (self.new ≡ self.old) (λ p.
-            TakesKey text_taken text_stand (λ s. Says s p.escaped p.text.now) self.old self.new) }
-    {
-        if !self.is_clear() {
-            return None;
-        }
-        if let Some(span) = self.parser.next_key() {
-            return Some(piece(span));
-        }
-        None
-    }
-
-    /// Takes the next token where it is the bracket that opens a container of the kind.
-    #[inline(always)]
-    fn take_begin(&mut self, kind: Kind) -> bool
-        requires { NotWhole (text_stand self.old) }
-        ensures begun { result ≡ true
-            → TakesOne text_taken text_stand self.old self.new (begin_token kind) }
-        ensures kept { result ≡ false → self.new ≡ self.old }
-    {
-        if !self.is_clear() {
-            return false;
-        }
-        if self.parser.next_begin(kind) {
-            return true;
-        }
-        false
-    }
-
-    /// Takes the next token where it is the bracket that closes a container of the kind.
-    #[inline(always)]
-    fn take_end(&mut self, kind: Kind) -> bool
-        requires { NotWhole (text_stand self.old) }
-        ensures ended { result ≡ true
-            → TakesOne text_taken text_stand self.old self.new (end_token kind) }
-        ensures kept { result ≡ false → self.new ≡ self.old }
-    {
-        if !self.is_clear() {
-            return false;
-        }
-        if self.parser.next_end(kind) {
-            return true;
-        }
-        false
     }
 
     /// Takes the tokens of one tree, and answers a value of it.

@@ -204,6 +204,26 @@ fn most_below(high: u128) -> u64
     }
 }
 
+/// What `read_between` does where the integer is not found at once.
+#[inline(never)]
+fn between_by_kind<S: Lent, T: Tokens<S>>(tokens: &mut T, low: u128, high: u128) -> Result<i128>
+    requires wants { WantsValue (T.stand tokens.old) }
+    requires low { low ≤ 2 ^ 127 }
+    requires high { high ≤ 2 ^ 127 }
+    ensures ok { IfOk result (λ n.
+        Reads T.taken T.stand (read_integer (between low high)) tokens.old tokens.new
+        (gives (integer_datum n))) }
+    ensures within { IfOk result (λ n. between low high n ≡ true) }
+    ensures err { IfErr result (λ e.
+        Stops T.taken T.stand (read_integer (between low high)) tokens.old tokens.new e) }
+{
+    let whole = read_whole(tokens)?;
+    match fit(whole, low, high) {
+        Ok(n) => Ok(n),
+        Err(e) => Err(e),
+    }
+}
+
 /// The next integer, from -low on and below high.
 #[inline(always)]
 pub(crate) fn read_between<S: Lent, T: Tokens<S>>(
@@ -224,11 +244,7 @@ pub(crate) fn read_between<S: Lent, T: Tokens<S>>(
     if let Some(n) = integer_at_once(tokens, most_below(high)) {
         return Ok(n as i128);
     }
-    let whole = read_whole(tokens)?;
-    match fit(whole, low, high) {
-        Ok(n) => Ok(n),
-        Err(e) => Err(e),
-    }
+    between_by_kind(tokens, low, high)
 }
 
 /// An integer from 0 on, of at most 128 bits.

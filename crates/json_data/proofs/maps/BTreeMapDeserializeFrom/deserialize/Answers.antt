@@ -2,65 +2,58 @@ use Rattle.std.proofs.Common.{◌≡◌, ◌∙◌, List, [], ap, sym, subst, ru
 use Rattle.std.specs.BTreeMap.{insert_entry}
 use Rattle.json_grammar.specs.Tree.{pairs, no_pairs, pair_and}
 use Rattle.json_model.specs.Datum.{rows_datum, Rows}
-use Rattle.json_data.specs.declared.token.TokenKind.TheVariants.{BeginObject, EndObject}
 use Rattle.json_data.specs.Reading.{gives}
-use Rattle.json_data.proofs.Pairs.{join_pairs, opens_pairs, peeks_pairs, one_key, one_member, closes_pairs, stop_key_of, stop_member}
+use Rattle.json_data.proofs.Pairs.{join_pairs, begun_pairs, ended_pairs, one_key, one_member, stop_key_of, stop_member}
 use Rattle.json_data.proofs.Rows.{rows_of, OfText, OfTexts, put-texts, rows-more, rows-stop_key, rows-stop_value, rows-put}
-use Rattle.json_data.proofs.Told.{is_kind-ne}
+use Rattle.json_data.proofs.Told.{known}
 use Rattle.json_data.proofs.maps.BTreeMapDeserializeFrom.deserialize.Goals as goal
 
-pub loop-all-init : goal.loop-all-init
-loop-all-init g c =
-    let e : c.in_ok-peek.field-0 ≡ BeginObject = is_kind-ne _ _ _ c.ne.ensures c.if-ne.false in
+pub each-init : goal.each-init
+each-init g c =
     let n : c.new-all.result.entries ≡ [] = search rules in (
       no_pairs,
-      opens_pairs e c.in_ok-peek.ensures.ok c.in_ok-peek.ensures.none c.in_ok-_begin.ensures.ok.2,
+      begun_pairs c.in_ok-open.ensures.ok,
       ap (λ (es : List (g.row.K.Denot × g.row.V.Denot)). gives (rows_datum (rows_of g.K.FromKey.key_datum g.V.DeserializeFrom.datum es))) (sym n),
       subst (λ (es : List (g.row.K.Denot × g.row.V.Denot)). OfTexts g.K.FromKey.from_text g.K.FromKey.key_datum es) (sym n) tt,
     )
 
 pub returns-in-Err-clause-err : goal.returns-in-Err-clause-err
 returns-in-Err-clause-err g c =
-    let i = c.loop-all.invariant in
-    let k = c.in_ok-piece.ensures.ok in
-    let w = one_key (peeks_pairs i.1 c.in_ok-peek-2.ensures.ok c.in_ok-peek-2.ensures.none) k.2 in
-    let es = rows_of g.K.FromKey.key_datum g.V.DeserializeFrom.datum c.loop-all.all.entries in
-    stop_key_of w c.in-Err.ensures.err k.1 c.leave_after.ensures.left c.leave_after.ensures.as_was
-    (λ t qs h. rows-stop_key g.K.FromKey.from_text g.V.DeserializeFrom.from_tree i.0 k.0 t qs c.in-Err.e.code es i.2 h)
+    let i = c.each.invariant in
+    let k = known _ c.in_ok-piece.ensures.name c.in-Some.is in
+    let w = one_key i.1 k.takes in
+    let es = rows_of g.K.FromKey.key_datum g.V.DeserializeFrom.datum c.each.all.entries in
+    stop_key_of w c.in-Err.ensures.err k.said c.leave_after.ensures.left c.leave_after.ensures.as_was
+    (λ t qs h. rows-stop_key g.K.FromKey.from_text g.V.DeserializeFrom.from_tree i.0 k.name t qs c.in-Err.e.code es i.2 h)
 
 pub returns-in-Err-deserialize-clause-err : goal.returns-in-Err-deserialize-clause-err
 returns-in-Err-deserialize-clause-err g c =
-    let i = c.loop-all.invariant in
-    let k = c.in_ok-piece.ensures.ok in
-    let w = one_key (peeks_pairs i.1 c.in_ok-peek-2.ensures.ok c.in_ok-peek-2.ensures.none) k.2 in
-    let es = rows_of g.K.FromKey.key_datum g.V.DeserializeFrom.datum c.loop-all.all.entries in
+    let i = c.each.invariant in
+    let k = known _ c.in_ok-piece.ensures.name c.in-Some.is in
+    let w = one_key i.1 k.takes in
+    let es = rows_of g.K.FromKey.key_datum g.V.DeserializeFrom.datum c.each.all.entries in
     stop_member w c.in-Err-deserialize.ensures.err c.leave_after-in-Err-deserialize.ensures.left c.leave_after-in-Err-deserialize.ensures.as_was
-    (λ t qs h. rows-stop_value g.K.FromKey.from_text g.V.DeserializeFrom.from_tree i.0 k.0 t qs (g.K.FromKey.key_datum c.in-Ok.key) c.in-Err-deserialize.e.code es i.2 (c.in-Ok.ensures.ok k.0 k.1) h)
+    (λ t qs h. rows-stop_value g.K.FromKey.from_text g.V.DeserializeFrom.from_tree i.0 k.name t qs (g.K.FromKey.key_datum c.in-Ok.key) c.in-Err-deserialize.e.code es i.2 (c.in-Ok.ensures.ok k.name k.said) h)
 
-pub loop-all-preserved : goal.loop-all-preserved
-loop-all-preserved g c =
-    let i = c.loop-all.invariant in
-    let k = c.in_ok-piece.ensures.ok in
-    let w = one_key (peeks_pairs i.1 c.in_ok-peek-2.ensures.ok c.in_ok-peek-2.ensures.none) k.2 in
+pub each-preserved : goal.each-preserved
+each-preserved g c =
+    let i = c.each.invariant in
+    let k = known _ c.in_ok-piece.ensures.name c.in-Some.is in
+    let w = one_key i.1 k.takes in
     let r = c.in-Ok-deserialize.ensures.ok in
     let kd = g.K.FromKey.key_datum in
     let vd = g.V.DeserializeFrom.datum in
-    let old = c.loop-all.all.entries in
-    let t : OfText g.K.FromKey.from_text kd c.in-Ok.key = (k.0, c.in-Ok.ensures.ok k.0 k.1) in
+    let old = c.each.all.entries in
+    let t : OfText g.K.FromKey.from_text kd c.in-Ok.key = (k.name, c.in-Ok.ensures.ok k.name k.said) in
     let en : c.insert.new.self.entries ≡ insert_entry g.K.Ord.cmp old c.in-Ok.key c.in-Ok-deserialize.item = search rules in (
-      join_pairs i.0 (pair_and k.0 r.tree no_pairs),
+      join_pairs i.0 (pair_and k.name r.tree no_pairs),
       one_member w r.takes,
-      rows-more g.K.FromKey.from_text g.V.DeserializeFrom.from_tree i.0 k.0 r.tree (kd c.in-Ok.key) (vd c.in-Ok-deserialize.item) (rows_of kd vd old) i.2 (c.in-Ok.ensures.ok k.0 k.1) r.answer
+      rows-more g.K.FromKey.from_text g.V.DeserializeFrom.from_tree i.0 k.name r.tree (kd c.in-Ok.key) (vd c.in-Ok-deserialize.item) (rows_of kd vd old) i.2 (c.in-Ok.ensures.ok k.name k.said) r.answer
           ∙ ap (λ (rs : Rows). gives (rows_datum rs)) (sym (ap (rows_of kd vd) en ∙ rows-put g.K.Ord.cmp g.K.FromKey.from_text kd vd g.met.K.FromKey.orders old c.in-Ok.key c.in-Ok-deserialize.item t i.3)),
       subst (λ (es : List (g.row.K.Denot × g.row.V.Denot)). OfTexts g.K.FromKey.from_text kd es) (sym en) (put-texts g.K.Ord.cmp g.K.FromKey.from_text kd old c.in-Ok.key c.in-Ok-deserialize.item t i.3),
     )
 
-pub returns-clause-ok : goal.returns-clause-ok
-returns-clause-ok g c =
-    let i = c.loop-all.invariant in
-    let e : c.in_ok-peek-2.field-0 ≡ EndObject = is_kind-ne _ _ _ c.ne-in-loop-all.ensures c.if-ne-2.false in
-    record {
-      tree = pairs i.0;
-      takes = closes_pairs e i.1 c.in_ok-peek-2.ensures.ok c.in_ok-peek-2.ensures.none c.in_ok-_end.ensures.ok.2;
-      answer = i.2;
-    }
+pub returns-in-None-clause-ok : goal.returns-in-None-clause-ok
+returns-in-None-clause-ok g c =
+    let i = c.each.invariant in
+    record { tree = pairs i.0; takes = ended_pairs i.1 (c.in_ok-piece.ensures.end c.in-None.is); answer = i.2 }

@@ -7,10 +7,10 @@ use Rattle.json_data.proofs.Rows.{rows_of, OfTexts}
 use Rattle.json_data.proofs.maps.BTreeMapDeserializeFrom.deserialize.Given as goal
 
 -- the pairs so far
-abbrev pub invariant-loop-all : goal.invariant-loop-all
-invariant-loop-all g l = (ps : Pairs) × InPairs g.T.Tokens.taken g.T.Tokens.stand l.fn.tokens l.tokens ps
+abbrev pub invariant-each : goal.invariant-each
+invariant-each g l = (ps : Pairs) × InPairs g.T.Tokens.taken g.T.Tokens.stand l.fn.tokens l.tokens ps
     × (rows_from g.K.FromKey.from_text g.V.DeserializeFrom.from_tree no_rows ps ≡ gives (rows_datum (rows_of g.K.FromKey.key_datum g.V.DeserializeFrom.datum l.all.entries)))
     × OfTexts g.K.FromKey.from_text g.K.FromKey.key_datum l.all.entries
 
-abbrev pub decreases-loop-all : goal.decreases-loop-all
-decreases-loop-all g l = (g.T.Tokens.stand l.tokens).left
+abbrev pub decreases-each : goal.decreases-each
+decreases-each g l = (g.T.Tokens.stand l.tokens).left

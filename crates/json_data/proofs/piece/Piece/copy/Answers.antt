@@ -1,6 +1,7 @@
-use Rattle.std.proofs.Common.{◌≡◌, ◌∙◌, ℕ, List, ◌++◌, Bool, Option, Some, IsSome, true, false, refl, ap, sym, subst, IsUtf8}
+use Rattle.std.proofs.Common.{◌≡◌, ◌∙◌, ℕ, List, ◌++◌, Bool, Option, Some, IsSome, refl, ap, sym, subst, IsUtf8}
 use Rattle.std.proofs.Math.Logic.{∥∥₁_map}
-use Rattle.std.proofs.lemmas.Grind.{not_there}
+use Rattle.std.proofs.lemmas.Str.{IsUtf8-had}
+use Rattle.std.specs.String.{string_bytes}
 use Rattle.json_grammar.specs.Grammar.{chars}
 use Rattle.json_grammar.proofs.Texts.{chars_utf8}
 use Rattle.json_text.specs.Spelled.{NoEscape}
@@ -19,17 +20,18 @@ invariant_of-span g c = record {
   told = (λ _ n. c.args.self.told (some_is c.in-Some.is) (subst NoEscape c.as_text-2.ensures n), λ e. absurd (cc));
 }
 
-pub unreachable-requires : goal.unreachable-requires
-unreachable-requires g c =
-    not_there c.args.self.spells
+pub from_utf8_unchecked-requires : goal.from_utf8_unchecked-requires
+from_utf8_unchecked-requires g c =
+    IsUtf8-had _
+    (∥∥₁_map c.args.self.spells
     (λ s.
     let k = says_chars c.in-Some.is s.1 in
-    let e : c.unescape_into.new.out.items ≡ s.0 = c.unescape_into.ensures.text s.0 (subst (chars c.in-Some.lossy s.0) (sym c.as_text-2.ensures) k) ∙ ap (λ (b : List ℕ). b ++ s.0) c.in_ok-bytes.ensures.items in
-    let f : false ≡ true = c.in-Err.ensures.succeeds (subst IsUtf8 (sym e) (chars_utf8 _ k)) in
-    absurd (cc))
+    let e : c.unescape_into.new.out.items ≡ s.0 = ◌∙◌ {A = List ℕ} (c.unescape_into.ensures.text s.0 (subst (chars c.in-Some.lossy s.0) (sym c.as_text-2.ensures) k)) (ap (λ (b : List ℕ). b ++ s.0) c.in_ok-bytes.ensures.items) in
+    subst IsUtf8 (sym e) (chars_utf8 _ k)))
 
 pub returns-clause-ok : goal.returns-clause-ok
 returns-clause-ok g c = λ s h.
     let k = says_chars c.in-Some.is h in
-    let e : c.unescape_into.new.out.items ≡ s = c.unescape_into.ensures.text s (subst (chars c.in-Some.lossy s) (sym c.as_text-2.ensures) k) ∙ ap (λ (b : List ℕ). b ++ s) c.in_ok-bytes.ensures.items in
-    sym (ap (λ (v : _). v.items) c.in-Ok.ensures.ok ∙ e)
+    let e : c.unescape_into.new.out.items ≡ s = ◌∙◌ {A = List ℕ} (c.unescape_into.ensures.text s (subst (chars c.in-Some.lossy s) (sym c.as_text-2.ensures) k)) (ap (λ (b : List ℕ). b ++ s) c.in_ok-bytes.ensures.items) in
+    let whole : string_bytes c.from_utf8_unchecked.result ≡ c.unescape_into.new.out.items = cc in
+    sym (whole ∙ e)

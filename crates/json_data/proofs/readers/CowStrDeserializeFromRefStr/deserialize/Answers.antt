@@ -2,23 +2,22 @@ use Rattle.std.proofs.Common.{ap, List, ℕ}
 use Rattle.json_grammar.specs.Tree.{text}
 use Rattle.json_model.specs.Datum.{text_datum}
 use Rattle.json_data.specs.Reading.{gives}
-use Rattle.json_data.proofs.Steps.{peek_tree}
 use Rattle.json_data.proofs.readers.CowStrDeserializeFromRefStr.deserialize.Goals as goal
 
 pub returns-in-Some-clause-ok : goal.returns-in-Some-clause-ok
 returns-in-Some-clause-ok g c =
     let r = c.in_ok-piece.ensures.ok in
     record {
-      tree = text r.0;
-      takes = peek_tree c.in_ok-peek.ensures.ok c.in_ok-peek.ensures.none r.2;
-      answer = ap (λ (s : List ℕ). gives (text_datum s)) (c.in-Some.ensures.text r.0 r.1);
+      tree = text r.text;
+      takes = r.takes;
+      answer = ap (λ (s : List ℕ). gives (text_datum s)) (c.in-Some.ensures.text r.text r.said);
     }
 
 pub returns-in_ok-copy-in-None-clause-ok : goal.returns-in_ok-copy-in-None-clause-ok
 returns-in_ok-copy-in-None-clause-ok g c =
     let r = c.in_ok-piece.ensures.ok in
     record {
-      tree = text r.0;
-      takes = peek_tree c.in_ok-peek.ensures.ok c.in_ok-peek.ensures.none r.2;
-      answer = ap (λ (s : List ℕ). gives (text_datum s)) (c.in_ok-copy-in-None.ensures.ok r.0 r.1);
+      tree = text r.text;
+      takes = r.takes;
+      answer = ap (λ (s : List ℕ). gives (text_datum s)) (c.in_ok-copy-in-None.ensures.ok r.text r.said);
     }

@@ -59,6 +59,6 @@ returns-then-eq-clause-ok g c =
     let w = still_in (c.ends.ensures.kept c.if-ends.false ∙ c.in_default.ensures) i.1 in
     record {
       tree = list i.0;
-      takes = closes (is_kind _ _ _ c.eq.ensures c.if-eq.true) w c.in_ok-peek.ensures.ok c.in_ok-peek.ensures.none c.in_ok-_end.ensures.ok.2;
+      takes = closes (is_kind _ _ _ c.eq.ensures c.if-eq.true) w c.in_ok-peek.ensures.ok c.in_ok-peek.ensures.none c.in_ok-pass.ensures.ok.1;
       answer = ap as_list i.2;
     }
