@@ -1,37 +1,34 @@
 // How tests look at what calls answer.
-use json_fixtures::{array_in, object_in, shows};
+use json_fixtures::shows;
 use json_number::Number;
-use json_text::{Error, ErrorCode, Place, Result};
-use json_value::{Array, Object, Value, View};
+use json_text::Result;
+use json_value::{Value, View};
 use std::alloc::Global;
 
-// The array that a value is; of another one the test is in error.
-pub(crate) fn array(value: &mut Value) -> Result<&mut Array> {
-    match array_in(value) {
-        Some(array) => Ok(array),
-        None => Err(no_such()),
-    }
+// Whether this is the compact text of a value.
+pub(crate) fn is_shown(alloc: Global, value: Value, json: &str) -> Result<bool> {
+    shows(alloc, &value, json)
 }
 
-// The object that a value is; of another one the test is in error.
-pub(crate) fn object(value: &mut Value) -> Result<&mut Object> {
-    match object_in(value) {
-        Some(object) => Ok(object),
-        None => Err(no_such()),
-    }
+// Whether there is none.
+pub(crate) fn gave_none(value: Option<Value>) -> bool {
+    value.is_none()
 }
 
-fn no_such() -> Error {
-    Error {
-        code: ErrorCode::NotFound,
-        place: Place::None,
-    }
+// Whether a value is this number.
+pub(crate) fn was_number(value: Value, number: u64) -> bool {
+    is_number(value.view(), number)
+}
+
+// Puts a value in place of another.
+pub(crate) fn set(place: &mut Value, value: Value) {
+    *place = value;
 }
 
 // Whether there is a value, and this is its compact text.
 pub(crate) fn gave(alloc: Global, value: Option<Value>, json: &str) -> Result<bool> {
     match value {
-        Some(value) => shows(alloc, &value, json),
+        Some(value) => is_shown(alloc, value, json),
         None => Ok(false),
     }
 }
@@ -50,5 +47,5 @@ pub(crate) fn is_number(view: View<'_>, number: u64) -> bool {
 
 // Puts the number in place of a value.
 pub(crate) fn put(place: &mut Value, number: u64) {
-    *place = Value::new_u64(number);
+    set(place, Value::new_u64(number));
 }

@@ -5,41 +5,52 @@ use json_data::{
     IgnoredAny, from_reader, from_slice, from_slice_unchecked, from_slice_with, from_str,
 };
 use json_number::RawNumber;
-use json_text::{Error, ErrorCode, Rules, SliceSource};
+use json_text::{ErrorCode, Result, Rules, SliceSource};
 use json_write::to_string_pretty;
+use std::alloc::Global;
 use std::collections::BTreeMap;
-use std::test::Fail;
 
-fn told<T: Drop>(outcome: Result<T, Error>) -> Option<(ErrorCode, Option<usize>)> {
-    outcome.err().map(|error| (error.code, error.offset()))
+// Whether this is refused, at this offset.
+fn is_refused<T: Drop>(outcome: Result<T>, code: ErrorCode, offset: usize) -> bool {
+    match outcome {
+        Ok(_) => false,
+        Err(error) => error.code == code && error.offset() == Some(offset),
+    }
 }
 
 #[test]
 fn refusals_with_their_places(rt: HostRuntime) {
     let alloc = rt.alloc();
-    let range = Some((ErrorCode::NumberOutOfRange, Some(0)));
-    let unmatched = Some((ErrorCode::TypeUnmatched, Some(0)));
-    assert_eq!(rt; told(from_str::<u8>(alloc, "256")), range);
-    assert_eq!(rt; told(from_str::<u8>(alloc, "1.0")), unmatched);
-    assert_eq!(rt;
-        told(from_str::<i8>(alloc, " -0")),
-        Some((ErrorCode::TypeUnmatched, Some(1)))
-    );
-    assert_eq!(rt;
-        told(from_str::<bool>(alloc, "{\"a\":[1,}")),
-        Some((ErrorCode::InvalidJsonValue, Some(8)))
-    );
-    assert_eq!(rt; told(from_str::<(u8, u8)>(alloc, "[1]")), unmatched);
-    assert_eq!(rt; told(from_str::<char>(alloc, "\"ab\"")), unmatched);
-    assert_eq!(rt;
-        told(from_str::<IgnoredAny>(alloc, "-1e-1.111")),
-        Some((ErrorCode::TrailingCharacters, Some(5)))
-    );
+    let unmatched = ErrorCode::TypeUnmatched;
+    assert!(rt; is_refused(from_str::<u8>(alloc, "256"), ErrorCode::NumberOutOfRange, 0));
+    assert!(rt; is_refused(from_str::<u8>(alloc, "1.0"), unmatched, 0));
+    assert!(rt; is_refused(from_str::<i8>(alloc, " -0"), unmatched, 1));
+    let broken = from_str::<bool>(alloc, "{\"a\":[1,}");
+    assert!(rt; is_refused(broken, ErrorCode::InvalidJsonValue, 8));
+    assert!(rt; is_refused(from_str::<(u8, u8)>(alloc, "[1]"), unmatched, 0));
+    assert!(rt; is_refused(from_str::<char>(alloc, "\"ab\""), unmatched, 0));
+    let longer = from_str::<IgnoredAny>(alloc, "-1e-1.111");
+    assert!(rt; is_refused(longer, ErrorCode::TrailingCharacters, 5));
 }
 
-#[test]
-fn keys_of_maps(rt: HostRuntime) -> Result<(), Fail> {
-    let alloc = rt.alloc();
+fn count(flags: BTreeMap<u8, bool>) -> usize {
+    flags.len()
+}
+
+// How many flags are read by their numbers.
+fn flags(alloc: Global, text: &str) -> Result<usize> {
+    Ok(count(from_str::<BTreeMap<u8, bool>>(alloc, text)?))
+}
+
+fn code_of(outcome: Result<usize>) -> Option<ErrorCode> {
+    match outcome {
+        Ok(_) => None,
+        Err(error) => Some(error.code),
+    }
+}
+
+// The first text whose keys are taken or refused otherwise.
+fn wrong_key(alloc: Global) -> Option<&'static str> {
     let rows = [
         ("{\"1x\":true}", Some(ErrorCode::ExpectedNumericKey)),
         ("{\"300\":true}", Some(ErrorCode::NumberOutOfRange)),
@@ -47,88 +58,125 @@ fn keys_of_maps(rt: HostRuntime) -> Result<(), Fail> {
         ("{\"7\":true}", None),
     ];
     for (text, code) in rows {
-        let outcome = from_str::<BTreeMap<u8, bool>>(alloc, text);
-        assert_eq!(rt; told(outcome).map(|row| row.0), code);
+        if code_of(flags(alloc, text)) != code {
+            return Some(text);
+        }
     }
-    assert_eq!(rt;
-        told(from_str::<BTreeMap<String, u8>>(alloc, "{\"x\":256,\"y\":")),
-        Some((ErrorCode::EofWhileParsing, Some(13)))
-    );
-    Ok(())
+    None
 }
 
 #[test]
-fn values_of_other_calls(rt: HostRuntime) -> Result<(), Fail> {
-    let alloc = rt.alloc();
+fn keys_of_maps(rt: HostRuntime) {
+    let wrong = wrong_key(rt.alloc());
+    assert!(rt; wrong.is_none(), "{wrong:?}");
+    let broken = from_str::<BTreeMap<String, u8>>(rt.alloc(), "{\"x\":256,\"y\":");
+    assert!(rt; is_refused(broken, ErrorCode::EofWhileParsing, 13));
+}
+
+fn literal_is_read(alloc: Global) -> Result<bool> {
     let raw = from_str::<RawNumber>(alloc, "\"0.123\"")?;
-    assert_eq!(rt; raw.as_str(), "0.123");
-    assert_eq!(rt; from_str::<char>(alloc, "\"\\u00e9\"")?, '\u{e9}');
-    assert_eq!(rt; from_slice_unchecked::<u8>(alloc, b"7")?, 7);
-    assert_eq!(rt; from_slice::<u8>(alloc, b"7")?, 7);
-    let rules = Rules::new(1, true).ok_or("so many levels")?;
-    assert_eq!(rt;
-        told(from_slice_with::<IgnoredAny>(alloc, b"{\"a\":1,\"a\":2}", rules)),
-        Some((ErrorCode::DuplicateKey, Some(7)))
-    );
+    Ok(raw.as_str() == "0.123")
+}
+
+fn number_of_source(alloc: Global) -> Result<u8> {
     let mut source = SliceSource::new(b" 7");
     let mut room = Vec::new(alloc);
-    assert_eq!(rt;
-        from_reader::<SliceSource, u8>(alloc, &mut source, &mut room)?,
-        7
-    );
-    Ok(())
+    from_reader::<SliceSource, u8>(alloc, &mut source, &mut room)
+}
+
+// Whether a name that repeats is refused by the rules.
+fn rules_refuse(alloc: Global) -> bool {
+    match Rules::new(1, true) {
+        Some(rules) => {
+            let read = from_slice_with::<IgnoredAny>(alloc, b"{\"a\":1,\"a\":2}", rules);
+            is_refused(read, ErrorCode::DuplicateKey, 7)
+        }
+        None => false,
+    }
 }
 
 #[test]
-fn a_person_with_members_in_any_order(rt: HostRuntime) -> Result<(), Fail> {
+fn values_of_other_calls(rt: HostRuntime) {
+    let alloc = rt.alloc();
+    assert!(rt; matches!(literal_is_read(alloc), Ok(true)));
+    assert!(rt; matches!(from_str::<char>(alloc, "\"\\u00e9\""), Ok('\u{e9}')));
+    assert!(rt; matches!(from_slice_unchecked::<u8>(alloc, b"7"), Ok(7)));
+    assert!(rt; matches!(from_slice::<u8>(alloc, b"7"), Ok(7)));
+    assert!(rt; rules_refuse(alloc));
+    assert!(rt; matches!(number_of_source(alloc), Ok(7)));
+}
+
+fn is_xiaoming(person: Person) -> bool {
+    person.name.as_str() == "Xiaoming" && person.age == 18 && person.phones.len() == 1
+}
+
+fn person_is_read(alloc: Global, text: &str) -> Result<bool> {
+    Ok(is_xiaoming(from_str::<Person>(alloc, text)?))
+}
+
+#[test]
+fn a_person_with_members_in_any_order(rt: HostRuntime) {
     let alloc = rt.alloc();
     let text = "{\"age\": 18, \"x\": [{}], \"phones\": [\"+123456\"], \"name\": \"Xiaoming\"}";
+    assert!(rt; matches!(person_is_read(alloc, text), Ok(true)));
+    let nameless = person_is_read(alloc, "{\"age\": 18}");
+    assert!(rt; is_refused(nameless, ErrorCode::TypeUnmatched, 0));
+    let too_old = person_is_read(alloc, "{\"age\": 256, \"name\": 1}");
+    assert!(rt; is_refused(too_old, ErrorCode::NumberOutOfRange, 0));
+}
+
+fn is_text(printed: String, text: &str) -> bool {
+    printed.as_str() == text
+}
+
+fn prints(alloc: Global, person: &Person, text: &str) -> Result<bool> {
+    Ok(is_text(to_string_pretty(alloc, person)?, text))
+}
+
+fn person_is_printed(alloc: Global, text: &str) -> Result<bool> {
     let person = from_str::<Person>(alloc, text)?;
-    assert_eq!(rt; (person.name.as_str(), person.age), ("Xiaoming", 18));
-    assert_eq!(rt; person.phones.len(), 1);
-    assert_eq!(rt;
-        told(from_str::<Person>(alloc, "{\"age\": 18}")),
-        Some((ErrorCode::TypeUnmatched, Some(0)))
-    );
-    assert_eq!(rt;
-        told(from_str::<Person>(alloc, "{\"age\": 256, \"name\": 1}")),
-        Some((ErrorCode::NumberOutOfRange, Some(0)))
-    );
-    Ok(())
+    prints(alloc, &person, text)
 }
 
 #[test]
-fn a_person_is_printed_as_it_was_read(rt: HostRuntime) -> Result<(), Fail> {
-    let alloc = rt.alloc();
+fn a_person_is_printed_as_it_was_read(rt: HostRuntime) {
     let text =
         "{\n  \"name\": \"Xiaoming\",\n  \"age\": 18,\n  \"phones\": [\n    \"+123456\"\n  ]\n}";
-    let person = from_str::<Person>(alloc, text)?;
-    assert_eq!(rt; to_string_pretty(alloc, &person)?.as_str(), text);
-    Ok(())
+    assert!(rt; matches!(person_is_printed(rt.alloc(), text), Ok(true)));
 }
 
-#[test]
-fn lists_within_lists(rt: HostRuntime) -> Result<(), Fail> {
-    let alloc = rt.alloc();
-    match from_str::<Nested>(alloc, "[1,[2,[]],3]")? {
-        Nested::List(all) => assert_eq!(rt; all.len(), 3),
-        Nested::Number(_) => return Err("it is a list".into()),
+// How many elements a list has; of a number none is told.
+fn elements(nested: Nested) -> Option<usize> {
+    match &nested {
+        Nested::List(all) => Some(all.len()),
+        Nested::Number(_) => None,
     }
-    assert_eq!(rt;
-        told(from_str::<Nested>(alloc, "[1,[2,true],256]")),
-        Some((ErrorCode::TypeUnmatched, Some(0)))
-    );
-    Ok(())
+}
+
+fn elements_read(alloc: Global, text: &str) -> Result<Option<usize>> {
+    Ok(elements(from_str::<Nested>(alloc, text)?))
 }
 
 #[test]
-fn characters_as_keys(rt: HostRuntime) -> Result<(), Fail> {
+fn lists_within_lists(rt: HostRuntime) {
     let alloc = rt.alloc();
-    let map = from_str::<BTreeMap<char, u8>>(alloc, "{\"\\u00e9\":1,\"a\":2}")?;
-    assert_eq!(rt; map.get(&'\u{e9}'), Some(&1));
-    assert_eq!(rt;
-        told(from_str::<BTreeMap<char, u8>>(alloc, "{\"ab\":1}")),
-        Some((ErrorCode::TypeUnmatched, Some(0)))
-    );
-    Ok(())
+    assert!(rt; matches!(elements_read(alloc, "[1,[2,[]],3]"), Ok(Some(3))));
+    let wrong = elements_read(alloc, "[1,[2,true],256]");
+    assert!(rt; is_refused(wrong, ErrorCode::TypeUnmatched, 0));
+}
+
+// What is read at the key `é`.
+fn at_accent(alloc: Global, text: &str) -> Result<Option<u8>> {
+    let map = from_str::<BTreeMap<char, u8>>(alloc, text)?;
+    match map.get(&'\u{e9}') {
+        Some(number) => Ok(Some(*number)),
+        None => Ok(None),
+    }
+}
+
+#[test]
+fn characters_as_keys(rt: HostRuntime) {
+    let alloc = rt.alloc();
+    assert!(rt; matches!(at_accent(alloc, "{\"\\u00e9\":1,\"a\":2}"), Ok(Some(1))));
+    assert!(rt; is_refused(at_accent(alloc, "{\"ab\":1}"), ErrorCode::TypeUnmatched, 0));
 }

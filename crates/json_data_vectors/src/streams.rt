@@ -3,13 +3,19 @@ ghost use Rattle.std.specs.Prelude.{◌<◌, ◌^◌, length};
 
 use json_data::IgnoredAny;
 use json_stream::Deserializer;
-use json_text::{Error, ErrorCode, Place, Result, repair};
+use json_text::{Error, ErrorCode, Place, Repaired, Result, repair};
 use std::alloc::Global;
 
+// Why it is refused, and at which offset, if so.
 fn told<T: Drop>(outcome: Result<T>) -> Option<(ErrorCode, Option<usize>)> {
-    outcome
-        .err()
-        .map(|error: Error| (error.code, error.offset()))
+    match outcome {
+        Ok(_) => None,
+        Err(error) => Some((error.code, error.offset())),
+    }
+}
+
+fn is_refused<T: Drop>(outcome: Result<T>, code: ErrorCode, offset: usize) -> bool {
+    told(outcome) == Some((code, Some(offset)))
 }
 
 // How many values come, what is refused then, and whether nothing comes behind that.
@@ -25,8 +31,8 @@ fn drained(alloc: Global, text: &str) -> (usize, Option<(ErrorCode, Option<usize
     (text.len(), None, false)
 }
 
-#[test]
-fn values_up_to_the_first_that_is_damaged(rt: HostRuntime) {
+// The first text that holds others.
+fn wrong_stream(alloc: Global) -> Option<&'static str> {
     let table = [
         (
             "{\"a\": 123, \"b\": \"foo\"} true [1, 2, 3] wrong chars",
@@ -38,73 +44,122 @@ fn values_up_to_the_first_that_is_damaged(rt: HostRuntime) {
         ("01", 0, ErrorCode::InvalidNumber, 1),
     ];
     for (text, count, code, offset) in table {
-        assert!(rt; text.len() < 100);
-        assert_eq!(rt;
-            drained(rt.alloc(), text),
-            (count, Some((code, Some(offset))), true)
-        );
+        let want = (count, Some((code, Some(offset))), true);
+        if text.len() >= 100 || drained(alloc, text) != want {
+            return Some(text);
+        }
+    }
+    None
+}
+
+#[test]
+fn values_up_to_the_first_that_is_damaged(rt: HostRuntime) {
+    let wrong = wrong_stream(rt.alloc());
+    assert!(rt; wrong.is_none(), "{wrong:?}");
+}
+
+// Whether what stands behind the first value is refused, at its place.
+fn object_ends(alloc: Global) -> bool {
+    let mut input = Deserializer::from_str("{\"a\": 1, \"b\": 2}123").use_rawnumber();
+    let read = input.deserialize::<IgnoredAny>(alloc).is_ok();
+    let index = input.index();
+    read && index == 16 && is_refused(input.end(), ErrorCode::TrailingCharacters, 16)
+}
+
+fn list_ends() -> bool {
+    Deserializer::from_str("]").end_seq().is_ok()
+}
+
+fn comma_is_refused() -> bool {
+    let mut comma = Deserializer::from_str(",");
+    let of_list = is_refused(comma.end_seq(), ErrorCode::ExpectedArrayCommaOrEnd, 0);
+    of_list && is_refused(comma.end_map(), ErrorCode::TrailingComma, 0)
+}
+
+fn broken_bytes_are_refused(alloc: Global) -> bool {
+    let mut broken = Deserializer::from_slice(b"1 \xff");
+    let read = broken.deserialize::<IgnoredAny>(alloc);
+    let refused = is_refused(read, ErrorCode::InvalidUTF8, 2);
+    let ended = is_refused(broken.end(), ErrorCode::InvalidUTF8, 2);
+    refused && ended && broken.index() == 0
+}
+
+#[test]
+fn ends_behind_a_value(rt: HostRuntime) {
+    assert!(rt; object_ends(rt.alloc()));
+    assert!(rt; list_ends());
+    assert!(rt; comma_is_refused());
+    assert!(rt; broken_bytes_are_refused(rt.alloc()));
+}
+
+fn is_read(outcome: Result<String>, text: &str) -> bool {
+    match outcome {
+        Ok(read) => read.as_str() == text,
+        Err(_) => false,
     }
 }
 
-#[test]
-fn ends_behind_a_value(rt: HostRuntime) -> Result<()> {
-    let mut input = Deserializer::from_str("{\"a\": 1, \"b\": 2}123").use_rawnumber();
-    input.deserialize::<IgnoredAny>(rt.alloc())?;
-    assert_eq!(rt; input.index(), 16);
-    assert_eq!(rt;
-        told(input.end()),
-        Some((ErrorCode::TrailingCharacters, Some(16)))
-    );
-    assert_eq!(rt; told(Deserializer::from_str("]").end_seq()), None);
-    let mut comma = Deserializer::from_str(",");
-    assert_eq!(rt;
-        told(comma.end_seq()),
-        Some((ErrorCode::ExpectedArrayCommaOrEnd, Some(0)))
-    );
-    assert_eq!(rt;
-        told(comma.end_map()),
-        Some((ErrorCode::TrailingComma, Some(0)))
-    );
-    let mut broken = Deserializer::from_slice(b"1 \xff");
-    let refused = Some((ErrorCode::InvalidUTF8, Some(2)));
-    assert_eq!(rt; told(broken.deserialize::<IgnoredAny>(rt.alloc())), refused);
-    assert_eq!(rt; (told(broken.end()), broken.index()), (refused, 0));
-    Ok(())
+fn is_surrogate(outcome: Result<String>) -> bool {
+    match outcome {
+        Ok(_) => false,
+        Err(error) => error.code == ErrorCode::InvalidSurrogate,
+    }
 }
 
-#[test]
-fn lone_surrogates_by_the_mode(rt: HostRuntime) -> Result<()> {
-    let text = "\"\\ud800a\"";
-    let mut strict = Deserializer::from_str(text);
-    let refused = told(strict.deserialize::<String>(rt.alloc()));
-    assert_eq!(rt; refused.map(|row| row.0), Some(ErrorCode::InvalidSurrogate));
+// Whether a surrogate that stands alone is refused, and then read in the other mode.
+fn mode_decides(alloc: Global) -> bool {
+    let mut strict = Deserializer::from_str("\"\\ud800a\"");
+    let refused = is_surrogate(strict.deserialize::<String>(alloc));
     let mut lossy = strict.utf8_lossy();
-    let read = lossy.deserialize::<String>(rt.alloc())?;
-    assert_eq!(rt; (read.as_str(), lossy.index()), ("\u{fffd}a", 9));
-    Ok(())
+    let read = is_read(lossy.deserialize::<String>(alloc), "\u{fffd}a");
+    refused && read && lossy.index() == 9
 }
 
 #[test]
-fn repaired_texts_told_by_their_input(rt: HostRuntime) -> Result<()> {
-    let repaired = repair(rt.alloc(), b"\"\xff\"")?;
-    assert!(rt; repaired.as_str().len() < 100);
-    let mut input = Deserializer::from_repaired(&repaired);
-    let read = input.deserialize::<String>(rt.alloc())?;
-    assert_eq!(rt; (read.as_str(), input.index()), ("\u{fffd}", 3));
-    let damaged = repair(rt.alloc(), b"[1,\n\"\xff\", x]")?;
-    assert!(rt; damaged.as_str().len() < 100);
-    let refused = Deserializer::from_repaired(&damaged).deserialize::<IgnoredAny>(rt.alloc());
+fn lone_surrogates_by_the_mode(rt: HostRuntime) {
+    assert!(rt; mode_decides(rt.alloc()));
+}
+
+// Whether the string of a repaired text is read up to the end of its input.
+fn repaired_is_read(alloc: Global, repaired: &Repaired) -> bool {
+    if repaired.as_str().len() >= 100 {
+        return false;
+    }
+    let mut input = Deserializer::from_repaired(repaired);
+    let read = is_read(input.deserialize::<String>(alloc), "\u{fffd}");
+    read && input.index() == 3
+}
+
+fn repaired_string_is_read(alloc: Global) -> Result<bool> {
+    let repaired = repair(alloc, b"\"\xff\"")?;
+    Ok(repaired_is_read(alloc, &repaired))
+}
+
+// What is refused of a repaired text.
+fn refusal(alloc: Global, repaired: &Repaired) -> Option<Error> {
+    if repaired.as_str().len() >= 100 {
+        return None;
+    }
+    let mut input = Deserializer::from_repaired(repaired);
+    input.deserialize::<IgnoredAny>(alloc).err()
+}
+
+fn refusal_in_list(alloc: Global) -> Result<Option<Error>> {
+    let damaged = repair(alloc, b"[1,\n\"\xff\", x]")?;
+    Ok(refusal(alloc, &damaged))
+}
+
+#[test]
+fn repaired_texts_told_by_their_input(rt: HostRuntime) {
+    assert!(rt; matches!(repaired_string_is_read(rt.alloc()), Ok(true)));
     let place = Place::At {
         offset: 9,
         line: 2,
         column: 6,
     };
-    assert_eq!(rt;
-        refused.err(),
-        Some(Error {
-            code: ErrorCode::InvalidJsonValue,
-            place
-        })
-    );
-    Ok(())
+    let want = Error {
+        code: ErrorCode::InvalidJsonValue,
+        place,
+    };
+    assert!(rt; refusal_in_list(rt.alloc()) == Ok(Some(want)));
 }

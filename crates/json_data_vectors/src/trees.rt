@@ -1,74 +1,78 @@
 // Values, arrays, objects, paths and edits of texts.
 use json_data::from_str;
-use json_text::{Error, ErrorCode};
+use json_fixtures::shows;
+use json_text::{ErrorCode, Result};
 use json_value::{Array, Edit, Object, Path, Value};
 use std::alloc::Global;
-use std::test::Fail;
 
-fn value(alloc: Global, text: &str) -> Result<String, Error> {
+fn has_place(value: &Value) -> bool {
+    value.place().is_some()
+}
+
+fn is_shown(alloc: Global, value: Value, json: &str) -> Result<bool> {
+    shows(alloc, &value, json)
+}
+
+// Whether the value of a text stands in a document, and has this compact text.
+fn place(alloc: Global, text: &str, json: &str) -> Result<bool> {
     let value = from_str::<Value>(alloc, text)?;
-    Ok(value.to_string(alloc)?)
+    let stands = has_place(&value);
+    Ok(is_shown(alloc, value, json)? && stands)
 }
 
-// The same of a value that stands in a document.
-fn place(alloc: Global, text: &str) -> Result<bool, Error> {
-    let value = from_str::<Value>(alloc, text)?;
-    Ok(value.place().is_some())
+// Whether the array of a text has this compact text.
+fn array(alloc: Global, text: &str, json: &str) -> Result<bool> {
+    is_shown(alloc, from_str::<Array>(alloc, text)?.into_value(), json)
 }
 
-fn array(alloc: Global, text: &str) -> Result<String, Error> {
-    let array = from_str::<Array>(alloc, text)?;
-    Ok(array.to_string(alloc)?)
-}
-
-fn object(alloc: Global, text: &str) -> Result<String, Error> {
-    let object = from_str::<Object>(alloc, text)?;
-    Ok(object.to_string(alloc)?)
+// The same of an object.
+fn object(alloc: Global, text: &str, json: &str) -> Result<bool> {
+    is_shown(alloc, from_str::<Object>(alloc, text)?.into_value(), json)
 }
 
 // How many steps there are.
-fn steps(alloc: Global, text: &str) -> Result<usize, Error> {
+fn steps(alloc: Global, text: &str) -> Result<usize> {
     let path = from_str::<Path>(alloc, text)?;
     Ok(path.steps().len())
 }
 
-// The first letter of each form.
-fn forms(alloc: Global, text: &str) -> Result<String, Error> {
-    let edits = from_str::<Vec<Edit>>(alloc, text)?;
-    let mut letters = String::new(alloc);
-    for edit in edits.as_slice() {
-        letters.push(match edit {
-            Edit::Set { .. } => 's',
-            Edit::Insert { .. } => 'i',
-            Edit::Push { .. } => 'p',
-            Edit::Remove { .. } => 'r',
-        })?;
+// Whether there is an edit of each form, in this order.
+fn is_each_form(edits: Vec<Edit>) -> bool {
+    match edits.as_slice() {
+        [set, insert, push, remove] => {
+            matches!(set, Edit::Set { .. })
+                && matches!(insert, Edit::Insert { .. })
+                && matches!(push, Edit::Push { .. })
+                && matches!(remove, Edit::Remove { .. })
+        }
+        _ => false,
     }
-    Ok(letters)
+}
+
+fn forms(alloc: Global, text: &str) -> Result<bool> {
+    Ok(is_each_form(from_str::<Vec<Edit>>(alloc, text)?))
+}
+
+fn is_unmatched(outcome: Result<bool>) -> bool {
+    match outcome {
+        Ok(_) => false,
+        Err(error) => error.code == ErrorCode::TypeUnmatched,
+    }
 }
 
 #[test]
-fn trees_are_kept_whole(rt: HostRuntime) -> Result<(), Fail> {
+fn trees_are_kept_whole(rt: HostRuntime) {
     let alloc = rt.alloc();
-    assert_eq!(rt; array(alloc, " [1] ")?.as_str(), "[1]");
+    assert!(rt; matches!(array(alloc, " [1] ", "[1]"), Ok(true)));
     let twice = "{\"a\":1,\"a\":[2.50,\"\\n\"]}";
-    assert_eq!(rt; object(alloc, twice)?.as_str(), twice);
-    assert_eq!(rt; value(alloc, twice)?.as_str(), twice);
-    assert!(rt; place(alloc, twice)?);
-    assert_eq!(rt; steps(alloc, "[\"a\",0]")?, 2);
-    assert_eq!(rt;
-        array(alloc, "{}").err().map(|error| error.code),
-        Some(ErrorCode::TypeUnmatched)
-    );
-    Ok(())
+    assert!(rt; matches!(object(alloc, twice, twice), Ok(true)));
+    assert!(rt; matches!(place(alloc, twice, twice), Ok(true)));
+    assert!(rt; matches!(steps(alloc, "[\"a\",0]"), Ok(2)));
+    assert!(rt; is_unmatched(array(alloc, "{}", "{}")));
 }
 
-#[test]
-fn an_edits_word_in_each_form(rt: HostRuntime) -> Result<(), Fail> {
-    let alloc = rt.alloc();
-    let word =
-        "[[\"set\",[\"a\",0],1],[\"insert\",[],\"k\",{}],[\"push\",[],[2]],[\"remove\",[],\"b\"]]";
-    assert_eq!(rt; forms(alloc, word)?.as_str(), "sipr");
+// The first of these texts that is read as edits, or refused for another reason.
+fn wrong_word(alloc: Global) -> Option<&'static str> {
     let others = [
         "{}",
         "[[\"set\",[]]]",
@@ -82,10 +86,18 @@ fn an_edits_word_in_each_form(rt: HostRuntime) -> Result<(), Fail> {
         "[[]]",
     ];
     for text in others {
-        assert_eq!(rt;
-            forms(alloc, text).err().map(|error| error.code),
-            Some(ErrorCode::TypeUnmatched)
-        );
+        if !is_unmatched(forms(alloc, text)) {
+            return Some(text);
+        }
     }
-    Ok(())
+    None
+}
+
+#[test]
+fn an_edits_word_in_each_form(rt: HostRuntime) {
+    let word =
+        "[[\"set\",[\"a\",0],1],[\"insert\",[],\"k\",{}],[\"push\",[],[2]],[\"remove\",[],\"b\"]]";
+    assert!(rt; matches!(forms(rt.alloc(), word), Ok(true)));
+    let wrong = wrong_word(rt.alloc());
+    assert!(rt; wrong.is_none(), "{wrong:?}");
 }

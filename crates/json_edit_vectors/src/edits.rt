@@ -1,30 +1,61 @@
 // First writes of packed containers, copies, and edits.
-use crate::standing::stands_at;
+use crate::standing::element_stands;
+use crate::writing::set;
 use json_doc::Doc;
-use json_fixtures::{
-    becomes, changed, copied, key, list_in, pairs_in, read, said, shows, value_of,
-};
-use json_text::ErrorCode;
+use json_fixtures::{becomes, copied, key, list_in, pairs_in, read, said, shows, value_of, whole};
+use json_text::{ErrorCode, Result};
 use json_value::{Edit, Pair, Path, PointerNode, Text, Value};
 use std::alloc::Global;
-use std::test::Fail;
 
-fn place_of(value: &Value) -> Option<u32> {
-    match value.place() {
-        Some((_, at)) => Some(at),
-        None => None,
+// What is done to a value.
+#[derive(Clone, Copy)]
+enum Change {
+    WriteList,
+    CloneAndWrite,
+    WritePairs,
+    PushBesideClone(&'static str),
+    RemoveTwice,
+    PushAtTheRoot,
+    SetToObject,
+    InsertNull,
+}
+
+// Makes a change; answers whether it was done.
+fn make(change: Change, value: &mut Value, alloc: Global) -> Result<bool> {
+    match change {
+        Change::WriteList => write_list(value, alloc),
+        Change::CloneAndWrite => clone_stays(value, alloc, 0),
+        Change::WritePairs => write_pairs(value, alloc),
+        Change::PushBesideClone(json) => push_and_clone(value, alloc, json),
+        Change::RemoveTwice => remove_twice(value, alloc),
+        Change::PushAtTheRoot => Ok(push_at_the_root(value, alloc).is_none()),
+        Change::SetToObject => set_to_object(value, alloc),
+        Change::InsertNull => Ok(insert_null(value, alloc).is_none()),
     }
 }
 
-fn are_elements(list: &[Value], places: &[Option<u32>]) -> bool {
-    list.len() == places.len() && list.iter().zip(places).all(|(v, at)| place_of(v) == *at)
+// Whether the change is done, and the value of the text then has this compact text.
+fn changes_to(alloc: Global, json: &str, change: Change, then: &str) -> bool {
+    let done = |value: &mut Value, alloc| make(change, value, alloc);
+    matches!(becomes(alloc, json, done, then), Ok(true))
 }
 
-// Whether the elements stand at these places, and the last of them, once it is taken out, is this literal.
-fn ends_in(list: Option<&mut Vec<Value>>, places: &[Option<u32>], literal: &str) -> bool {
-    match list {
-        Some(list) => are_elements(list.as_slice(), places) && pops(list, literal),
+fn has_place(value: &Value) -> bool {
+    value.place().is_some()
+}
+
+fn is_at(value: &Value, cell: u32) -> bool {
+    match value.place() {
+        Some((_, at)) => at == cell,
         None => false,
+    }
+}
+
+// Whether there are three elements, which stand at cells 1, 3 and 5.
+fn are_packed(list: &[Value]) -> bool {
+    match list {
+        [first, second, third] => is_at(first, 1) && is_at(second, 3) && is_at(third, 5),
+        _ => false,
     }
 }
 
@@ -35,47 +66,39 @@ fn pops(list: &mut Vec<Value>, literal: &str) -> bool {
     }
 }
 
-// The first write of a list whose elements stand at cells 2 to 4, and whose last one is a literal.
-fn write_list(value: &mut Value, alloc: Global) -> json_text::Result<bool> {
-    let places = [Some(1), Some(3), Some(5)];
-    Ok(ends_in(list_in(value, alloc)?, &places, "1.5"))
-}
-
-#[test]
-fn first_write_of_an_array(rt: HostRuntime) -> Result<(), Fail> {
-    let (json, then) = ("[[1],[\"x\"],1.5]", "[[1],[\"x\"]]");
-    assert!(rt; becomes(rt.alloc(), json, write_list, then)?);
-    Ok(())
-}
-
-// Whether a clone from before a first write stands at this cell still, and the value at none.
-fn clone_stays(value: &mut Value, alloc: Global, at: u32) -> json_text::Result<bool> {
-    let copy = copied(alloc, value)?;
-    let opened = list_in(value, alloc)?.is_some();
-    Ok(opened && place_of(value).is_none() && place_of(&copy) == Some(at))
-}
-
-#[test]
-fn a_clone_from_before_a_first_write_stays_a_place(rt: HostRuntime) -> Result<(), Fail> {
-    let json = "[[1],[\"x\"],1.5]";
-    let change = |value: &mut Value, alloc| clone_stays(value, alloc, 0);
-    assert!(rt; becomes(rt.alloc(), json, change, json)?);
-    Ok(())
-}
-
-// Whether there are two members, and the first has this key and stands here; its value is null from then on.
-fn begins_with(members: Option<&mut Vec<Pair>>, key: &str, at: u32) -> bool {
-    match members {
-        Some(members) => members.len() == 2 && first_is(members, key, at),
-        None => false,
+// The first write of a list whose last element is a literal, which is taken out.
+fn write_list(value: &mut Value, alloc: Global) -> Result<bool> {
+    match list_in(value, alloc)? {
+        Some(list) => Ok(are_packed(list.as_slice()) && pops(list, "1.5")),
+        None => Ok(false),
     }
 }
 
+#[test]
+fn first_write_of_an_array(rt: HostRuntime) {
+    let (json, then) = ("[[1],[\"x\"],1.5]", "[[1],[\"x\"]]");
+    assert!(rt; changes_to(rt.alloc(), json, Change::WriteList, then));
+}
+
+// Whether a clone from before a first write stands at this cell still, and the value at none.
+fn clone_stays(value: &mut Value, alloc: Global, at: u32) -> Result<bool> {
+    let copy = copied(alloc, value)?;
+    let opened = list_in(value, alloc)?.is_some() && !has_place(value);
+    Ok(opened && is_at(&copy, at))
+}
+
+#[test]
+fn a_clone_from_before_a_first_write_stays_a_place(rt: HostRuntime) {
+    let json = "[[1],[\"x\"],1.5]";
+    assert!(rt; changes_to(rt.alloc(), json, Change::CloneAndWrite, json));
+}
+
+// Whether the first member has this key and stands here; its value is null from then on.
 fn first_is(members: &mut Vec<Pair>, key: &str, at: u32) -> bool {
     match members.first_mut() {
         Some(first) => {
-            let as_said = first.key() == key && place_of(first.value()) == Some(at);
-            *first.value_mut() = Value::new_null();
+            let as_said = first.key() == key && is_at(first.value(), at);
+            set(first.value_mut(), Value::new_null());
             as_said
         }
         None => false,
@@ -83,21 +106,29 @@ fn first_is(members: &mut Vec<Pair>, key: &str, at: u32) -> bool {
 }
 
 // The first write of two members, the first of which stands at cell 2.
-fn write_pairs(value: &mut Value, alloc: Global) -> json_text::Result<bool> {
-    Ok(begins_with(pairs_in(value, alloc)?, "a", 2))
+fn write_pairs(value: &mut Value, alloc: Global) -> Result<bool> {
+    match pairs_in(value, alloc)? {
+        Some(members) => Ok(members.len() == 2 && first_is(members, "a", 2)),
+        None => Ok(false),
+    }
 }
 
 #[test]
-fn first_write_of_an_object(rt: HostRuntime) -> Result<(), Fail> {
+fn first_write_of_an_object(rt: HostRuntime) {
     let (json, then) = ("{\"a\":[true],\"b\":null}", "{\"a\":null,\"b\":null}");
-    assert!(rt; becomes(rt.alloc(), json, write_pairs, then)?);
-    Ok(())
+    assert!(rt; changes_to(rt.alloc(), json, Change::WritePairs, then));
 }
 
-// Applies an edit.
-fn apply(value: &mut Value, alloc: Global, edit: Edit) -> json_text::Result<bool> {
-    value.apply(alloc, &edit)?;
-    Ok(true)
+fn refusal(applied: Result<()>) -> Option<ErrorCode> {
+    match applied {
+        Ok(()) => None,
+        Err(error) => Some(error.code),
+    }
+}
+
+// Applies an edit; answers why it is refused, if so.
+fn apply(value: &mut Value, alloc: Global, edit: Edit) -> Option<ErrorCode> {
+    refusal(value.apply(alloc, &edit))
 }
 
 fn push(path: Path, number: u64) -> Edit {
@@ -106,52 +137,50 @@ fn push(path: Path, number: u64) -> Edit {
 }
 
 // The path of one step.
-fn path_of(alloc: Global, step: PointerNode) -> json_text::Result<Path> {
+fn path_of(alloc: Global, step: PointerNode) -> Result<Path> {
     let mut path = Path::new(alloc);
     path.push(step)?;
     Ok(path)
 }
 
 // Appends 3 to the first element.
-fn push_into_first(value: &mut Value, alloc: Global) -> json_text::Result<bool> {
+fn push_into_first(value: &mut Value, alloc: Global) -> Result<bool> {
     let path = path_of(alloc, PointerNode::Index(0))?;
-    apply(value, alloc, push(path, 3))
+    Ok(apply(value, alloc, push(path, 3)).is_none())
 }
 
 // The same, and whether a clone from before still has this compact text.
-fn push_and_clone(value: &mut Value, alloc: Global, json: &str) -> json_text::Result<bool> {
+fn push_and_clone(value: &mut Value, alloc: Global, json: &str) -> Result<bool> {
     let copy = copied(alloc, value)?;
     Ok(push_into_first(value, alloc)? && shows(alloc, &copy, json)?)
 }
 
 #[test]
-fn a_clone_keeps_its_elements(rt: HostRuntime) -> Result<(), Fail> {
+fn a_clone_keeps_its_elements(rt: HostRuntime) {
     let (json, then) = ("[[1],[\"x\"],2]", "[[1,3],[\"x\"],2]");
-    let change = |value: &mut Value, alloc| push_and_clone(value, alloc, json);
-    assert!(rt; becomes(rt.alloc(), json, change, then)?);
-    Ok(())
+    assert!(rt; changes_to(rt.alloc(), json, Change::PushBesideClone(json), then));
 }
 
-// The same, and whether the second element of such a clone is this cell of the document.
-fn push_beside_clone(value: &mut Value, alloc: Global, doc: &Doc) -> json_text::Result<bool> {
+// The same, and whether the second element of such a clone is cell 3 of the document.
+fn push_beside_clone(value: &mut Value, alloc: Global, doc: &Doc) -> Result<bool> {
     let copy = copied(alloc, value)?;
-    Ok(push_into_first(value, alloc)? && stands_at(&copy, 1_usize, doc, 3))
+    Ok(push_into_first(value, alloc)? && element_stands(&copy, 1, doc, 3))
+}
+
+// Whether it is so, of the value itself as well.
+fn push_beside(value: &mut Value, alloc: Global, doc: &Doc) -> Result<bool> {
+    Ok(push_beside_clone(value, alloc, doc)? && element_stands(value, 1, doc, 3))
+}
+
+fn stays_beside_push(alloc: Global) -> Result<bool> {
+    let doc = read(alloc, "[[1],[\"x\"],2]")?;
+    let mut value = whole(alloc, &doc)?;
+    push_beside(&mut value, alloc, &doc)
 }
 
 #[test]
-fn an_element_beside_a_push_stays_a_place(rt: HostRuntime) -> Result<(), Fail> {
-    let alloc = rt.alloc();
-    let doc = read(alloc, "[[1],[\"x\"],2]")?;
-    let change = |value: &mut Value, alloc| push_beside_clone(value, alloc, &doc);
-    let (value, done) = changed(alloc, &doc, change)?;
-    assert!(rt; done && stands_at(&value, 1_usize, &doc, 3));
-    Ok(())
-}
-
-fn remove_first(alloc: Global) -> json_text::Result<Edit> {
-    let path = path_of(alloc, key("a"))?;
-    let step = PointerNode::Index(0);
-    Ok(Edit::Remove { path, step })
+fn an_element_beside_a_push_stays_a_place(rt: HostRuntime) {
+    assert!(rt; matches!(stays_beside_push(rt.alloc()), Ok(true)));
 }
 
 // Whether an edit of one step can be applied twice, and no third time.
@@ -162,49 +191,60 @@ fn applies_twice(value: &mut Value, alloc: Global, edit: &Edit) -> bool {
     first && second && third && edit.path().steps().len() == 1
 }
 
-fn remove_twice(value: &mut Value, alloc: Global) -> json_text::Result<bool> {
-    let edit = remove_first(alloc)?;
-    Ok(applies_twice(value, alloc, &edit))
+fn remove_twice(value: &mut Value, alloc: Global) -> Result<bool> {
+    let path = path_of(alloc, key("a"))?;
+    let step = PointerNode::Index(0);
+    Ok(applies_twice(value, alloc, &Edit::Remove { path, step }))
 }
 
 #[test]
-fn an_edit_is_applied(rt: HostRuntime) -> Result<(), Fail> {
-    assert!(rt; becomes(rt.alloc(), "{\"a\":[1,2.5]}", remove_twice, "{\"a\":[]}")?);
-    Ok(())
+fn an_edit_is_applied(rt: HostRuntime) {
+    assert!(rt;
+        changes_to(
+            rt.alloc(),
+            "{\"a\":[1,2.5]}",
+            Change::RemoveTwice,
+            "{\"a\":[]}"
+        )
+    );
 }
 
-fn push_at_the_root(value: &mut Value, alloc: Global) -> json_text::Result<bool> {
+fn push_at_the_root(value: &mut Value, alloc: Global) -> Option<ErrorCode> {
     apply(value, alloc, push(Path::new(alloc), 2))
 }
 
 #[test]
-fn elements_are_appended_at_the_root(rt: HostRuntime) -> Result<(), Fail> {
-    assert!(rt; becomes(rt.alloc(), "[1]", push_at_the_root, "[1,2]")?);
-    Ok(())
+fn elements_are_appended_at_the_root(rt: HostRuntime) {
+    assert!(rt; changes_to(rt.alloc(), "[1]", Change::PushAtTheRoot, "[1,2]"));
+}
+
+fn refusal_of_object(alloc: Global) -> Result<Option<ErrorCode>> {
+    let mut object = value_of(alloc, "{}")?;
+    Ok(push_at_the_root(&mut object, alloc))
 }
 
 #[test]
-fn nothing_is_appended_to_an_object(rt: HostRuntime) -> Result<(), Fail> {
-    let alloc = rt.alloc();
-    let mut object = value_of(alloc, "{}")?;
-    let refused = push_at_the_root(&mut object, alloc);
-    assert!(rt; refused.is_err_and(|error| error.code == ErrorCode::TypeUnmatched));
-    Ok(())
+fn nothing_is_appended_to_an_object(rt: HostRuntime) {
+    assert!(rt;
+        matches!(
+            refusal_of_object(rt.alloc()),
+            Ok(Some(ErrorCode::TypeUnmatched))
+        )
+    );
 }
 
-fn set_to_object(value: &mut Value, alloc: Global) -> json_text::Result<bool> {
+fn set_to_object(value: &mut Value, alloc: Global) -> Result<bool> {
     let path = path_of(alloc, key("k"))?;
     let new = Value::new_object();
-    apply(value, alloc, Edit::Set { path, value: new })
+    Ok(apply(value, alloc, Edit::Set { path, value: new }).is_none())
 }
 
 #[test]
-fn a_place_is_set(rt: HostRuntime) -> Result<(), Fail> {
-    assert!(rt; becomes(rt.alloc(), "{\"k\":1}", set_to_object, "{\"k\":{}}")?);
-    Ok(())
+fn a_place_is_set(rt: HostRuntime) {
+    assert!(rt; changes_to(rt.alloc(), "{\"k\":1}", Change::SetToObject, "{\"k\":{}}"));
 }
 
-fn insert_null(value: &mut Value, alloc: Global) -> json_text::Result<bool> {
+fn insert_null(value: &mut Value, alloc: Global) -> Option<ErrorCode> {
     let edit = Edit::Insert {
         path: Path::new(alloc),
         key: Text::from_static("z"),
@@ -214,8 +254,7 @@ fn insert_null(value: &mut Value, alloc: Global) -> json_text::Result<bool> {
 }
 
 #[test]
-fn a_member_is_inserted(rt: HostRuntime) -> Result<(), Fail> {
+fn a_member_is_inserted(rt: HostRuntime) {
     let then = "{\"k\":1,\"z\":null}";
-    assert!(rt; becomes(rt.alloc(), "{\"k\":1}", insert_null, then)?);
-    Ok(())
+    assert!(rt; changes_to(rt.alloc(), "{\"k\":1}", Change::InsertNull, then));
 }
