@@ -1,9 +1,10 @@
 -- Integers of few digits.
-use Rattle.std.proofs.Common.{◌≡◌, ◌≢◌, ◌⊎◌, inl, inr, ◌∙◌, ℕ, suc, ◌+◌, ◌-◌, ◌*◌, ◌^◌, ◌<◌, ◌≤◌, List, [], ◌∷◌, ◌++◌, length, get_or, true, refl, sym, ap, subst, arith}
+use Rattle.std.proofs.Common.{◌≡◌, ◌≢◌, ◌⊎◌, inl, inr, ◌∙◌, ℕ, zero, suc, ◌+◌, ◌-◌, ◌*◌, ◌^◌, ◌<◌, ◌≤◌, List, [], ◌∷◌, ◌++◌, length, get_or, drop, true, refl, sym, ap, subst, arith, length-take}
 use Rattle.std.proofs.Math.Nat.{pow-suc, pow-le-pow_right}
 use Rattle.std.proofs.lemmas.Bool.{and_parts, cases_eq}
 use Rattle.std.proofs.lemmas.Bool.Decides.{nat_tests}
 use Rattle.std.proofs.lemmas.Int.Digits.{digits_value_push}
+use Rattle.std.proofs.lemmas.Str.Parse.{digits_value_short, numerals_by_value, tells_all_ascii_digits}
 use Rattle.std.specs.Char.{is_ascii_digit, digit_value}
 use Rattle.std.specs.Str.{all_ascii_digits}
 use Rattle.std.specs.Str.Parse.{digits_value}
@@ -18,6 +19,9 @@ use Rattle.json_text.proofs.Scans.{stands_begin, integer_digits, integer_alone, 
 
 pub ascii_digit : (x : ℕ) → is_ascii_digit x ≡ true → IsDigit x
 ascii_digit x h = grind (arith, nat_tests)
+
+pub ascii_of : (x : ℕ) → IsDigit x → is_ascii_digit x ≡ true
+ascii_of x d = let l = d.0 in let h = d.1 in grind (arith, nat_tests)
 
 pub are_digits : (d : List ℕ) → all_ascii_digits d ≡ true → digits d
 are_digits [] h = tt
@@ -53,6 +57,18 @@ few_more i j v x h l k =
     let s : j + 1 - i ≡ suc (j - i) = omega arith in
     let p : 10 ^ (j + 1 - i) ≡ 10 ^ (j - i) * 10 = ap (λ k. 10 ^ k) s ∙ pow-suc 10 (j - i) in
     omega arith
+
+-- so many digits are below a power
+pub few_of : (b : List ℕ) (i j v : ℕ) → i ≤ j → j ≤ length b → all_ascii_digits (piece b i j) ≡ true → v ≡ digits_value 10 (piece b i j) → v < 10 ^ (j - i)
+few_of b i j v h l d e = rw e (digits_value_short (numerals_by_value (λ ds. all_ascii_digits ds ≡ true) tells_all_ascii_digits) (piece b i j) (j - i) d (omega (arith, length-take (j - i) (drop i b))))
+
+-- the first n of the digits that were counted
+pub counted_digits : (b : List ℕ) (i n count : ℕ) → n ≤ count → i + n ≤ length b → ((k : ℕ) → i ≤ k → k < i + count → IsDigit (get_or b k 0)) → all_ascii_digits (piece b i (i + n)) ≡ true
+counted_digits b i zero count h l d = let e : i ≡ i + 0 = omega arith in subst (λ j. all_ascii_digits (piece b i j) ≡ true) e (digits_none b i)
+counted_digits b i (suc n) count h l d =
+    let e : i + n + 1 ≡ i + suc n = omega arith in
+    subst (λ j. all_ascii_digits (piece b i j) ≡ true) e
+    (digits_more b i (i + n) (omega arith) (omega arith) (counted_digits b i n count (omega arith) (omega arith) d) (ascii_of (get_or b (i + n) 0) (d (i + n) (omega arith) (omega arith))))
 
 -- ---- the number
 

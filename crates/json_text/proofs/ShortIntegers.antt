@@ -19,7 +19,7 @@ later_digits [] q h = h
 later_digits (x ∷ p) q h = later_digits p q h.1
 
 -- each byte of a run of digits is one
-digit_within : (b : List ℕ) (i k j : ℕ) → i ≤ k → k < j → j ≤ length b → digits (piece b i j) → IsDigit (get_or b k 0)
+pub digit_within : (b : List ℕ) (i k j : ℕ) → i ≤ k → k < j → j ≤ length b → digits (piece b i j) → IsDigit (get_or b k 0)
 digit_within b i k j h l m d =
     let e : digits (piece b k j) = later_digits (piece b i k) (piece b k j) (subst digits (piece_append b i k j h (omega arith)) d) in
     let f : digits (get_or b k 0 ∷ piece b (k + 1) j) = subst digits (piece_cons b k j l (omega arith)) e in

@@ -7,10 +7,17 @@ ghost use Rattle.json_text.specs.Numbers.{NumberTo, NoDigit, GoesOn};
 ghost use Rattle.json_text.specs.Nexts.{IsShortInteger};
 ghost use Rattle.json_text.specs.Runs.{ByteAt};
 
+use crate::lanes::{BLOCK, digits_in_block};
 use crate::runs::{byte_is, digit_is};
 
 /// So many digits are always an integer of 64 bits.
 const MOST_DIGITS: usize = 19;
+
+/// So many digits are read as one word.
+const WORD: usize = 8;
+
+/// A word of the digit 0.
+const ZEROS: u64 = 0x3030_3030_3030_3030;
 
 /// The number that digits write, and the place behind them.
 #[derive(Clone, Copy)]
@@ -34,6 +41,58 @@ fn farthest(len: usize, from: usize) -> usize
     }
 }
 
+/// The number that a few digits write, as one word: the first is the highest of its bytes.
+#[inline(always)]
+fn word_value(bytes: &[u8], from: usize, count: usize) -> u64
+    requires within { from + 8 ≤ length bytes.now }
+    requires few { (0 < count) × (count ≤ 8) }
+    requires digits { all_ascii_digits (piece bytes.now from (from + count)) ≡ true }
+    ensures { result ≡ digits_value 10 (piece bytes.now from (from + count)) }
+{
+    let word = u64::from_be_bytes([
+        bytes[from],
+        bytes[from + 1],
+        bytes[from + 2],
+        bytes[from + 3],
+        bytes[from + 4],
+        bytes[from + 5],
+        bytes[from + 6],
+        bytes[from + 7],
+    ]);
+    let unused = 64 - 8 * count;
+    let digits = (word >> unused) - (ZEROS >> unused);
+    // of two bytes the lower one has both digits
+    let pairs = digits + (digits >> 8) * 10;
+    pairs % 256
+        + (pairs >> 16) % 256 * 100
+        + (pairs >> 32) % 256 * 10_000
+        + (pairs >> 48) % 256 * 1_000_000
+}
+
+/// Digits from `from` on, at most 19, of which some have been read.
+#[inline(never)]
+fn more_digits(bytes: &[u8], from: usize, read: Digits) -> Digits
+    requires order { from ≤ read.end }
+    requires within { read.end ≤ length bytes.now }
+    requires few { read.end ≤ from + 19 }
+    requires digits { all_ascii_digits (piece bytes.now from read.end) ≡ true }
+    requires value { read.value ≡ digits_value 10 (piece bytes.now from read.end) }
+    ensures within { (from ≤ result.end) × (result.end ≤ length bytes.now) }
+    ensures few { result.end ≤ from + 19 }
+    ensures digits { all_ascii_digits (piece bytes.now from result.end) ≡ true }
+    ensures stop { result.end < from + 19 → NoDigit bytes.now result.end }
+    ensures value { result.value ≡ digits_value 10 (piece bytes.now from result.end) }
+{
+    let limit = farthest(bytes.len(), from);
+    let mut value = read.value;
+    let mut at = read.end;
+    'digits: while at < limit && bytes[at].is_ascii_digit() {
+        value = value * 10 + u64::from(bytes[at] - b'0');
+        at += 1;
+    }
+    Digits { value, end: at }
+}
+
 /// Digits from `from` on, at most 19.
 #[inline(always)]
 fn few_digits(bytes: &[u8], from: usize) -> Digits
@@ -44,14 +103,26 @@ fn few_digits(bytes: &[u8], from: usize) -> Digits
     ensures stop { result.end < from + 19 → NoDigit bytes.now result.end }
     ensures value { result.value ≡ digits_value 10 (piece bytes.now from result.end) }
 {
-    let limit = farthest(bytes.len(), from);
-    let mut value: u64 = 0;
-    let mut at = from;
-    'digits: while at < limit && bytes[at].is_ascii_digit() {
-        value = value * 10 + u64::from(bytes[at] - b'0');
-        at += 1;
+    let none = Digits {
+        value: 0,
+        end: from,
+    };
+    if bytes.len() - from < BLOCK {
+        return more_digits(bytes, from, none);
     }
-    Digits { value, end: at }
+    let count = digits_in_block(bytes, from);
+    if count == 0 {
+        return none;
+    }
+    let few = count.min(WORD);
+    let first = Digits {
+        value: word_value(bytes, from, few),
+        end: from + few,
+    };
+    if count > WORD {
+        return more_digits(bytes, from, first);
+    }
+    first
 }
 
 /// Whether a number that has come behind digits may go on with the byte there.

@@ -2,7 +2,7 @@ use Rattle.std.proofs.Common.{◌-◌, ◌≡◌, ◌<◌, ◌≤◌, ◌^◌, t
 use Rattle.std.specs.Str.{all_ascii_digits}
 use Rattle.std.specs.Str.Parse.{digits_value}
 use Rattle.json_grammar.specs.Given.{piece}
-use Rattle.json_text.proofs.integer.few_digits.Given as goal
+use Rattle.json_text.proofs.integer.more_digits.Given as goal
 
 -- the digits so far
 abbrev pub invariant-digits : goal.invariant-digits
