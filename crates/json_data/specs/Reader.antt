@@ -1,7 +1,7 @@
 -- What a reader promises.
 use Rattle.std.specs.Prelude.{◌≡◌, ◌≢◌, ℕ, List, Some, true, false, ◌⊎◌}
 use Rattle.json_grammar.specs.declared.Kind.{Kind}
-use Rattle.json_grammar.specs.Tree.{Tree, Token as Tok, begin}
+use Rattle.json_grammar.specs.Tree.{Tree, Token as Tok, null, begin}
 use Rattle.json_text.specs.declared.error.Error.{Error}
 use Rattle.json_text.specs.declared.error.ErrorCode.TheVariants.{TypeUnmatched}
 use Rattle.json_text.specs.Errors.{no_memory}
@@ -15,6 +15,11 @@ pub record Reads {S : Type 0} (taken : S → List Tok → Type 0) (stand : S →
   pub tree : Tree
   pub takes : TakesTree taken stand a b tree
   pub answer : f tree ≡ r
+
+-- the same of a tree other than null
+pub record Finds {S : Type 0} (taken : S → List Tok → Type 0) (stand : S → Stand) (f : Tree → Reading) (a b : S) (r : Reading) : Type 0 where
+  pub reads : Reads taken stand f a b r
+  pub some : reads.tree ≢ null
 
 -- memory ran out, or the source answered e
 pub record GivesUp (a b : Stand) (e : Error) : Type 0 where

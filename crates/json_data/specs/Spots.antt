@@ -92,6 +92,11 @@ IsOpen top = ⊥
 IsOpen over = ⊥
 IsOpen _ = Unit {0}
 
+-- before an element or the end of a list
+abbrev pub InArray : Spot → Type 0
+InArray (element c) = Unit {0}
+InArray _ = ⊥
+
 -- before a key or the end of an object
 abbrev pub InObject : Spot → Type 0
 InObject (key_or_end c) = Unit {0}

@@ -1,15 +1,16 @@
 // What can be read.
 ghost use Rattle.std.specs.Prelude.{◌≡◌, ℕ, List, [], ◌∷◌, ◌⊎◌, Option, Some, None, true, false, IfOk, IfErr, IfSome, string_bytes, map};
 ghost use Rattle.std.specs.Cow.{cow_str_bytes};
-ghost use Rattle.json_grammar.specs.Tree.{text};
+ghost use Rattle.json_grammar.specs.declared.Kind.TheVariants.{Array as array};
+ghost use Rattle.json_grammar.specs.Tree.{text, end as end_token};
 ghost use Rattle.json_data.specs.declared.token.TokenKind.TheVariants as TokenKind;
 ghost use Rattle.json_data.specs.Pieces.{Says};
 ghost use Rattle.json_model.specs.Datum.{null_datum, boolean_datum, text_datum, list_datum, list_data, option_datum};
-ghost use Rattle.json_data.specs.Reading.{read_boolean, read_unit, read_text, read_option, read_list, read_pair, read_any};
+ghost use Rattle.json_data.specs.Reading.{gives, read_boolean, read_unit, read_text, read_option, read_list, read_pair, read_any};
 ghost use Rattle.json_data.specs.Refusals.{is_refusal as spec_is_refusal};
-ghost use Rattle.json_data.specs.Spots.{IsOpen};
-ghost use Rattle.json_data.specs.Stand.{NotWhole, WantsValue, TakesTree, TakesText, Leaves, Fails};
-ghost use Rattle.json_data.specs.Reader.{Stops};
+ghost use Rattle.json_data.specs.Spots.{IsOpen, InArray};
+ghost use Rattle.json_data.specs.Stand.{NotWhole, WantsValue, TakesOne, TakesTree, TakesText, Leaves, Fails};
+ghost use Rattle.json_data.specs.Reader.{Reads, Stops};
 
 use crate::brackets::{open, pass};
 use crate::deserialize::DeserializeFrom;
@@ -95,6 +96,14 @@ impl<S: Lent> DeserializeFrom<S> for String {
     fn deserialize<T: Tokens<S>>(alloc: Global, tokens: &mut T) -> Result<String> {
         expect_text(tokens)?.copy(alloc)
     }
+
+    #[inline(always)]
+    fn found<T: Tokens<S>>(alloc: Global, tokens: &mut T) -> Option<Result<String>> {
+        match tokens.text() {
+            Some(piece) => Some(piece.copy(alloc)),
+            None => None,
+        }
+    }
 }
 
 impl<'de> DeserializeFrom<&'de str> for CowStr<'de> {
@@ -111,6 +120,25 @@ impl<'de> DeserializeFrom<&'de str> for CowStr<'de> {
     }
 }
 
+// What `Option` does where no value is found at once.
+#[inline(always)]
+fn option_by_kind<S: Lent, V: DeserializeFrom<S>, T: Tokens<S>>(
+    alloc: Global,
+    tokens: &mut T,
+) -> Result<Option<V>>
+    requires { WantsValue (T.stand tokens.old) }
+    ensures ok { IfOk result (λ o. Reads T.taken T.stand (read_option V.from_tree)
+        tokens.old tokens.new (gives (option_datum V.datum o))) }
+    ensures err { IfErr result (λ e.
+        Stops T.taken T.stand (read_option V.from_tree) tokens.old tokens.new e) }
+{
+    if tokens.peek()? == TokenKind::Null {
+        tokens.skip()?;
+        return Ok(None);
+    }
+    Ok(Some(V::deserialize(alloc, tokens)?))
+}
+
 impl<S: Lent, V: DeserializeFrom<S>> DeserializeFrom<S> for Option<V> {
     ghost datum = { λ o. option_datum V.datum o };
 
@@ -118,11 +146,10 @@ impl<S: Lent, V: DeserializeFrom<S>> DeserializeFrom<S> for Option<V> {
 
     #[inline]
     fn deserialize<T: Tokens<S>>(alloc: Global, tokens: &mut T) -> Result<Option<V>> {
-        if tokens.peek()? == TokenKind::Null {
-            tokens.skip()?;
-            return Ok(None);
+        if let Some(found) = V::found(alloc, tokens) {
+            return Ok(Some(found?));
         }
-        Ok(Some(V::deserialize(alloc, tokens)?))
+        option_by_kind(alloc, tokens)
     }
 }
 
@@ -178,6 +205,31 @@ pub fn leave_after<S: Lent, T: Tokens<S>>(tokens: &mut T, e: Error) -> Error
     }
 }
 
+/// The element that comes next in a list, or none where the list ends there, whose end is taken.
+#[inline(always)]
+fn next_element<S: Lent, V: DeserializeFrom<S>, T: Tokens<S>>(
+    alloc: Global,
+    tokens: &mut T,
+) -> Result<Option<V>>
+    requires { InArray (T.stand tokens.old).spot }
+    ensures element { IfOk result (λ r. IfSome r (λ v.
+        Reads T.taken T.stand V.from_tree tokens.old tokens.new (gives (V.datum v)))) }
+    ensures end { IfOk result (λ r. r ≡ None
+        → TakesOne T.taken T.stand tokens.old tokens.new (end_token array)) }
+    ensures err { IfErr result (λ e.
+        Stops T.taken T.stand V.from_tree tokens.old tokens.new e) }
+{
+    if tokens.ends(Kind::Array) {
+        return Ok(None);
+    }
+    if tokens.peek()? == TokenKind::EndArray {
+        pass(tokens)?;
+        return Ok(None);
+    }
+    let element = V::deserialize(alloc, tokens)?;
+    Ok(Some(element))
+}
+
 impl<S: Lent, V: DeserializeFrom<S> + Drop> DeserializeFrom<S> for Vec<V> {
     ghost datum = { λ v. list_datum (list_data (map V.datum v.items)) };
 
@@ -187,25 +239,22 @@ impl<S: Lent, V: DeserializeFrom<S> + Drop> DeserializeFrom<S> for Vec<V> {
         open(tokens, Kind::Array)?;
         let mut all = Vec::new(alloc);
         'each: loop {
-            if let Some(item) = V::at_once(tokens) {
-                if all.push(item).is_err() {
+            if let Some(found) = V::found(alloc, tokens) {
+                let element = found?;
+                if all.push(element).is_err() {
                     return Err(refusal(ErrorCode::NoMemory));
                 }
                 continue;
             }
-            if tokens.ends(Kind::Array) {
-                return Ok(all);
-            }
-            if tokens.peek()? == TokenKind::EndArray {
-                pass(tokens)?;
-                return Ok(all);
-            }
-            match V::deserialize(alloc, tokens) {
-                Ok(item) => {
-                    if all.push(item).is_err() {
-                        return Err(refusal(ErrorCode::NoMemory));
+            match next_element(alloc, tokens) {
+                Ok(next) => match next {
+                    Some(element) => {
+                        if all.push(element).is_err() {
+                            return Err(refusal(ErrorCode::NoMemory));
+                        }
                     }
-                }
+                    None => return Ok(all),
+                },
                 Err(e) => return Err(leave_after(tokens, e)),
             }
         }

@@ -9,7 +9,7 @@ ghost use Rattle.json_number.specs.Numbers.{value_of, text_of_number};
 ghost use Rattle.json_data.specs.declared.token.TokenKind.TheVariants as TokenKind;
 ghost use Rattle.json_data.specs.Reading.{gives, whole_in, tree_integer, between, in_range, refuses, read_integer};
 ghost use Rattle.json_data.specs.Refusals.{is_refusal as spec_is_refusal, refusal as spec_refusal};
-ghost use Rattle.json_data.specs.Reader.{Reads, Stops};
+ghost use Rattle.json_data.specs.Reader.{Reads, Finds, Stops};
 ghost use Rattle.json_data.specs.Stand.{NotWhole, WantsValue, TakesTree, Fails};
 ghost use Rattle.json_data.specs.Wholes.{IsWhole, below_of, plain_of};
 
@@ -182,7 +182,7 @@ pub(crate) fn integer_at_once<S: Lent, T: Tokens<S>>(tokens: &mut T, most: u64) 
     requires { NotWhole (T.stand tokens.old) }
     ensures most { IfSome result (λ n. n ≤ most) }
     ensures takes { MatchOption result (tokens.new ≡ tokens.old) (λ n. (low high : ℕ) → most < high
-        → Reads T.taken T.stand (read_integer (between low high)) tokens.old tokens.new
+        → Finds T.taken T.stand (read_integer (between low high)) tokens.old tokens.new
         (gives (integer_datum (pos n)))) }
 {
     match tokens.integer(most) {

@@ -20,18 +20,21 @@ invariant_of-span g c = record {
   told = (λ _ n. c.args.self.told (some_is c.in-Some.is) (subst NoEscape c.as_text-2.ensures n), λ e. absurd (cc));
 }
 
-pub from_utf8_unchecked-requires : goal.from_utf8_unchecked-requires
-from_utf8_unchecked-requires g c =
-    IsUtf8-had _
+pub from_utf8_unchecked-text-requires : goal.from_utf8_unchecked-text-requires
+from_utf8_unchecked-text-requires g c =
+    subst IsUtf8 (sym c.as_slice.ensures.value)
+    (IsUtf8-had _
     (∥∥₁_map c.args.self.spells
     (λ s.
     let k = says_chars c.in-Some.is s.1 in
     let e : c.unescape_into.new.out.items ≡ s.0 = ◌∙◌ {A = List ℕ} (c.unescape_into.ensures.text s.0 (subst (chars c.in-Some.lossy s.0) (sym c.as_text-2.ensures) k)) (ap (λ (b : List ℕ). b ++ s.0) c.in_ok-bytes.ensures.items) in
-    subst IsUtf8 (sym e) (chars_utf8 _ k)))
+    subst IsUtf8 (sym e) (chars_utf8 _ k))))
 
 pub returns-clause-ok : goal.returns-clause-ok
 returns-clause-ok g c = λ s h.
     let k = says_chars c.in-Some.is h in
     let e : c.unescape_into.new.out.items ≡ s = ◌∙◌ {A = List ℕ} (c.unescape_into.ensures.text s (subst (chars c.in-Some.lossy s) (sym c.as_text-2.ensures) k)) (ap (λ (b : List ℕ). b ++ s) c.in_ok-bytes.ensures.items) in
-    let whole : string_bytes c.from_utf8_unchecked.result ≡ c.unescape_into.new.out.items = cc in
-    sym (whole ∙ e)
+    let v = c.as_slice.ensures.value in
+    let t = c.from_utf8_unchecked-text.ensures in
+    let w : string_bytes c.in_ok-from_str-2.field-0 ≡ c.from_utf8_unchecked-text.result.now = c.in_ok-from_str-2.ensures.ok in
+    cc
