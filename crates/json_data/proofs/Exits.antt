@@ -5,12 +5,12 @@ use Rattle.json_text.specs.declared.error.ErrorCode.{ErrorCode}
 use Rattle.json_text.specs.declared.error.ErrorCode.TheVariants.{TypeUnmatched, NumberOutOfRange}
 use Rattle.json_data.specs.declared.token.TokenKind.{TokenKind}
 use Rattle.json_data.specs.declared.token.TokenKind.TheVariants.{EndArray}
-use Rattle.json_grammar.specs.Tree.{Tree, Trees, Token as Tok, list, no_trees, tree_and, trees_tokens, end}
+use Rattle.json_grammar.specs.Tree.{Tree, Trees, Token as Tok, null, boolean, num, text, list, pairs, no_trees, tree_and, trees_tokens, end}
 use Rattle.json_grammar.specs.declared.Kind.TheVariants.{Array as array}
 use Rattle.json_model.specs.Datum.{Datum}
-use Rattle.json_data.specs.Reading.{Reading, gives, refuses, two, as_list}
+use Rattle.json_data.specs.Reading.{Reading, gives, refuses, two, as_list, read_option}
 use Rattle.json_data.specs.Stand.{Stand, Takes, Peeks, TakesTree, Leaves, FirstIs}
-use Rattle.json_data.specs.Reader.{Reads, Stops, GivesUp}
+use Rattle.json_data.specs.Reader.{Reads, Stops, Misses, GivesUp}
 use Rattle.json_data.specs.Stand.{Fails}
 use Rattle.json_data.specs.Refusals.{refusal, is_refusal}
 use Rattle.json_data.proofs.Lists.{InList, join, one_more, leaves, peeks_on}
@@ -93,6 +93,28 @@ pub longer : {S : Type 0} {taken : S → List Tok → Type 0} {stand : S → Sta
 longer {taken = taken} {stand = stand} {h = h} {a = a} {d = d} {ts = ts} {k = k} e w y z n l q =
     let p = leaves (peeks_on w y z) l in
     mismatch e p.1 (another h ts k l.rest (l.as_told k y.told) n (λ t us. q t us) p.0 p.2)
+
+-- ---- trees other than null
+
+option_tree : (f : Tree → Reading) (t : Tree) (k : ErrorCode) → read_option f t ≡ refuses k → (t ≢ null) × (f t ≡ refuses k)
+option_tree f null k e = cc
+option_tree f (boolean b) k e = (λ h. cc, e)
+option_tree f (num l) k e = (λ h. cc, e)
+option_tree f (text s) k e = (λ h. cc, e)
+option_tree f (list ts) k e = (λ h. cc, e)
+option_tree f (pairs ps) k e = (λ h. cc, e)
+
+-- where null is not refused, a tree that is refused is another
+pub missed : {S : Type 0} {taken : S → List Tok → Type 0} {stand : S → Stand} {f : Tree → Reading} {a b : S} {e : Error}
+    → Stops taken stand (read_option f) a b e → Misses taken stand f a b e
+missed {f = f} {e = e} h = record {
+  refused = λ p. let k = h.refused p in let o = option_tree f k.1.tree e.code k.1.answer in (k.0, record { tree = k.1.tree; takes = k.1.takes; answer = o.1; some = o.0 });
+  gave_up = h.gave_up;
+}
+
+pub misses_stop : {S : Type 0} {taken : S → List Tok → Type 0} {stand : S → Stand} {f : Tree → Reading} {a b : S} {e : Error}
+    → Misses taken stand f a b e → Stops taken stand f a b e
+misses_stop h = record { refused = λ p. let k = h.refused p in (k.0, record { tree = k.1.tree; takes = k.1.takes; answer = k.1.answer }); gave_up = h.gave_up }
 
 -- ---- pairs
 

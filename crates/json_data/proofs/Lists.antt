@@ -8,7 +8,7 @@ use Rattle.json_grammar.specs.Tree.{Tree, Trees, Token as Tok, list, no_trees, t
 use Rattle.json_grammar.specs.declared.Kind.TheVariants.{Array as array}
 use Rattle.json_model.specs.Datum.{Datum}
 use Rattle.json_data.specs.Reading.{Reading, gives, refuses, Series, gives_all, stops, and_then, each}
-use Rattle.json_data.specs.Spots.{Spot, behind_value, after, around, within}
+use Rattle.json_data.specs.Spots.{Spot, top, over, element, key_or_end, member, behind_value, after, around, within, InArray}
 use Rattle.json_data.specs.Stand.{Stand, Takes, Peeks, AsTold, TakesTree, TakesOne, Leaves, Rest}
 use Rattle.json_data.proofs.Steps.{joins, is_begin, is_end}
 
@@ -116,6 +116,17 @@ leaves {taken = taken} {stand = stand} {a = a} {b = b} {c = c} {ts = ts} w r =
       },
       rest.1,
     )
+
+-- behind an element it stands in the list again
+pub in_array_again : (p q : Spot) → InArray p → q ≡ behind_value p → InArray q
+in_array_again top q i e = absurd i
+in_array_again over q i e = absurd i
+in_array_again (key_or_end c) q i e = absurd i
+in_array_again (member c) q i e = absurd i
+in_array_again (element c) q i e = subst (λ (s : Spot). InArray s) (sym e) tt
+
+pub still_array : {S : Type 0} (stand : S → Stand) {b c : S} → c ≡ b → InArray (stand b).spot → InArray (stand c).spot
+still_array {S = S} stand e i = subst (λ (s : S). InArray (stand s).spot) (sym e) i
 
 -- ---- what the elements give
 

@@ -5,7 +5,7 @@ use Rattle.json_model.specs.Datum.{Datum}
 use Rattle.json_text.specs.declared.error.Error.{Error}
 use Rattle.json_text.specs.declared.error.ErrorCode.{ErrorCode}
 use Rattle.json_data.specs.Members.{reading_then, members_from}
-use Rattle.json_data.specs.Reader.{Reads, Stops}
+use Rattle.json_data.specs.Reader.{Reads, Finds, Stops, Misses}
 use Rattle.json_data.specs.Reading.{Reading, gives, refuses}
 use Rattle.json_data.specs.Stand.{Stand}
 use Rattle.json_data.proofs.Pairs.{join_pairs}
@@ -35,6 +35,15 @@ module _ {S : Type 0} (taken : S → List Tok → Type 0) (stand : S → Stand) 
   pub made_stops : (e : Error) → Stops taken stand f a b e → Stops taken stand (λ t. reading_then (f t) made) a b e
   made_stops e h = record {
     refused = λ p. let k = h.refused p in (k.0, record { tree = k.1.tree; takes = k.1.takes; answer = ap (λ (x : Reading). reading_then x made) k.1.answer });
+    gave_up = h.gave_up;
+  }
+
+  pub made_finds : (d : Datum) (r : Reading) → Finds taken stand f a b (gives d) → made d ≡ r → Finds taken stand (λ t. reading_then (f t) made) a b r
+  made_finds d r h e = record { tree = h.tree; takes = h.takes; answer = ap (λ (x : Reading). reading_then x made) h.answer ∙ e; some = h.some }
+
+  pub made_misses : (e : Error) → Misses taken stand f a b e → Misses taken stand (λ t. reading_then (f t) made) a b e
+  made_misses e h = record {
+    refused = λ p. let k = h.refused p in (k.0, record { tree = k.1.tree; takes = k.1.takes; answer = ap (λ (x : Reading). reading_then x made) k.1.answer; some = k.1.some });
     gave_up = h.gave_up;
   }
 

@@ -12,7 +12,7 @@ use Rattle.json_data.specs.Kinds.{kind_of, number_kind}
 use Rattle.json_data.specs.Reading.{Reading, refuses}
 use Rattle.json_data.specs.Refusals.{refusal, is_refusal}
 use Rattle.json_data.specs.Reader.{Reads, Stops, KeyRefused}
-use Rattle.json_data.specs.Spots.{Spot, member, opened_of, behind_value, within, around, after}
+use Rattle.json_data.specs.Spots.{Spot, top, over, element, key_or_end, member, opened_of, behind_value, within, around, after, InObject}
 use Rattle.json_data.specs.Stand.{Stand, Takes, Peeks, AsTold, TakesTree, TakesOne, Leaves, Rest, Fails}
 use Rattle.json_data.proofs.Steps.{joins}
 use Rattle.json_data.proofs.Exits.{refusing, giving_up}
@@ -195,6 +195,14 @@ leaves_member {taken = taken} {stand = stand} {a = a} {b = b} {c = c} {ps = ps} 
         as_told = w.as_told;
       },
     )
+
+-- behind a member it stands in the object again
+pub in_object_again : (p q r : Spot) (k : List ℕ) → InObject p → q ≡ after p (key_token k) → r ≡ behind_value q → InObject r
+in_object_again top q r k i e h = absurd i
+in_object_again over q r k i e h = absurd i
+in_object_again (element c) q r k i e h = absurd i
+in_object_again (member c) q r k i e h = absurd i
+in_object_again (key_or_end c) q r k i e h = subst (λ (s : Spot). InObject s) (sym (h ∙ ap behind_value e)) tt
 
 -- ---- refusals
 

@@ -18,8 +18,10 @@ pub record Reads {S : Type 0} (taken : S → List Tok → Type 0) (stand : S →
 
 -- the same of a tree other than null
 pub record Finds {S : Type 0} (taken : S → List Tok → Type 0) (stand : S → Stand) (f : Tree → Reading) (a b : S) (r : Reading) : Type 0 where
-  pub reads : Reads taken stand f a b r
-  pub some : reads.tree ≢ null
+  pub tree : Tree
+  pub takes : TakesTree taken stand a b tree
+  pub answer : f tree ≡ r
+  pub some : tree ≢ null
 
 -- memory ran out, or the source answered e
 pub record GivesUp (a b : Stand) (e : Error) : Type 0 where
@@ -30,6 +32,11 @@ pub record GivesUp (a b : Stand) (e : Error) : Type 0 where
 -- e is a refusal of the tree that was taken, or none
 pub record Stops {S : Type 0} (taken : S → List Tok → Type 0) (stand : S → Stand) (f : Tree → Reading) (a b : S) (e : Error) : Type 0 where
   pub refused : is_refusal e.code ≡ true → (e ≡ refusal e.code) × Reads taken stand f a b (refuses e.code)
+  pub gave_up : is_refusal e.code ≡ false → GivesUp (stand a) (stand b) e
+
+-- the same of a tree other than null
+pub record Misses {S : Type 0} (taken : S → List Tok → Type 0) (stand : S → Stand) (f : Tree → Reading) (a b : S) (e : Error) : Type 0 where
+  pub refused : is_refusal e.code ≡ true → (e ≡ refusal e.code) × Finds taken stand f a b (refuses e.code)
   pub gave_up : is_refusal e.code ≡ false → GivesUp (stand a) (stand b) e
 
 -- why no key is made of a piece: memory ran out, or each text that it says is refused

@@ -34,7 +34,7 @@ pub use calls::{from_reader, from_slice, from_slice_unchecked, from_slice_with, 
 pub use deserialize::{Deserialize, DeserializeFrom};
 pub use keys::FromKey;
 pub use lent::Lent;
-pub use members::{Members, read_members};
+pub use members::{Members, find_members, read_members};
 pub use piece::Piece;
 pub use readers::{IgnoredAny, leave_after};
 pub use refusals::{is_refusal, refusal};

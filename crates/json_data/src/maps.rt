@@ -1,7 +1,12 @@
 // Maps.
-ghost use Rattle.std.specs.Prelude.{map};
+ghost use Rattle.std.specs.Prelude.{IfOk, IfErr, map};
+ghost use Rattle.json_grammar.specs.declared.Kind.TheVariants.{Object as object};
+ghost use Rattle.json_grammar.specs.Tree.{begin as begin_token};
 ghost use Rattle.json_model.specs.Datum.{rows_datum, list_rows, row_of};
-ghost use Rattle.json_data.specs.Reading.{read_map};
+ghost use Rattle.json_data.specs.Reader.{Finds, Misses};
+ghost use Rattle.json_data.specs.Reading.{gives, read_map};
+ghost use Rattle.json_data.specs.Spots.{InObject};
+ghost use Rattle.json_data.specs.Stand.{TakesOne};
 
 use crate::brackets::open;
 use crate::deserialize::DeserializeFrom;
@@ -15,6 +20,41 @@ use json_text::{ErrorCode, Result};
 use std::alloc::Global;
 use std::collections::BTreeMap;
 
+/// What is left of a map whose beginning was taken.
+#[inline(never)]
+fn read_rows<S: Lent, K: FromKey<S> + Drop, V: DeserializeFrom<S> + Drop, T: Tokens<S>>(
+    alloc: Global,
+    tokens: &mut T,
+) -> Result<BTreeMap<K, V>>
+    requires { InObject (T.stand tokens.old).spot }
+    ensures ok { (a : T) → TakesOne T.taken T.stand a tokens.old (begin_token object)
+        → IfOk result (λ m. Finds T.taken T.stand (read_map K.from_text V.from_tree) a tokens.new
+        (gives (rows_datum (list_rows (map (row_of K.key_datum V.datum) m.entries))))) }
+    ensures err { (a : T) → TakesOne T.taken T.stand a tokens.old (begin_token object)
+        → IfErr result (λ e.
+        Misses T.taken T.stand (read_map K.from_text V.from_tree) a tokens.new e) }
+{
+    let mut all = BTreeMap::new(alloc);
+    'each: loop {
+        let piece = match next_name(tokens)? {
+            Some(piece) => piece,
+            None => return Ok(all),
+        };
+        let key = match K::from_key(alloc, &piece) {
+            Ok(key) => key,
+            Err(e) => return Err(leave_after(tokens, e)),
+        };
+        match V::deserialize(alloc, tokens) {
+            Ok(item) => {
+                if all.insert(key, item).is_err() {
+                    return Err(refusal(ErrorCode::NoMemory));
+                }
+            }
+            Err(e) => return Err(leave_after(tokens, e)),
+        }
+    }
+}
+
 impl<S: Lent, K: FromKey<S> + Drop, V: DeserializeFrom<S> + Drop> DeserializeFrom<S>
     for BTreeMap<K, V> {
     ghost datum = { λ m. rows_datum (list_rows (map (row_of K.key_datum V.datum) m.entries)) };
@@ -23,24 +63,16 @@ impl<S: Lent, K: FromKey<S> + Drop, V: DeserializeFrom<S> + Drop> DeserializeFro
 
     fn deserialize<T: Tokens<S>>(alloc: Global, tokens: &mut T) -> Result<BTreeMap<K, V>> {
         open(tokens, Kind::Object)?;
-        let mut all = BTreeMap::new(alloc);
-        'each: loop {
-            let piece = match next_name(tokens)? {
-                Some(piece) => piece,
-                None => return Ok(all),
-            };
-            let key = match K::from_key(alloc, &piece) {
-                Ok(key) => key,
-                Err(e) => return Err(leave_after(tokens, e)),
-            };
-            match V::deserialize(alloc, tokens) {
-                Ok(item) => {
-                    if all.insert(key, item).is_err() {
-                        return Err(refusal(ErrorCode::NoMemory));
-                    }
-                }
-                Err(e) => return Err(leave_after(tokens, e)),
-            }
+        read_rows(alloc, tokens)
+    }
+
+    fn found<T: Tokens<S>>(alloc: Global, tokens: &mut T) -> Result<Option<BTreeMap<K, V>>> {
+        if !tokens.begins(Kind::Object) {
+            return Ok(None);
+        }
+        match read_rows(alloc, tokens) {
+            Ok(all) => Ok(Some(all)),
+            Err(e) => Err(e),
         }
     }
 }

@@ -1,12 +1,14 @@
 // Objects as types of a program's own.
-ghost use Rattle.std.specs.Prelude.{ℕ, List, OnOk, IfErr};
-ghost use Rattle.json_grammar.specs.Tree.{Tree};
+ghost use Rattle.std.specs.Prelude.{◌≡◌, ℕ, List, true, false, OnOk, IfOk, IfErr};
+ghost use Rattle.json_grammar.specs.declared.Kind.TheVariants.{Object as object};
+ghost use Rattle.json_grammar.specs.Tree.{Tree, begin as begin_token};
 ghost use Rattle.json_model.specs.Datum.{Datum};
 ghost use Rattle.json_data.specs.Members.{read_members as spec_read_members};
 ghost use Rattle.json_data.specs.Pieces.{Says};
-ghost use Rattle.json_data.specs.Reader.{Reads, Stops};
+ghost use Rattle.json_data.specs.Reader.{Reads, Finds, Misses, Stops};
 ghost use Rattle.json_data.specs.Reading.{Reading, gives};
-ghost use Rattle.json_data.specs.Stand.{WantsValue};
+ghost use Rattle.json_data.specs.Spots.{InObject};
+ghost use Rattle.json_data.specs.Stand.{NotWhole, WantsValue, TakesOne};
 
 use crate::brackets::open;
 use crate::keys::next_name;
@@ -56,8 +58,36 @@ fn read_member<S: Lent, M: Members<S>, T: Tokens<S>>(
     members.member(alloc, name.as_str(), tokens)
 }
 
+// Takes what is left of an object whose beginning was taken, each member in its order.
+#[inline(never)]
+fn read_rest<S: Lent, M: Members<S>, T: Tokens<S>>(
+    alloc: Global,
+    members: &mut M,
+    tokens: &mut T,
+) -> Result<()>
+    requires { InObject (T.stand tokens.old).spot }
+    ensures ok { (a : T) → TakesOne T.taken T.stand a tokens.old (begin_token object)
+        → OnOk result (Finds T.taken T.stand (spec_read_members M.step (M.so_far members.old))
+        a tokens.new (gives (M.so_far members.new))) }
+    ensures err { (a : T) → TakesOne T.taken T.stand a tokens.old (begin_token object)
+        → IfErr result (λ e. Misses T.taken T.stand
+        (spec_read_members M.step (M.so_far members.old)) a tokens.new e) }
+{
+    'each: loop {
+        let key = match next_name(tokens)? {
+            Some(key) => key,
+            None => return Ok(()),
+        };
+        match read_member(alloc, members, key, tokens) {
+            Ok(()) => {}
+            Err(e) => return Err(leave_after(tokens, e)),
+        }
+    }
+}
+
 /// Takes an object, each member in its order. `TypeUnmatched` comes where another value comes; a refusal of a member,
 /// after the whole object was taken. `NoMemory` comes where a name that has an escape cannot be copied.
+#[inline(always)]
 pub fn read_members<S: Lent, M: Members<S>, T: Tokens<S>>(
     alloc: Global,
     members: &mut M,
@@ -71,14 +101,30 @@ pub fn read_members<S: Lent, M: Members<S>, T: Tokens<S>>(
         (spec_read_members M.step (M.so_far members.old)) tokens.old tokens.new e) }
 {
     open(tokens, Kind::Object)?;
-    'each: loop {
-        let key = match next_name(tokens)? {
-            Some(key) => key,
-            None => return Ok(()),
-        };
-        match read_member(alloc, members, key, tokens) {
-            Ok(()) => {}
-            Err(e) => return Err(leave_after(tokens, e)),
-        }
+    read_rest(alloc, members, tokens)
+}
+
+/// Takes an object as `read_members` does where its beginning is found at once, and answers whether it was. Else nothing is
+/// taken.
+#[inline(always)]
+pub fn find_members<S: Lent, M: Members<S>, T: Tokens<S>>(
+    alloc: Global,
+    members: &mut M,
+    tokens: &mut T,
+) -> Result<bool>
+    requires { NotWhole (T.stand tokens.old) }
+    ensures none { IfOk result (λ b. b ≡ false → tokens.new ≡ tokens.old) }
+    ensures ok { IfOk result (λ b. b ≡ true
+        → Finds T.taken T.stand (spec_read_members M.step (M.so_far members.old))
+        tokens.old tokens.new (gives (M.so_far members.new))) }
+    ensures err { IfErr result (λ e. Misses T.taken T.stand
+        (spec_read_members M.step (M.so_far members.old)) tokens.old tokens.new e) }
+{
+    if !tokens.begins(Kind::Object) {
+        return Ok(false);
+    }
+    match read_rest(alloc, members, tokens) {
+        Ok(()) => Ok(true),
+        Err(e) => Err(e),
     }
 }

@@ -2,7 +2,7 @@
 ghost use Rattle.std.specs.Prelude.{◌≡◌, ℕ, List, [], ◌∷◌, ◌⊎◌, Option, Some, None, true, false, IfOk, IfErr, IfSome, string_bytes, map};
 ghost use Rattle.std.specs.Cow.{cow_str_bytes};
 ghost use Rattle.json_grammar.specs.declared.Kind.TheVariants.{Array as array};
-ghost use Rattle.json_grammar.specs.Tree.{text, end as end_token};
+ghost use Rattle.json_grammar.specs.Tree.{text, begin as begin_token, end as end_token};
 ghost use Rattle.json_data.specs.declared.token.TokenKind.TheVariants as TokenKind;
 ghost use Rattle.json_data.specs.Pieces.{Says};
 ghost use Rattle.json_model.specs.Datum.{null_datum, boolean_datum, text_datum, list_datum, list_data, option_datum};
@@ -10,7 +10,7 @@ ghost use Rattle.json_data.specs.Reading.{gives, read_boolean, read_unit, read_t
 ghost use Rattle.json_data.specs.Refusals.{is_refusal as spec_is_refusal};
 ghost use Rattle.json_data.specs.Spots.{IsOpen, InArray};
 ghost use Rattle.json_data.specs.Stand.{NotWhole, WantsValue, TakesOne, TakesTree, TakesText, Leaves, Fails};
-ghost use Rattle.json_data.specs.Reader.{Reads, Stops};
+ghost use Rattle.json_data.specs.Reader.{Reads, Finds, Misses, Stops};
 
 use crate::brackets::{open, pass};
 use crate::deserialize::DeserializeFrom;
@@ -98,10 +98,10 @@ impl<S: Lent> DeserializeFrom<S> for String {
     }
 
     #[inline(always)]
-    fn found<T: Tokens<S>>(alloc: Global, tokens: &mut T) -> Option<Result<String>> {
+    fn found<T: Tokens<S>>(alloc: Global, tokens: &mut T) -> Result<Option<String>> {
         match tokens.text() {
-            Some(piece) => Some(piece.copy(alloc)),
-            None => None,
+            Some(piece) => Ok(Some(piece.copy(alloc)?)),
+            None => Ok(None),
         }
     }
 }
@@ -146,10 +146,19 @@ impl<S: Lent, V: DeserializeFrom<S>> DeserializeFrom<S> for Option<V> {
 
     #[inline]
     fn deserialize<T: Tokens<S>>(alloc: Global, tokens: &mut T) -> Result<Option<V>> {
-        if let Some(found) = V::found(alloc, tokens) {
-            return Ok(Some(found?));
+        if let Some(found) = V::found(alloc, tokens)? {
+            return Ok(Some(found));
         }
         option_by_kind(alloc, tokens)
+    }
+
+    #[inline(always)]
+    fn found<T: Tokens<S>>(alloc: Global, tokens: &mut T) -> Result<Option<Option<V>>> {
+        match V::found(alloc, tokens) {
+            Ok(Some(found)) => Ok(Some(Some(found))),
+            Ok(None) => Ok(None),
+            Err(e) => Err(e),
+        }
     }
 }
 
@@ -205,9 +214,9 @@ pub fn leave_after<S: Lent, T: Tokens<S>>(tokens: &mut T, e: Error) -> Error
     }
 }
 
-/// The element that comes next in a list, or none where the list ends there, whose end is taken.
+/// What `next_element` does where no element is found at once.
 #[inline(always)]
-fn next_element<S: Lent, V: DeserializeFrom<S>, T: Tokens<S>>(
+fn element_by_kind<S: Lent, V: DeserializeFrom<S>, T: Tokens<S>>(
     alloc: Global,
     tokens: &mut T,
 ) -> Result<Option<V>>
@@ -230,6 +239,66 @@ fn next_element<S: Lent, V: DeserializeFrom<S>, T: Tokens<S>>(
     Ok(Some(element))
 }
 
+/// The element that comes next in a list, or none where the list ends there, whose end is taken.
+#[inline(always)]
+fn next_element<S: Lent, V: DeserializeFrom<S>, T: Tokens<S>>(
+    alloc: Global,
+    tokens: &mut T,
+) -> Result<Option<V>>
+    requires { InArray (T.stand tokens.old).spot }
+    ensures element { IfOk result (λ r. IfSome r (λ v.
+        Reads T.taken T.stand V.from_tree tokens.old tokens.new (gives (V.datum v)))) }
+    ensures end { IfOk result (λ r. r ≡ None
+        → TakesOne T.taken T.stand tokens.old tokens.new (end_token array)) }
+    ensures err { IfErr result (λ e.
+        Stops T.taken T.stand V.from_tree tokens.old tokens.new e) }
+{
+    if let Some(found) = V::found(alloc, tokens)? {
+        return Ok(Some(found));
+    }
+    element_by_kind(alloc, tokens)
+}
+
+/// What is left of a list whose beginning was taken.
+#[inline(never)]
+fn read_elements<S: Lent, V: DeserializeFrom<S> + Drop, T: Tokens<S>>(
+    alloc: Global,
+    tokens: &mut T,
+) -> Result<Vec<V>>
+    requires { InArray (T.stand tokens.old).spot }
+    ensures ok { (a : T) → TakesOne T.taken T.stand a tokens.old (begin_token array)
+        → IfOk result (λ v. Finds T.taken T.stand (read_list V.from_tree) a tokens.new
+        (gives (list_datum (list_data (map V.datum v.items))))) }
+    ensures err { (a : T) → TakesOne T.taken T.stand a tokens.old (begin_token array)
+        → IfErr result (λ e. Misses T.taken T.stand (read_list V.from_tree) a tokens.new e) }
+{
+    let mut all = Vec::new(alloc);
+    'each: loop {
+        match V::found(alloc, tokens) {
+            Ok(found) => {
+                if let Some(element) = found {
+                    if all.push(element).is_err() {
+                        return Err(refusal(ErrorCode::NoMemory));
+                    }
+                    continue;
+                }
+            }
+            Err(e) => return Err(leave_after(tokens, e)),
+        }
+        match element_by_kind(alloc, tokens) {
+            Ok(next) => match next {
+                Some(element) => {
+                    if all.push(element).is_err() {
+                        return Err(refusal(ErrorCode::NoMemory));
+                    }
+                }
+                None => return Ok(all),
+            },
+            Err(e) => return Err(leave_after(tokens, e)),
+        }
+    }
+}
+
 impl<S: Lent, V: DeserializeFrom<S> + Drop> DeserializeFrom<S> for Vec<V> {
     ghost datum = { λ v. list_datum (list_data (map V.datum v.items)) };
 
@@ -237,28 +306,54 @@ impl<S: Lent, V: DeserializeFrom<S> + Drop> DeserializeFrom<S> for Vec<V> {
 
     fn deserialize<T: Tokens<S>>(alloc: Global, tokens: &mut T) -> Result<Vec<V>> {
         open(tokens, Kind::Array)?;
-        let mut all = Vec::new(alloc);
-        'each: loop {
-            if let Some(found) = V::found(alloc, tokens) {
-                let element = found?;
-                if all.push(element).is_err() {
-                    return Err(refusal(ErrorCode::NoMemory));
-                }
-                continue;
-            }
-            match next_element(alloc, tokens) {
-                Ok(next) => match next {
-                    Some(element) => {
-                        if all.push(element).is_err() {
-                            return Err(refusal(ErrorCode::NoMemory));
-                        }
-                    }
-                    None => return Ok(all),
-                },
-                Err(e) => return Err(leave_after(tokens, e)),
-            }
+        read_elements(alloc, tokens)
+    }
+
+    #[inline(always)]
+    fn found<T: Tokens<S>>(alloc: Global, tokens: &mut T) -> Result<Option<Vec<V>>> {
+        if !tokens.begins(Kind::Array) {
+            return Ok(None);
+        }
+        match read_elements(alloc, tokens) {
+            Ok(all) => Ok(Some(all)),
+            Err(e) => Err(e),
         }
     }
+}
+
+/// What is left of a list of two whose beginning was taken.
+#[inline(always)]
+fn read_two<S: Lent, A: DeserializeFrom<S> + Drop, B: DeserializeFrom<S> + Drop, T: Tokens<S>>(
+    alloc: Global,
+    tokens: &mut T,
+) -> Result<(A, B)>
+    requires { InArray (T.stand tokens.old).spot }
+    ensures ok { (a : T) → TakesOne T.taken T.stand a tokens.old (begin_token array)
+        → IfOk result (λ p. Finds T.taken T.stand (read_pair A.from_tree B.from_tree) a tokens.new
+        (gives (list_datum (list_data (A.datum p.0 ∷ B.datum p.1 ∷ []))))) }
+    ensures err { (a : T) → TakesOne T.taken T.stand a tokens.old (begin_token array)
+        → IfErr result (λ e.
+        Misses T.taken T.stand (read_pair A.from_tree B.from_tree) a tokens.new e) }
+{
+    let first = match next_element(alloc, tokens) {
+        Ok(Some(first)) => first,
+        Ok(None) => return Err(refusal(ErrorCode::TypeUnmatched)),
+        Err(e) => return Err(leave_after(tokens, e)),
+    };
+    let second = match next_element(alloc, tokens) {
+        Ok(Some(second)) => second,
+        Ok(None) => return Err(refusal(ErrorCode::TypeUnmatched)),
+        Err(e) => return Err(leave_after(tokens, e)),
+    };
+    if tokens.ends(Kind::Array) {
+        return Ok((first, second));
+    }
+    if tokens.peek()? != TokenKind::EndArray {
+        tokens.leave()?;
+        return Err(refusal(ErrorCode::TypeUnmatched));
+    }
+    pass(tokens)?;
+    Ok((first, second))
 }
 
 impl<S: Lent, A: DeserializeFrom<S> + Drop, B: DeserializeFrom<S> + Drop> DeserializeFrom<S>
@@ -269,27 +364,16 @@ impl<S: Lent, A: DeserializeFrom<S> + Drop, B: DeserializeFrom<S> + Drop> Deseri
 
     fn deserialize<T: Tokens<S>>(alloc: Global, tokens: &mut T) -> Result<(A, B)> {
         open(tokens, Kind::Array)?;
-        if tokens.peek()? == TokenKind::EndArray {
-            let _end = tokens.next()?;
-            return Err(refusal(ErrorCode::TypeUnmatched));
+        read_two(alloc, tokens)
+    }
+
+    fn found<T: Tokens<S>>(alloc: Global, tokens: &mut T) -> Result<Option<(A, B)>> {
+        if !tokens.begins(Kind::Array) {
+            return Ok(None);
         }
-        let first = match A::deserialize(alloc, tokens) {
-            Ok(first) => first,
-            Err(e) => return Err(leave_after(tokens, e)),
-        };
-        if tokens.peek()? == TokenKind::EndArray {
-            let _end = tokens.next()?;
-            return Err(refusal(ErrorCode::TypeUnmatched));
+        match read_two(alloc, tokens) {
+            Ok(pair) => Ok(Some(pair)),
+            Err(e) => Err(e),
         }
-        let second = match B::deserialize(alloc, tokens) {
-            Ok(second) => second,
-            Err(e) => return Err(leave_after(tokens, e)),
-        };
-        if tokens.peek()? != TokenKind::EndArray {
-            tokens.leave()?;
-            return Err(refusal(ErrorCode::TypeUnmatched));
-        }
-        let _end = tokens.next()?;
-        Ok((first, second))
     }
 }

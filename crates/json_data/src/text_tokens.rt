@@ -16,7 +16,7 @@ ghost use Rattle.json_grammar.specs.Grammar.{is_text};
 
 mod at_once;
 
-use crate::ahead::{Ahead, found_text, read_ahead};
+use crate::ahead::{Ahead, read_ahead};
 use crate::packed_value::packed_value;
 use crate::piece::Piece;
 use crate::token::{TokenKind, TokenOf};
@@ -159,49 +159,9 @@ impl<'a> TextTokens<'a> {
         }
     }
 
-    /// Reads the next event, where none waits, if it is the bracket that opens an object. Whether it is.
-    #[inline(always)]
-    fn find_object(&mut self) -> bool
-        requires whole { NotWhole (text_stand self.old) }
-        requires none { self.old.ahead ≡ None }
-        requires unfailed { self.old.failed ≡ None }
-        ensures ok { IsTrue result
-            → Peeks (text_stand self.old) (text_stand self.new) TokenKindAt.BeginObject }
-        ensures none { IsTrue result → Takes text_taken self.old [] self.new }
-        ensures unfailed { IsTrue result → self.new.failed ≡ None }
-        ensures kept { result ≡ false → self.new ≡ self.old }
-    {
-        if self.parser.next_begin(Kind::Object) {
-            self.ahead = Some(Ahead::new(Event::BeginObject));
-            return true;
-        }
-        false
-    }
-
-    /// Reads the next event, where none waits, if it is a text. Whether it is.
-    #[inline(always)]
-    fn find_text(&mut self) -> bool
-        requires whole { NotWhole (text_stand self.old) }
-        requires none { self.old.ahead ≡ None }
-        requires unfailed { self.old.failed ≡ None }
-        ensures ok { IsTrue result
-            → (k : TokenKindOf) × Peeks (text_stand self.old) (text_stand self.new) k }
-        ensures none { IsTrue result → Takes text_taken self.old [] self.new }
-        ensures unfailed { IsTrue result → self.new.failed ≡ None }
-        ensures kept { result ≡ false → self.new ≡ self.old }
-    {
-        match found_text(&mut self.parser) {
-            Some(event) => {
-                self.ahead = Some(Ahead::new(event));
-                true
-            }
-            None => false,
-        }
-    }
-
     /// Reads the next event, where none waits. Whether one waits then; else it failed.
     #[inline(never)]
-    fn read_any(&mut self) -> bool
+    fn read(&mut self) -> bool
         requires whole { NotWhole (text_stand self.old) }
         requires none { self.old.ahead ≡ None }
         requires unfailed { self.old.failed ≡ None }
@@ -225,26 +185,6 @@ impl<'a> TextTokens<'a> {
         }
     }
 
-    /// The same, sooner where it is a text.
-    #[inline(never)]
-    fn read(&mut self) -> bool
-        requires whole { NotWhole (text_stand self.old) }
-        requires none { self.old.ahead ≡ None }
-        requires unfailed { self.old.failed ≡ None }
-        ensures ok { IsTrue result
-            → (k : TokenKindOf) × Peeks (text_stand self.old) (text_stand self.new) k }
-        ensures none { IsTrue result → Takes text_taken self.old [] self.new }
-        ensures unfailed { IsTrue result → self.new.failed ≡ None }
-        ensures failed { result ≡ false → IsSome self.new.failed }
-        ensures err { IfSome self.new.failed (λ e.
-            Fails (text_stand self.old) (text_stand self.new) e) }
-    {
-        if self.find_text() {
-            return true;
-        }
-        self.read_any()
-    }
-
     /// The kind of the next token.
     #[inline(always)]
     fn look(&mut self) -> Result<TokenKind>
@@ -260,9 +200,6 @@ impl<'a> TextTokens<'a> {
         }
         if let Some(ahead) = self.ahead {
             return Ok(ahead.kind);
-        }
-        if self.find_object() {
-            return Ok(TokenKind::BeginObject);
         }
         if !self.read() {
             return Err(self.refusal());

@@ -10,10 +10,8 @@ returns-in-Some-clause-takes g c = λ low high h.
     let n = c.in-Some.n in
     let m = c.in-Some.ensures.most in
     record {
-      reads = record {
-        tree = num t.literal;
-        takes = t.takes;
-        answer = fits_in low high (whole_in t.literal) (pos n) (whole_by_value t.literal (pos n) t.value) (low_enough n high (omega arith));
-      };
+      tree = num t.literal;
+      takes = t.takes;
+      answer = fits_in low high (whole_in t.literal) (pos n) (whole_by_value t.literal (pos n) t.value) (low_enough n high (omega arith));
       some = λ e. cc;
     }

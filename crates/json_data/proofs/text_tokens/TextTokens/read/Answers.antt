@@ -1,13 +1,13 @@
-use Rattle.std.proofs.Common.{◌≡◌, ◌∙◌, [], Option, Some, None, IfSome, sym, ap, subst, arith, option_map}
+use Rattle.std.proofs.Common.{◌≡◌, ◌∙◌, ◌≤◌, [], Option, Some, None, IfSome, sym, ap, subst, inr, arith, option_map}
 use Rattle.json_text.specs.declared.error.Error.{Error}
 use Rattle.json_text.specs.declared.event.Event.{Event}
-use Rattle.json_text.specs.Parsing.{HasGiven}
+use Rattle.json_text.specs.Parsing.{ParserState, HasGiven, IsWhole, HasRead}
 use Rattle.json_data.specs.declared.ahead.Ahead.{Ahead}
 use Rattle.json_data.specs.Stand.{Takes}
-use Rattle.json_data.specs.Text.{TextState, TakenBefore, text_taken, TextFails, ReadsAhead}
+use Rattle.json_data.specs.Text.{TextState, TakenBefore, text_taken, TextFails, HasFault, ReadsAhead}
 use Rattle.json_data.proofs.Events.{event_number}
 use Rattle.json_data.proofs.TextSteps.{takes_none}
-use Rattle.json_data.proofs.text_tokens.TextTokens.find_text.Goals as goal
+use Rattle.json_data.proofs.text_tokens.TextTokens.read.Goals as goal
 
 pub new-requires : goal.new-requires
 new-requires c =
@@ -15,15 +15,15 @@ new-requires c =
     let p = c.self.inside.parser in
     let n : option_map (λ (h : Ahead). h.event) c.self.inside.ahead ≡ None = ap (λ (t : TextState). t.ahead) c.self.view_is ∙ c.requires.none in
     let h : HasGiven p i.0 = subst (λ (o : Option Event). TakenBefore o p i.0) n i.1 in
-    let g = c.in-Some.ensures.some.goes i.0 h in
-    event_number c.found_text.new.parser c.in-Some.event i.0 g.0 g.1 g.2
+    let g = c.in-Ok.ensures.ok.goes i.0 h in
+    event_number c.read_ahead.new.parser c.in-Ok.event i.0 g.0 g.1 g.2
 
 pub invariant_of-self : goal.invariant_of-self
 invariant_of-self c =
     let i = c.self.invariant.given in
     let p = c.self.inside.parser in
-    let q = c.found_text.new.parser in
-    let r = c.in-Some.ensures.some in
+    let q = c.read_ahead.new.parser in
+    let r = c.in-Ok.ensures.ok in
     let n : option_map (λ (h : Ahead). h.event) c.self.inside.ahead ≡ None = ap (λ (t : TextState). t.ahead) c.self.view_is ∙ c.requires.none in
     let f : c.self.inside.failed ≡ None = ap (λ (t : TextState). t.failed) c.self.view_is ∙ c.requires.unfailed in
     let h : HasGiven p i.0 = subst (λ (o : Option Event). TakenBefore o p i.0) n i.1 in
@@ -33,16 +33,33 @@ invariant_of-self c =
       failed = subst (λ (o : Option Error). IfSome o (TextFails q)) (sym f) tt;
       fresh = λ _. r.fresh;
       order = omega arith;
-      read = c.in-Some.ensures.read;
+      read = c.in-Ok.ensures.read;
     }
 
-pub returns-in-Some-clause-none : goal.returns-in-Some-clause-none
-returns-in-Some-clause-none c = λ _.
+pub invariant_of-self-in-Err : goal.invariant_of-self-in-Err
+invariant_of-self-in-Err c =
+    let i = c.self.invariant.given in
     let p = c.self.inside.parser in
-    let q = c.found_text.new.parser in
+    let e = c.in-Err.error in
+    let n : option_map (λ (h : Ahead). h.event) c.self.inside.ahead ≡ None = ap (λ (t : TextState). t.ahead) c.self.view_is ∙ c.requires.none in
+    let h : HasGiven p i.0 = subst (λ (o : Option Event). TakenBefore o p i.0) n i.1 in
+    let f = c.in-Err.ensures.fault in
+    let g : HasFault (record p { failure = Some e }) e = record { offset = f.offset; place = f.place; in_text = f.in_text; in_value = f.in_value; needs = f.needs; no_refusal = f.no_refusal } in
+    record {
+      given = (i.0, subst (λ (o : Option Event). TakenBefore o c.read_ahead.new.parser i.0) (sym n) (subst (λ (q : ParserState). HasGiven q i.0) (sym c.in-Err.ensures.kept) h));
+      failed = subst (λ (q : ParserState). TextFails q e) (sym c.in-Err.ensures.kept) (inr g);
+      fresh = λ n. absurd (cc);
+      order = subst (λ (q : ParserState). q.start ≤ q.index) (sym c.in-Err.ensures.kept) c.self.invariant.order;
+      read = subst (λ (q : ParserState). IsWhole q → HasRead q) (sym c.in-Err.ensures.kept) c.self.invariant.read;
+    }
+
+pub returns-in-Ok-clause-none : goal.returns-in-Ok-clause-none
+returns-in-Ok-clause-none c = λ _.
+    let p = c.self.inside.parser in
+    let q = c.read_ahead.new.parser in
     let f = c.self.inside.failed in
     let e = c.new.result.event in
     let n : option_map (λ (h : Ahead). h.event) c.self.inside.ahead ≡ None = ap (λ (t : TextState). t.ahead) c.self.view_is ∙ c.requires.none in
     let s : record { parser = p; ahead = None; failed = f } ≡ c.args.self.now = ap (λ (o : Option Event). record { parser = p; ahead = o; failed = f }) (sym n) ∙ c.self.view_is in
-    let r : ReadsAhead p e q = subst (λ (e : Event). ReadsAhead p e q) (sym c.new.ensures) c.in-Some.ensures.some in
+    let r : ReadsAhead p e q = subst (λ (e : Event). ReadsAhead p e q) (sym c.new.ensures) c.in-Ok.ensures.ok in
     subst (λ (a : TextState). Takes text_taken a [] (record { parser = q; ahead = Some e; failed = f })) s (takes_none p q f f e r)

@@ -1,14 +1,19 @@
 use Rattle.std.proofs.Common.{◌≡◌}
-use Rattle.json_grammar.specs.Tree.{Pairs}
+use Rattle.json_grammar.specs.declared.Kind.TheVariants.{Object as object}
+use Rattle.json_grammar.specs.Tree.{Pairs, begin}
 use Rattle.json_model.specs.Datum.{rows_datum, no_rows}
 use Rattle.json_data.specs.Reading.{gives, rows_from}
+use Rattle.json_data.specs.Spots.{InObject}
+use Rattle.json_data.specs.Stand.{TakesOne}
 use Rattle.json_data.proofs.Pairs.{InPairs}
 use Rattle.json_data.proofs.Rows.{rows_of, OfTexts}
-use Rattle.json_data.proofs.maps.BTreeMapDeserializeFrom.deserialize.Given as goal
+use Rattle.json_data.proofs.maps.read_rows.Given as goal
 
--- the pairs so far
+-- the pairs so far, behind any place from which on the beginning was taken
 abbrev pub invariant-each : goal.invariant-each
-invariant-each g l = (ps : Pairs) × InPairs g.T.Tokens.taken g.T.Tokens.stand l.fn.tokens l.tokens ps
+invariant-each g l = (ps : Pairs)
+    × ((a : _) → TakesOne g.T.Tokens.taken g.T.Tokens.stand a l.fn.tokens (begin object) → InPairs g.T.Tokens.taken g.T.Tokens.stand a l.tokens ps)
+    × InObject (g.T.Tokens.stand l.tokens).spot
     × (rows_from g.K.FromKey.from_text g.V.DeserializeFrom.from_tree no_rows ps ≡ gives (rows_datum (rows_of g.K.FromKey.key_datum g.V.DeserializeFrom.datum l.all.entries)))
     × OfTexts g.K.FromKey.from_text g.K.FromKey.key_datum l.all.entries
 
