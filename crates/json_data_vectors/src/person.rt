@@ -4,7 +4,7 @@ ghost use Rattle.json_model.specs.Datum.{null_datum, text_datum, integer_datum, 
 ghost use Rattle.json_data.specs.Members.{read_object};
 ghost use Rattle.json_data_vectors.specs.Person.{parts, person_step, person_datum, person_made};
 
-use json_data::{DeserializeFrom, Lent, Members, Tokens, read_members, refusal};
+use json_data::{DeserializeFrom, Lent, Members, Tokens, find_members, read_members, refusal};
 use json_print::Events;
 use json_text::{ErrorCode, Result};
 use json_write::{Field, KeyRoom, Serialize, give_fields};
@@ -75,6 +75,26 @@ impl<S: Lent> DeserializeFrom<S> for Person {
                 age,
                 phones: members.phones,
             }),
+            _ => Err(refusal(ErrorCode::TypeUnmatched)),
+        }
+    }
+
+    // This may be left out: with it a list of people asks no kind before each.
+    fn found<T: Tokens<S>>(alloc: Global, tokens: &mut T) -> Result<Option<Person>> {
+        let mut members = PersonMembers {
+            name: None,
+            age: None,
+            phones: Vec::new(alloc),
+        };
+        if !find_members(alloc, &mut members, tokens)? {
+            return Ok(None);
+        }
+        match (members.name, members.age) {
+            (Some(name), Some(age)) => Ok(Some(Person {
+                name,
+                age,
+                phones: members.phones,
+            })),
             _ => Err(refusal(ErrorCode::TypeUnmatched)),
         }
     }

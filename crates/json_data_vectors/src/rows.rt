@@ -165,6 +165,44 @@ fn lists_within_lists(rt: HostRuntime) {
     assert!(rt; is_refused(wrong, ErrorCode::TypeUnmatched, 0));
 }
 
+fn how_many<V: Drop>(read: Result<Vec<V>>) -> Option<usize> {
+    match read {
+        Ok(all) => Some(all.len()),
+        Err(_) => None,
+    }
+}
+
+#[test]
+fn lists_of_containers(rt: HostRuntime) {
+    let alloc = rt.alloc();
+    let lists = from_str::<Vec<Vec<u8>>>(alloc, "[[1,2],[], [3]]");
+    assert!(rt; how_many(lists) == Some(3));
+    let pairs = from_str::<Vec<(u8, String)>>(alloc, "[[1,\"a\"],[2 , \"\\n\"]]");
+    assert!(rt; how_many(pairs) == Some(2));
+    let maps = from_str::<Vec<BTreeMap<String, u8>>>(alloc, "[{}, {\"a\":1,\"b\":2}]");
+    assert!(rt; how_many(maps) == Some(2));
+    let some = from_str::<Vec<Option<Vec<u8>>>>(alloc, "[null,[1],null]");
+    assert!(rt; how_many(some) == Some(3));
+    let people = from_str::<Vec<Person>>(alloc, "[{\"name\":\"a\",\"age\":1}]");
+    assert!(rt; how_many(people) == Some(1));
+}
+
+#[test]
+fn containers_that_are_refused_within_lists(rt: HostRuntime) {
+    let alloc = rt.alloc();
+    let unmatched = ErrorCode::TypeUnmatched;
+    let null = from_str::<Vec<Vec<u8>>>(alloc, " [[1],null]");
+    assert!(rt; is_refused(null, unmatched, 1));
+    let longer = from_str::<Vec<(u8, u8)>>(alloc, "[[1,2],[3,4,5]]");
+    assert!(rt; is_refused(longer, unmatched, 0));
+    let past = from_str::<Vec<BTreeMap<String, u8>>>(alloc, "[{\"a\":256},{}]");
+    assert!(rt; is_refused(past, ErrorCode::NumberOutOfRange, 0));
+    let broken = from_str::<Vec<(u8, u8)>>(alloc, "[[1,2],[3],[4,}]");
+    assert!(rt; is_refused(broken, ErrorCode::InvalidJsonValue, 14));
+    let nameless = from_str::<Vec<Person>>(alloc, "[{\"age\":1}]");
+    assert!(rt; is_refused(nameless, unmatched, 0));
+}
+
 // What is read at the key `é`.
 fn at_accent(alloc: Global, text: &str) -> Result<Option<u8>> {
     let map = from_str::<BTreeMap<char, u8>>(alloc, text)?;
