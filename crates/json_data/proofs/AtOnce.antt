@@ -1,5 +1,5 @@
 -- A token that is taken where it is found at once.
-use Rattle.std.proofs.Common.{◌≡◌, ◌≢◌, ◌-◌, ◌^◌, ◌<◌, ◌≤◌, ℕ, List, [], ◌∷◌, ◌++◌, length, get_or, drop, true, Option, Some, None, refl, ap, subst, arith, length-take, length-drop}
+use Rattle.std.proofs.Common.{◌≡◌, ◌≢◌, ◌∙◌, ◌-◌, ◌^◌, ◌<◌, ◌≤◌, ℕ, List, [], ◌∷◌, ◌++◌, length, get_or, drop, true, Option, Some, None, refl, ap, sym, subst, arith, length-take, length-drop}
 use Rattle.std.proofs.lemmas.Bool.{and_parts}
 use Rattle.std.specs.Char.{is_ascii_digit}
 use Rattle.std.specs.Str.{all_ascii_digits}
@@ -16,10 +16,11 @@ use Rattle.json_text.specs.Events.{Means}
 use Rattle.json_text.specs.Parsing.{ParserState, HasGiven, SameInput, Goes, IsTight, IsWhole, HasRead}
 use Rattle.json_text.specs.Tokens.{begin_event, end_event}
 use Rattle.json_text.proofs.Bracketed.{begin_is_event, end_is_event}
-use Rattle.json_data.specs.Stand.{Peeks, TakesOne, TakesInteger, TakesText, TakesKey}
-use Rattle.json_data.specs.Text.{TextState, text_taken, text_stand, event_kind, ReadsAhead, IsReading}
+use Rattle.json_data.specs.Spots.{over}
+use Rattle.json_data.specs.Stand.{NotWhole, Peeks, TakesOne, TakesInteger, TakesText, TakesKey}
+use Rattle.json_data.specs.Text.{TextState, TakenBefore, spot_before, text_taken, text_stand, event_kind, ReadsAhead, IsReading}
 use Rattle.json_data.proofs.Digits.{plain_integer}
-use Rattle.json_data.proofs.Events.{reads_ahead}
+use Rattle.json_data.proofs.Events.{reads_ahead, whole_over}
 use Rattle.json_data.proofs.Steps.{scalar}
 use Rattle.json_data.proofs.TextSteps.{takes_none, takes_next}
 
@@ -65,6 +66,32 @@ still_reading p q e ts h r o w =
     let start = r.same.start in
     let more = r.forward in
     record { given = (ts ++ g.0 ∷ [], g.2); failed = tt; fresh = λ _. r.fresh; order = omega arith; read = w }
+
+-- ---- a source that is seen as a, in which no event waits
+
+module _ (a : TextState) (p : ParserState) (o : Option Event) (f : Option Error) (seen : record { parser = p; ahead = o; failed = f } ≡ a) (none : a.ahead ≡ None) where
+  unwaiting : o ≡ None
+  unwaiting = ap (λ (t : TextState). t.ahead) seen ∙ none
+
+  pub clear_inside : NotWhole (text_stand a) → ¬ (IsWhole p)
+  clear_inside h = λ w. h (subst (λ (t : TextState). (text_stand t).spot ≡ over) seen (subst (λ (u : Option Event). spot_before u p ≡ over) (sym unwaiting) (whole_over p w)))
+
+  -- it goes on behind an event
+  pub clear_reading : (q : ParserState) (e : Event) → a.failed ≡ None → IsReading (record { parser = p; ahead = o; failed = f })
+      → ((ts : List Tok) → HasGiven p ts → ReadsAhead p e q) → (IsWhole q → HasRead q) → IsReading (record { parser = q; ahead = o; failed = f })
+  clear_reading q e u i r w =
+      let h : HasGiven p i.given.0 = subst (λ (v : Option Event). TakenBefore v p i.given.0) unwaiting i.given.1 in
+      let g : f ≡ None = ap (λ (t : TextState). t.failed) seen ∙ u in
+      subst (λ (v : Option Event). IsReading (record { parser = q; ahead = v; failed = f })) (sym unwaiting)
+      (subst (λ (v : Option Error). IsReading (clear q v)) (sym g) (still_reading p q e i.given.0 h (r i.given.0 h) i.order w))
+
+  -- what is taken from there on
+  pub clear_taken : (P : TextState → TextState → Type 0) (q : ParserState) → IsReading (record { parser = p; ahead = o; failed = f })
+      → ((ts : List Tok) → HasGiven p ts → P (clear p f) (clear q f)) → P a (record { parser = q; ahead = o; failed = f })
+  clear_taken P q i t =
+      let h : HasGiven p i.given.0 = subst (λ (v : Option Event). TakenBefore v p i.given.0) unwaiting i.given.1 in
+      let v : clear p f ≡ a = ap (λ (u : Option Event). record { parser = p; ahead = u; failed = f }) (sym unwaiting) ∙ seen in
+      subst (λ (u : Option Event). P a (record { parser = q; ahead = u; failed = f })) (sym unwaiting) (subst (λ (b : TextState). P b (clear q f)) v (t i.given.0 h))
 
 pub number_read : (p q : ParserState) (l : _) (ts : List Tok) → HasGiven p ts → SameInput p q → Goes p (event.Number l) q → IsTight p (event.Number l) q → q.failure ≡ None → ReadsAhead p (event.Number l) q
 number_read p q l ts h s g t f = reads_ahead p q (event.Number l) ts h (λ e. absurd (cc)) s g t f

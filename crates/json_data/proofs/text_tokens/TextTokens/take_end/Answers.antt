@@ -1,42 +1,21 @@
-use Rattle.std.proofs.Common.{◌≡◌, ◌∙◌, Option, None, sym, ap, subst, rules, option_map}
+use Rattle.std.proofs.Common.{rules}
 use Rattle.json_grammar.specs.Tree.{end as end_token}
-use Rattle.json_text.specs.declared.error.Error.{Error}
-use Rattle.json_text.specs.declared.event.Event.{Event}
-use Rattle.json_text.specs.Parsing.{HasGiven}
 use Rattle.json_text.specs.Tokens.{end_event}
-use Rattle.json_data.specs.declared.ahead.Ahead.{Ahead}
 use Rattle.json_data.specs.Stand.{TakesOne}
-use Rattle.json_data.specs.Text.{TextState, TakenBefore, text_taken, text_stand, IsReading}
-use Rattle.json_data.proofs.AtOnce.{clear, still_reading, end_read, end_taken}
+use Rattle.json_data.specs.Text.{text_taken, text_stand}
+use Rattle.json_data.proofs.AtOnce.{clear_reading, clear_taken, end_read, end_taken}
 use Rattle.json_data.proofs.text_tokens.TextTokens.take_end.Goals as goal
 
 pub invariant_of-self : goal.invariant_of-self
 invariant_of-self c =
-    let s = c.self.inside in
-    let p = s.parser in
-    let q = c.next_end.new.self in
-    let f = s.failed in
     let e = c.next_end.ensures in
     let y = c.if-next_end.true in
-    let i = c.self.invariant.given in
-    let n : option_map (λ (h : Ahead). h.event) s.ahead ≡ None = ap (λ (t : TextState). t.ahead) c.self.view_is ∙ c.is_clear.ensures.ahead (search rules) in
-    let h : HasGiven p i.0 = subst (λ (o : Option Event). TakenBefore o p i.0) n i.1 in
-    let u : f ≡ None = ap (λ (t : TextState). t.failed) c.self.view_is ∙ c.is_clear.ensures.failed (search rules) in
-    let r = still_reading p q (end_event c.args.kind) i.0 h (end_read p q c.args.kind i.0 h e.same (e.ok y) (e.tight y) e.failure) c.self.invariant.order (e.reads y) in
-    subst (λ (o : Option Event). IsReading (record { parser = q; ahead = o; failed = f })) (sym n) (subst (λ (g : Option Error). IsReading (clear q g)) (sym u) r)
+    clear_reading _ _ _ _ c.self.view_is (c.is_clear.ensures.ahead (search rules)) c.next_end.new.self (end_event c.args.kind) (c.is_clear.ensures.failed (search rules)) c.self.invariant
+    (λ ts h. end_read _ _ c.args.kind ts h e.same (e.ok y) (e.tight y) e.failure) (e.reads y)
 
 pub returns-then-next_end-clause-ended : goal.returns-then-next_end-clause-ended
 returns-then-next_end-clause-ended c = λ _.
-    let s = c.self.inside in
-    let p = s.parser in
-    let q = c.next_end.new.self in
-    let f = s.failed in
     let e = c.next_end.ensures in
     let y = c.if-next_end.true in
-    let i = c.self.invariant.given in
-    let n : option_map (λ (h : Ahead). h.event) s.ahead ≡ None = ap (λ (t : TextState). t.ahead) c.self.view_is ∙ c.is_clear.ensures.ahead (search rules) in
-    let h : HasGiven p i.0 = subst (λ (o : Option Event). TakenBefore o p i.0) n i.1 in
-    let v : clear p f ≡ c.args.self.now = ap (λ (o : Option Event). record { parser = p; ahead = o; failed = f }) (sym n) ∙ c.self.view_is in
-    let t = end_taken p q f c.args.kind i.0 h (end_read p q c.args.kind i.0 h e.same (e.ok y) (e.tight y) e.failure) in
-    subst (λ (o : Option Event). TakesOne text_taken text_stand c.args.self.now (record { parser = q; ahead = o; failed = f }) (end_token c.args.kind)) (sym n)
-    (subst (λ (a : TextState). TakesOne text_taken text_stand a (clear q f) (end_token c.args.kind)) v t)
+    clear_taken _ _ _ _ c.self.view_is (c.is_clear.ensures.ahead (search rules)) (λ a b. TakesOne text_taken text_stand a b (end_token c.args.kind)) c.next_end.new.self c.self.invariant
+    (λ ts h. end_taken _ _ _ c.args.kind ts h (end_read _ _ c.args.kind ts h e.same (e.ok y) (e.tight y) e.failure))

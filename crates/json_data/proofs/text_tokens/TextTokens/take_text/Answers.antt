@@ -1,48 +1,23 @@
-use Rattle.std.proofs.Common.{◌≡◌, ◌∙◌, Option, None, sym, ap, subst, rules, option_map}
-use Rattle.json_text.specs.declared.error.Error.{Error}
-use Rattle.json_text.specs.declared.event.Event.{Event}
-use Rattle.json_text.specs.declared.event.Event.TheVariants as Event_at
-use Rattle.json_text.specs.Parsing.{HasGiven}
-use Rattle.json_data.specs.declared.ahead.Ahead.{Ahead}
+use Rattle.std.proofs.Common.{rules}
+use Rattle.json_text.specs.declared.event.Event.TheVariants as Event
 use Rattle.json_data.specs.Pieces.{Says}
-use Rattle.json_data.specs.Spots.{over}
 use Rattle.json_data.specs.Stand.{TakesText}
-use Rattle.json_data.specs.Text.{TextState, TakenBefore, spot_before, text_taken, text_stand, IsReading}
-use Rattle.json_data.proofs.AtOnce.{clear, still_reading, text_read, text_taken_at_once}
-use Rattle.json_data.proofs.Events.{whole_over}
+use Rattle.json_data.specs.Text.{text_taken, text_stand}
+use Rattle.json_data.proofs.AtOnce.{clear_inside, clear_reading, clear_taken, text_read, text_taken_at_once}
 use Rattle.json_data.proofs.text_tokens.TextTokens.take_text.Goals as goal
 
 pub next_text-requires-clause-inside : goal.next_text-requires-clause-inside
-next_text-requires-clause-inside c = λ w.
-    let s = c.self.inside in
-    let n : option_map (λ (h : Ahead). h.event) s.ahead ≡ None = ap (λ (t : TextState). t.ahead) c.self.view_is ∙ c.is_clear.ensures.ahead (search rules) in
-    c.requires (subst (λ (t : TextState). (text_stand t).spot ≡ over) c.self.view_is (subst (λ (o : Option Event). spot_before o s.parser ≡ over) (sym n) (whole_over s.parser w)))
+next_text-requires-clause-inside c = clear_inside _ _ _ _ c.self.view_is (c.is_clear.ensures.ahead (search rules)) c.requires
 
 pub invariant_of-self : goal.invariant_of-self
 invariant_of-self c =
-    let s = c.self.inside in
-    let p = s.parser in
-    let q = c.next_text.new.self in
-    let f = s.failed in
     let e = c.in-Some.ensures in
-    let i = c.self.invariant.given in
-    let n : option_map (λ (h : Ahead). h.event) s.ahead ≡ None = ap (λ (t : TextState). t.ahead) c.self.view_is ∙ c.is_clear.ensures.ahead (search rules) in
-    let h : HasGiven p i.0 = subst (λ (o : Option Event). TakenBefore o p i.0) n i.1 in
-    let u : f ≡ None = ap (λ (t : TextState). t.failed) c.self.view_is ∙ c.is_clear.ensures.failed (search rules) in
-    let r = still_reading p q (Event_at.Str c.in-Some.span) i.0 h (text_read p q c.in-Some.span i.0 h e.same e.ok e.tight e.failure) c.self.invariant.order e.reads in
-    subst (λ (o : Option Event). IsReading (record { parser = q; ahead = o; failed = f })) (sym n) (subst (λ (g : Option Error). IsReading (clear q g)) (sym u) r)
+    clear_reading _ _ _ _ c.self.view_is (c.is_clear.ensures.ahead (search rules)) c.next_text.new.self (Event.Str c.in-Some.span) (c.is_clear.ensures.failed (search rules)) c.self.invariant
+    (λ ts h. text_read _ _ c.in-Some.span ts h e.same e.ok e.tight e.failure) e.reads
 
 pub returns-in-Some : goal.returns-in-Some
 returns-in-Some c =
-    let s = c.self.inside in
-    let p = s.parser in
-    let q = c.next_text.new.self in
-    let f = s.failed in
     let e = c.in-Some.ensures in
-    let i = c.self.invariant.given in
-    let n : option_map (λ (h : Ahead). h.event) s.ahead ≡ None = ap (λ (t : TextState). t.ahead) c.self.view_is ∙ c.is_clear.ensures.ahead (search rules) in
-    let h : HasGiven p i.0 = subst (λ (o : Option Event). TakenBefore o p i.0) n i.1 in
-    let v : clear p f ≡ c.args.self.now = ap (λ (o : Option Event). record { parser = p; ahead = o; failed = f }) (sym n) ∙ c.self.view_is in
-    let t = text_taken_at_once p q f c.in-Some.span (λ s. Says s c.piece.result.escaped c.piece.result.text.now) i.0 h (text_read p q c.in-Some.span i.0 h e.same e.ok e.tight e.failure) c.piece.ensures in
-    subst (λ (o : Option Event). TakesText text_taken text_stand (λ s. Says s c.piece.result.escaped c.piece.result.text.now) c.args.self.now (record { parser = q; ahead = o; failed = f })) (sym n)
-    (subst (λ (a : TextState). TakesText text_taken text_stand (λ s. Says s c.piece.result.escaped c.piece.result.text.now) a (clear q f)) v t)
+    let r = c.piece.result in
+    clear_taken _ _ _ _ c.self.view_is (c.is_clear.ensures.ahead (search rules)) (λ a b. TakesText text_taken text_stand (λ s. Says s r.escaped r.text.now) a b) c.next_text.new.self c.self.invariant
+    (λ ts h. text_taken_at_once _ _ _ c.in-Some.span (λ s. Says s r.escaped r.text.now) ts h (text_read _ _ c.in-Some.span ts h e.same e.ok e.tight e.failure) c.piece.ensures)
