@@ -7,9 +7,12 @@ use std::time::Instant;
 
 const COUNT: u32 = 60_000;
 
-/// Numbers without an order (Knuth's multiplier).
+/// Numbers below 2^20 in no order (the last steps of MurmurHash3).
 fn any(number: u32) -> u32 {
-    number.wrapping_mul(2_654_435_761) >> 12
+    let mut bits = number.wrapping_add(1);
+    bits = (bits ^ (bits >> 16)).wrapping_mul(0x85eb_ca6b);
+    bits = (bits ^ (bits >> 13)).wrapping_mul(0xc2b2_ae35);
+    (bits ^ (bits >> 16)) >> 12
 }
 
 fn short(number: u32) -> u32 {
