@@ -1,5 +1,5 @@
 -- What a comparison of kinds, or an answer that is some, tells.
-use Rattle.std.proofs.Common.{◌≡◌, ◌≢◌, Bool, Option, Some, IfSome, Result, Ok, IfOk, true, false, not, rules, subst}
+use Rattle.std.proofs.Common.{◌≡◌, ◌≢◌, Bool, Option, Some, IfSome, true, false, not, rules, subst}
 use denote.Enum.Bare.{sameb}
 use Rattle.json_data.specs.contracts.token.TokenKind.{the_type}
 use Rattle.json_data.specs.declared.token.TokenKind.{TokenKind}
@@ -16,6 +16,3 @@ no_end-kind k r e t = search rules
 
 pub known : {A : Type 0} {o : Option A} {x : A} (P : A → Type 0) → IfSome o P → o ≡ Some x → P x
 known P h e = subst (λ o. IfSome o P) e h
-
-pub known_ok : {A E : Type 0} {r : Result A E} {x : A} (P : A → Type 0) → IfOk r P → r ≡ Ok x → P x
-known_ok P h e = subst (λ r. IfOk r P) e h

@@ -105,7 +105,7 @@ pub fn read_members<S: Lent, M: Members<S>, T: Tokens<S>>(
 }
 
 /// Takes an object as `read_members` does where its beginning is found at once, and answers whether it was. Else nothing is
-/// taken.
+/// taken, and the members are as they were.
 #[inline(always)]
 pub fn find_members<S: Lent, M: Members<S>, T: Tokens<S>>(
     alloc: Global,
@@ -114,6 +114,7 @@ pub fn find_members<S: Lent, M: Members<S>, T: Tokens<S>>(
 ) -> Result<bool>
     requires { NotWhole (T.stand tokens.old) }
     ensures none { IfOk result (λ b. b ≡ false → tokens.new ≡ tokens.old) }
+    ensures kept { IfOk result (λ b. b ≡ false → members.new ≡ members.old) }
     ensures ok { IfOk result (λ b. b ≡ true
         → Finds T.taken T.stand (spec_read_members M.step (M.so_far members.old))
         tokens.old tokens.new (gives (M.so_far members.new))) }

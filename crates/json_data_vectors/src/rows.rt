@@ -5,7 +5,7 @@ use json_data::{
     IgnoredAny, from_reader, from_slice, from_slice_unchecked, from_slice_with, from_str,
 };
 use json_number::RawNumber;
-use json_text::{ErrorCode, Result, Rules, SliceSource};
+use json_text::{ErrorCode, FakeSource, Place, Result, Rules, SliceSource};
 use json_write::to_string_pretty;
 use std::alloc::Global;
 use std::collections::BTreeMap;
@@ -84,6 +84,18 @@ fn number_of_source(alloc: Global) -> Result<u8> {
     from_reader::<SliceSource, u8>(alloc, &mut source, &mut room)
 }
 
+// Whether a source that fails at its second read leaves the room as it was.
+fn room_is_kept(alloc: Global) -> Result<bool> {
+    let mut room = Vec::new(alloc);
+    room.extend_from_slice(b"kept")?;
+    let mut source = FakeSource::new(b"[1, 2]", 3, &[1]);
+    let failed = match from_reader::<FakeSource, IgnoredAny>(alloc, &mut source, &mut room) {
+        Ok(_) => false,
+        Err(error) => error.code == ErrorCode::Io && error.place == Place::Reading,
+    };
+    Ok(failed && room.as_slice() == b"kept".as_slice())
+}
+
 // Whether a name that repeats is refused by the rules.
 fn rules_refuse(alloc: Global) -> bool {
     match Rules::new(1, true) {
@@ -104,6 +116,7 @@ fn values_of_other_calls(rt: HostRuntime) {
     assert!(rt; matches!(from_slice::<u8>(alloc, b"7"), Ok(7)));
     assert!(rt; rules_refuse(alloc));
     assert!(rt; matches!(number_of_source(alloc), Ok(7)));
+    assert!(rt; matches!(room_is_kept(alloc), Ok(true)));
 }
 
 fn is_xiaoming(person: Person) -> bool {
