@@ -9,9 +9,13 @@ ghost use Rattle.json_command.specs.Input.{IsInput, IsValid};
 use crate::about::About;
 use crate::document::MAX_BYTES;
 use crate::status::Status;
-use json_text::{Error, ErrorCode, Place, StdSink, StdSource, Words};
+use json_doc::{Doc, read_document_with};
+use json_text::{Error, ErrorCode, Place, Rules, StdSink, StdSource, Words};
+use std::alloc::Global;
+use std::env;
+use std::io;
+use std::rc::Rc;
 use std::rt::{Stderr, Stdin, Stdout};
-use std::{env, io};
 
 /// The error of arguments that are not valid.
 pub const BAD_WORDS: Error = Error {

@@ -104,8 +104,8 @@ fn read_row(alloc: Global, line: &str) -> Result<Option<Row>>
 fn holds<F>(alloc: Global, row: &Row, at_once: usize, run: &F) -> bool
 where
     F: Fn(Global, &Words, &mut FakeSource<'_>, &mut VecSink, &mut VecSink) -> u8,
-    requires { F.IsAlwaysCallable run.now }
-    requires { 1 ≤ at_once }
+    requires callable { F.IsAlwaysCallable run.now }
+    requires some { 1 ≤ at_once }
 {
     let invalid = row.status == Status::InvalidArguments.number();
     let failing: &[u64] = if invalid { &[0] } else { &[] };
@@ -122,8 +122,8 @@ where
 pub fn differing_rows<F>(alloc: Global, rows: &str, at_once: usize, run: F) -> Result<u32>
 where
     F: Fn(Global, &Words, &mut FakeSource<'_>, &mut VecSink, &mut VecSink) -> u8,
-    requires { F.IsAlwaysCallable run }
-    requires { 1 ≤ at_once }
+    requires callable { F.IsAlwaysCallable run }
+    requires some { 1 ≤ at_once }
     ensures { IfErr result (λ e. e ≡ no_memory) }
 {
     let mut differing = 0u32;
