@@ -1,5 +1,6 @@
-//! What the programs of this repository share: reading a document from a source, printing a value to a sink, reporting errors,
-//! exit statuses, numeric options, help and version, and the opening of the command line.
+//! What the programs of this repository share: reading a document from a source, printing a value
+//! to a sink, reporting errors, exit statuses, numeric options, help and version, and the opening
+//! of the command line.
 //!
 //! ```
 //! use json_command::{print_value, read_document_from};
