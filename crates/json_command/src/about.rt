@@ -4,7 +4,7 @@ ghost use Rattle.json_command.specs.Arguments.{text_asked, StatusWrites, SaysAsk
 ghost use Rattle.json_command.specs.Reporting.{Reports};
 
 use crate::output::write_text;
-use crate::report::report_text;
+use crate::reporting::report_text;
 use crate::status::Status;
 use json_text::{Sink, Words};
 

@@ -12,10 +12,9 @@ use crate::status::Status;
 use json_doc::{Doc, read_document_with};
 use json_text::{Error, ErrorCode, Place, Rules, StdSink, StdSource, Words};
 use std::alloc::Global;
-use std::env;
-use std::io;
 use std::rc::Rc;
 use std::rt::{Stderr, Stdin, Stdout};
+use std::{env, io};
 
 /// The error of arguments that are not valid.
 pub const BAD_WORDS: Error = Error {

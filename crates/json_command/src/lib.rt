@@ -22,7 +22,7 @@ mod document;
 pub mod laws;
 mod options;
 mod output;
-mod report;
+mod reporting;
 pub mod rows;
 mod status;
 
@@ -31,5 +31,5 @@ pub use arguments::{BAD_WORDS, Console, arguments_error, read_argument};
 pub use document::read_document_from;
 pub use options::option_number;
 pub use output::{print_value, write_text};
-pub use report::{report, report_text};
+pub use reporting::{report, report_text};
 pub use status::Status;
