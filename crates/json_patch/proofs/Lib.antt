@@ -1,0 +1,17 @@
+mod Results
+mod ReplacedAt
+mod PointerTexts
+mod Indexes
+mod PatchLaws
+mod PatchOrder
+mod MergeLaws
+mod MergedTwice
+mod ValueAtPath
+mod PointerParsing
+mod PointerWriting
+mod Lookups
+mod Errors
+mod Changes
+mod Members
+mod OperationLists
+mod MergedMembers
