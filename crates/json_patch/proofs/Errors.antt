@@ -13,7 +13,7 @@ use Rattle.json_patch.specs.declared.lookup.LookupError.TheVariants as missing
 use Rattle.json_patch.specs.Patch.{PatchFailure, lookup_failed, bad_patch, test_failed}
 use Rattle.json_patch.specs.Errors.{PointerFails, PatchFails, ReadingOperationsFails}
 use Rattle.json_patch.specs.declared.error.PatchCode.{PatchCode}
-use Rattle.json_patch.specs.declared.error.PatchCode.TheVariants.{NoMemory, NotFound, TypeUnmatched, BadPointer, FirstBadOperationIsNamed, TestFailed}
+use Rattle.json_patch.specs.declared.error.PatchCode.TheVariants.{NoMemory, NotFound, TypeUnmatched, BadPointer, BadPatch, TestFailed}
 
 -- from a part of a pointer to the whole
 pub pointer_fails_as : {A B : Type 0} (s : Option A) (r : Option B) → (s ≡ None → r ≡ None) → (code : PatchCode) (op : Option ℕ) → PointerFails s code op → PointerFails r code op
@@ -45,12 +45,12 @@ pub patch_fails_as : (r s : Result Tree (PatchFailure × Option ℕ)) → ((e : 
 patch_fails_as r s so NoMemory None h = tt
 patch_fails_as r s so NotFound op h = so (lookup_failed not_found, op) h
 patch_fails_as r s so TypeUnmatched op h = so (lookup_failed type_unmatched, op) h
-patch_fails_as r s so FirstBadOperationIsNamed op h = so (bad_patch, op) h
+patch_fails_as r s so BadPatch op h = so (bad_patch, op) h
 patch_fails_as r s so TestFailed op h = so (test_failed, op) h
 patch_fails_as r s so code op h = absurd h
 
 -- from reading operations to the patch
 pub reading_fails_as : {A : Type 0} (r : Result A ℕ) (s : Result Tree (PatchFailure × Option ℕ)) → ((n : ℕ) → r ≡ Err n → s ≡ Err (bad_patch, Some n)) → (code : PatchCode) (op : Option ℕ) → ReadingOperationsFails r code op → PatchFails s code op
 reading_fails_as r s so NoMemory None h = tt
-reading_fails_as r s so FirstBadOperationIsNamed (Some n) h = so n h
+reading_fails_as r s so BadPatch (Some n) h = so n h
 reading_fails_as r s so code op h = absurd h

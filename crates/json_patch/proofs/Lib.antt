@@ -15,3 +15,4 @@ mod Changes
 mod Members
 mod OperationLists
 mod MergedMembers
+mod Touched

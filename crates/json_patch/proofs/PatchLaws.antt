@@ -16,7 +16,7 @@ use Rattle.json_patch.proofs.PointerTexts.{path_leads, path_stays}
 
 -- ---- the last token
 
-split_last-append : (j : Token) (p : List Token) (k : Token) → split_last j (p ++ k ∷ []) ≡ (j ∷ p, k)
+pub split_last-append : (j : Token) (p : List Token) (k : Token) → split_last j (p ++ k ∷ []) ≡ (j ∷ p, k)
 split_last-append j [] k = refl
 split_last-append j (m ∷ p) k = ap (λ (r : List Token × Token). (j ∷ r.0, r.1)) (split_last-append m p k)
 

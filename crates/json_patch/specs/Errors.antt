@@ -4,7 +4,7 @@ use Rattle.json_grammar.specs.Tree.{Tree}
 use Rattle.json_model.specs.Edit.{not_found, type_unmatched}
 use Rattle.json_patch.specs.Patch.{PatchFailure, lookup_failed, bad_patch, test_failed}
 use Rattle.json_patch.specs.declared.error.PatchCode.{PatchCode}
-use Rattle.json_patch.specs.declared.error.PatchCode.TheVariants.{NoMemory, NotFound, TypeUnmatched, BadPointer, FirstBadOperationIsNamed, TestFailed}
+use Rattle.json_patch.specs.declared.error.PatchCode.TheVariants.{NoMemory, NotFound, TypeUnmatched, BadPointer, BadPatch, TestFailed}
 use Rattle.json_patch.specs.declared.error.PatchError.{PatchError}
 
 -- the number of a code
@@ -13,7 +13,7 @@ number_of NoMemory = 1
 number_of NotFound = 19
 number_of TypeUnmatched = 20
 number_of BadPointer = 29
-number_of FirstBadOperationIsNamed = 30
+number_of BadPatch = 30
 number_of TestFailed = 31
 
 -- memory runs out
@@ -33,14 +33,14 @@ abbrev pub PatchFails : Result Tree (PatchFailure × Option ℕ) → PatchCode �
 PatchFails made NoMemory None = Unit {0}
 PatchFails made NotFound op = made ≡ Err (lookup_failed not_found, op)
 PatchFails made TypeUnmatched op = made ≡ Err (lookup_failed type_unmatched, op)
-PatchFails made FirstBadOperationIsNamed op = made ≡ Err (bad_patch, op)
+PatchFails made BadPatch op = made ≡ Err (bad_patch, op)
 PatchFails made TestFailed op = made ≡ Err (test_failed, op)
 PatchFails made code op = ⊥
 
 -- why reading operations failed: an element is not an operation, or memory ran out
 abbrev pub ReadingOperationsFails : {A : Type 0} → Result A ℕ → PatchCode → Option ℕ → Type 0
 ReadingOperationsFails read NoMemory None = Unit {0}
-ReadingOperationsFails read FirstBadOperationIsNamed (Some n) = read ≡ Err n
+ReadingOperationsFails read BadPatch (Some n) = read ≡ Err n
 ReadingOperationsFails read code op = ⊥
 
 -- why applying an operation failed, given what it makes of a tree

@@ -10,3 +10,4 @@ pub mod MergeExamples
 pub mod Lookups
 pub mod Operations
 pub mod Errors
+pub mod Touched

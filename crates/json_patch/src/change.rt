@@ -3,12 +3,14 @@ ghost use Rattle.std.specs.Prelude.{◌≡◌, ◌≢◌, [], ◌∷◌, ◌++�
 ghost use Rattle.json_doc.specs.Readings.{type_of};
 ghost use Rattle.json_doc.specs.declared.json_type.JsonType.{JsonType};
 ghost use Rattle.json_value.specs.Rows.{value_row, object_row};
-ghost use Rattle.json_value.specs.declared.value.Value.{Object as ObjectValue};
+ghost use Rattle.json_value.specs.Touched.{ArrayTouched, ObjectTouched, Along};
+ghost use Rattle.json_value.specs.declared.value.Value.{Array as ArrayValue, Object as ObjectValue};
 ghost use Rattle.std.specs.Borrow.{LendsIf, sem};
 ghost use Rattle.json_grammar.specs.Tree.{list_trees, list_pairs};
 ghost use Rattle.json_model.specs.Edit.{inserted, pushed, at_path};
 ghost use Rattle.json_patch.specs.Pointer.{index_of, value_at_pointer};
 ghost use Rattle.json_patch.specs.Patch.{insert_at_index, with_element, with_child, added_at, removed_at, replaced_at};
+ghost use Rattle.json_patch.specs.Touched.{InsertsMember, InsertsElement, AddTouches, RemovesChild, TouchesAt, AddsValue, RemovesValue, ReplacesValue};
 ghost use Rattle.json_value.specs.Denotes.{tree_of, list_in, pairs_in, pair_of};
 ghost use Rattle.json_value.specs.Edits.{steps_of, Makes, FailsAs};
 ghost use Rattle.json_value.specs.Failures.{OnlyNoMemory};
@@ -24,6 +26,7 @@ use std::alloc::Global;
 fn insert_pair(pairs: &mut Vec<Pair>, alloc: Global, key: &str, value: Value) -> Result<()>
     ensures ok { OnOk result (inserted key.now (tree_of value)
         (list_pairs (map pair_of pairs.old.items)) ≡ list_pairs (map pair_of pairs.new.items)) }
+    ensures children { OnOk result (InsertsMember key.now value pairs.old.items pairs.new.items) }
     ensures only { OnlyNoMemory result }
 {
     match find_key(pairs.as_slice(), key) {
@@ -44,6 +47,8 @@ fn insert_pair(pairs: &mut Vec<Pair>, alloc: Global, key: &str, value: Value) ->
 fn insert_member(object: &mut Object, alloc: Global, key: &str, value: Value) -> Result<()>
     ensures ok { OnOk result (inserted key.now (tree_of value) (list_pairs (pairs_in object.old))
         ≡ list_pairs (pairs_in object.new)) }
+    ensures children { OnOk result (ObjectTouched (InsertsMember key.now value)
+        (ObjectValue object.old) (ObjectValue object.new)) }
     ensures only { OnlyNoMemory result }
 {
     let pairs = object.pairs_mut(alloc)?;
@@ -56,6 +61,8 @@ fn insert_before(array: &mut Array, alloc: Global, token: &str, value: Value) ->
         (list_trees (list_in array.old)) ≡ Ok (list_trees (list_in array.new))) }
     ensures refused { FailsAs (insert_at_index (index_of token.now) (tree_of value)
         (list_trees (list_in array.old))) result }
+    ensures children { OnOk result (ArrayTouched (InsertsElement value)
+        (ArrayValue array.old) (ArrayValue array.new)) }
 {
     let list = array.list_mut(alloc)?;
     match index_at_most(list.len(), token) {
@@ -71,6 +78,8 @@ fn insert_before(array: &mut Array, alloc: Global, token: &str, value: Value) ->
 fn append(array: &mut Array, alloc: Global, value: Value) -> Result<()>
     ensures ok { OnOk result (pushed (tree_of value) (list_trees (list_in array.old))
         ≡ list_trees (list_in array.new)) }
+    ensures children { OnOk result (ArrayTouched (InsertsElement value)
+        (ArrayValue array.old) (ArrayValue array.new)) }
     ensures only { OnlyNoMemory result }
 {
     let list = array.list_mut(alloc)?;
@@ -84,6 +93,8 @@ fn insert_element(array: &mut Array, alloc: Global, token: &str, value: Value) -
         (list_trees (list_in array.old)) ≡ Ok (list_trees (list_in array.new))) }
     ensures refused { FailsAs (with_element token.now (tree_of value)
         (list_trees (list_in array.old))) result }
+    ensures children { OnOk result (ArrayTouched (InsertsElement value)
+        (ArrayValue array.old) (ArrayValue array.new)) }
 {
     if token == "-" {
         append(array, alloc, value)
@@ -112,6 +123,7 @@ fn insert_in_object(container: &mut Value, alloc: Global, key: &str, value: Valu
         container.new) }
     ensures refused { FailsAs (with_child key.now (tree_of value) (tree_of container.old))
         result }
+    ensures children { OnOk result (AddTouches key.now value container.old container.new) }
 {
     match object_mut_in(container) {
         Some(object) => insert_member(object, alloc, key, value),
@@ -126,6 +138,7 @@ fn insert_in_array(container: &mut Value, alloc: Global, token: &str, value: Val
         container.new) }
     ensures refused { FailsAs (with_child token.now (tree_of value) (tree_of container.old))
         result }
+    ensures children { OnOk result (AddTouches token.now value container.old container.new) }
 {
     match container {
         Value::Array(array) => insert_element(array, alloc, token, value),
@@ -139,6 +152,7 @@ fn insert_in(container: &mut Value, alloc: Global, token: &str, value: Value) ->
         container.new) }
     ensures refused { FailsAs (with_child token.now (tree_of value) (tree_of container.old))
         result }
+    ensures children { OnOk result (AddTouches token.now value container.old container.new) }
 {
     match container.view().get_type() {
         JsonType::Object => insert_in_object(container, alloc, token, value),
@@ -159,6 +173,8 @@ fn insert_along<V: Places>(
         (with_child token.now (tree_of value)) (tree_of (V.held target.old))) (V.held target.new)) }
     ensures refused { FailsAs (at_path (steps_of path.now) (with_child token.now (tree_of value))
         (tree_of (V.held target.old))) result }
+    ensures children { OnOk result (Along (steps_of path.now) (AddTouches token.now value)
+        (V.held target.old) (V.held target.new)) }
 {
     let place = target.place_mut(alloc, path)?;
     insert_in(place, alloc, token, value)
@@ -176,6 +192,8 @@ fn add_below(
         (tree_of value) (tree_of root.old)) root.new) }
     ensures refused { FailsAs (added_at (map string_bytes prefix.now ++ last.now ∷ [])
         (tree_of value) (tree_of root.old)) result }
+    ensures children { OnOk result (TouchesAt (map string_bytes prefix.now)
+        (AddTouches last.now value) root.old root.new) }
 {
     let (path, _) = path_to(alloc, prefix, root.view())?;
     insert_along(root, alloc, path.steps(), last, value)
@@ -187,6 +205,8 @@ pub fn add(root: &mut Value, alloc: Global, tokens: &[String], value: Value) -> 
         (tree_of root.old)) root.new) }
     ensures refused { FailsAs (added_at (map string_bytes tokens.now) (tree_of value)
         (tree_of root.old)) result }
+    ensures children { OnOk result (AddsValue (map string_bytes tokens.now) value
+        root.old root.new) }
 {
     match tokens.split_last() {
         Some((last, prefix)) => add_below(root, alloc, prefix, last.as_str(), value),
@@ -203,6 +223,8 @@ fn remove_below(root: &mut Value, alloc: Global, prefix: &[String], last: &str) 
         (tree_of root.old)) root.new) }
     ensures refused { FailsAs (removed_at (map string_bytes prefix.now ++ last.now ∷ [])
         (tree_of root.old)) result }
+    ensures children { OnOk result (TouchesAt (map string_bytes prefix.now) RemovesChild
+        root.old root.new) }
 {
     let (path, parent) = path_to(alloc, prefix, root.view())?;
     let step = pointer_node(alloc, last, parent)?;
@@ -215,6 +237,8 @@ pub fn remove(root: &mut Value, alloc: Global, tokens: &[String]) -> Result<()>
     ensures ok { OnOk result (Makes (removed_at (map string_bytes tokens.now) (tree_of root.old))
         root.new) }
     ensures refused { FailsAs (removed_at (map string_bytes tokens.now) (tree_of root.old)) result }
+    ensures children { OnOk result (RemovesValue (map string_bytes tokens.now)
+        root.old root.new) }
 {
     match tokens.split_last() {
         Some((last, prefix)) => remove_below(root, alloc, prefix, last.as_str()),
@@ -228,6 +252,8 @@ pub fn replace(root: &mut Value, alloc: Global, tokens: &[String], value: Value)
         (tree_of root.old)) root.new) }
     ensures refused { FailsAs (replaced_at (map string_bytes tokens.now) (tree_of value)
         (tree_of root.old)) result }
+    ensures children { OnOk result (ReplacesValue (map string_bytes tokens.now) value
+        root.old root.new) }
 {
     let (path, _) = path_to(alloc, tokens, root.view())?;
     put(root, alloc, path.steps(), value)

@@ -22,7 +22,7 @@ pub enum PatchCode {
     /// The text is not a pointer.
     BadPointer,
     /// The patch is not an array of operations.
-    FirstBadOperationIsNamed,
+    BadPatch,
     /// `test` found another value.
     TestFailed,
 }
@@ -37,7 +37,7 @@ impl PatchCode {
             PatchCode::NotFound => 19,
             PatchCode::TypeUnmatched => 20,
             PatchCode::BadPointer => 29,
-            PatchCode::FirstBadOperationIsNamed => 30,
+            PatchCode::BadPatch => 30,
             PatchCode::TestFailed => 31,
         }
     }

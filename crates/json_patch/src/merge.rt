@@ -143,7 +143,7 @@ fn merge_in(value: &mut Value, alloc: Global, patch: View<'_>) -> TextResult<()>
 /// ```
 pub fn apply_merge(alloc: Global, value: &mut Value, patch: View<'_>) -> Result<(), PatchError>
     ensures ok { OnOk result (tree_of value.new ≡ merged (tree_of value.old) (seen patch.entry)) }
-    ensures kept { OnErr result (tree_of value.new ≡ tree_of value.old) }
+    ensures kept { OnErr result (value.new ≡ value.old) }
     ensures only { IfErr result (λ e. e ≡ no_memory) }
 {
     match merge_copy(value, alloc, patch) {

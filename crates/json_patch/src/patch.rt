@@ -8,6 +8,7 @@ ghost use Rattle.json_value.specs.Denotes.{tree_of};
 ghost use Rattle.json_value.specs.Edits.{Makes, FailsAs, RefusesChange};
 ghost use Rattle.json_value.specs.Seen.{seen, elements_seen};
 ghost use Rattle.json_patch.specs.Errors.{ReadingOperationsFails, OperationFails, PatchFails, with_number};
+ghost use Rattle.json_patch.specs.Touched.{CopiesValue, MovesValue, AddsTree, ReplacesByTree, OperationTouches, OperationsTouch, TouchesInTurn, PatchTouches};
 ghost use Rattle.json_patch.specs.Operations.{model_operation, moved, copied_to};
 
 use crate::change::{add, copied, remove, replace};
@@ -57,6 +58,7 @@ fn copy_to(root: &mut Value, alloc: Global, from: &[String], path: &[String]) ->
         (map string_bytes path.now) (tree_of root.old)) root.new) }
     ensures refused { FailsAs (copied_to (map string_bytes from.now)
         (map string_bytes path.now) (tree_of root.old)) result }
+    ensures children { OnOk result (CopiesValue (map string_bytes path.now) root.old root.new) }
 {
     let value = copied(root, alloc, from)?;
     add(root, alloc, path, value)
@@ -68,6 +70,8 @@ fn move_to(root: &mut Value, alloc: Global, from: &[String], path: &[String]) ->
         (map string_bytes path.now) (tree_of root.old)) root.new) }
     ensures refused { FailsAs (moved (map string_bytes from.now)
         (map string_bytes path.now) (tree_of root.old)) result }
+    ensures children { OnOk result (MovesValue (map string_bytes from.now)
+        (map string_bytes path.now) root.old root.new) }
 {
     if are_tokens_same(from, path) {
         let _place = find_value(from, root.view())?;
@@ -110,6 +114,8 @@ fn add_copy(root: &mut Value, alloc: Global, tokens: &[String], value: &Value) -
         (tree_of root.old)) root.new) }
     ensures refused { FailsAs (added_at (map string_bytes tokens.now) (tree_of value.now)
         (tree_of root.old)) result }
+    ensures children { OnOk result (AddsTree (map string_bytes tokens.now) (tree_of value.now)
+        root.old root.new) }
 {
     let copy = value.clone(alloc)?;
     add(root, alloc, tokens, copy)
@@ -126,6 +132,8 @@ fn replace_with_copy(
         (tree_of root.old)) root.new) }
     ensures refused { FailsAs (replaced_at (map string_bytes tokens.now) (tree_of value.now)
         (tree_of root.old)) result }
+    ensures children { OnOk result (ReplacesByTree (map string_bytes tokens.now)
+        (tree_of value.now) root.old root.new) }
 {
     let copy = value.clone(alloc)?;
     replace(root, alloc, tokens, copy)
@@ -137,6 +145,8 @@ fn apply_operation(root: &mut Value, alloc: Global, operation: &Operation) -> Re
         ≡ Ok (tree_of root.new)) }
     ensures refused { IfErr result (λ code. OperationFails
         (applied (model_operation operation.now) (tree_of root.old)) code) }
+    ensures children { OnOk result (OperationTouches (model_operation operation.now)
+        root.old root.new) }
 {
     match operation {
         Operation::Add { path, value } => {
@@ -180,6 +190,8 @@ fn apply_all(root: &mut Value, alloc: Global, operations: &[Operation]) -> Resul
         ≡ Ok (tree_of root.new)) }
     ensures refused { IfErr result (λ e. PatchFails
         (applied_from 0 (map model_operation operations.now) (tree_of root.old)) e.code e.op) }
+    ensures children { OnOk result (OperationsTouch (map model_operation operations.now)
+        root.old root.new) }
 {
     for (i, operation) in operations.iter().enumerate() {
         match apply_operation(root, alloc, operation) {
@@ -205,7 +217,7 @@ fn read_operations(alloc: Global, list: ArrayView<'_>) -> Result<Vec<Operation>,
                 Ok(Some(operation)) => operations.push(operation)?,
                 Ok(None) => {
                     return Err(PatchError {
-                        code: PatchCode::FirstBadOperationIsNamed,
+                        code: PatchCode::BadPatch,
                         op: Some(i as u32),
                     });
                 }
@@ -223,6 +235,7 @@ fn apply_list(root: &mut Value, alloc: Global, list: ArrayView<'_>) -> Result<()
         (list_of_trees (list_trees (elements_seen list.entry))) ≡ Ok (tree_of root.new)) }
     ensures refused { IfErr result (λ e. PatchFails (patched (tree_of root.old)
         (list_of_trees (list_trees (elements_seen list.entry)))) e.code e.op) }
+    ensures children { OnOk result (TouchesInTurn (elements_seen list.entry) root.old root.new) }
 {
     let operations = read_operations(alloc, list)?;
     apply_all(root, alloc, operations.as_slice())
@@ -250,9 +263,10 @@ pub fn apply_patch(alloc: Global, value: &mut Value, patch: View<'_>) -> Result<
     requires few { length (elements (seen patch)) < 2 ^ 32 }
     ensures ok { OnOk result (patched (tree_of value.old) (seen patch.entry)
         ≡ Ok (tree_of value.new)) }
-    ensures kept { OnErr result (tree_of value.new ≡ tree_of value.old) }
+    ensures kept { OnErr result (value.new ≡ value.old) }
     ensures refused { IfErr result (λ e. PatchFails
         (patched (tree_of value.old) (seen patch.entry)) e.code e.op) }
+    ensures children { OnOk result (PatchTouches (seen patch.entry) value.old value.new) }
 {
     match patch.as_array() {
         Some(list) => {
@@ -265,7 +279,7 @@ pub fn apply_patch(alloc: Global, value: &mut Value, patch: View<'_>) -> Result<
             Ok(())
         }
         None => Err(PatchError {
-            code: PatchCode::FirstBadOperationIsNamed,
+            code: PatchCode::BadPatch,
             op: None,
         }),
     }

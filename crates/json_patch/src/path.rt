@@ -2,7 +2,7 @@
 ghost use Rattle.std.specs.Prelude.{◌≡◌, Ok, map, string_bytes, IfOk};
 ghost use Rattle.json_patch.specs.ValuesAt.{value_at_path};
 ghost use Rattle.json_patch.specs.Pointer.{step_of_token, path_of_tokens};
-ghost use Rattle.json_value.specs.Edits.{step_of_token as node_step, path_steps, FailsAs};
+ghost use Rattle.json_value.specs.Edits.{step_of as node_step, path_steps, FailsAs};
 ghost use Rattle.json_value.specs.Seen.{seen};
 ghost use Rattle.json_patch.specs.Lookups.{value_at_token};
 

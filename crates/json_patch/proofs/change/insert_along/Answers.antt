@@ -7,6 +7,9 @@ use Rattle.json_value.specs.Edits.{RefusesChange, steps_of}
 use Rattle.json_value.proofs.AppliedTrees.{refuses_so}
 use Rattle.json_value.proofs.WhereStepsLead.{change_refused_there}
 use Rattle.json_patch.proofs.Changes.{changed_at_path}
+use Rattle.json_value.specs.Touched.{ReplacedBy}
+use Rattle.json_value.proofs.EditedValues.{along_as, became}
+use Rattle.json_patch.specs.Touched.{AddTouches}
 use Rattle.json_patch.proofs.change.insert_along.Goals as goal
 
 pub returns-clause-ok : goal.returns-clause-ok
@@ -25,3 +28,13 @@ returns-clause-refused g c =
     IfErr-weaker c.insert_in.result (λ e. RefusesChange (f (tree_of c.in_ok-place.place.now)) e.code e.place) (λ e. RefusesChange (at_path p f t) e.code e.place)
     (λ e. refuses_so (f (tree_of c.in_ok-place.place.now)) (at_path p f t) (λ r h. change_refused_there p f t (tree_of c.in_ok-place.place.now) r c.in_ok-place.ensures.stands h) e.code e.place)
     c.insert_in.ensures.refused
+
+pub returns-clause-children : goal.returns-clause-children
+returns-clause-children g c =
+    let x = c.in_ok-place.place.now in
+    let w = c.insert_in.new.container in
+    let Changes = AddTouches c.args.token.now c.args.value in
+    let put = (((rw c.in_ok-place.was at (c.place_mut.follows.holds w)) refl).1) in
+    on_ok_weaker c.insert_in.result
+    (λ h. along_as (steps_of c.args.path.now) (ReplacedBy x w) Changes (λ before after. became Changes x w before after h) (g.V.Places.held c.args.target.now) _ put)
+    c.insert_in.ensures.children

@@ -1,14 +1,16 @@
-use Rattle.std.proofs.Common.{map, string_bytes, ◌++◌, ◌∷◌, [], ◌∙◌}
+use Rattle.std.proofs.Common.{refl, map, string_bytes, ◌++◌, ◌∷◌, [], ◌∙◌}
 use Rattle.std.proofs.lemmas.Result.{err_from_is_err_and, on_ok_weaker, IfErr-weaker}
 use Rattle.json_model.specs.Edit.{remove_at, edited_once}
 use Rattle.json_patch.specs.Pointer.{path_of_tokens}
 use Rattle.json_patch.specs.Patch.{removed_at}
 use Rattle.json_value.specs.Denotes.{tree_of}
-use Rattle.json_value.specs.Edits.{RefusesChange, path_steps, step_of_token as node_step}
+use Rattle.json_value.specs.Edits.{RefusesChange, path_steps, step_of as node_step}
 use Rattle.json_value.specs.Seen.{seen}
 use Rattle.json_value.proofs.AppliedTrees.{refuses_so}
 use Rattle.json_patch.specs.Lookups.{value_at_token}
 use Rattle.json_patch.proofs.Changes.{removed_below, removed_nowhere, removed_absent}
+use Rattle.json_patch.specs.Touched.{RemovesChild}
+use Rattle.json_patch.proofs.Touched.{touches_at, removes_along}
 use Rattle.json_patch.proofs.change.remove_below.Goals as goal
 
 pub returns-in_err-path-clause-refused : goal.returns-in_err-path-clause-refused
@@ -50,3 +52,10 @@ returns-clause-refused c =
     IfErr-weaker c.apply.result (λ e. RefusesChange made e.code e.place) (λ e. RefusesChange (removed_at (p ++ k ∷ []) t) e.code e.place)
     (λ e. refuses_so made (removed_at (p ++ k ∷ []) t) (λ r h. removed_below p k t (seen c.in_ok-path.parent) (path_steps c.in_ok-path.path) (node_step c.in_ok-step.step) path here c.in_ok-step.ensures.ok ∙ h) e.code e.place)
     c.apply.ensures.refused
+
+pub returns-clause-children : goal.returns-clause-children
+returns-clause-children c =
+    let q = path_steps c.in_ok-path.path in
+    on_ok_weaker c.apply.result
+    (λ h. touches_at (map string_bytes c.args.prefix.now) RemovesChild c.args.root.now _ _ q q c.view.ensures.tree c.in_ok-path.ensures.path refl (removes_along q c.in_ok-step.step c.args.root.now _ h))
+    c.apply.ensures.children

@@ -15,5 +15,5 @@ returns-in-Err-clause-refused c =
     let o = model_operation c.index-operations-i.result in
     let t = tree_of c.loop-i.root in
     let all = applied_from 0 (map model_operation os) (tree_of c.args.root.now) in
-    let here = c.loop-i.invariant ∙ ap (λ ps. applied_from i (map model_operation ps) t) (drop_item os i c.index-operations-i.result c.loop-i-test.true c.index-operations-i.is) in
+    let here = c.loop-i.invariant.0 ∙ ap (λ ps. applied_from i (map model_operation ps) t) (drop_item os i c.index-operations-i.result c.loop-i-test.true c.index-operations-i.is) in
     patch_fails_as (with_number (applied o t) i) all (λ e h. here ∙ stopped i o (map model_operation (drop (i + 1) os)) t e h) c.numbered.result.code c.numbered.result.op (c.numbered.ensures (applied o t) c.in-Err.ensures.refused)

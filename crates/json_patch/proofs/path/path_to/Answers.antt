@@ -2,7 +2,7 @@ use Rattle.std.proofs.Common.{◌≡◌, List, Ok, sym, ap, ◌∙◌, subst, �
 use Rattle.json_model.specs.Edit.{within, Step}
 use Rattle.json_patch.specs.ValuesAt.{value_at_path}
 use Rattle.json_patch.specs.Pointer.{Token, path_of_tokens, step_of_token}
-use Rattle.json_value.specs.Edits.{step_of_token as node_step, path_steps}
+use Rattle.json_value.specs.Edits.{step_of as node_step, path_steps}
 use Rattle.json_value.specs.Seen.{seen}
 use Rattle.json_patch.specs.Lookups.{value_at_token}
 use Rattle.json_patch.proofs.Lookups.{drop_item, path_of_tokens-next, value_at_path-next}
