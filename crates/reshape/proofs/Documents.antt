@@ -1,8 +1,7 @@
 -- From the bytes of a source to a document.
-use Rattle.std.proofs.Common.{Bool, true, cond, ◌≡◌, inl, inr, ℕ, ◌≤◌, List, length, false, Ok, Err, Result, OnOk, refl, sym, subst, ◌∙◌, ap, IsUtf8}
+use Rattle.std.proofs.Common.{Bool, true, cond, ◌≡◌, inl, inr, ℕ, List, false, Ok, Err, Result, OnOk, refl, sym, ◌∙◌, ap}
 use Rattle.json_grammar.specs.Tree.{Tree}
-use Rattle.json_grammar.specs.Grammar.{is_text}
-use Rattle.json_grammar.specs.Rules.{Rules, fits}
+use Rattle.json_grammar.specs.Rules.{Rules}
 use Rattle.json_grammar.specs.Proper.{IsProper}
 use Rattle.json_grammar.proofs.Values.{one_tree}
 use Rattle.json_model.specs.Edit.{Edit, edited}
@@ -13,49 +12,20 @@ use Rattle.json_model.proofs.Printing.{shown_text}
 use Rattle.json_text.specs.declared.error.Error.{Error}
 use Rattle.json_text.specs.Known.{Appends}
 use Rattle.json_text.specs.declared.error.ErrorCode.{ErrorCode}
-use Rattle.json_text.specs.declared.error.ErrorCode.TheVariants.{NoMemory, Io, TooLarge, InvalidUTF8, NotFound, TypeUnmatched}
+use Rattle.json_text.specs.declared.error.ErrorCode.TheVariants.{NoMemory, Io, TooLarge, NotFound, TypeUnmatched}
 use Rattle.json_text.specs.declared.error.Place.{Place}
 use Rattle.json_text.specs.declared.error.Place.TheVariants.{None as nowhere, Reading, Writing, Edit as in_edit}
 use Rattle.json_text.specs.Outside.{SourceState, SinkState}
-use Rattle.json_text.specs.Transfer.{ReadsWithin}
-use Rattle.json_text.specs.Utf8.{Utf8Cause}
 use Rattle.json_doc.specs.declared.doc.Doc.{Doc}
-use Rattle.json_doc.specs.Docs.{IsDocOf, doc_tree, doc_root, doc_cells, doc_text}
-use Rattle.json_doc.specs.Reading.{ReadingFailsWith}
+use Rattle.json_doc.specs.Docs.{doc_tree, doc_root}
 use Rattle.json_value.specs.declared.value.Value.{Value}
 use Rattle.json_value.specs.Denotes.{tree_of}
-use Rattle.json_doc.proofs.Trees.{spelled}
-use Rattle.reshape.proofs.Inputs.{no_io, no_not_found, no_type_unmatched}
-use Rattle.reshape.specs.Input.{most, InputFault, not_utf8, no_text}
-use Rattle.reshape.specs.Printing.{PrintingFails}
-use Rattle.reshape.specs.Reshape.{Layout, laid_out, ordered, Reads, ReadingRefuses, EditingRefuses, Reshapes, Refuses}
+use Rattle.json_command.proofs.Inputs.{no_io, no_not_found, no_type_unmatched}
+use Rattle.json_command.specs.Reading.{ReadsInput, ReadingFails}
+use Rattle.json_command.specs.Printing.{PrintingFails}
+use Rattle.reshape.specs.Reshape.{Layout, laid_out, ordered, EditingRefuses, Reshapes, Refuses}
 
 module _ (rules : Rules) where
-  -- bytes that are no UTF-8
-  pub utf8_refused : (source source' : SourceState) (bytes seen : List ℕ) (code : ErrorCode) (place : Place) → ReadsWithin most source source' bytes → seen ≡ bytes → Utf8Cause seen code place → ReadingRefuses rules source source' code place
-  utf8_refused source source' bytes seen InvalidUTF8 place read same h =
-      record { bytes = bytes; all = read; fault = not_utf8 read.within (subst (λ b. Utf8Cause b InvalidUTF8 place) same h) }
-  utf8_refused source source' bytes seen code place read same h = absurd h
-
-  -- a text with a fault
-  pub text_refused : (source source' : SourceState) (bytes seen : List ℕ) (code : ErrorCode) (place : Place) → ReadsWithin most source source' bytes → seen ≡ bytes → IsUtf8 seen → ReadingFailsWith rules seen code place → ReadingRefuses rules source source' code place
-  text_refused source source' bytes seen NoMemory nowhere read same u h = tt
-  text_refused source source' bytes seen Io Reading read same u h = absurd h.2
-  text_refused source source' bytes seen TooLarge nowhere read same u h = absurd h.2
-  text_refused source source' bytes seen code place read same u h =
-      record { bytes = bytes; all = read; fault = subst (λ b. InputFault rules b code place) same (no_text (subst (λ b. length b ≤ most) (sym same) read.within) u h) }
-
-  root_is : (d : Doc) (t : Tree) → IsDocOf d t → doc_tree d (doc_root d) ≡ t
-  root_is d t h = spelled (doc_cells d) (doc_text d) d.in_place (doc_root d) (length (doc_cells d)) t h.spelled
-
-  -- what read_document_with promises of a document
-  abbrev Documents : List ℕ → Doc → Type 0
-  Documents seen d = (t : Tree) × is_text false t seen × fits t rules × IsDocOf d t
-
-  pub doc_reads : (source source' : SourceState) (bytes seen : List ℕ) (d : Doc) → ReadsWithin most source source' bytes → seen ≡ bytes → Documents seen d → Reads rules source source' (doc_tree d (doc_root d))
-  doc_reads source source' bytes seen d read same (t, text, fit, doc) =
-      subst (λ u. Reads rules source source' u) (sym (root_is d t doc)) (record { bytes = bytes; all = read; input = record { short = read.within; text = subst (λ b. is_text false t b) same text; fit = fit } })
-
   -- the edits of the value at the root are those of the document's tree
   pub applied_to : (es : List Edit) (d d' : Doc) (v w : Value) (at : ℕ) → tree_of v ≡ doc_tree d at → at ≡ doc_root d' → d' ≡ d → edited es (tree_of v) ≡ Ok (tree_of w) → edited es (doc_tree d (doc_root d)) ≡ Ok (tree_of w)
   applied_to es d d' v w at t p s h = ap (edited es) (sym (t ∙ ap (doc_tree d) (p ∙ ap doc_root s))) ∙ h
@@ -69,7 +39,7 @@ module _ (rules : Rules) where
       by false = h
 
   -- the text was read, the edits applied, and the text of the edited tree was gained and flushed
-  pub reshaped : (es : List Edit) (l : Layout) (source source' : SourceState) (sink sink' : SinkState) (tree changed : Tree) (r : Result (Unit {0}) Error) → Reads rules source source' tree → IsIndent l.indent → IsProper changed → edited es tree ≡ Ok changed
+  pub reshaped : (es : List Edit) (l : Layout) (source source' : SourceState) (sink sink' : SinkState) (tree changed : Tree) (r : Result (Unit {0}) Error) → ReadsInput rules source source' tree → IsIndent l.indent → IsProper changed → edited es tree ≡ Ok changed
       → OnOk r (Appends sink.gained sink'.gained (laid_out l changed)) → OnOk r (sink'.unflushed ≡ false) → OnOk r (Reshapes rules es l source source' sink sink')
   reshaped es l source source' sink sink' tree changed (Ok u) reads indent proper applied gains flushed =
       record {
@@ -85,7 +55,7 @@ module _ (rules : Rules) where
   reshaped es l source source' sink sink' tree changed (Err e) reads indent proper applied gains flushed = tt
 
   -- reading was refused, and nothing was written
-  pub reading_refused : (es : List Edit) (l : Layout) (source source' : SourceState) (sink : SinkState) (code : ErrorCode) (place : Place) → ReadingRefuses rules source source' code place → Refuses rules es l source source' sink sink code place
+  pub reading_refused : (es : List Edit) (l : Layout) (source source' : SourceState) (sink : SinkState) (code : ErrorCode) (place : Place) → ReadingFails rules source source' code place → Refuses rules es l source source' sink sink code place
   reading_refused es l source source' sink NoMemory nowhere h = inl refl
   reading_refused es l source source' sink Io Reading h = (h, refl)
   reading_refused es l source source' sink TooLarge nowhere h = (h.0, h.1, refl)
@@ -95,14 +65,14 @@ module _ (rules : Rules) where
   reading_refused es l source source' sink code place h = (h, refl)
 
   -- an edit did not apply, and nothing was written
-  pub editing_refused : (es : List Edit) (l : Layout) (source source' : SourceState) (sink : SinkState) (tree : Tree) (code : ErrorCode) (place : Place) → Reads rules source source' tree → EditingRefuses es tree code place → Refuses rules es l source source' sink sink code place
+  pub editing_refused : (es : List Edit) (l : Layout) (source source' : SourceState) (sink : SinkState) (tree : Tree) (code : ErrorCode) (place : Place) → ReadsInput rules source source' tree → EditingRefuses es tree code place → Refuses rules es l source source' sink sink code place
   editing_refused es l source source' sink tree NoMemory nowhere r h = inl refl
   editing_refused es l source source' sink tree NotFound (in_edit n) r h = (record { tree = tree; reads = r; refused = h }, refl)
   editing_refused es l source source' sink tree TypeUnmatched (in_edit n) r h = (record { tree = tree; reads = r; refused = h }, refl)
   editing_refused es l source source' sink tree code place r h = absurd h
 
   -- the text was not written whole
-  pub printing_refused : (es : List Edit) (l : Layout) (source source' : SourceState) (sink sink' : SinkState) (tree changed : Tree) (code : ErrorCode) (place : Place) → Reads rules source source' tree → edited es tree ≡ Ok changed
+  pub printing_refused : (es : List Edit) (l : Layout) (source source' : SourceState) (sink sink' : SinkState) (tree changed : Tree) (code : ErrorCode) (place : Place) → ReadsInput rules source source' tree → edited es tree ≡ Ok changed
       → PrintingFails sink sink' (laid_out l changed) code place → Refuses rules es l source source' sink sink' code place
   printing_refused es l source source' sink sink' tree changed NoMemory nowhere r a (inl same) = inl same
   printing_refused es l source source' sink sink' tree changed NoMemory nowhere r a (inr gains) = inr (record { tree = tree; reads = r; changed = changed; applied = a; gains = gains })

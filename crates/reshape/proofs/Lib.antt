@@ -1,12 +1,10 @@
-pub mod Inputs
 pub mod Gathering
 pub mod Spelled
 pub mod Wording
 pub mod Alone
 pub mod Applying
 pub mod Documents
-pub mod ToldBytes
+pub mod KnownEdits
 pub mod Outcomes
-pub mod Printing
 pub mod MadeInput
 pub mod Numerals

@@ -13,10 +13,10 @@ use Rattle.json_text.specs.Errors.{no_memory}
 use Rattle.json_text.specs.Known.{Appends, append_known}
 use Rattle.json_text.specs.Outside.{SourceState, SinkState, Rose}
 use Rattle.json_text.specs.Ruled.{usual_rules}
-use Rattle.reshape.specs.Input.{most, IsInput}
+use Rattle.json_command.specs.Input.{max_bytes, IsInput}
 use Rattle.reshape.specs.Reshape.{Layout, laid_out, Reshapes}
-use Rattle.reshape.specs.Told.{TellsFit}
-use Rattle.reshape.proofs.ToldBytes.{input_told}
+use Rattle.reshape.specs.Known.{KnownFit}
+use Rattle.json_command.proofs.KnownBytes.{input_known}
 use Rattle.reshape.specs.Made.{made_record, made_records, made, separator, summary, sorted_compact, IsPrinted, IsSummary, SummaryFails}
 
 -- a record behind another
@@ -230,7 +230,7 @@ short_records : (a n : ℕ) → a + n ≤ 2 ^ 64 → length (records_from a n) �
 short_records a zero h = omega arith
 short_records a (suc n) h = omega (arith, length-append (next_record a) (records_from (a + 1) n), short_record a (omega arith), short_records (a + 1) n (omega arith))
 
-short_made : (n : ℕ) → n ≤ 100000 → length (made n) ≤ most
+short_made : (n : ℕ) → n ≤ 100000 → length (made n) ≤ max_bytes
 short_made zero h = omega arith
 short_made (suc n) h =
     omega (arith, length-append (made_records (range_with_len 0 (suc n))) (codes "]"), length-append (made_record 0) (records_from 1 n), short_record 0 (omega arith), short_records 1 n (omega arith))
@@ -260,7 +260,7 @@ printed_plain : (b out : List ℕ) (source source' : SourceState) (sink sink' : 
 printed_plain b out source source' sink sink' r told empty all =
     record {
       tree = r.tree;
-      is_text_of_it = (input_told usual_rules source source' b r.tree r.reads told).text;
+      is_text_of_it = (input_known usual_rules source source' b r.tree r.reads told).text;
       prints = gained_text out sink.gained sink'.gained (laid_out sorted_compact r.changed) r.gains empty all ∙ ap (laid_out sorted_compact) (sym (same_ok r.applied));
     }
 
@@ -270,9 +270,9 @@ printed_from b out es l source source' sink sink' e f r =
 
 -- nothing can be wrong with it
 pub fit_from : (b : List ℕ) (tree : Tree) (es : List Edit) (source source' : SourceState) (sink sink' : SinkState) → es ≡ [] → IsInput usual_rules b tree → source.left ≡ Some b → ¬ (Rose source.faults source'.faults) → ¬ (Rose sink.faults sink'.faults)
-    → TellsFit usual_rules es source source' sink sink'
+    → KnownFit usual_rules es source source' sink sink'
 fit_from b tree es source source' sink sink' e input told read written =
-    subst (λ es. TellsFit usual_rules es source source' sink sink') (sym e) (record { b = b; told = told; tree = tree; input = input; changed = tree; applies = refl; read = read; written = written })
+    subst (λ es. KnownFit usual_rules es source source' sink sink') (sym e) (record { tree = tree; input = record { bytes = b; known = told; input = input; read = read }; changed = tree; applies = refl; written = written })
 
 -- no call failed where none did before
 pub no_rise : ¬ (Rose 0 0)

@@ -10,7 +10,7 @@ use Rattle.json_text.specs.declared.error.Place.TheVariants.{None as nowhere, Wr
 use Rattle.json_text.specs.Errors.{no_memory, bad_words}
 use Rattle.json_text.specs.Outside.{SourceState, SinkState}
 use Rattle.json_text.specs.FaultText.{text_of}
-use Rattle.reshape.specs.Input.{InputFault}
+use Rattle.json_command.specs.Input.{InputFault}
 use Rattle.reshape.specs.Options.{Command, Asks, AsksMade, IsAsked, IsMaking}
 use Rattle.reshape.specs.Asked.{asked_command, AsksFor}
 use Rattle.reshape.specs.Made.{GainsSummary, SummaryFails}
@@ -19,14 +19,16 @@ use Rattle.reshape.specs.declared.asked_style.AskedStyle.{AskedStyle}
 use Rattle.reshape.specs.declared.command.Asked.{Asked}
 use Rattle.reshape.specs.declared.command.Asked.TheVariants.{Reshape, Made}
 use Rattle.reshape.specs.Reshape.{Layout, GainsFront, Reshapes, Refuses}
-use Rattle.reshape.specs.Run.{status_of, Tells, WithCommand, RunRefuses, Did, Fails, IsGood, IsBad, IsUnfit}
-use Rattle.reshape.specs.Told.{edit_refused}
-use Rattle.reshape.proofs.Inputs.{no_want, no_io, no_words, no_not_found, no_type_unmatched}
-use Rattle.reshape.specs.Printing.{PrintingFails}
+use Rattle.json_command.specs.Statuses.{status_of}
+use Rattle.json_command.specs.Reporting.{Reports}
+use Rattle.reshape.specs.Run.{WithCommand, RunRefuses, Did, Fails, IsGood, IsBad, IsUnfit}
+use Rattle.reshape.specs.Known.{edit_refused}
+use Rattle.json_command.proofs.Inputs.{no_want, no_io, no_words, no_not_found, no_type_unmatched}
+use Rattle.json_command.specs.Printing.{PrintingFails}
 use Rattle.reshape.proofs.Wording.{one_asked}
 use Rattle.reshape.proofs.Alone.{apart}
 use Rattle.reshape.proofs.Numerals.{made_few}
-use Rattle.reshape.proofs.ToldBytes.{fit_refused, fault_refused, fault_not_done, unfit_refused, unfit_not_done}
+use Rattle.reshape.proofs.KnownEdits.{fit_refused, fault_refused, fault_not_done, unfit_refused, unfit_not_done}
 
 -- what holds of the command that the words ask for holds of each that they ask for
 so_of : (words : List (List ℕ)) (c : Command) (P : Command → Type 0) → Asks words c → WithCommand words P → P c
@@ -57,12 +59,12 @@ good_status words source source' sink sink' code place cause good =
     inr (ap (λ e. status_of e.code e.place) (fit_refused c.rules c.es c.layout source source' sink sink' code place (cause_of words c source source' sink sink' code place good.asked cause) good.so))
 
 abbrev Exact : ℕ → Error → SinkState → SinkState → ℕ → Type 0
-Exact answer e errs errs' status = ((status ≡ answer) × Tells (text_of e) errs errs') ⊎ (status ≡ 6)
+Exact answer e errs errs' status = ((status ≡ answer) × Reports (text_of e) errs errs') ⊎ (status ≡ 6)
 
 -- the status and the text are those of the refusal
-exact_of : (answer : ℕ) (e told : Error) (errs errs' : SinkState) → status_of e.code e.place ≡ answer → Tells (text_of told) errs errs' → (told ≡ e) ⊎ (told ≡ no_memory)
+exact_of : (answer : ℕ) (e told : Error) (errs errs' : SinkState) → status_of e.code e.place ≡ answer → Reports (text_of told) errs errs' → (told ≡ e) ⊎ (told ≡ no_memory)
     → Exact answer e errs errs' (status_of told.code told.place)
-exact_of answer e told errs errs' is tells (inl same) = inl (ap (λ e. status_of e.code e.place) same ∙ is, subst (λ e. Tells (text_of e) errs errs') same tells)
+exact_of answer e told errs errs' is tells (inl same) = inl (ap (λ e. status_of e.code e.place) same ∙ is, subst (λ e. Reports (text_of e) errs errs') same tells)
 exact_of answer e told errs errs' is tells (inr same) = inr (ap (λ e. status_of e.code e.place) same)
 
 fault_status : (rules : Rules) (b : List ℕ) (code : ErrorCode) (place : Place) → InputFault rules b code place → status_of code place ≡ 1
@@ -75,10 +77,10 @@ fault_status rules b code place h = refl
 
 -- input with a fault is refused for it, where no read fails and memory suffices
 pub bad_status : (words : List (List ℕ)) (source source' : SourceState) (sink sink' errs errs' : SinkState) (code code' : ErrorCode) (place place' : Place) → Fails words source source' sink sink' code' place'
-    → Tells (text_of (error code' place')) errs errs' → IsBad words source source' code place → Exact 1 (error code place) errs errs' (status_of code' place')
+    → Reports (text_of (error code' place')) errs errs' → IsBad words source source' code place → Exact 1 (error code place) errs errs' (status_of code' place')
 bad_status words source source' sink sink' errs errs' code code' place place' cause tells bad =
     let c = bad.command in
-    exact_of 1 (error code place) (error code' place') errs errs' (fault_status c.rules bad.so.b code place bad.so.fault) tells
+    exact_of 1 (error code place) (error code' place') errs errs' (fault_status c.rules bad.so.bytes code place bad.so.fault) tells
     (fault_refused c.rules c.es c.layout source source' sink sink' code code' place place' (cause_of words c source source' sink sink' code' place' bad.asked cause) bad.so)
 
 -- what was done for the command that the words ask for
@@ -96,7 +98,7 @@ unfit_number n type_unmatched = refl
 
 -- an edit that does not apply is refused by its number, where no read fails and memory suffices
 pub unfit_status : (words : List (List ℕ)) (source source' : SourceState) (sink sink' errs errs' : SinkState) (n : ℕ) (why : Refusal) (code : ErrorCode) (place : Place) → Fails words source source' sink sink' code place
-    → Tells (text_of (error code place)) errs errs' → IsUnfit words source source' n why → Exact 3 (edit_refused n why) errs errs' (status_of code place)
+    → Reports (text_of (error code place)) errs errs' → IsUnfit words source source' n why → Exact 3 (edit_refused n why) errs errs' (status_of code place)
 unfit_status words source source' sink sink' errs errs' n why code place cause tells unfit =
     let c = unfit.command in
     exact_of 3 (edit_refused n why) (error code place) errs errs' (unfit_number n why) tells

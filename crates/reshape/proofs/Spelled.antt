@@ -1,5 +1,5 @@
 -- What an edits word spells.
-use Rattle.std.proofs.Common.{◌≡◌, ◌≢◌, ◌∙◌, false, true, ℕ, ◌≤◌, ◌^◌, List, [], ◌∷◌, length, map, Option, Some, None, refl, sym, ap, arith}
+use Rattle.std.proofs.Common.{◌≡◌, ◌≢◌, ◌∙◌, false, ℕ, ◌≤◌, ◌^◌, List, [], ◌∷◌, length, map, Some, None, refl, sym, ap, arith}
 use Rattle.json_grammar.specs.Tree.{Tree, null, boolean, num, text, list, pairs}
 use Rattle.json_grammar.proofs.TextUtf8.{text_utf8}
 use Rattle.json_grammar.proofs.Values.{one_tree}
@@ -17,7 +17,7 @@ use Rattle.json_data.specs.Reading.{gives, refuses, read_list}
 use Rattle.json_data.specs.ReadingValues.{edit_datum, read_edit}
 use Rattle.json_data.proofs.ValueData.{list_edits, list_none}
 use Rattle.reshape.specs.Words.{edits_in, Spells}
-use Rattle.reshape.proofs.Inputs.{utf8_no_fault}
+use Rattle.json_command.proofs.Inputs.{utf8_no_fault}
 
 none_some : {A : Type 0} {x : A} → None ≡ Some x → ⊥
 none_some e = cc

@@ -1,8 +1,6 @@
-pub mod Input
 pub mod Words
-pub mod Printing
 pub mod Reshape
-pub mod Told
+pub mod Known
 pub mod Made
 pub mod Options
 pub mod Gathering

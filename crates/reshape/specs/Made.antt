@@ -8,7 +8,7 @@ use Rattle.json_text.specs.Outside.{SinkState}
 use Rattle.json_text.specs.declared.error.ErrorCode.{ErrorCode}
 use Rattle.json_text.specs.declared.error.Place.{Place}
 use Rattle.reshape.specs.Reshape.{Layout, laid_out}
-use Rattle.reshape.specs.Printing.{PrintingFails}
+use Rattle.json_command.specs.Printing.{PrintingFails}
 
 -- the record of a number I: {"n": I, "k": [-0, 1.50], "a": "\u0041"}
 abbrev pub made_record : ℕ → List ℕ

@@ -1,8 +1,8 @@
 -- What all words of the command line ask for: the options, in any order, and the edits word among them.
-use Rattle.std.specs.Prelude.{◌≡◌, ◌⊎◌, ℕ, ◌-◌, Bool, true, not, cond, ◌&&◌, ◌||◌, ◌==◌, nat_le, slice_index, List, [], ◌∷◌, length, take, drop, replicate, filter, filter_map, Option, Some, None, is_some, unwrap_or, option_map, option_and_then, option_to_list, ℤ, pos, negsuc, bytes_eq, codes}
-use Rattle.std.specs.List.{list_all, before_first, after_first}
+use Rattle.std.specs.Prelude.{◌≡◌, ◌⊎◌, ℕ, ◌-◌, Bool, true, not, cond, ◌&&◌, ◌||◌, nat_le, List, [], ◌∷◌, length, take, drop, replicate, filter, filter_map, Option, Some, None, is_some, unwrap_or, option_map, option_to_list, bytes_eq, codes}
+use Rattle.std.specs.List.{list_all}
 use Rattle.json_grammar.specs.Rules.{Rules}
-use Rattle.json_number.specs.Integers.{integer_in}
+use Rattle.json_command.specs.Options.{number_after}
 use Rattle.json_text.specs.Ruled.{usual_rules}
 use Rattle.json_model.specs.Edit.{Edit}
 use Rattle.reshape.specs.Words.{AsksEdits}
@@ -40,30 +40,13 @@ is_sorting w = bytes_eq w (codes "--sort-keys")
 abbrev pub is_unique : List ℕ → Bool
 is_unique w = bytes_eq w (codes "--unique-keys")
 
--- the number that this is, where it is from 0 to the last
-abbrev pub up_to : ℕ → ℤ → Option ℕ
-up_to last (pos n) = cond (nat_le n last) (Some n) None
-up_to last (negsuc n) = None
-
--- `0`, or what begins with a digit from 1 to 9
-abbrev pub is_plain : List ℕ → Bool
-is_plain d = bytes_eq d (codes "0") || (nat_le 49 (slice_index d 0) && nat_le (slice_index d 0) 57)
-
--- the number that decimal digits without a leading zero are, from 0 to the last
-abbrev pub number_up_to : ℕ → List ℕ → Option ℕ
-number_up_to last d = cond (is_plain d) (option_and_then (up_to last) (integer_in d)) None
-
--- the number behind a name and an equals sign, from 0 to the last
-abbrev pub number_behind : List ℕ → ℕ → List ℕ → Option ℕ
-number_behind name last w = cond (bytes_eq (before_first (λ x. x == 61) w) name) (number_up_to last (after_first (λ x. x == 61) w)) None
-
 -- the most levels of the input that a word asks for: --depth=N so many, 1,024 at most
 abbrev pub depth_in : List ℕ → Option ℕ
-depth_in w = number_behind (codes "--depth") 1024 w
+depth_in w = number_after (codes "--depth") 1024 w
 
 -- the records of made input that a word asks for: --make=N so many, 100,000 at most
 abbrev pub made_in : List ℕ → Option ℕ
-made_in w = number_behind (codes "--make") 100000 w
+made_in w = number_after (codes "--make") 100000 w
 
 -- an edits word, or one of the options above
 abbrev pub is_known : List ℕ → Bool

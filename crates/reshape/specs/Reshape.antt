@@ -10,12 +10,13 @@ use Rattle.json_print.specs.Shown.{shown_as}
 use Rattle.json_print.specs.Styles.{indent_of, is_sorted}
 use Rattle.json_print.specs.declared.style.Style.{Style}
 use Rattle.json_text.specs.Outside.{SourceState, SinkState, Rose, RoseBy}
-use Rattle.json_text.specs.Transfer.{ReadsWithin, AppendsFront}
+use Rattle.json_text.specs.Transfer.{AppendsFront}
 use Rattle.json_text.specs.declared.error.ErrorCode.{ErrorCode}
 use Rattle.json_text.specs.declared.error.ErrorCode.TheVariants.{NoMemory, Io, TooLarge, NotFound, TypeUnmatched}
 use Rattle.json_text.specs.declared.error.Place.{Place}
 use Rattle.json_text.specs.declared.error.Place.TheVariants.{None as nowhere, Reading, Writing, Edit as in_edit}
-use Rattle.reshape.specs.Input.{most, IsInput, InputFault}
+use Rattle.json_command.specs.Input.{max_bytes}
+use Rattle.json_command.specs.Reading.{ReadsInput, ReadsFault}
 
 -- how a text is laid out: the indent, or none for no whitespace between the tokens, and whether the members of each object are sorted by their keys
 pub record Layout : Type 0 where
@@ -34,16 +35,10 @@ laid_out l tree = shown_as l.indent l.sorts tree
 abbrev pub ordered : Layout → Tree → Tree
 ordered l tree = cond l.sorts (sorted tree) tree
 
--- all that the source had was read, no more than the limit, and it is a text of this tree
-pub record Reads (rules : Rules) (source source' : SourceState) (tree : Tree) : Type 0 where
-  pub bytes : List ℕ
-  pub all : ReadsWithin most source source' bytes
-  pub input : IsInput rules bytes tree
-
 -- a text of exactly one tree was read, every edit applied in turn, and the sink gained exactly the text of the edited tree in the layout, which is a text of it, sorted where asked, and was flushed
 pub record Reshapes (rules : Rules) (es : List Edit) (l : Layout) (source source' : SourceState) (sink sink' : SinkState) : Type 0 where
   pub tree : Tree
-  pub reads : Reads rules source source' tree
+  pub reads : ReadsInput rules source source' tree
   pub only : (other : Tree) → is_text false other reads.bytes → other ≡ tree
   pub changed : Tree
   pub applied : edited es tree ≡ Ok changed
@@ -51,32 +46,19 @@ pub record Reshapes (rules : Rules) (es : List Edit) (l : Layout) (source source
   pub is_text_of_it : is_text false (ordered l changed) (laid_out l changed)
   pub flushed : sink'.unflushed ≡ false
 
--- all was read, and it has this fault
-pub record ReadsFault (rules : Rules) (source source' : SourceState) (code : ErrorCode) (place : Place) : Type 0 where
-  pub bytes : List ℕ
-  pub all : ReadsWithin most source source' bytes
-  pub fault : InputFault rules bytes code place
-
 -- all was read, and the edit of this number is the first that does not apply to its tree
 pub record ReadsUnfit (rules : Rules) (es : List Edit) (source source' : SourceState) (number : ℕ) (why : Refusal) : Type 0 where
   pub tree : Tree
-  pub reads : Reads rules source source' tree
+  pub reads : ReadsInput rules source source' tree
   pub refused : edited es tree ≡ Err (number, why)
 
 -- all was read, every edit applied, and a front of the text of the edited tree in the layout was gained
 pub record GainsFront (rules : Rules) (es : List Edit) (l : Layout) (source source' : SourceState) (sink sink' : SinkState) : Type 0 where
   pub tree : Tree
-  pub reads : Reads rules source source' tree
+  pub reads : ReadsInput rules source source' tree
   pub changed : Tree
   pub applied : edited es tree ≡ Ok changed
   pub gains : AppendsFront sink.gained sink'.gained (laid_out l changed)
-
--- why no document was read: one row for each answer
-abbrev pub ReadingRefuses : Rules → SourceState → SourceState → ErrorCode → Place → Type 0
-ReadingRefuses rules source source' NoMemory nowhere = ⊤
-ReadingRefuses rules source source' Io Reading = Rose source.faults source'.faults
-ReadingRefuses rules source source' TooLarge nowhere = RoseBy (most + 1) source.given source'.given × IfSome source.left (λ b. most < length b)
-ReadingRefuses rules source source' code place = ReadsFault rules source source' code place
 
 -- the place of the refusal of an edit with this number: want of memory has none
 abbrev pub place_numbered : ErrorCode → Place → ℕ → Place
@@ -94,7 +76,7 @@ EditingRefuses es tree code place = ⊥
 abbrev pub Refuses : Rules → List Edit → Layout → SourceState → SourceState → SinkState → SinkState → ErrorCode → Place → Type 0
 Refuses rules es l source source' sink sink' NoMemory nowhere = (sink' ≡ sink) ⊎ GainsFront rules es l source source' sink sink'
 Refuses rules es l source source' sink sink' Io Reading = Rose source.faults source'.faults × (sink' ≡ sink)
-Refuses rules es l source source' sink sink' TooLarge nowhere = RoseBy (most + 1) source.given source'.given × IfSome source.left (λ b. most < length b) × (sink' ≡ sink)
+Refuses rules es l source source' sink sink' TooLarge nowhere = RoseBy (max_bytes + 1) source.given source'.given × IfSome source.left (λ b. max_bytes < length b) × (sink' ≡ sink)
 Refuses rules es l source source' sink sink' NotFound (in_edit number) = ReadsUnfit rules es source source' number not_found × (sink' ≡ sink)
 Refuses rules es l source source' sink sink' TypeUnmatched (in_edit number) = ReadsUnfit rules es source source' number type_unmatched × (sink' ≡ sink)
 Refuses rules es l source source' sink sink' Io Writing = Rose sink.faults sink'.faults × GainsFront rules es l source source' sink sink'

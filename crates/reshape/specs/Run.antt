@@ -2,36 +2,19 @@
 use Rattle.std.specs.Prelude.{◌≡◌, ◌⊎◌, ℕ, List}
 use Rattle.json_text.specs.declared.error.Error.{Error}
 use Rattle.json_text.specs.declared.error.ErrorCode.{ErrorCode}
-use Rattle.json_text.specs.declared.error.ErrorCode.TheVariants.{NoMemory, Io, NotFound, TypeUnmatched, BadWords}
+use Rattle.json_text.specs.declared.error.ErrorCode.TheVariants.{NoMemory, BadWords}
 use Rattle.json_text.specs.declared.error.Place.{Place}
-use Rattle.json_text.specs.declared.error.Place.TheVariants.{None as nowhere, Writing}
-use Rattle.json_text.specs.Known.{Appends}
-use Rattle.json_text.specs.Outside.{SourceState, SinkState, Rose}
-use Rattle.json_text.specs.Transfer.{AppendsFront}
+use Rattle.json_text.specs.declared.error.Place.TheVariants.{None as nowhere}
+use Rattle.json_text.specs.Outside.{SourceState, SinkState}
 use Rattle.json_text.specs.FaultText.{text_of}
 use Rattle.json_model.specs.Edit.{Refusal}
 use Rattle.reshape.specs.Options.{Command, Asks, AsksMade, IsAsked}
 use Rattle.reshape.specs.Made.{GainsSummary, SummaryFails}
 use Rattle.reshape.specs.Reshape.{Reshapes, GainsFront, Refuses}
-use Rattle.reshape.specs.Told.{TellsFit, TellsFault, TellsUnfit}
-
--- the status of a refusal
-abbrev pub status_of : ErrorCode → Place → ℕ
-status_of NoMemory place = 6
-status_of Io Writing = 5
-status_of Io place = 4
-status_of BadWords place = 2
-status_of NotFound place = 3
-status_of TypeUnmatched place = 3
-status_of code place = 1
-
--- the text was told, or a front of it where the call failed or found no memory
-abbrev pub Tells : List ℕ → SinkState → SinkState → Type 0
-Tells text errs errs' = Appends errs.gained errs'.gained text ⊎ (AppendsFront errs.gained errs'.gained text × (Rose errs.faults errs'.faults ⊎ Rose errs.lacks errs'.lacks))
-
--- the refusal is told, with this status; or memory ran out
-abbrev pub StatusTells : ℕ → Error → SinkState → SinkState → ℕ → Type 0
-StatusTells answer error errs errs' status = ((status ≡ answer) × Tells (text_of error) errs errs') ⊎ (status ≡ 6)
+use Rattle.reshape.specs.Known.{KnownFit, KnownUnfit}
+use Rattle.json_command.specs.Reading.{KnownFault}
+use Rattle.json_command.specs.Statuses.{status_of}
+use Rattle.json_command.specs.Reporting.{Reports}
 
 -- the words ask for a command, and of it this holds
 pub record WithCommand (words : List (List ℕ)) (holds : Command → Type 0) : Type 0 where
@@ -71,16 +54,16 @@ pub record Refused (status : ℕ) (words : List (List ℕ)) (source source' : So
   pub error : Error
   pub status_is : status ≡ status_of error.code error.place
   pub cause : Fails words source source' sink sink' error.code error.place
-  pub tells : Tells (text_of error) errs errs'
+  pub tells : Reports (text_of error) errs errs'
 
 -- the words ask for a command, the source tells a valid text to which its edits apply, and nothing failed
 abbrev pub IsGood : List (List ℕ) → SourceState → SourceState → SinkState → SinkState → Type 0
-IsGood words source source' sink sink' = WithCommand words (λ c. TellsFit c.rules c.es source source' sink sink')
+IsGood words source source' sink sink' = WithCommand words (λ c. KnownFit c.rules c.es source source' sink sink')
 
 -- the words ask for a command, the source tells bytes with this fault, and no read failed
 abbrev pub IsBad : List (List ℕ) → SourceState → SourceState → ErrorCode → Place → Type 0
-IsBad words source source' code place = WithCommand words (λ c. TellsFault c.rules source source' code place)
+IsBad words source source' code place = WithCommand words (λ c. KnownFault c.rules source source' code place)
 
 -- the words ask for a command, the source tells a valid text, the edit of this number is the first that does not apply to it, and no read failed
 abbrev pub IsUnfit : List (List ℕ) → SourceState → SourceState → ℕ → Refusal → Type 0
-IsUnfit words source source' number why = WithCommand words (λ c. TellsUnfit c.rules c.es source source' number why)
+IsUnfit words source source' number why = WithCommand words (λ c. KnownUnfit c.rules c.es source source' number why)

@@ -4,7 +4,7 @@ use Rattle.json_grammar.specs.Tree.{Tree, list, trees_list}
 use Rattle.json_model.specs.Edit.{Edit}
 use Rattle.json_text.specs.Ruled.{usual_rules}
 use Rattle.json_value.specs.EditTrees.{each_in, edit_in}
-use Rattle.reshape.specs.Input.{IsInput}
+use Rattle.json_command.specs.Input.{IsInput}
 
 -- the edits that a tree spells: a list of them
 abbrev pub edits_in : Tree → Option (List Edit)

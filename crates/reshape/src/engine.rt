@@ -4,13 +4,14 @@ ghost use Rattle.json_value.specs.Edits.{edit_of};
 ghost use Rattle.json_text.specs.Errors.{no_memory};
 ghost use Rattle.json_text.specs.Ruled.{rules_of, usual_rules};
 ghost use Rattle.json_text.specs.Transfer.{TakesAtMost};
-ghost use Rattle.reshape.specs.Input.{most};
+ghost use Rattle.json_command.specs.Input.{max_bytes};
 ghost use Rattle.reshape.specs.Reshape.{layout_of, Reshapes, Refuses};
-ghost use Rattle.reshape.specs.Told.{TellsFit, TellsFailedRead, TellsFailedWrite, AnswersFault, AnswersUnfit};
+ghost use Rattle.json_command.specs.Printing.{ReturnsWriteError};
+ghost use Rattle.json_command.specs.Reading.{ReturnsReadError, ReturnsFault};
+ghost use Rattle.reshape.specs.Known.{KnownFit, ReturnsUnfit};
 
-use crate::document::read;
 use crate::editing::apply_all;
-use crate::output::print;
+use json_command::{print_value, read_document_from};
 use json_print::Style;
 use json_text::{Result, Rules, Sink, Source};
 use json_value::{Edit, Value};
@@ -32,14 +33,14 @@ fn pass<S: Source, K: Sink>(
     ensures refused { IfErr result (λ e. Refuses (rules_of rules) (map edit_of edits.now)
         (layout_of style.entry) (S.state source.old) (S.state source.new)
         (K.state sink.old) (K.state sink.new) e.code e.place) }
-    ensures taken { TakesAtMost (most + 1) (S.state source.old) (S.state source.new) }
-    ensures read_told { TellsFailedRead (S.state source.old) (S.state source.new) result }
-    ensures write_told { TellsFailedWrite (K.state sink.old) (K.state sink.new) result }
+    ensures taken { TakesAtMost (max_bytes + 1) (S.state source.old) (S.state source.new) }
+    ensures read_told { ReturnsReadError (S.state source.old) (S.state source.new) result }
+    ensures write_told { ReturnsWriteError (K.state sink.old) (K.state sink.new) result }
 {
-    let doc = read(alloc, source, rules)?;
+    let doc = read_document_from(alloc, source, rules)?;
     let mut value = Value::from_place(alloc, &doc, doc.root())?;
     apply_all(alloc, &mut value, edits)?;
-    print(alloc, &value, style, sink)
+    print_value(alloc, &value, style, sink)
 }
 
 /// Reads all of the source by the rules, applies the edits in turn, and writes its text in the style, flushed. Answers each
@@ -64,15 +65,15 @@ pub fn reshape_with<S: Source, K: Sink>(
     ensures refused { IfErr result (λ e. Refuses (rules_of rules) (map edit_of edits.now)
         (layout_of style.entry) (S.state source.old) (S.state source.new)
         (K.state sink.old) (K.state sink.new) e.code e.place) }
-    ensures taken { TakesAtMost (most + 1) (S.state source.old) (S.state source.new) }
-    ensures read_told { TellsFailedRead (S.state source.old) (S.state source.new) result }
-    ensures write_told { TellsFailedWrite (K.state sink.old) (K.state sink.new) result }
-    ensures complete { TellsFit (rules_of rules) (map edit_of edits.now)
+    ensures taken { TakesAtMost (max_bytes + 1) (S.state source.old) (S.state source.new) }
+    ensures read_told { ReturnsReadError (S.state source.old) (S.state source.new) result }
+    ensures write_told { ReturnsWriteError (K.state sink.old) (K.state sink.new) result }
+    ensures complete { KnownFit (rules_of rules) (map edit_of edits.now)
         (S.state source.old) (S.state source.new) (K.state sink.old) (K.state sink.new)
         → IsOkUnless result no_memory }
-    ensures unfit { AnswersUnfit (rules_of rules) (map edit_of edits.now)
+    ensures unfit { ReturnsUnfit (rules_of rules) (map edit_of edits.now)
         (S.state source.old) (S.state source.new) result }
-    ensures exact { AnswersFault (rules_of rules)
+    ensures exact { ReturnsFault (rules_of rules)
         (S.state source.old) (S.state source.new) result }
 {
     pass(alloc, source, sink, edits, style, rules)
@@ -93,15 +94,15 @@ pub fn reshape<S: Source, K: Sink>(
     ensures refused { IfErr result (λ e. Refuses usual_rules (map edit_of edits.now)
         (layout_of style.entry) (S.state source.old) (S.state source.new)
         (K.state sink.old) (K.state sink.new) e.code e.place) }
-    ensures taken { TakesAtMost (most + 1) (S.state source.old) (S.state source.new) }
-    ensures read_told { TellsFailedRead (S.state source.old) (S.state source.new) result }
-    ensures write_told { TellsFailedWrite (K.state sink.old) (K.state sink.new) result }
-    ensures complete { TellsFit usual_rules (map edit_of edits.now)
+    ensures taken { TakesAtMost (max_bytes + 1) (S.state source.old) (S.state source.new) }
+    ensures read_told { ReturnsReadError (S.state source.old) (S.state source.new) result }
+    ensures write_told { ReturnsWriteError (K.state sink.old) (K.state sink.new) result }
+    ensures complete { KnownFit usual_rules (map edit_of edits.now)
         (S.state source.old) (S.state source.new) (K.state sink.old) (K.state sink.new)
         → IsOkUnless result no_memory }
-    ensures unfit { AnswersUnfit usual_rules (map edit_of edits.now)
+    ensures unfit { ReturnsUnfit usual_rules (map edit_of edits.now)
         (S.state source.old) (S.state source.new) result }
-    ensures exact { AnswersFault usual_rules
+    ensures exact { ReturnsFault usual_rules
         (S.state source.old) (S.state source.new) result }
 {
     reshape_with(alloc, source, sink, edits, style, Rules::usual())

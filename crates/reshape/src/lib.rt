@@ -15,14 +15,12 @@
 
 mod asked_style;
 mod command;
-mod document;
 mod editing;
 mod edits;
 mod engine;
 pub mod laws;
 mod made;
 mod options;
-mod output;
 mod top;
 mod words;
 

@@ -3,17 +3,17 @@ ghost use Rattle.std.specs.Prelude.{◌≡◌, ◌++◌, ◌≤◌, sum, decimal
 ghost use Rattle.json_grammar.specs.Tree.{Tree};
 ghost use Rattle.json_text.specs.Errors.{no_memory};
 ghost use Rattle.json_text.specs.Ruled.{usual_rules};
-ghost use Rattle.reshape.specs.Input.{IsInput};
+ghost use Rattle.json_command.specs.Input.{IsInput};
 ghost use Rattle.reshape.specs.Reshape.{layout_of};
-ghost use Rattle.reshape.specs.Printing.{Prints};
-ghost use Rattle.reshape.specs.Told.{TellsFailedWrite};
+ghost use Rattle.json_command.specs.Printing.{ReturnsWriteError};
 ghost use Rattle.reshape.specs.Made as spec;
 ghost use Rattle.reshape.specs.Made.{made_record, totals, sorted_compact, IsSummary, IsPrinted, GainsSummary, SummaryFails};
 
 use crate::reshape;
 use itoa::Buffer;
+use json_command::write_text;
 use json_print::Style;
-use json_text::{Result, Sink, SliceSource, VecSink, flush_all, put_all};
+use json_text::{Result, Sink, SliceSource, VecSink};
 use std::alloc::Global;
 
 /// The style in which made input is printed: compact, with the members of each object in the order of their keys.
@@ -115,13 +115,6 @@ fn summary(alloc: Global, records: u32) -> Result<Vec<u8>>
     Ok(text)
 }
 
-fn send<K: Sink>(sink: &mut K, text: &[u8]) -> Result<()>
-    ensures { Prints (K.state sink.old) (K.state sink.new) text.now result }
-{
-    put_all(sink, text)?;
-    flush_all(sink)
-}
-
 /// Makes an array of so many records, prints it compact and sorted, and writes how many bytes both have and what these sum up to, a
 /// line each, flushed. Where the sink failed or memory ran out it gained a front of this at most. There are at most 100,000 records.
 pub fn write_summary<K: Sink>(alloc: Global, records: u32, sink: &mut K) -> Result<()>
@@ -129,8 +122,8 @@ pub fn write_summary<K: Sink>(alloc: Global, records: u32, sink: &mut K) -> Resu
     ensures ok { OnOk result (GainsSummary records (K.state sink.old) (K.state sink.new)) }
     ensures refused { IfErr result (λ e. SummaryFails records
         (K.state sink.old) (K.state sink.new) e.code e.place) }
-    ensures told { TellsFailedWrite (K.state sink.old) (K.state sink.new) result }
+    ensures told { ReturnsWriteError (K.state sink.old) (K.state sink.new) result }
 {
     let text = summary(alloc, records)?;
-    send(sink, &text)
+    write_text(sink, &text)
 }

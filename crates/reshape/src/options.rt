@@ -2,9 +2,10 @@
 ghost use Rattle.std.specs.Prelude.{◌≡◌, ◌≢◌, ◌≤◌, ℕ, List, [], ◌∷◌, ◌++◌, false, option_map, IfSome, IfNone, MatchOption};
 ghost use Rattle.std.specs.Option.{ForSome};
 ghost use Rattle.json_text.specs.Ruled.{rules_of};
-ghost use Rattle.reshape.specs.Options.{spaces, width_in, indent_in, is_plain, number_up_to, depth_in, made_in, depth_or_usual, is_known, IsReshaping, AsksMade, IsMaking};
+ghost use Rattle.reshape.specs.Options.{spaces, width_in, indent_in, depth_in, made_in, depth_or_usual, is_known, IsReshaping, AsksMade, IsMaking};
 ghost use Rattle.reshape.specs.Gathering.{HasRole, Gathered};
 
+use json_command::option_number;
 use json_text::{Rules, Words};
 
 // What one word is for.
@@ -61,60 +62,18 @@ fn indent_of(word: &str) -> Option<&'static str>
     }
 }
 
-// Whether it is `0`, or begins with a digit from 1 to 9.
-fn starts_plain(digits: &str) -> bool
-    ensures { result ≡ is_plain digits.now }
-{
-    let bytes = digits.as_bytes();
-    digits == "0" || !bytes.is_empty() && bytes[0] >= b'1' && bytes[0] <= b'9'
-}
-
-// So many levels as the digits say, which are 1,024 at most.
-fn levels_of(digits: &str) -> Option<u32>
-    ensures { result ≡ number_up_to 1024 digits.now }
-{
-    if !starts_plain(digits) {
-        return None;
-    }
-    match digits.parse::<u64>() {
-        Ok(n) if n <= 1_024 => Some(n as u32),
-        _ => None,
-    }
-}
-
 // The most levels that an option asks for.
 fn depth_of(word: &str) -> Option<u32>
     ensures { result ≡ depth_in word.now }
 {
-    let (name, digits) = word.split_once('=')?;
-    if name != "--depth" {
-        return None;
-    }
-    levels_of(digits)
-}
-
-// So many records as the digits say, which are 100,000 at most.
-fn records_of(digits: &str) -> Option<u32>
-    ensures { result ≡ number_up_to 100000 digits.now }
-{
-    if !starts_plain(digits) {
-        return None;
-    }
-    match digits.parse::<u64>() {
-        Ok(n) if n <= 100_000 => Some(n as u32),
-        _ => None,
-    }
+    option_number(word, "--depth", 1_024)
 }
 
 // The records of made input that an option asks for.
 fn made_of(word: &str) -> Option<u32>
     ensures { result ≡ made_in word.now }
 {
-    let (name, digits) = word.split_once('=')?;
-    if name != "--make" {
-        return None;
-    }
-    records_of(digits)
+    option_number(word, "--make", 100_000)
 }
 
 /// So many records of made input as the words ask for, where one word asks for them and stands alone. They are 100,000 at most.

@@ -2,39 +2,23 @@
 ghost use Rattle.std.specs.Prelude.{ℕ, ◌+◌, ◌≡◌, ◌≢◌, ◌⊎◌, ◌<◌, OnOk, IfErr};
 ghost use Rattle.json_text.specs.declared.error.ErrorCode.{ErrorCode};
 ghost use Rattle.json_text.specs.declared.error.Place.{Place};
-ghost use Rattle.json_text.specs.FaultText.{text_of};
 ghost use Rattle.json_text.specs.Transfer.{TakesAtMost};
-ghost use Rattle.reshape.specs.Input.{most};
+ghost use Rattle.json_command.specs.Input.{max_bytes};
 ghost use Rattle.json_model.specs.Edit.{Refusal};
 ghost use Rattle.reshape.specs.Options.{IsAsked, IsMaking};
-ghost use Rattle.reshape.specs.Run.{status_of, Tells, StatusTells, Did, Fails, Done, Refused, IsGood, IsBad, IsUnfit};
-ghost use Rattle.reshape.specs.Told.{edit_refused, TellsFailedRead, TellsFailedWrite};
+ghost use Rattle.json_command.specs.Printing.{ReturnsWriteError};
+ghost use Rattle.json_command.specs.Reading.{ReturnsReadError};
+ghost use Rattle.json_command.specs.Reporting.{StatusReports};
+ghost use Rattle.reshape.specs.Run.{Did, Fails, Done, Refused, IsGood, IsBad, IsUnfit};
+ghost use Rattle.reshape.specs.Known.{edit_refused};
 
 use crate::command::Asked;
 use crate::made::write_summary;
 use crate::reshape_with;
 use crate::words::asked;
-use json_text::{Error, ErrorCode, Place, Result, Sink, Source, Words, fault_text, put_all};
+use json_command::{Status, report};
+use json_text::{Result, Sink, Source, Words};
 use std::alloc::Global;
-
-fn status(error: Error) -> u8
-    ensures { result ≡ status_of error.code error.place }
-{
-    match (error.code, error.place) {
-        (ErrorCode::NoMemory, _) => 6,
-        (ErrorCode::Io, Place::Writing) => 5,
-        (ErrorCode::Io, _) => 4,
-        (ErrorCode::BadWords, _) => 2,
-        (ErrorCode::NotFound | ErrorCode::TypeUnmatched, _) => 3,
-        (_, _) => 1,
-    }
-}
-
-fn tell<E: Sink>(errs: &mut E, error: &Error)
-    ensures { Tells (text_of error.now) (E.state errs.old) (E.state errs.new) }
-{
-    let _ = put_all(errs, fault_text(error).as_bytes());
-}
 
 fn carry_out<S: Source, K: Sink>(
     alloc: Global,
@@ -47,9 +31,9 @@ fn carry_out<S: Source, K: Sink>(
     ensures unread { IsMaking words.now → S.state source.new ≡ S.state source.old }
     ensures refused { IfErr result (λ e. Fails words.now (S.state source.old) (S.state source.new)
         (K.state sink.old) (K.state sink.new) e.code e.place) }
-    ensures taken { TakesAtMost (most + 1) (S.state source.old) (S.state source.new) }
-    ensures read_told { TellsFailedRead (S.state source.old) (S.state source.new) result }
-    ensures write_told { TellsFailedWrite (K.state sink.old) (K.state sink.new) result }
+    ensures taken { TakesAtMost (max_bytes + 1) (S.state source.old) (S.state source.new) }
+    ensures read_told { ReturnsReadError (S.state source.old) (S.state source.new) result }
+    ensures write_told { ReturnsWriteError (K.state sink.old) (K.state sink.new) result }
 {
     let asked = asked(alloc, words)?;
     match asked {
@@ -76,27 +60,27 @@ pub fn run<S: Source, K: Sink, E: Sink>(
     ensures refused { result ≢ 0 → Refused result words.now
         (S.state source.old) (S.state source.new)
         (K.state sink.old) (K.state sink.new) (E.state errs.old) (E.state errs.new) }
-    ensures taken { TakesAtMost (most + 1) (S.state source.old) (S.state source.new) }
+    ensures taken { TakesAtMost (max_bytes + 1) (S.state source.old) (S.state source.new) }
     ensures read_told { (S.state source.old).faults < (S.state source.new).faults → result ≡ 4 }
     ensures write_told { (K.state sink.old).faults < (K.state sink.new).faults → result ≡ 5 }
     ensures complete { IsGood words.now (S.state source.old) (S.state source.new)
         (K.state sink.old) (K.state sink.new) → (result ≡ 0) ⊎ (result ≡ 6) }
     ensures unfit { (number : ℕ) (why : Refusal)
         → IsUnfit words.now (S.state source.old) (S.state source.new) number why
-        → StatusTells 3 (edit_refused number why) (E.state errs.old) (E.state errs.new) result }
+        → StatusReports 3 (edit_refused number why) (E.state errs.old) (E.state errs.new) result }
     ensures unread { IsMaking words.now → S.state source.new ≡ S.state source.old }
     ensures made { IsMaking words.now → (result ≡ 0) ⊎ (result ≡ 5) ⊎ (result ≡ 6) }
     ensures words { ¬ (IsAsked words.now) → (result ≡ 2) ⊎ (result ≡ 6) }
     ensures exact { (code : ErrorCode) (place : Place)
         → IsBad words.now (S.state source.old) (S.state source.new) code place
-        → StatusTells 1 (record { code = code; place = place })
+        → StatusReports 1 (record { code = code; place = place })
         (E.state errs.old) (E.state errs.new) result }
 {
     match carry_out(alloc, words, source, sink) {
-        Ok(()) => 0,
+        Ok(()) => Status::Success.number(),
         Err(error) => {
-            tell(errs, &error);
-            status(error)
+            report(errs, &error);
+            Status::of_error(&error).number()
         }
     }
 }

@@ -1,7 +1,6 @@
 // What the words of the command line ask for.
-ghost use Rattle.std.specs.Prelude.{◌≡◌, ◌≢◌, ◌⊎◌, List, IfOk, IfErr, option_map, option_to_list};
+ghost use Rattle.std.specs.Prelude.{◌≡◌, ◌⊎◌, List, IfOk, IfErr, option_map, option_to_list};
 ghost use Rattle.json_text.specs.Errors.{no_memory, bad_words};
-ghost use Rattle.json_text.specs.declared.error.ErrorCode.TheVariants.{NoMemory};
 ghost use Rattle.json_model.specs.Edit.{Edit as TreeEdit};
 ghost use Rattle.reshape.specs.Words.{Spells, AsksEdits};
 ghost use Rattle.reshape.specs.Options.{IsAsked};
@@ -11,29 +10,11 @@ use crate::asked_style::AskedStyle;
 use crate::command::Asked;
 use crate::edits::Edits;
 use crate::options::{gather, made_asked};
+use json_command::{BAD_WORDS, arguments_error};
 use json_data::from_str;
-use json_text::{Error, ErrorCode, Place, Result, Words};
+use json_text::{Result, Words};
 use json_value::Edit;
 use std::alloc::Global;
-
-/// The refusal of words that have another form.
-const BAD_WORDS: Error = Error {
-    code: ErrorCode::BadWords,
-    place: Place::None,
-};
-
-// The refusal of a word that could not be read, or is no text.
-fn refusal(code: ErrorCode) -> Error
-    ensures { (result ≡ no_memory) ⊎ ((result ≡ bad_words) × (code ≢ NoMemory)) }
-{
-    match code {
-        ErrorCode::NoMemory => Error {
-            code: ErrorCode::NoMemory,
-            place: Place::None,
-        },
-        _ => BAD_WORDS,
-    }
-}
 
 // The edits that a word spells, by the usual rules.
 fn read_word(alloc: Global, word: &str) -> Result<Edits>
@@ -43,7 +24,7 @@ fn read_word(alloc: Global, word: &str) -> Result<Edits>
 {
     match from_str::<Vec<Edit>>(alloc, word) {
         Ok(list) => Ok(Edits { list }),
-        Err(error) => Err(refusal(error.code)),
+        Err(error) => Err(arguments_error(error.code)),
     }
 }
 

@@ -1,5 +1,6 @@
-// What is said of `--help`, of `--version` and of refused words.
-use crate::help::{add_hint, say, text_asked};
+// What is said of `--help`, of `--version` and of invalid arguments.
+use crate::help::ABOUT;
+use json_command::Status;
 use json_text::{FakeSink, VecSink, Words};
 use std::test::Fail;
 
@@ -12,43 +13,55 @@ fn help_and_version_stand_alone(rt: HostRuntime) -> Result<(), Fail> {
         ("--pretty", None),
         ("-help", None),
     ] {
-        let mut words = Words::new(alloc);
-        assert!(rt; text_asked(&words).is_none());
-        words.push(given)?;
-        let text = text_asked(&words);
+        let mut arguments = Words::new(alloc);
+        assert!(rt; ABOUT.text_asked(&arguments).is_none());
+        arguments.push(given)?;
+        let text = ABOUT.text_asked(&arguments);
         assert_eq!(rt; text.is_some(), begins.is_some(), "{given}");
         assert!(rt;
             text.unwrap_or("").starts_with(begins.unwrap_or("")),
             "{given}"
         );
-        words.push("--tabs")?;
-        assert!(rt; text_asked(&words).is_none(), "{given} beside another");
+        arguments.push("--tabs")?;
+        assert!(rt;
+            ABOUT.text_asked(&arguments).is_none(),
+            "{given} beside another"
+        );
     }
     Ok(())
 }
 
 #[test]
-fn a_text_is_written_or_its_status_is_that_of_writing(rt: HostRuntime) {
+fn the_version_is_written_or_its_status_is_that_of_writing(rt: HostRuntime) -> Result<(), Fail> {
     let alloc = rt.alloc();
+    let mut arguments = Words::new(alloc);
+    arguments.push("--version")?;
     let mut sink = VecSink::new(alloc);
-    assert_eq!(rt; say(&mut sink, "one\n"), 0);
-    assert_eq!(rt; sink.as_slice(), b"one\n".as_slice());
+    assert_eq!(rt;
+        ABOUT.say_asked(&arguments, &mut sink),
+        Some(Status::Success)
+    );
+    assert_eq!(rt; sink.as_slice(), b"reshape 0.1.0\n".as_slice());
     let mut failing = FakeSink::new(alloc, 2, &[1]);
-    assert_eq!(rt; say(&mut failing, "one\n"), 5);
-    assert_eq!(rt; failing.as_slice(), b"on".as_slice());
+    assert_eq!(rt;
+        ABOUT.say_asked(&arguments, &mut failing),
+        Some(Status::WriteFailed)
+    );
+    assert_eq!(rt; failing.as_slice(), b"re".as_slice());
+    Ok(())
 }
 
 #[test]
-fn refused_words_are_told_where_to_look(rt: HostRuntime) {
+fn invalid_arguments_are_told_where_to_look(rt: HostRuntime) {
     let alloc = rt.alloc();
     let mut errs = VecSink::new(alloc);
     for status in [0, 1, 3, 4, 5, 6] {
-        add_hint(&mut errs, status);
+        ABOUT.add_hint(status, &mut errs);
     }
     assert!(rt; errs.as_slice().is_empty());
-    add_hint(&mut errs, 2);
+    ABOUT.add_hint(2, &mut errs);
     assert_eq!(rt;
         errs.as_slice(),
-        b"`reshape --help` tells the words\n".as_slice()
+        b"Run `reshape --help` for usage.\n".as_slice()
     );
 }

@@ -2,7 +2,7 @@ use Rattle.std.proofs.Common.{map}
 use Rattle.json_value.specs.Edits.{edit_of}
 use Rattle.json_text.specs.Ruled.{rules_of}
 use Rattle.reshape.specs.Reshape.{layout_of}
-use Rattle.reshape.proofs.ToldBytes.{fit_outcome, fault_outcome, unfit_outcome}
+use Rattle.reshape.proofs.KnownEdits.{fit_outcome, fault_outcome, unfit_outcome}
 use Rattle.reshape.proofs.engine.reshape_with.Goals as goal
 
 pub returns-clause-complete : goal.returns-clause-complete

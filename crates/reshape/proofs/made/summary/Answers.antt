@@ -1,6 +1,6 @@
 use Rattle.std.proofs.Common.{sym, subst, ◌∙◌, rules}
 use Rattle.json_text.specs.Ruled.{usual_rules}
-use Rattle.reshape.specs.Input.{IsInput}
+use Rattle.json_command.specs.Input.{IsInput}
 use Rattle.reshape.proofs.MadeInput.{made_tree, made_input}
 use Rattle.reshape.proofs.made.summary.Goals as goal
 

@@ -1,0 +1,122 @@
+-- A text printed through a buffered writer over a borrowed sink.
+use Rattle.std.proofs.Common.{◌≡◌, ℕ, List, [], ◌∷◌, ◌++◌, refl, sym, ap, subst, ◌∙◌, arith, Bool, false, ◌||◌, Option, None, Result, Ok, Err, inl, inr}
+use Rattle.std.specs.Borrow.{GName}
+use Rattle.json_grammar.specs.Tree.{Tree, tokens}
+use Rattle.json_text.specs.declared.error.Error.{Error}
+use Rattle.json_text.specs.declared.error.ErrorCode.{ErrorCode}
+use Rattle.json_text.specs.declared.error.ErrorCode.TheVariants.{NoMemory, Io}
+use Rattle.json_text.specs.declared.error.Place.{Place}
+use Rattle.json_text.specs.declared.error.Place.TheVariants.{None as nowhere, Writing}
+use Rattle.json_text.specs.Errors.{no_memory}
+use Rattle.json_text.specs.Known.{Grows, append_known}
+use Rattle.json_text.proofs.Known.{known-append, known-nil}
+use Rattle.json_text.specs.Lending.{lent_as, ComesBack}
+use Rattle.json_text.specs.Outside.{SinkState, Rose}
+use Rattle.json_text.specs.Transfer.{AppendsFront, FlushesAll, WritingCause}
+use Rattle.json_print.specs.Buffered.{held_behind}
+use Rattle.json_print.specs.Calls.{holds_any}
+use Rattle.json_print.specs.Layouts.{Form, LaidOut}
+use Rattle.json_print.specs.Given.{Given, given_tokens}
+use Rattle.json_print.specs.Printer.{Out, StopCause, StopsTaking, after, took, start}
+use Rattle.json_print.specs.Shown.{shown_as}
+use Rattle.json_print.specs.TextWriting.{WritesText}
+use Rattle.json_print.specs.Taking.{after_all, StopsAmong}
+use Rattle.json_print.specs.Written.{Written}
+use Rattle.json_print.proofs.Taking.{took_all, tokens_append}
+use Rattle.json_value.specs.EmittingSorted.{EmitsOrLacks, StopsOrLacks}
+use Rattle.json_print.proofs.TextWriting.{all_written, stopped_written, front_gained, same_name, grown, sent_back}
+use Rattle.json_command.specs.Printing.{PrintingFails, Prints, WritesFlushed}
+
+-- ---- the tokens of a tree, given to a serializer
+
+module _ {F : Type 0} (m : Form F) (f : F) (w new : SinkState) (first now : Out F) (failed : Option Error) (t : Tree) (gs : List Given) (i : Option (List ℕ)) (laid : LaidOut m f i 0 false) (s : first ≡ start f false w) (z : given_tokens gs ≡ tokens t)
+    (k : Written m now new) where
+  -- memory was lacking behind the first of them
+  lacked : (front back : List Given) (x : Given) (e : Error) → gs ≡ front ++ x ∷ back → e ≡ no_memory → now ≡ after_all (took m) first front → WritesText w new (shown_as i false t) (Err e)
+  lacked front back x e g n h =
+      let here = h ∙ took_all m first front ∙ ap (λ o. after_all (after m) o (given_tokens front)) s in
+      let c = k.calm f false w (given_tokens front) here in
+      record {
+        ok = tt;
+        calm = tt;
+        prefix = k.prefix f false w i t (given_tokens front) (given_tokens (x ∷ back)) laid (sym z ∙ ap given_tokens g ∙ tokens_append front (x ∷ back)) here;
+        cause = subst (λ (y : Error). StopCause w.faults new.faults y.code y.place) (sym n) tt;
+        told = λ l. absurd (omega (arith, l, c.0));
+        same_loan = c.1;
+      }
+
+  stopped : (e : Error) → StopsAmong (took m) (StopsOrLacks (StopsTaking m) failed) first now gs e → WritesText w new (shown_as i false t) (Err e)
+  stopped e h =
+      elim h.left [
+        | inl met ↦ stopped_written t laid s z (record { front = h.front; at = h.at; back = h.back; whole = h.whole; left = met.0 }) k
+        | inr lack ↦ lacked h.front h.back h.at e h.whole lack.0 lack.1
+      ]
+
+  pub text_written : (err : Option Error) (r : Result (Unit {0}) Error) → err ≡ None → EmitsOrLacks (took m) (StopsTaking m) first now err failed gs r → WritesText w new (shown_as i false t) r
+  text_written err (Ok v) n h = all_written t gs v laid s z h.all k
+  text_written err (Err e) n h = stopped e (h.stops n)
+
+-- ... with the indent and the order that the style has
+pub in_style : (old new : SinkState) (r : Result (Unit {0}) Error) (i j : Option (List ℕ)) (s z : Bool) (t : Tree) → i ≡ j → s ≡ z → WritesText old new (shown_as i s t) r → WritesText old new (shown_as j z t) r
+in_style old new r i j s z t e f h = subst (λ x. WritesText old new (shown_as j x t) r) f (subst (λ x. WritesText old new (shown_as x s t) r) e h)
+
+-- ... of an equal tree
+pub of_tree : (old new : SinkState) (r : Result (Unit {0}) Error) (i : Option (List ℕ)) (t u : Tree) → t ≡ u → WritesText old new (shown_as i false t) r → WritesText old new (shown_as i false u) r
+of_tree old new r i t u e h = subst (λ x. WritesText old new (shown_as i false x) r) e h
+
+-- ---- a flush behind it
+
+stop_cause : (old mid new : SinkState) (code : ErrorCode) (place : Place) → mid.faults ≡ old.faults → WritingCause mid new code place → StopCause old.faults new.faults code place
+stop_cause old mid new NoMemory nowhere e h = tt
+stop_cause old mid new Io Writing e h = subst (λ n. Rose n new.faults) e h
+stop_cause old mid new code place e h = absurd h
+
+pub text_flushed : (old mid new : SinkState) (text : List ℕ) (u : Unit {0}) (r : Result (Unit {0}) Error) → WritesText old mid text (Ok u) → FlushesAll mid new r → WritesFlushed old new text r
+text_flushed old mid new text u (Ok v) g h =
+    record { ok = h.keeps ∙ g.ok; flushed = h.ok; prefix = tt; cause = tt; told = λ l. h.told (omega (arith, g.calm, l)); same_loan = h.later.same_loan ∙ g.same_loan }
+text_flushed old mid new text u (Err e) g h =
+    record {
+      ok = tt;
+      flushed = tt;
+      prefix = record { back = []; whole = sym (known-nil new.gained ∙ h.keeps ∙ g.ok) };
+      cause = stop_cause old mid new e.code e.place g.calm h.cause;
+      told = λ l. h.told (omega (arith, g.calm, l));
+      same_loan = h.later.same_loan ∙ g.same_loan;
+    }
+
+pub text_stopped : (old new : SinkState) (text : List ℕ) (e : Error) → WritesText old new text (Err e) → WritesFlushed old new text (Err e)
+text_stopped old new text e g = record { ok = tt; flushed = tt; prefix = g.prefix; cause = g.cause; told = g.told; same_loan = g.same_loan }
+
+-- ---- what the borrowed sink has gained
+
+-- nothing waits where all was flushed
+none_held : (held : List ℕ) (b : Bool) → holds_any held || b ≡ false → (held ≡ []) × (b ≡ false)
+none_held [] b e = (refl, e)
+none_held (x ∷ held) b e = absurd (cc)
+
+printing_fails : (old new : SinkState) (text : List ℕ) (code : ErrorCode) (place : Place) → StopCause old.faults new.faults code place → AppendsFront old.gained new.gained text → PrintingFails old new text code place
+printing_fails old new text NoMemory nowhere c f = inr f
+printing_fails old new text Io Writing c f = (c, f)
+printing_fails old new text code place c f = absurd c
+
+-- the loan ends with what the writer sent
+lent_back : (old new : SinkState) (name : GName) (held text : List ℕ) (r : Result (Unit {0}) Error) → Grows old.gained new.gained → WritesFlushed (lent_as old name old.gained) (held_behind (lent_as new name old.gained) held) text r → Prints old new text r
+lent_back old new name held text (Ok u) g h =
+    let none = none_held held new.unflushed h.flushed in
+    record { ok = sym (known-nil new.gained) ∙ ap (append_known new.gained) (sym none.0) ∙ h.ok; flushed = none.1; err = tt; told = h.told }
+lent_back old new name held text (Err e) g h =
+    let all = h.prefix.whole ∙ known-append new.gained held h.prefix.back in
+    record { ok = tt; flushed = tt; err = printing_fails old new text e.code e.place h.cause (front_gained old.gained new.gained text _ all g); told = h.told }
+
+loan_sent : (lent sent began : SinkState) (held text : List ℕ) (r : Result (Unit {0}) Error) → WritesFlushed began sent text r → sent ≡ held_behind lent held → lent.loan ≡ began.loan
+loan_sent lent sent began held text r h s = ap (λ (x : SinkState). x.loan) (sym s) ∙ h.same_loan
+
+pub same_sink : (old now sent lent began : SinkState) (name name' : GName) (held text : List ℕ) (r : Result (Unit {0}) Error) → began ≡ lent_as old name old.gained → WritesFlushed began sent text r → sent ≡ held_behind lent held → ComesBack lent now name' → name' ≡ name
+same_sink old now sent lent began name name' held text r b h s back = same_name old now lent began name name' b (loan_sent lent sent began held text r h s) back
+
+pub printed_through : (old now sent lent began : SinkState) (name name' : GName) (held text : List ℕ) (r : Result (Unit {0}) Error) → began ≡ lent_as old name old.gained → WritesFlushed began sent text r → sent ≡ held_behind lent held → ComesBack lent now name' → Prints old now text r
+printed_through old now sent lent began name name' held text r b h s back =
+    let loan = loan_sent lent sent began held text r h s in
+    let is : sent ≡ held_behind (lent_as now name old.gained) held = s ∙ ap (λ x. held_behind x held) (sent_back old now lent began name name' b loan back) in
+    lent_back old now name held text r (grown old now lent began name name' b loan back)
+    (subst (λ (x : SinkState). WritesFlushed (lent_as old name old.gained) x text r) is (subst (λ (x : SinkState). WritesFlushed x sent text r) b h))

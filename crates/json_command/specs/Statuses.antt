@@ -1,0 +1,34 @@
+-- The status that a program ends with, and its number.
+use Rattle.std.specs.Prelude.{ℕ}
+use Rattle.json_text.specs.declared.error.ErrorCode.{ErrorCode}
+use Rattle.json_text.specs.declared.error.ErrorCode.TheVariants.{NoMemory, Io, NotFound, TypeUnmatched, BadWords}
+use Rattle.json_text.specs.declared.error.Place.{Place}
+use Rattle.json_text.specs.declared.error.Place.TheVariants.{Writing}
+use Rattle.json_command.specs.declared.status.Status.{Status}
+use Rattle.json_command.specs.declared.status.Status.TheVariants.{Success, InvalidInput, InvalidArguments, EditFailed, ReadFailed, WriteFailed, OutOfMemory, TooMuchInput, NoArguments}
+
+-- its number
+abbrev pub status_number : Status → ℕ
+status_number Success = 0
+status_number InvalidInput = 1
+status_number InvalidArguments = 2
+status_number EditFailed = 3
+status_number ReadFailed = 4
+status_number WriteFailed = 5
+status_number OutOfMemory = 6
+status_number TooMuchInput = 7
+status_number NoArguments = 8
+
+-- the status of an error
+abbrev pub error_status : ErrorCode → Place → Status
+error_status NoMemory place = OutOfMemory
+error_status Io Writing = WriteFailed
+error_status Io place = ReadFailed
+error_status BadWords place = InvalidArguments
+error_status NotFound place = EditFailed
+error_status TypeUnmatched place = EditFailed
+error_status code place = InvalidInput
+
+-- its number
+abbrev pub status_of : ErrorCode → Place → ℕ
+status_of code place = status_number (error_status code place)

@@ -1,0 +1,87 @@
+// What a program says of itself.
+ghost use Rattle.std.specs.Prelude.{◌≡◌, ◌≢◌, None, option_map, IfSome, IfNone};
+ghost use Rattle.json_command.specs.Arguments.{text_asked, StatusWrites, SaysAsked};
+ghost use Rattle.json_command.specs.Reporting.{Reports};
+
+use crate::output::write_text;
+use crate::reporting::report_text;
+use crate::status::Status;
+use json_text::{Sink, Words};
+
+/// What a program says of itself: its help, its version, and where to look for help.
+///
+/// ```
+/// use json_command::{About, Status};
+/// use json_text::{VecSink, Words};
+/// let about = About {
+///     help: "Usage: tool [FILE]\n",
+///     version: "tool 1.0.0\n",
+///     hint: "Run `tool --help` for usage.\n",
+/// };
+/// let mut arguments = Words::new(alloc);
+/// arguments.push("--version")?;
+/// let mut sink = VecSink::new(alloc);
+/// assert_eq!(rt; about.say_asked(&arguments, &mut sink), Some(Status::Success));
+/// assert_eq!(rt; sink.as_slice(), b"tool 1.0.0\n".as_slice());
+/// ```
+#[derive(Clone, Copy, Debug)]
+pub struct About {
+    /// What `--help` prints.
+    pub help: &'static str,
+    /// What `--version` prints.
+    pub version: &'static str,
+    /// What is added to the error of invalid arguments.
+    pub hint: &'static str,
+}
+
+impl About {
+    /// Returns the text that the arguments ask for: the help for `--help` alone, the version for
+    /// `--version` alone, and `None` for all else.
+    pub fn text_asked(&self, arguments: &Words) -> Option<&'static str>
+        ensures { option_map (λ s. s.now) result
+            ≡ text_asked self.now.help.now self.now.version.now arguments.now }
+    {
+        if arguments.len() != 1 {
+            return None;
+        }
+        match arguments.word(0) {
+            "--help" => Some(self.help),
+            "--version" => Some(self.version),
+            _ => None,
+        }
+    }
+
+    /// Writes the text that the arguments ask for, flushed, and returns the status: `Success`,
+    /// `WriteFailed` or `OutOfMemory`. Returns `None`, and writes nothing, where they ask for none.
+    pub fn say_asked<K: Sink>(&self, arguments: &Words, sink: &mut K) -> Option<Status>
+        ensures said { IfSome result (SaysAsked self.now.help.now self.now.version.now arguments.now
+            (K.state sink.old) (K.state sink.new)) }
+        ensures unasked { IfNone result
+            (text_asked self.now.help.now self.now.version.now arguments.now ≡ None) }
+        ensures untouched { IfNone result (K.state sink.new ≡ K.state sink.old) }
+    {
+        let text = self.text_asked(arguments)?;
+        Some(write_with_status(sink, text))
+    }
+
+    /// Adds the hint where the status is that of invalid arguments, and else writes nothing.
+    pub fn add_hint<E: Sink>(&self, status: u8, errs: &mut E)
+        ensures added { status ≡ 2
+            → Reports self.now.hint.now (E.state errs.old) (E.state errs.new) }
+        ensures untouched { status ≢ 2 → E.state errs.new ≡ E.state errs.old }
+    {
+        if status == Status::InvalidArguments.number() {
+            report_text(errs, self.hint.as_bytes());
+        }
+    }
+}
+
+// Writes a text, flushed, and returns the status.
+fn write_with_status<K: Sink>(sink: &mut K, text: &str) -> Status
+    ensures { StatusWrites (K.state sink.old) (K.state sink.new) text.now result }
+{
+    match write_text(sink, text.as_bytes()) {
+        Ok(()) => Status::Success,
+        Err(error) => Status::of_error(&error),
+    }
+}

@@ -1,0 +1,108 @@
+// The arguments of the command line, and the streams of a program.
+ghost use Rattle.std.specs.Prelude.{◌≡◌, ◌≢◌, ◌⊎◌, IfOk, IfErr};
+ghost use Rattle.json_doc.specs.Docs.{doc_root, doc_tree};
+ghost use Rattle.json_text.specs.Errors.{no_memory, bad_words};
+ghost use Rattle.json_text.specs.Ruled.{usual_rules};
+ghost use Rattle.json_text.specs.declared.error.ErrorCode.TheVariants.{NoMemory};
+ghost use Rattle.json_command.specs.Input.{IsInput, IsValid};
+
+use crate::about::About;
+use crate::document::MAX_BYTES;
+use crate::status::Status;
+use json_doc::{Doc, read_document_with};
+use json_text::{Error, ErrorCode, Place, Rules, StdSink, StdSource, Words};
+use std::alloc::Global;
+use std::rc::Rc;
+use std::rt::{Stderr, Stdin, Stdout};
+use std::{env, io};
+
+/// The error of arguments that are not valid.
+pub const BAD_WORDS: Error = Error {
+    code: ErrorCode::BadWords,
+    place: Place::None,
+};
+
+/// Returns the error of an argument that could not be read as it has to be: `NoMemory` where memory
+/// ran out, and else `BadWords`.
+pub fn arguments_error(code: ErrorCode) -> Error
+    ensures { (result ≡ no_memory) ⊎ ((result ≡ bad_words) × (code ≢ NoMemory)) }
+{
+    match code {
+        ErrorCode::NoMemory => Error {
+            code: ErrorCode::NoMemory,
+            place: Place::None,
+        },
+        _ => BAD_WORDS,
+    }
+}
+
+/// Returns the document of an argument that is a JSON text (RFC 8259), read by the usual rules: of
+/// at most 254 levels, and keys may repeat. Fails with `BadWords` where it is none or has more than
+/// 4,294,967,295 bytes, and with `NoMemory` where memory runs out.
+///
+/// ```
+/// use json_command::{BAD_WORDS, read_argument};
+/// let doc = read_argument(alloc, "[\"a\", 0]")?;
+/// assert!(rt; doc.root_view().as_array().is_some());
+/// assert_eq!(rt; read_argument(alloc, "[").err(), Some(BAD_WORDS));
+/// ```
+pub fn read_argument(alloc: Global, argument: &str) -> json_text::Result<Rc<Doc>>
+    ensures ok { IfOk result (λ d. IsInput usual_rules argument.now
+        (doc_tree d.value (doc_root d.value))) }
+    ensures err { IfErr result (λ e. (e ≡ no_memory)
+        ⊎ ((e ≡ bad_words) × ¬ (IsValid usual_rules argument.now))) }
+{
+    if argument.len() > MAX_BYTES {
+        return Err(BAD_WORDS);
+    }
+    match read_document_with(alloc, argument, Rules::usual()) {
+        Ok(doc) => Ok(doc),
+        Err(error) => Err(arguments_error(error.code)),
+    }
+}
+
+/// The arguments of the command line and the standard streams.
+#[derive(Drop)]
+pub struct Console {
+    /// The arguments, without the program's name.
+    pub arguments: Words,
+    /// Standard input.
+    pub source: StdSource<Stdin>,
+    /// Standard output.
+    pub sink: StdSink<Stdout>,
+    /// Standard error.
+    pub errs: StdSink<Stderr>,
+}
+
+impl Console {
+    /// Opens the standard streams and copies the arguments. Returns a status where the program is
+    /// over with that: `OutOfMemory` where memory runs out; `NoArguments` where the arguments
+    /// cannot be read, for example because one is not UTF-8; and where they ask for the help or the
+    /// version, which is written then, the status of that.
+    pub fn open(rt: &HostRuntime, about: &About) -> Result<Console, Status> {
+        let mut arguments = Words::new(rt.alloc());
+        for argument in env::args(rt).map_err(unread)?.skip(1) {
+            arguments
+                .push(argument.as_str())
+                .map_err(|_| Status::OutOfMemory)?;
+        }
+        let mut sink = StdSink::new(rt.stdout());
+        match about.say_asked(&arguments, &mut sink) {
+            Some(status) => Err(status),
+            None => Ok(Console {
+                arguments,
+                source: StdSource::new(rt.stdin()),
+                sink,
+                errs: StdSink::new(rt.stderr()),
+            }),
+        }
+    }
+}
+
+// The status where the arguments could not be read.
+fn unread(error: io::Error) -> Status {
+    match error.kind() {
+        io::ErrorKind::OutOfMemory => Status::OutOfMemory,
+        _ => Status::NoArguments,
+    }
+}

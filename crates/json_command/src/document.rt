@@ -1,0 +1,32 @@
+// The document of a source's text.
+ghost use Rattle.std.specs.Prelude.{◌+◌, IfOk, IfErr};
+ghost use Rattle.json_text.specs.Ruled.{rules_of};
+ghost use Rattle.json_text.specs.Transfer.{TakesAtMost};
+ghost use Rattle.json_doc.specs.Docs.{doc_root, doc_tree};
+ghost use Rattle.json_command.specs.Input.{max_bytes};
+ghost use Rattle.json_command.specs.Reading.{ReadsInput, ReadingFails, ReturnsReadError};
+
+use json_doc::{Doc, read_document_with};
+use json_text::{Result, Rules, Source, check_utf8, read_all};
+use std::alloc::Global;
+use std::rc::Rc;
+
+/// The greatest number of bytes that are read.
+pub(crate) const MAX_BYTES: usize = 4_294_967_295;
+
+/// Reads all that the source has left and returns its document by the rules (RFC 8259). Fails with
+/// `Io` at `Reading` where the source fails, `TooLarge` where it has more than 4,294,967,295 bytes,
+/// `InvalidUTF8` and each fault of the grammar by the rules at its offset, and `NoMemory` where
+/// memory runs out.
+pub fn read_document_from<S: Source>(alloc: Global, source: &mut S, rules: Rules) -> Result<Rc<Doc>>
+    ensures read { IfOk result (λ d. ReadsInput (rules_of rules)
+        (S.state source.old) (S.state source.new) (doc_tree d.value (doc_root d.value))) }
+    ensures failed { IfErr result (λ e. ReadingFails (rules_of rules)
+        (S.state source.old) (S.state source.new) e.code e.place) }
+    ensures taken { TakesAtMost (max_bytes + 1) (S.state source.old) (S.state source.new) }
+    ensures told { ReturnsReadError (S.state source.old) (S.state source.new) result }
+{
+    let bytes = read_all(alloc, source, MAX_BYTES)?;
+    let text = check_utf8(&bytes)?;
+    read_document_with(alloc, text, rules)
+}

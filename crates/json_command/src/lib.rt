@@ -1,0 +1,35 @@
+//! What the programs of this repository share: reading a document from a source, printing a value
+//! to a sink, reporting errors, exit statuses, numeric options, help and version, and the opening
+//! of the command line.
+//!
+//! ```
+//! use json_command::{print_value, read_document_from};
+//! use json_print::Style;
+//! use json_text::{Rules, SliceSource, VecSink};
+//! use json_value::Value;
+//! let mut source = SliceSource::new(b" [1, 2.50] ");
+//! let doc = read_document_from(alloc, &mut source, Rules::usual())?;
+//! let value = Value::from_place(alloc, &doc, doc.root())?;
+//! let mut sink = VecSink::new(alloc);
+//! print_value(alloc, &value, Style::compact(), &mut sink)?;
+//! assert_eq!(rt; sink.as_slice(), b"[1,2.50]".as_slice());
+//! ```
+#![tactic(auto)]
+
+mod about;
+mod arguments;
+mod document;
+pub mod laws;
+mod options;
+mod output;
+mod reporting;
+pub mod rows;
+mod status;
+
+pub use about::About;
+pub use arguments::{BAD_WORDS, Console, arguments_error, read_argument};
+pub use document::read_document_from;
+pub use options::option_number;
+pub use output::{print_value, write_text};
+pub use reporting::{report, report_text};
+pub use status::Status;

@@ -1,0 +1,163 @@
+// The text of a value's tree, written to a sink.
+ghost use Rattle.std.specs.Prelude.{◌≡◌, ℕ, List, Option, true, false};
+ghost use Rattle.json_print.specs.Layouts.{LaidOut};
+ghost use Rattle.json_print.specs.Shown.{shown_as};
+ghost use Rattle.json_print.specs.Styles.{is_sorted, printed};
+ghost use Rattle.json_print.specs.TextWriting.{WritesText};
+ghost use Rattle.json_text.specs.Outside.{SinkState};
+ghost use Rattle.json_value.specs.Denotes.{tree_of};
+ghost use Rattle.json_command.specs.Printing.{Prints, WritesFlushed};
+
+use json_print::{
+    Buffer, BufferedWriter, CompactFormatter, Formatter, Layout, ManyLines, OneLine,
+    PrettyFormatter, Serializer, Style,
+};
+use json_text::{LentSink, Result, Sink, flush_all, put_all};
+use json_value::Value;
+use std::alloc::Global;
+
+// The text with the members of each object in the order of their keys, by the calls of a formatter
+// that has written nothing. Gives the writer back.
+fn in_order<W: Sink, F: Formatter + Drop>(
+    alloc: Global,
+    value: &Value,
+    formatter: F,
+    writer: W,
+) -> (W, Result<()>)
+    requires fresh { F.fresh formatter }
+    ensures text { (indent : Option (List ℕ)) → LaidOut F.form formatter indent 0 false
+        → WritesText (W.state writer) (W.state result.0)
+        (shown_as indent true (tree_of value.now)) result.1 }
+{
+    let mut out = Serializer::with_formatter(alloc, writer, formatter);
+    let went = value.view().emit_sorted(alloc, &mut out);
+    (out.into_inner(), went)
+}
+
+// The same in the order in which the members stand.
+fn as_it_stands<W: Sink, L: Layout>(
+    value: &Value,
+    layout: L,
+    writer: BufferedWriter<W>,
+) -> (BufferedWriter<W>, Result<()>)
+    ensures text { WritesText (⟦<BufferedWriter<W> as Sink>⟧.state writer)
+        (⟦<BufferedWriter<W> as Sink>⟧.state result.0)
+        (shown_as (L.indent layout) false (tree_of value.now)) result.1 }
+{
+    let mut out = writer;
+    let went = value.view().print(layout, &mut out);
+    (out, went)
+}
+
+// The text in the style, sorted.
+fn styled_in_order<W: Sink>(
+    alloc: Global,
+    value: &Value,
+    style: Style<'_>,
+    writer: W,
+) -> (W, Result<()>)
+    requires { is_sorted style ≡ true }
+    ensures text { WritesText (W.state writer) (W.state result.0)
+        (printed style.entry (tree_of value.now)) result.1 }
+{
+    match style.indent() {
+        None => in_order(alloc, value, CompactFormatter, writer),
+        Some(indent) => {
+            let formatter = PrettyFormatter::with_indent(indent.as_bytes());
+            in_order(alloc, value, formatter, writer)
+        }
+    }
+}
+
+// The text in the style, not sorted.
+fn styled_as_it_stands<W: Sink>(
+    value: &Value,
+    style: Style<'_>,
+    writer: BufferedWriter<W>,
+) -> (BufferedWriter<W>, Result<()>)
+    requires { is_sorted style ≡ false }
+    ensures text { WritesText (⟦<BufferedWriter<W> as Sink>⟧.state writer)
+        (⟦<BufferedWriter<W> as Sink>⟧.state result.0)
+        (printed style.entry (tree_of value.now)) result.1 }
+{
+    match style.indent() {
+        None => as_it_stands(value, OneLine, writer),
+        Some(indent) => as_it_stands(value, ManyLines::new(indent.as_bytes()), writer),
+    }
+}
+
+// The text in the style.
+fn styled<W: Sink>(
+    alloc: Global,
+    value: &Value,
+    style: Style<'_>,
+    writer: BufferedWriter<W>,
+) -> (BufferedWriter<W>, Result<()>)
+    ensures text { WritesText (⟦<BufferedWriter<W> as Sink>⟧.state writer)
+        (⟦<BufferedWriter<W> as Sink>⟧.state result.0)
+        (printed style.entry (tree_of value.now)) result.1 }
+{
+    if style.sorted() {
+        styled_in_order(alloc, value, style, writer)
+    } else {
+        styled_as_it_stands(value, style, writer)
+    }
+}
+
+// Flushes the writer where the text was written.
+fn flushed<W: Sink>(writer: W, written: Result<()>) -> (W, Result<()>)
+    ensures { (old : SinkState) (text : List ℕ) → WritesText old (W.state writer) text written
+        → WritesFlushed old (W.state result.0) text result.1 }
+{
+    match written {
+        Ok(()) => {
+            let mut out = writer;
+            let answer = flush_all(&mut out);
+            (out, answer)
+        }
+        Err(error) => (writer, Err(error)),
+    }
+}
+
+// The text in the style, flushed.
+fn sent<W: Sink>(
+    alloc: Global,
+    value: &Value,
+    style: Style<'_>,
+    writer: BufferedWriter<W>,
+) -> (BufferedWriter<W>, Result<()>)
+    ensures text { WritesFlushed (⟦<BufferedWriter<W> as Sink>⟧.state writer)
+        (⟦<BufferedWriter<W> as Sink>⟧.state result.0)
+        (printed style.entry (tree_of value.now)) result.1 }
+{
+    let (writer, written) = styled(alloc, value, style, writer);
+    flushed(writer, written)
+}
+
+/// Writes the text of the value's tree in the style by pieces of at most 8,192 bytes, and flushes
+/// the sink. Fails with `Io` at `Writing` where the sink fails, and with `NoMemory` where memory
+/// runs out; the sink gained a prefix of the text then.
+pub fn print_value<K: Sink>(
+    alloc: Global,
+    value: &Value,
+    style: Style<'_>,
+    sink: &mut K,
+) -> Result<()>
+    ensures { Prints (K.state sink.old) (K.state sink.new) (printed style.entry (tree_of value.now))
+        result }
+{
+    let buffer = Buffer::new(alloc)?;
+    let writer = BufferedWriter::with_buffer(buffer, LentSink::new(sink));
+    let (writer, outcome) = sent(alloc, value, style, writer);
+    let _sink = writer.into_inner().into_inner();
+    outcome
+}
+
+/// Writes a text and flushes the sink. Fails with `Io` at `Writing` where the sink fails, and with
+/// `NoMemory` where it finds no memory; the sink gained a prefix of the text then.
+pub fn write_text<K: Sink>(sink: &mut K, text: &[u8]) -> Result<()>
+    ensures { Prints (K.state sink.old) (K.state sink.new) text.now result }
+{
+    put_all(sink, text)?;
+    flush_all(sink)
+}
