@@ -16,3 +16,4 @@ mod Members
 mod OperationLists
 mod MergedMembers
 mod Touched
+mod Commands

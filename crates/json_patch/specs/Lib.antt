@@ -11,3 +11,4 @@ pub mod Lookups
 pub mod Operations
 pub mod Errors
 pub mod Touched
+pub mod Commands

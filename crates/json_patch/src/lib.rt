@@ -1,4 +1,5 @@
-//! JSON Pointer (RFC 6901), JSON Patch (RFC 6902) and JSON Merge Patch (RFC 7396) over values.
+//! JSON Pointer (RFC 6901), JSON Patch (RFC 6902) and JSON Merge Patch (RFC 7396) over values, and
+//! `run_patch`, all that a program of patches does.
 //!
 //! ```
 //! use json_doc::read_document;
@@ -13,6 +14,7 @@
 #![tactic(auto)]
 
 mod change;
+mod command;
 mod error;
 pub mod examples;
 pub mod laws;
@@ -22,8 +24,10 @@ mod operation;
 mod patch;
 mod path;
 mod pointer;
+mod run;
 
 pub use error::{PatchCode, PatchError};
 pub use merge::apply_merge;
 pub use patch::apply_patch;
 pub use pointer::Pointer;
+pub use run::run_patch;
