@@ -73,8 +73,8 @@ pub record WithRequest (arguments : List (List ℕ)) (Holds : Request → Type 0
 
 -- ---- what was done
 
--- the input was read to its end and is a text of a tree of at most 254 levels, and the sink gained exactly
--- the compact text of what the request makes of it, and was flushed
+-- the input was read to its end and is a text of a tree of at most 254 levels; the sink gained
+-- exactly the compact text of what the request makes of it, and was flushed
 pub record WritesOutcome (r : Request) (source source' : SourceState) (sink sink' : SinkState) : Type 0 where
   pub tree : Tree
   pub reads : ReadsInput usual_rules source source' tree

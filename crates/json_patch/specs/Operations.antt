@@ -39,3 +39,7 @@ moved q p t = and_then (value_at_pointer q t) (λ u. elim (model.tokens_eq q p) 
 
 abbrev pub copied_to : List Token → List Token → Tree → Changed Tree
 copied_to q p t = and_then (value_at_pointer q t) (λ u. model.added_at p u t)
+
+-- a `move`, if both pointers are there
+abbrev pub moved_from : Option (List Token) → Option (List Token) → Option model.Operation
+moved_from q p = model.with_from model.move q p

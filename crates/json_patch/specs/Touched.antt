@@ -1,5 +1,5 @@
--- What operations change in a value: the levels that they write. A container on the way becomes writable, by
--- one level; all that is beside the change stays as the first write leaves it, a packed part of its document.
+-- What operations change in a value: the levels that they write. A container on the way becomes
+-- writable, by one level. All that is beside the change stays as the first write leaves it.
 use Rattle.std.specs.Prelude.{◌≡◌, ◌⊎◌, ℕ, List, [], ◌∷◌, ◌++◌, Ok, remove}
 use Rattle.std.specs.List.{insert}
 use Rattle.json_doc.specs.Readings.{elements}

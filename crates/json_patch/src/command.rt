@@ -63,9 +63,9 @@ fn text_after<'a>(argument: &'a str, option: &str) -> Option<&'a str>
     argument.strip_prefix(option)
 }
 
-/// Reads what the arguments ask for: one argument, `--patch=TEXT` or `--merge=TEXT` with a JSON text
-/// of at most 254 levels. Fails with `BadWords` if they have another form, and with `NoMemory` if
-/// memory runs out.
+/// Reads what the arguments ask for: one argument, `--patch=TEXT` or `--merge=TEXT` with a JSON
+/// text of at most 254 levels. Fails with `BadWords` if they have another form, and with `NoMemory`
+/// if memory runs out.
 pub fn read_command(alloc: Global, arguments: &Words) -> TextResult<Command>
     ensures ok { IfOk result (λ c. Asks arguments.now (request_of c)) }
     ensures err { IfErr result (λ e. (e ≡ no_memory)
@@ -112,8 +112,9 @@ fn compact_style() -> Style<'static>
     }
 }
 
-/// Reads all of the source by the usual rules, changes its value as the command asks, and writes the
-/// compact text, flushed. Nothing is written before the whole input was read and the change applied.
+/// Reads all of the source by the usual rules, changes its value as the command asks, and writes
+/// the compact text, flushed. Nothing is written before the whole input was read and the change
+/// applied.
 pub fn transfer<S: Source, K: Sink>(
     alloc: Global,
     source: &mut S,

@@ -49,10 +49,10 @@ fn merge_value(pairs: &mut Vec<Pair>, alloc: Global, key: &str, value: View<'_>)
             merge_in(member.value_mut(), alloc, value)
         }
         None => {
-            let mut fresh = Value::new_null();
-            merge_in(&mut fresh, alloc, value)?;
+            let mut member = Value::new_null();
+            merge_in(&mut member, alloc, value)?;
             let key = Text::copy(alloc, key)?;
-            pairs.push(Pair::new(key, fresh))?;
+            pairs.push(Pair::new(key, member))?;
             Ok(())
         }
     }
@@ -128,8 +128,8 @@ fn merge_in(value: &mut Value, alloc: Global, patch: View<'_>) -> TextResult<()>
 
 /// Applies a JSON Merge Patch (RFC 7396) to a value. A patch that is not an object replaces the
 /// value. An object merges its members: null removes all members of the key, and any other value is
-/// merged into the first value of the key, or inserted. Fails with `NoMemory` if memory runs out, and
-/// leaves the value as it was.
+/// merged into the first value of the key, or inserted. Fails with `NoMemory` if memory runs out,
+/// and leaves the value as it was.
 ///
 /// ```
 /// use json_doc::read_document;

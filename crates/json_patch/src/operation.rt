@@ -2,11 +2,11 @@
 ghost use Rattle.std.specs.Prelude.{◌≡◌, Some, map, string_bytes, option_map, IfOk, codes};
 ghost use Rattle.json_grammar.specs.Tree.{list_pairs};
 ghost use Rattle.json_patch.specs.Pointer.{pointer_of};
-ghost use Rattle.json_patch.specs.Patch.{single_value, string_in, pointer_in, is_proper_prefix, tokens_eq, operation_named, operation_of};
+ghost use Rattle.json_patch.specs.Patch.{single_value, string_in, pointer_in, is_proper_prefix, tokens_eq, move_allowed, operation_named, operation_of};
 ghost use Rattle.json_value.specs.Denotes.{tree_of};
 ghost use Rattle.json_value.specs.Failures.{OnlyNoMemory};
 ghost use Rattle.json_value.specs.Seen.{seen, members_seen};
-ghost use Rattle.json_patch.specs.Operations.{model_operation, both_of, path_and_value_of, from_and_path_of};
+ghost use Rattle.json_patch.specs.Operations.{model_operation, moved_from, both_of, path_and_value_of, from_and_path_of};
 ghost use Rattle.json_patch.specs.Lookups.{pointer_tokens};
 
 use crate::error::PatchCode;
@@ -157,6 +157,24 @@ pub fn are_tokens_same(first: &[String], second: &[String]) -> bool
     first.len() == second.len()
 }
 
+// Returns the operation `move`, unless `path` is below `from`.
+fn read_move(alloc: Global, object: ObjectView<'_>) -> Result<Option<Operation>>
+    ensures ok { let ps = list_pairs (members_seen object.entry) in
+        IfOk result (λ o. option_map model_operation o ≡ move_allowed (moved_from
+        (pointer_in (single_value (codes "from") ps)) (pointer_in (single_value (codes "path") ps)))) }
+    ensures only { OnlyNoMemory result }
+{
+    match from_and_path(alloc, object)? {
+        Some((from, path)) => {
+            if is_prefix(from.tokens.as_slice(), path.tokens.as_slice()) {
+                return Ok(None);
+            }
+            Ok(Some(Operation::Move { from, path }))
+        }
+        None => Ok(None),
+    }
+}
+
 // Returns the operation that `op` names.
 fn read_named(alloc: Global, name: &str, object: ObjectView<'_>) -> Result<Option<Operation>>
     ensures ok { let ps = list_pairs (members_seen object.entry) in
@@ -165,48 +183,30 @@ fn read_named(alloc: Global, name: &str, object: ObjectView<'_>) -> Result<Optio
         (single_value (codes "value") ps)) }
     ensures only { OnlyNoMemory result }
 {
-    if name == "add" {
-        return match path_and_value(alloc, object)? {
+    match name {
+        "add" => match path_and_value(alloc, object)? {
             Some((path, value)) => Ok(Some(Operation::Add { path, value })),
             None => Ok(None),
-        };
-    }
-    if name == "remove" {
-        return match single_pointer(alloc, object, "path")? {
+        },
+        "remove" => match single_pointer(alloc, object, "path")? {
             Some(path) => Ok(Some(Operation::Remove { path })),
             None => Ok(None),
-        };
-    }
-    if name == "replace" {
-        return match path_and_value(alloc, object)? {
+        },
+        "replace" => match path_and_value(alloc, object)? {
             Some((path, value)) => Ok(Some(Operation::Replace { path, value })),
             None => Ok(None),
-        };
-    }
-    if name == "move" {
-        return match from_and_path(alloc, object)? {
-            Some((from, path)) => {
-                if is_prefix(from.tokens.as_slice(), path.tokens.as_slice()) {
-                    return Ok(None);
-                }
-                Ok(Some(Operation::Move { from, path }))
-            }
-            None => Ok(None),
-        };
-    }
-    if name == "copy" {
-        return match from_and_path(alloc, object)? {
+        },
+        "move" => read_move(alloc, object),
+        "copy" => match from_and_path(alloc, object)? {
             Some((from, path)) => Ok(Some(Operation::Copy { from, path })),
             None => Ok(None),
-        };
-    }
-    if name == "test" {
-        return match path_and_value(alloc, object)? {
+        },
+        "test" => match path_and_value(alloc, object)? {
             Some((path, value)) => Ok(Some(Operation::Test { path, value })),
             None => Ok(None),
-        };
+        },
+        _ => Ok(None),
     }
-    Ok(None)
 }
 
 /// Returns the operation that the value is, or `None` if it is not one. Fails with `NoMemory` if

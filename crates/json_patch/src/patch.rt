@@ -41,12 +41,12 @@ fn code_of(error: Error) -> PatchCode
 }
 
 // Returns the result of a change, with the code of its error.
-fn with_code(went: TextResult<()>) -> Result<(), PatchCode>
-    ensures ok { OnOk result (went ≡ Ok tt) }
-    ensures refused { IfErr result (λ code. (changed : Changed Tree) → FailsAs changed went
+fn with_code(outcome: TextResult<()>) -> Result<(), PatchCode>
+    ensures ok { OnOk result (outcome ≡ Ok tt) }
+    ensures refused { IfErr result (λ code. (changed : Changed Tree) → FailsAs changed outcome
         → OperationFails (lookup_outcome changed) code) }
 {
-    match went {
+    match outcome {
         Ok(()) => Ok(()),
         Err(error) => Err(code_of(error)),
     }
@@ -157,12 +157,12 @@ fn apply_operation(root: &mut Value, alloc: Global, operation: &Operation) -> Re
             with_code(replace_with_copy(root, alloc, path.tokens.as_slice(), value))
         }
         Operation::Move { from, path } => {
-            let went = move_to(root, alloc, from.tokens.as_slice(), path.tokens.as_slice());
-            with_code(went)
+            let outcome = move_to(root, alloc, from.tokens.as_slice(), path.tokens.as_slice());
+            with_code(outcome)
         }
         Operation::Copy { from, path } => {
-            let went = copy_to(root, alloc, from.tokens.as_slice(), path.tokens.as_slice());
-            with_code(went)
+            let outcome = copy_to(root, alloc, from.tokens.as_slice(), path.tokens.as_slice());
+            with_code(outcome)
         }
         Operation::Test { path, value } => test_value(root, alloc, path.tokens.as_slice(), value),
     }

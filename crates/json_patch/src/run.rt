@@ -96,20 +96,20 @@ fn report_patch<E: Sink>(alloc: Global, errs: &mut E, error: PatchError) -> u8
             report_text(errs, text.as_str().as_bytes());
             status_of_patch(error.code)
         }
-        Err(lack) => {
-            report(errs, &lack);
-            status(&lack)
+        Err(error) => {
+            report(errs, &error);
+            status(&error)
         }
     }
 }
 
-/// Patches the JSON text of a source and writes the compact text of the result to a sink: all that the
-/// program does. The arguments are one: `--patch=TEXT` for a JSON Patch (RFC 6902), or `--merge=TEXT`
-/// for a JSON Merge Patch (RFC 7396), with a JSON text of at most 254 levels.
+/// Patches the JSON text of a source and writes the compact text of the result to a sink: all that
+/// the program does. The arguments are one: `--patch=TEXT` for a JSON Patch (RFC 6902), or
+/// `--merge=TEXT` for a JSON Merge Patch (RFC 7396), with a JSON text of at most 254 levels.
 ///
-/// Returns the status: 0 if all was done, 1 if the input is not valid, 2 if the arguments are not, 3 if
-/// the patch does not apply, 4 if a read failed, 5 if a write failed, and 6 if memory ran out. On 1 to 6
-/// one line about the error goes to `errs`.
+/// Returns the status: 0 if all was done, 1 if the input is not valid, 2 if the arguments are not,
+/// 3 if the patch does not apply, 4 if a read failed, 5 if a write failed, and 6 if memory ran out.
+/// On 1 to 6 one line about the error goes to `errs`.
 ///
 /// ```
 /// use json_patch::run_patch;

@@ -63,6 +63,6 @@ merge_value-returns-in_ok-push-in-None-clause-ok t c =
     let none = none_moved k k c.as_slice.result.now items refl c.as_slice.ensures.value c.in-None.ensures.none in
     let v = seen c.args.value in
     let w = c.merge_in-in-None.new.value in
-    let was = c.in_ok-merge_in-in-None.ensures.ok ∙ ap (λ (u : Tree). merged u v) (c.new_null-fresh.ensures ∙ sym (first_null k ps none)) in
+    let was = c.in_ok-merge_in-in-None.ensures.ok ∙ ap (λ (u : Tree). merged u v) (c.new_null-member.ensures ∙ sym (first_null k ps none)) in
     ap (λ (ms : List (Keyed Value)). list_pairs (map pair_of ms)) (c.in_ok-push-in-None.ensures.items ∙ ap (λ (m : Keyed Value). items ++ m ∷ []) c.new.ensures.member)
     ∙ sym (insert_beside k items c.in_ok-key-in-None.key w c.in_ok-key-in-None.ensures.text none) ∙ ap (λ (u : Tree). inserted k u ps) was
