@@ -1,5 +1,5 @@
 -- What the arguments and the bytes of a source come to.
-use Rattle.std.proofs.Common.{◌≡◌, ◌⊎◌, inl, inr, ℕ, ◌<◌, ◌≤◌, List, [], ◌∷◌, ◌++◌, codes, Result, Ok, Err, OnOk, IfErr, Option, None, Some, arith, length, false, refl, sym, subst, ap, ◌∙◌}
+use Rattle.std.proofs.Common.{◌≡◌, ◌⊎◌, inl, inr, ℕ, ◌<◌, ◌≤◌, List, [], ◌∷◌, ◌++◌, codes, Result, Ok, Err, OnOk, IfErr, Option, None, arith, length, false, refl, sym, subst, ap, ◌∙◌}
 use Rattle.json_doc.specs.Readings.{elements}
 use Rattle.json_grammar.proofs.Sizes.{text_fits, nodes_some}
 use Rattle.json_grammar.proofs.Values.{one_tree}
@@ -19,14 +19,14 @@ use Rattle.json_text.specs.declared.error.Place.{Place}
 use Rattle.json_text.specs.declared.error.Place.TheVariants.{None as nowhere, Reading, Writing}
 use Rattle.json_command.specs.Input.{InputFault}
 use Rattle.json_command.specs.Printing.{PrintingFails}
-use Rattle.json_command.specs.Reading.{ReadsInput, ReadingFails, KnownInput, KnownFault}
+use Rattle.json_command.specs.Reading.{ReadsInput, ReadingFails, KnownFault}
 use Rattle.json_command.specs.Reporting.{Reports, StatusReports}
 use Rattle.json_command.specs.Statuses.{status_of}
 use Rattle.json_command.proofs.Inputs.{no_want, no_io, no_words, no_not_found, no_type_unmatched}
 use Rattle.json_command.proofs.KnownBytes.{no_fault, same_fault, same_made, fault_known, large_known, fault_not_read}
 use Rattle.json_patch.specs.Patch.{PatchFailure, lookup_failed, bad_patch, test_failed}
 use Rattle.json_patch.specs.Errors.{PatchFails}
-use Rattle.json_patch.specs.Commands.{Request, patch_by, merge_by, outcome_of, HasFewOperations, Asks, IsRequest, WithRequest, WritesOutcome, ReadsUnfit, TransferFails, RequestFails, Fails, Refused, ReportsOr, KnownFit, KnownUnfit, IsFit, IsUnfit, IsFaulty, StatusReportsText, patch_status, patch_text, code_of_failure, status_of_error, error_text}
+use Rattle.json_patch.specs.Commands.{Request, patch_by, merge_by, outcome_of, HasFewOperations, Asks, IsRequest, WithRequest, WritesOutcome, ReadsUnfit, TransferFails, RequestFails, Fails, Refused, ReportsOr, KnownFit, KnownUnfit, IsFit, IsUnfit, IsFaulty, StatusReportsText, patch_status, patch_text, code_of_failure, status_of_error}
 use Rattle.json_patch.specs.declared.command.CommandError.{CommandError}
 use Rattle.json_patch.specs.declared.command.CommandError.TheVariants as failed
 use Rattle.json_patch.specs.declared.error.PatchCode.{PatchCode}

@@ -1,5 +1,5 @@
 -- Tokens, escaped from left to right.
-use Rattle.std.proofs.Common.{subst, ◌≡◌, ◌≢◌, ℕ, zero, suc, ◌<◌, List, [], ◌∷◌, ◌++◌, Bool, true, false, cond, length, get_or, refl, sym, ap, ◌∙◌, arith, ◌==◌, append_assoc, map, codes}
+use Rattle.std.proofs.Common.{subst, ◌≡◌, ◌≢◌, ℕ, zero, suc, ◌<◌, List, [], ◌∷◌, ◌++◌, Bool, true, false, cond, length, get_or, refl, sym, ap, ◌∙◌, arith, ◌==◌, append_assoc}
 use Rattle.json_patch.specs.Pointer.{Token, slash, tilde, escaped_byte, escaped_token, pointer_text, Lacks}
 use Rattle.json_patch.proofs.PointerParsing.{lacks_first, lacks_rest}
 

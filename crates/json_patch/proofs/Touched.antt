@@ -1,5 +1,5 @@
 -- What operations change, along the paths of tokens.
-use Rattle.std.proofs.Common.{◌≡◌, ℕ, suc, ◌+◌, ◌<◌, List, [], ◌∷◌, ◌++◌, Ok, refl, sym, ap, ◌∙◌, subst, map, drop, length}
+use Rattle.std.proofs.Common.{◌≡◌, List, [], ◌∷◌, ◌++◌, Ok, sym, ap, ◌∙◌, subst}
 use Rattle.json_grammar.specs.Tree.{Tree}
 use Rattle.json_model.specs.Edit.{Step, key_step, index_step}
 use Rattle.json_value.specs.Denotes.{tree_of, text_bytes}
@@ -11,7 +11,7 @@ use Rattle.json_value.specs.declared.path.PointerNode.TheVariants.{Key, Index}
 use Rattle.json_value.specs.declared.value.Value.{Value, Array, Object}
 use Rattle.json_value.proofs.EditedValues.{along_as}
 use Rattle.json_patch.specs.Pointer.{Token, path_of_tokens}
-use Rattle.json_patch.specs.Patch.{Operation, split_last}
+use Rattle.json_patch.specs.Patch.{Operation}
 use Rattle.json_patch.specs.Touched.{AddTouches, RemovesChild, TouchesAt, AddsValue, RemovesValue, OperationTouches, OperationsTouch}
 use Rattle.json_patch.proofs.PatchLaws.{split_last-append}
 

@@ -1,8 +1,8 @@
 -- Laws of pointers, patches and merges.
-use Rattle.std.specs.Prelude.{◌⊎◌, slice_index, ◌+◌, Option, None, decimal, ◌<◌, ◌^◌, ◌≡◌, ◌≢◌, ℕ, ◌≤◌, true, false, codes, List, [], ◌∷◌, ◌++◌, length, map, replicate, Result, Ok, Err, Some, IfOk}
+use Rattle.std.specs.Prelude.{◌⊎◌, slice_index, ◌+◌, Option, None, decimal, ◌<◌, ◌^◌, ◌≡◌, ◌≢◌, ℕ, ◌≤◌, true, false, codes, List, [], ◌∷◌, ◌++◌, length, map, Result, Ok, Err, Some}
 use Rattle.std.specs.Str.Parse.{IsNumeral, digits_value}
 use Rattle.json_grammar.specs.Tree.{Tree, null, boolean, num, text, list, pairs, Trees, trees_list, list_trees, Pairs, no_pairs, pair_and}
-use Rattle.json_model.specs.Edit.{Step, Edit, set_at, insert_at, push_at, remove_at, Refusal, has_key, edited_once, edited}
+use Rattle.json_model.specs.Edit.{Step, set_at, insert_at, push_at, remove_at, Refusal, has_key, edited_once}
 use Rattle.json_model.specs.Same.{same}
 use Rattle.json_model.specs.Sort.{values_of}
 use Rattle.json_patch.specs.ValuesAt.{and_then, value_at_step, value_at_path}

@@ -1,4 +1,4 @@
-use Rattle.std.proofs.Common.{◌≡◌, ◌⊎◌, ℕ, inl, inr, sym, subst, ◌∙◌}
+use Rattle.std.proofs.Common.{◌≡◌, ◌⊎◌, ℕ, inr, sym, subst, ◌∙◌}
 use Rattle.json_command.specs.Reporting.{StatusReports}
 use Rattle.json_patch.specs.Commands.{StatusReportsText, patch_text, code_of_failure}
 use Rattle.json_patch.proofs.Commands.{patch_reported, faulty_done, unfit_done, fit_fails, faulty_fails, unfit_fails, words_fail, patch_fit, patch_faulty, patch_unfit, patch_words}
