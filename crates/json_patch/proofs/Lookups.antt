@@ -1,0 +1,174 @@
+-- The value that a token references.
+use Rattle.std.proofs.Common.{◌≡◌, ◌≢◌, ◌⊎◌, inl, inr, ℕ, ◌+◌, ◌-◌, ◌<◌, ◌≤◌, ◌^◌, List, [], ◌∷◌, ◌++◌, append_assoc, Bool, true, false, cond, not, ◌&&◌, ◌||◌, Option, Some, None, Result, Ok, Err, refl, sym, ap, ◌∙◌, subst, bytes_eq, codes, arith, ne_eqb, le-leb, leb-true, get_or, drop, length, zero, suc, drop-cons, add-one}
+use Rattle.std.specs.Prelude.{ok_or, option_map, slice_get, nat_le, slice_index, ◌==◌}
+use Rattle.std.specs.Str.Parse.{IsNumeral, digits_value, without_leading_plus, ParsesUnsigned}
+use Rattle.std.proofs.lemmas.Bool.{or_cases, and_parts, and_from}
+use Rattle.std.proofs.lemmas.Bool.Decides.{eqb_tells}
+use Rattle.std.proofs.Math.Dec.{eqb}
+use Rattle.std.proofs.lemmas.Slice.Eq.{bytes_eq-Decides}
+use Rattle.json_grammar.specs.Tree.{Tree, null, boolean, num, text, list, pairs, trees_list, pairs_list}
+use Rattle.json_model.specs.Edit.{Step, index_step, Changed, Refusal, within, not_found, type_unmatched}
+use Rattle.json_value.specs.Seen.{list_of, pairs_of, first_of}
+use Rattle.json_patch.specs.ValuesAt.{and_then, value_at_step, value_at_path}
+use Rattle.json_patch.specs.Pointer.{Token, is_digit, index_after, index_of, step_of_token, path_of_tokens, value_at_pointer}
+use Rattle.json_patch.proofs.Indexes.{index_is_numeral, numeral_is_index}
+use Rattle.json_patch.proofs.PatchLaws.{value_at_pointer-step}
+use Rattle.json_patch.proofs.ReplacedAt.{value_at_path-append}
+use Rattle.json_patch.proofs.Results.{then_assoc, no_ok}
+use Rattle.json_patch.specs.Lookups.{has_index_start, value_at_token}
+use Rattle.json_patch.proofs.ValueAtPath.{first_value-first_of}
+
+-- ---- indexes
+
+some_none : (x : ℕ) → None ≡ Some x → ⊥
+some_none x e = cc
+
+-- such a token begins with a digit, and with 0 only if it is `0`
+first_digit : (l : List ℕ) → has_index_start l ≡ true → (48 ≤ get_or l 0 0) × (get_or l 0 0 ≤ 57) × ((l ≡ codes "0") ⊎ (get_or l 0 0 ≢ 48))
+first_digit l p = by (or_cases (bytes_eq l (codes "0")) (nat_le 49 (slice_index l 0) && nat_le (slice_index l 0) 57) p)
+  where
+    by : (bytes_eq l (codes "0") ≡ true) ⊎ ((nat_le 49 (slice_index l 0) && nat_le (slice_index l 0) 57) ≡ true) → (48 ≤ get_or l 0 0) × (get_or l 0 0 ≤ 57) × ((l ≡ codes "0") ⊎ (get_or l 0 0 ≢ 48))
+    by (inl e) = let same = (bytes_eq-Decides l (codes "0")).0 e in (subst (λ d. 48 ≤ get_or d 0 0) (sym same) (omega arith), subst (λ d. get_or d 0 0 ≤ 57) (sym same) (omega arith), inl same)
+    by (inr e) =
+        let q = and_parts (nat_le 49 (slice_index l 0)) (nat_le (slice_index l 0) 57) e in
+        let low = leb-true 49 (slice_index l 0) q.0 in
+        let high = leb-true (slice_index l 0) 57 q.1 in
+        (omega (arith, low), high, inr (λ f. omega (arith, low, f)))
+
+no_plus : (l : List ℕ) → 48 ≤ get_or l 0 0 → without_leading_plus l ≡ l
+no_plus l h = ap (λ b. drop (cond b 1 0) l) (ne_eqb (get_or l 0 0) 43 (λ e. omega (arith, h, e)))
+
+pub index_of-parsed : {E : Type 0} (l : List ℕ) (r : Result ℕ E) (n : ℕ) → has_index_start l ≡ true → ParsesUnsigned 64 10 l r → r ≡ Ok n → index_of l ≡ Some n
+index_of-parsed {E} l r n p h e =
+    let d = first_digit l p in
+    let same = no_plus l d.0 in
+    let g : ParsesUnsigned {E = E} 64 10 l (Ok n) = subst (λ q. ParsesUnsigned {E = E} 64 10 l q) e h in
+    let num : IsNumeral 10 l = subst (IsNumeral 10) same g.0.0 in
+    numeral_is_index l num d.2 ∙ ap Some (sym (g.1 ∙ ap (digits_value 10) same))
+
+pub index_of-unparsed : {E : Type 0} (l : List ℕ) (r : Result ℕ E) (e : E) → has_index_start l ≡ true → ParsesUnsigned 64 10 l r → r ≡ Err e → (i : ℕ) → i < 2 ^ 64 → index_of l ≢ Some i
+index_of-unparsed {E} l r e p h is i small f =
+    let d = first_digit l p in
+    let same = no_plus l d.0 in
+    let g : ParsesUnsigned {E = E} 64 10 l (Err e) = subst (λ q. ParsesUnsigned {E = E} 64 10 l q) is h in
+    let n = index_is_numeral l i f in
+    g (subst (IsNumeral 10) (sym same) n.0, subst (λ v. v < 2 ^ 64) (sym (ap (digits_value 10) same ∙ n.1)) small)
+
+no_or : (a b : Bool) → (a || b) ≡ false → b ≡ true → ⊥
+no_or true b e f = cc
+no_or false b e f = cc
+
+digit_plain : (x : ℕ) (l : List ℕ) → is_digit x ≡ true → x ≢ 48 → (nat_le 49 x && nat_le x 57) ≡ true
+digit_plain x l d n =
+    let a = and_parts (nat_le 48 x) (nat_le x 57) d in
+    let low = leb-true 48 x a.0 in
+    and_from (nat_le 49 x) (nat_le x 57) (le-leb 49 x (omega (arith, low, n))) a.1
+
+pub index_of-no_start : (l : List ℕ) (i : ℕ) → has_index_start l ≡ false → index_of l ≢ Some i
+index_of-no_start [] i p e = some_none i e
+index_of-no_start (x ∷ []) i p e = by (is_digit x) refl e (eqb_tells x 48)
+  where
+    by : (b : Bool) → is_digit x ≡ b → cond b (Some (x - 48)) None ≡ Some i → ((eqb x 48 ≡ true) × (x ≡ 48)) ⊎ ((eqb x 48 ≡ false) × (x ≢ 48)) → ⊥
+    by false d f c = some_none i f
+    by true d f (inl c) = let g : has_index_start (48 ∷ []) ≡ false = subst (λ y. has_index_start (y ∷ []) ≡ false) c.1 p in cc
+    by true d f (inr c) = no_or (bytes_eq (x ∷ []) (codes "0")) (nat_le 49 x && nat_le x 57) p (digit_plain x [] d c.1)
+index_of-no_start (x ∷ y ∷ s) i p e = by (is_digit x && not (x == 48)) refl e
+  where
+    by : (b : Bool) → (is_digit x && not (x == 48)) ≡ b → elim b as (λ _. Option ℕ) [ true ↦ index_after (x - 48) (y ∷ s) | false ↦ None ] ≡ Some i → ⊥
+    by false d f = some_none i f
+    by true d f =
+        let q = and_parts (is_digit x) (not (x == 48)) d in
+        no_or (bytes_eq (x ∷ y ∷ s) (codes "0")) (nat_le 49 x && nat_le x 57) p (digit_plain x (y ∷ s) q.0 (λ g. let n : not (eqb 48 48) ≡ true = subst (λ z. not (eqb z 48) ≡ true) g q.1 in cc))
+
+-- ---- one step
+
+pub at_object : (k : Token) (t : Tree) (qs : List (List ℕ × Tree)) → Some qs ≡ pairs_of t → value_at_token k t ≡ ok_or (option_map (λ (q : List ℕ × Tree). q.1) (first_of k qs)) not_found
+at_object k (pairs ps) qs e =
+    let same : qs ≡ pairs_list ps = cc in
+    ap (λ o. ok_or o not_found) (first_value-first_of k ps) ∙ ap (λ xs. ok_or (option_map (λ (q : List ℕ × Tree). q.1) (first_of k xs)) not_found) (sym same)
+at_object k null qs e = cc
+at_object k (boolean b) qs e = cc
+at_object k (num l) qs e = cc
+at_object k (text s) qs e = cc
+at_object k (list ts) qs e = cc
+
+pub at_array : (k : Token) (t : Tree) (xs : List Tree) (i : ℕ) → Some xs ≡ list_of t → index_of k ≡ Some i → value_at_token k t ≡ ok_or (slice_get xs i) not_found
+at_array k (list ts) xs i e f =
+    let same : xs ≡ trees_list ts = cc in
+    ap (λ o. and_then (ok_or (option_map index_step o) not_found) (λ s. value_at_step s (list ts))) f ∙ ap (λ ys. ok_or (slice_get ys i) not_found) (sym same)
+at_array k (pairs ps) xs i e f = cc
+at_array k null xs i e f = cc
+at_array k (boolean b) xs i e f = cc
+at_array k (num l) xs i e f = cc
+at_array k (text s) xs i e f = cc
+
+past_end : (xs : List Tree) (i : ℕ) → length xs ≤ i → slice_get xs i ≡ None
+past_end [] i h = refl
+past_end (x ∷ xs) zero h = absurd (omega arith)
+past_end (x ∷ xs) (suc i) h = past_end xs i (omega arith)
+
+-- an array has no element at an index past its end, or at a token that is no index
+pub at_array_none : (k : Token) (t : Tree) (xs : List Tree) → Some xs ≡ list_of t → ((i : ℕ) → index_of k ≡ Some i → length xs ≤ i) → value_at_token k t ≡ Err not_found
+at_array_none k (list ts) xs e h = by (index_of k) h
+  where
+    by : (o : Option ℕ) → ((i : ℕ) → o ≡ Some i → length xs ≤ i) → and_then (ok_or (option_map index_step o) not_found) (λ s. value_at_step s (list ts)) ≡ Err not_found
+    by None g = refl
+    by (Some i) g =
+        let same : xs ≡ trees_list ts = cc in
+        ap (λ ys. ok_or (slice_get ys i) not_found) (sym same) ∙ ap (λ o. ok_or o not_found) (past_end xs i (g i refl))
+at_array_none k (pairs ps) xs e h = cc
+at_array_none k null xs e h = cc
+at_array_none k (boolean b) xs e h = cc
+at_array_none k (num l) xs e h = cc
+at_array_none k (text s) xs e h = cc
+
+pub at_scalar : (k : Token) (t : Tree) → None ≡ list_of t → None ≡ pairs_of t → value_at_token k t ≡ Err type_unmatched
+at_scalar k (list ts) a b = cc
+at_scalar k (pairs ps) a b = cc
+at_scalar k null a b = refl
+at_scalar k (boolean c) a b = refl
+at_scalar k (num l) a b = refl
+at_scalar k (text s) a b = refl
+
+-- ---- more steps
+
+pub value_at_pointer-cons : (k : Token) (p : List Token) (t : Tree) → value_at_pointer (k ∷ p) t ≡ and_then (value_at_token k t) (value_at_pointer p)
+value_at_pointer-cons k p t = value_at_pointer-step k p t ∙ sym (then_assoc (step_of_token k t) (λ s. value_at_step s t) (value_at_pointer p))
+
+-- ---- paths
+
+path_of_tokens-step : (k : Token) (p : List Token) (t u : Tree) (s : Step) → step_of_token k t ≡ Ok s → value_at_token k t ≡ Ok u → path_of_tokens (k ∷ p) t ≡ within (λ q. s ∷ q) (path_of_tokens p u)
+path_of_tokens-step k p t u s e f =
+    let child_there : value_at_step s t ≡ Ok u = sym (ap (λ r. and_then r (λ v. value_at_step v t)) e) ∙ f in
+    ap (λ r. and_then r (λ v. and_then (value_at_step v t) (λ w. within (λ q. v ∷ q) (path_of_tokens p w)))) e ∙ ap (λ r. and_then r (λ w. within (λ q. s ∷ q) (path_of_tokens p w))) child_there
+
+within_twice : (a : List Step) (s : Step) (r : Changed (List Step)) → within (λ q. a ++ q) (within (λ q. s ∷ q) r) ≡ within (λ q. (a ++ (s ∷ [])) ++ q) r
+within_twice a s (Ok q) = ap Ok (sym (append_assoc a (s ∷ []) q))
+within_twice a s (Err e) = refl
+
+-- the tokens read are the path a to the tree t; one token more
+pub path_of_tokens-next : (k : Token) (p : List Token) (t u : Tree) (s : Step) (a : List Step) (r : Changed (List Step)) → r ≡ within (λ q. a ++ q) (path_of_tokens (k ∷ p) t) → step_of_token k t ≡ Ok s → value_at_token k t ≡ Ok u
+    → r ≡ within (λ q. (a ++ (s ∷ [])) ++ q) (path_of_tokens p u)
+path_of_tokens-next k p t u s a r h e f = h ∙ ap (within (λ q. a ++ q)) (path_of_tokens-step k p t u s e f) ∙ within_twice a s (path_of_tokens p u)
+
+pub value_at_path-next : (k : Token) (t u root : Tree) (s : Step) (a : List Step) → value_at_path a root ≡ Ok t → step_of_token k t ≡ Ok s → value_at_token k t ≡ Ok u → value_at_path (a ++ (s ∷ [])) root ≡ Ok u
+value_at_path-next k t u root s a h e f =
+    let child_there : value_at_step s t ≡ Ok u = sym (ap (λ r. and_then r (λ v. value_at_step v t)) e) ∙ f in
+    value_at_path-append a (s ∷ []) root ∙ ap (λ r. and_then r (value_at_path (s ∷ []))) h ∙ ap (λ r. and_then r (value_at_path [])) child_there
+
+path_of_tokens-err : (k : Token) (p : List Token) (t : Tree) (e : Refusal) → value_at_token k t ≡ Err e → path_of_tokens (k ∷ p) t ≡ Err e
+path_of_tokens-err k p t e h = by (step_of_token k t) h
+  where
+    inner : (s : Step) (r : Changed Tree) → r ≡ Err e → and_then r (λ u. within (λ q. s ∷ q) (path_of_tokens p u)) ≡ Err e
+    inner s (Ok u) g = absurd (no_ok u e (sym g))
+    inner s (Err f) g = cc
+
+    by : (r : Changed Step) → and_then r (λ s. value_at_step s t) ≡ Err e → and_then r (λ s. and_then (value_at_step s t) (λ u. within (λ q. s ∷ q) (path_of_tokens p u))) ≡ Err e
+    by (Ok s) g = inner s (value_at_step s t) g
+    by (Err f) g = cc
+
+pub path_of_tokens-lost : (k : Token) (p : List Token) (t : Tree) (a : List Step) (r : Changed (List Step)) (e : Refusal) → r ≡ within (λ q. a ++ q) (path_of_tokens (k ∷ p) t) → value_at_token k t ≡ Err e → r ≡ Err e
+path_of_tokens-lost k p t a r e h f = h ∙ ap (within (λ q. a ++ q)) (path_of_tokens-err k p t e f)
+
+pub drop_item : {A : Type 0} (xs : List A) (i : ℕ) (x : A) → i < length xs → x ≡ get_or xs i x → drop i xs ≡ x ∷ drop (i + 1) xs
+drop_item xs i x l e = drop-cons xs i x l ∙ ap (λ y. y ∷ drop (suc i) xs) (sym e) ∙ ap (λ n. x ∷ drop n xs) (sym (add-one i))

@@ -1,0 +1,5 @@
+use Rattle.json_patch.proofs.PatchLaws as proof
+use Rattle.json_patch.proofs.laws.add_is_insert.Goals as goal
+
+pub returns : goal.returns
+returns c = proof.add_is_insert

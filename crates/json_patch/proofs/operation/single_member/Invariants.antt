@@ -1,0 +1,12 @@
+use Rattle.std.proofs.Common.{◌≡◌, ◌++◌, option_map}
+use Rattle.json_grammar.specs.Tree.{list_pairs}
+use Rattle.json_model.specs.Sort.{values_of}
+use Rattle.json_value.specs.Left.{members_left}
+use Rattle.json_value.specs.Seen.{seen, members_seen}
+use Rattle.json_patch.proofs.Members.{listed}
+use Rattle.json_patch.proofs.operation.single_member.Given as goal
+
+-- the values of the key are what was found, and then those of the members left
+abbrev pub invariant-members : goal.invariant-members
+invariant-members l =
+    values_of l.fn.key (list_pairs (members_seen l.fn.object)) ≡ listed (option_map seen l.found) ++ values_of l.fn.key (list_pairs (members_left l.name-iterator))

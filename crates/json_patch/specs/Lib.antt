@@ -1,0 +1,14 @@
+pub mod ValuesAt
+pub mod Pointer
+pub mod Patch
+pub mod Merge
+pub mod Laws
+pub mod ExampleTrees
+pub mod PointerExamples
+pub mod PatchExamples
+pub mod MergeExamples
+pub mod Lookups
+pub mod Operations
+pub mod Errors
+pub mod Touched
+pub mod Commands

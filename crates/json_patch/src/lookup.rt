@@ -1,0 +1,113 @@
+// Following the tokens of a pointer (RFC 6901, section 4).
+ghost use Rattle.std.specs.Prelude.{◌≡◌, ◌≢◌, ◌<◌, ◌≤◌, ◌^◌, ℕ, Some, map, string_bytes, MatchOption, option_map, ok_or};
+ghost use Rattle.json_model.specs.Edit.{not_found};
+ghost use Rattle.json_patch.specs.Pointer.{index_of, value_at_pointer};
+ghost use Rattle.json_grammar.specs.Tree.{Tree};
+ghost use Rattle.json_value.specs.Seen.{seen, elements_seen, list_of};
+ghost use Rattle.json_patch.specs.Lookups.{has_index_start, error_of_lookup, found_value, value_at_token};
+
+use json_text::{Error, ErrorCode, Place};
+use json_value::{ArrayView, View};
+
+/// Why a token references nothing.
+#[derive(Clone, Copy)]
+pub enum LookupError {
+    /// The key or the index is missing.
+    NotFound,
+    /// The value is neither an object nor an array.
+    TypeUnmatched,
+}
+
+impl From<LookupError> for Error {
+    ghost from_gives = { λ missing e. e ≡ error_of_lookup missing };
+
+    fn from(missing: LookupError) -> Error {
+        let code = match missing {
+            LookupError::NotFound => ErrorCode::NotFound,
+            LookupError::TypeUnmatched => ErrorCode::TypeUnmatched,
+        };
+        Error {
+            code,
+            place: Place::None,
+        }
+    }
+}
+
+// Returns whether the token is `0`, or begins with a digit from 1 to 9.
+fn starts_like_index(digits: &str) -> bool
+    ensures { result ≡ has_index_start digits.now }
+{
+    let bytes = digits.as_bytes();
+    digits == "0" || !bytes.is_empty() && bytes[0] >= b'1' && bytes[0] <= b'9'
+}
+
+// Returns the index that the token is; `None` if it is no index, or one that no array has.
+fn parse_index(token: &str) -> Option<usize>
+    ensures { MatchOption result ((i : ℕ) → i < 2 ^ 64 → index_of token.now ≢ Some i)
+        (λ i. index_of token.now ≡ Some i) }
+{
+    if !starts_like_index(token) {
+        return None;
+    }
+    match token.parse::<usize>() {
+        Ok(i) => Some(i),
+        Err(_) => None,
+    }
+}
+
+/// Returns the index that the token is, if it is at most `max`.
+pub fn index_at_most(last: usize, token: &str) -> Option<usize>
+    ensures { MatchOption result ((i : ℕ) → index_of token.now ≡ Some i → last < i)
+        (λ i. (index_of token.now ≡ Some i) × (i ≤ last)) }
+{
+    match parse_index(token) {
+        Some(i) if i <= last => Some(i),
+        _ => None,
+    }
+}
+
+// Returns the value, or `NotFound` if there is none.
+fn or_not_found<'a>(place: Option<View<'a>>) -> Result<View<'a>, LookupError>
+    ensures { found_value result ≡ ok_or (option_map seen place.entry) not_found }
+{
+    match place {
+        Some(view) => Ok(view),
+        None => Err(LookupError::NotFound),
+    }
+}
+
+// Returns the element at the index that the token is.
+fn find_element<'a>(token: &str, array: ArrayView<'a>) -> Result<View<'a>, LookupError>
+    ensures { (t : Tree) → Some (elements_seen array.entry) ≡ list_of t
+        → found_value result ≡ value_at_token token.now t }
+{
+    match index_at_most(array.len(), token) {
+        Some(i) => or_not_found(array.get(i)),
+        None => Err(LookupError::NotFound),
+    }
+}
+
+/// Returns the element, or the first member's value, that the token references.
+pub fn find_child<'a>(token: &str, here: View<'a>) -> Result<View<'a>, LookupError>
+    ensures { found_value result ≡ value_at_token token.now (seen here.entry) }
+{
+    if let Some(array) = here.as_array() {
+        return find_element(token, array);
+    }
+    match here.as_object() {
+        Some(object) => or_not_found(object.get(token)),
+        None => Err(LookupError::TypeUnmatched),
+    }
+}
+
+/// Returns the value that the tokens reference.
+pub fn find_value<'a>(tokens: &[String], root: View<'a>) -> Result<View<'a>, LookupError>
+    ensures { found_value result
+        ≡ value_at_pointer (map string_bytes tokens.now) (seen root.entry) }
+{
+    let mut here = root;
+    for token in tokens {
+        here = find_child(token, here)?;
+    }
+    Ok(here)
+}

@@ -1,0 +1,168 @@
+// JSON Merge Patch (RFC 7396).
+ghost use Rattle.std.specs.Prelude.{◌≡◌, map, OnOk, OnErr, IfOk, IfErr};
+ghost use Rattle.json_grammar.specs.Tree.{pairs, list_pairs};
+ghost use Rattle.json_model.specs.Edit.{inserted, without_key};
+ghost use Rattle.json_model.specs.Same.{first_value};
+ghost use Rattle.json_patch.specs.Merge.{merged, pairs_merged, tree_or_null, members_of};
+ghost use Rattle.json_value.specs.Denotes.{tree_of, pair_of, pairs_in};
+ghost use Rattle.json_value.specs.Failures.{OnlyNoMemory};
+ghost use Rattle.json_value.specs.Seen.{seen, members_seen};
+ghost use Rattle.json_patch.specs.Errors.{no_memory};
+ghost use Rattle.json_patch.specs.Merge.{member_merged};
+
+use crate::change::object_mut_in;
+use crate::error::{PatchCode, PatchError};
+use json_doc::JsonType;
+use json_text::Result as TextResult;
+use json_value::{Object, ObjectView, Pair, Text, Value, View, find_key};
+use std::alloc::Global;
+
+// Removes all members of the key.
+fn remove_key(pairs: &mut Vec<Pair>, key: &str)
+    ensures { list_pairs (map pair_of pairs.new.items)
+        ≡ without_key key.now (list_pairs (map pair_of pairs.old.items)) }
+{
+    pairs.retain(|pair| pair.key() != key);
+}
+
+// Replaces a value that is no object by an empty object.
+fn become_object(value: &mut Value)
+    ensures { tree_of value.new ≡ pairs (members_of (tree_of value.old)) }
+{
+    match value {
+        Value::Object(_) => (),
+        _ => *value = Value::new_object(),
+    }
+}
+
+// Merges a value into the first value of the key, or into null, and inserts it.
+#[cycle(merge)]
+fn merge_value(pairs: &mut Vec<Pair>, alloc: Global, key: &str, value: View<'_>) -> TextResult<()>
+    ensures ok { let ps = list_pairs (map pair_of pairs.old.items) in
+        OnOk result (list_pairs (map pair_of pairs.new.items) ≡ inserted key.now
+        (merged (tree_or_null (first_value key.now ps)) (seen value.entry)) ps) }
+    ensures only { OnlyNoMemory result }
+{
+    match find_key(pairs.as_slice(), key) {
+        Some(i) => {
+            let member = &mut pairs[i];
+            merge_in(member.value_mut(), alloc, value)
+        }
+        None => {
+            let mut member = Value::new_null();
+            merge_in(&mut member, alloc, value)?;
+            let key = Text::copy(alloc, key)?;
+            pairs.push(Pair::new(key, member))?;
+            Ok(())
+        }
+    }
+}
+
+// Merges a member: null removes all members of the key.
+#[cycle(merge)]
+fn merge_member(pairs: &mut Vec<Pair>, alloc: Global, key: &str, value: View<'_>) -> TextResult<()>
+    ensures ok { OnOk result (list_pairs (map pair_of pairs.new.items) ≡ member_merged key.now
+        (seen value.entry) (list_pairs (map pair_of pairs.old.items))) }
+    ensures only { OnlyNoMemory result }
+{
+    if value.get_type() == JsonType::Null {
+        remove_key(pairs, key);
+        return Ok(());
+    }
+    merge_value(pairs, alloc, key, value)
+}
+
+// Merges members in turn.
+#[cycle(merge)]
+fn merge_members(pairs: &mut Vec<Pair>, alloc: Global, members: ObjectView<'_>) -> TextResult<()>
+    ensures ok { OnOk result (list_pairs (map pair_of pairs.new.items) ≡ pairs_merged
+        (list_pairs (map pair_of pairs.old.items)) (list_pairs (members_seen members.entry))) }
+    ensures only { OnlyNoMemory result }
+{
+    'members: for i in 0..members.len() {
+        if let Some((key, value)) = members.pair(i) {
+            merge_member(pairs, alloc, key, value)?;
+        }
+    }
+    Ok(())
+}
+
+#[cycle(merge)]
+fn merge_object(object: &mut Object, alloc: Global, members: ObjectView<'_>) -> TextResult<()>
+    ensures ok { OnOk result (list_pairs (pairs_in object.new) ≡ pairs_merged
+        (list_pairs (pairs_in object.old)) (list_pairs (members_seen members.entry))) }
+    ensures only { OnlyNoMemory result }
+{
+    let pairs = object.pairs_mut(alloc)?;
+    merge_members(pairs, alloc, members)
+}
+
+// Merges members into a value, which becomes an object if it is none.
+#[cycle(merge)]
+fn merge_object_in(value: &mut Value, alloc: Global, members: ObjectView<'_>) -> TextResult<()>
+    ensures ok { OnOk result (tree_of value.new ≡ pairs (pairs_merged
+        (members_of (tree_of value.old)) (list_pairs (members_seen members.entry)))) }
+    ensures only { OnlyNoMemory result }
+{
+    become_object(value);
+    match object_mut_in(value) {
+        Some(object) => merge_object(object, alloc, members),
+        None => unreachable!(),
+    }
+}
+
+// Merges a patch into a value. An error leaves the value unspecified.
+#[cycle(merge)]
+fn merge_in(value: &mut Value, alloc: Global, patch: View<'_>) -> TextResult<()>
+    ensures ok { OnOk result (tree_of value.new ≡ merged (tree_of value.old) (seen patch.entry)) }
+    ensures only { OnlyNoMemory result }
+{
+    match patch.as_object() {
+        Some(members) => merge_object_in(value, alloc, members),
+        None => {
+            *value = patch.to_value(alloc)?;
+            Ok(())
+        }
+    }
+}
+
+/// Applies a JSON Merge Patch (RFC 7396) to a value. A patch that is not an object replaces the
+/// value. An object merges its members: null removes all members of the key, and any other value is
+/// merged into the first value of the key, or inserted. Fails with `NoMemory` if memory runs out,
+/// and leaves the value as it was.
+///
+/// ```
+/// use json_doc::read_document;
+/// use json_patch::apply_merge;
+/// use json_value::{Value, View};
+/// let doc = read_document(alloc, "{\"a\": \"b\", \"c\": {\"d\": \"e\", \"f\": \"g\"}}")?;
+/// let mut value = Value::from_place(alloc, &doc, doc.root())?;
+/// let patch = read_document(alloc, "{\"a\": \"z\", \"c\": {\"f\": null}}")?;
+/// apply_merge(alloc, &mut value, View::packed(patch.view()))?;
+/// assert_eq!(rt; value.to_string(alloc)?.as_str(), "{\"a\":\"z\",\"c\":{\"d\":\"e\"}}");
+/// ```
+pub fn apply_merge(alloc: Global, value: &mut Value, patch: View<'_>) -> Result<(), PatchError>
+    ensures ok { OnOk result (tree_of value.new ≡ merged (tree_of value.old) (seen patch.entry)) }
+    ensures kept { OnErr result (value.new ≡ value.old) }
+    ensures only { IfErr result (λ e. e ≡ no_memory) }
+{
+    match merge_copy(value, alloc, patch) {
+        Ok(merged) => {
+            *value = merged;
+            Ok(())
+        }
+        Err(_) => Err(PatchError {
+            code: PatchCode::NoMemory,
+            op: None,
+        }),
+    }
+}
+
+fn merge_copy(value: &Value, alloc: Global, patch: View<'_>) -> TextResult<Value>
+    ensures ok { IfOk result (λ v. tree_of v ≡ merged (tree_of value.now) (seen patch.entry)) }
+    ensures only { OnlyNoMemory result }
+{
+    let mut work = value.clone(alloc)?;
+    merge_in(&mut work, alloc, patch)?;
+    Ok(work)
+}

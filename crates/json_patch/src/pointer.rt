@@ -1,0 +1,166 @@
+// JSON Pointer (RFC 6901).
+ghost use Rattle.std.specs.Prelude.{◌≡◌, ◌++◌, Some, None, OnOk, IfOk, IfErr, map, option_map, string_bytes, false, []};
+ghost use Rattle.std.specs.Result.{result_ok};
+ghost use Rattle.json_value.specs.Failures.{OnlyNoMemory};
+ghost use Rattle.json_value.specs.Seen.{seen};
+ghost use Rattle.json_patch.specs.Pointer.{pointer_of, pointer_text, unescaped_after, unescaped_tokens, split_at_slashes, value_at_pointer, escaped_token, tilde, Lacks};
+ghost use Rattle.json_patch.specs.Errors.{PointerFails};
+ghost use Rattle.json_patch.specs.Lookups.{pointer_tokens};
+
+use crate::error::{PatchCode, PatchError};
+use crate::lookup::find_value;
+use json_text::Result as TextResult;
+use json_value::View;
+use std::alloc::Global;
+
+/// A JSON Pointer (RFC 6901): reference tokens, each a key or the decimal digits of an index.
+///
+/// ```
+/// use json_doc::read_document;
+/// use json_patch::Pointer;
+/// use json_value::View;
+/// let doc = read_document(alloc, "{\"a/b\": [true, false]}")?;
+/// let pointer = Pointer::parse(alloc, "/a~1b/1")?;
+/// let found = pointer.find(View::packed(doc.view())).ok_or("nothing found")?;
+/// assert_eq!(rt; found.as_bool(), Some(false));
+/// assert_eq!(rt; pointer.to_text(alloc)?.as_str(), "/a~1b/1");
+/// ```
+#[derive(Drop)]
+pub struct Pointer {
+    pub(crate) tokens: Vec<String>,
+}
+
+fn bad_pointer() -> PatchError
+    ensures { result ≡ record { code = PatchCode.BadPointer; op = None } }
+{
+    PatchError {
+        code: PatchCode::BadPointer,
+        op: None,
+    }
+}
+
+// Returns the token of a part between slashes.
+fn read_token(alloc: Global, part: &str) -> Result<String, PatchError>
+    ensures ok { IfOk result (λ s. unescaped_after false part.now ≡ Some (string_bytes s)) }
+    ensures refused { IfErr result (λ e. PointerFails (unescaped_after false part.now)
+        e.code e.op) }
+{
+    let mut token = String::new(alloc);
+    let mut remaining = part;
+    'tildes: while let Some((plain, after)) = remaining.split_once('~') {
+        token.push_str(plain)?;
+        if let Some(rest) = after.strip_prefix('0') {
+            token.push('~')?;
+            remaining = rest;
+        } else if let Some(rest) = after.strip_prefix('1') {
+            token.push('/')?;
+            remaining = rest;
+        } else {
+            return Err(bad_pointer());
+        }
+    }
+    token.push_str(remaining)?;
+    Ok(token)
+}
+
+// Returns the tokens of the parts between slashes.
+fn read_tokens(alloc: Global, parts: &str) -> Result<Vec<String>, PatchError>
+    ensures ok { IfOk result (λ v. unescaped_tokens (split_at_slashes parts.now)
+        ≡ Some (map string_bytes v.items)) }
+    ensures refused { IfErr result (λ e. PointerFails (unescaped_tokens (split_at_slashes parts.now))
+        e.code e.op) }
+{
+    let mut tokens = Vec::new(alloc);
+    let mut remaining = parts;
+    'parts: while let Some((part, after)) = remaining.split_once('/') {
+        let token = read_token(alloc, part)?;
+        tokens.push(token)?;
+        remaining = after;
+    }
+    let last = read_token(alloc, remaining)?;
+    tokens.push(last)?;
+    Ok(tokens)
+}
+
+// Appends the part of a token that has no tilde, escaped.
+fn push_slashes(text: &mut String, part: &str) -> TextResult<()>
+    requires { Lacks tilde part.now }
+    ensures ok { OnOk result (string_bytes text.new
+        ≡ string_bytes text.old ++ escaped_token part.now) }
+    ensures only { OnlyNoMemory result }
+{
+    let mut remaining = part;
+    'slashes: while let Some((plain, after)) = remaining.split_once('/') {
+        text.push_str(plain)?;
+        text.push_str("~1")?;
+        remaining = after;
+    }
+    text.push_str(remaining)?;
+    Ok(())
+}
+
+// Appends a token, escaped.
+fn push_escaped(text: &mut String, token: &str) -> TextResult<()>
+    ensures ok { OnOk result (string_bytes text.new
+        ≡ string_bytes text.old ++ escaped_token token.now) }
+    ensures only { OnlyNoMemory result }
+{
+    let mut remaining = token;
+    'tildes: while let Some((plain, after)) = remaining.split_once('~') {
+        push_slashes(text, plain)?;
+        text.push_str("~0")?;
+        remaining = after;
+    }
+    push_slashes(text, remaining)
+}
+
+impl Pointer {
+    /// Parses the text of a pointer (RFC 6901, section 3): nothing, or a `/` before each token. In
+    /// a token `~1` is `/` and `~0` is `~`. Fails with `BadPointer` if the text is not a pointer,
+    /// and with `NoMemory` if memory runs out.
+    pub fn parse(alloc: Global, text: &str) -> Result<Pointer, PatchError>
+        ensures ok { IfOk result (λ p. pointer_of text.now ≡ Some (pointer_tokens p)) }
+        ensures refused { IfErr result (λ e. PointerFails (pointer_of text.now) e.code e.op) }
+    {
+        if text.is_empty() {
+            return Ok(Pointer {
+                tokens: Vec::new(alloc),
+            });
+        }
+        match text.strip_prefix('/') {
+            Some(parts) => {
+                let tokens = read_tokens(alloc, parts)?;
+                Ok(Pointer { tokens })
+            }
+            None => Err(bad_pointer()),
+        }
+    }
+
+    /// Returns the value that the pointer references (RFC 6901, section 4), or `None` if there is
+    /// none. A key references the first member of that name.
+    pub fn find<'a>(&self, root: View<'a>) -> Option<View<'a>>
+        ensures { option_map seen result
+            ≡ result_ok (value_at_pointer (pointer_tokens self.now) (seen root.entry)) }
+    {
+        match find_value(self.tokens.as_slice(), root) {
+            Ok(place) => Some(place),
+            Err(_) => None,
+        }
+    }
+
+    /// Returns the text of the pointer, from which `parse` reads the same tokens. Fails with
+    /// `NoMemory` if memory runs out.
+    pub fn to_text(&self, alloc: Global) -> TextResult<String>
+        ensures text { IfOk result (λ s. string_bytes s ≡ pointer_text (pointer_tokens self.now)) }
+        ensures parses { IfOk result (λ s. pointer_of (string_bytes s)
+            ≡ Some (pointer_tokens self.now)) }
+        ensures only { OnlyNoMemory result }
+    {
+        let mut text = String::new(alloc);
+        for token in &self.tokens {
+            text.push('/')?;
+            push_escaped(&mut text, token.as_str())?;
+        }
+        Ok(text)
+    }
+}

@@ -1,0 +1,159 @@
+// The top call.
+ghost use Rattle.std.specs.Prelude.{◌≡◌, ◌≢◌, ◌⊎◌, ◌+◌, ◌<◌, ℕ, Option, IsErrOf, string_bytes, OnOk, IfOk, IfErr};
+ghost use Rattle.json_text.specs.Errors.{reading_failed, writing_failed};
+ghost use Rattle.json_text.specs.Transfer.{TakesAtMost};
+ghost use Rattle.json_text.specs.declared.error.ErrorCode.{ErrorCode};
+ghost use Rattle.json_text.specs.declared.error.Place.{Place};
+ghost use Rattle.json_value.specs.Failures.{OnlyNoMemory};
+ghost use Rattle.json_command.specs.Input.{max_bytes};
+ghost use Rattle.json_command.specs.Reporting.{StatusReports};
+ghost use Rattle.json_command.specs.Statuses.{status_of};
+ghost use Rattle.json_patch.specs.Patch.{PatchFailure};
+ghost use Rattle.json_patch.specs.Commands.{WithRequest, IsRequest, WritesOutcome, Fails, Done, Refused, ReportsOr, IsFit, IsUnfit, IsFaulty, StatusReportsText, patch_status, code_name, patch_text, code_of_failure};
+
+use crate::command::{CommandError, read_command, transfer};
+use crate::error::{PatchCode, PatchError};
+use itoa::Buffer;
+use json_command::{Status, report, report_text};
+use json_text::{Error, Result as TextResult, Sink, Source, Words};
+use std::alloc::Global;
+
+// Returns the name of a code.
+fn name_of(code: PatchCode) -> &'static str
+    ensures { result.now ≡ code_name code }
+{
+    match code {
+        PatchCode::NoMemory => "NoMemory",
+        PatchCode::NotFound => "NotFound",
+        PatchCode::TypeUnmatched => "TypeUnmatched",
+        PatchCode::BadPointer => "BadPointer",
+        PatchCode::BadPatch => "BadPatch",
+        PatchCode::TestFailed => "TestFailed",
+    }
+}
+
+// Returns the line of an error of a patch.
+fn text_of_patch(alloc: Global, error: &PatchError) -> TextResult<String>
+    ensures ok { IfOk result (λ s. string_bytes s ≡ patch_text error.now.code error.now.op) }
+    ensures only { OnlyNoMemory result }
+{
+    let mut text = String::new(alloc);
+    text.push_str(name_of(error.code))?;
+    if let Some(i) = error.op {
+        let mut buffer = Buffer::new();
+        text.push_str(" in operation ")?;
+        text.push_str(buffer.format(i))?;
+    }
+    text.push_str("\n")?;
+    Ok(text)
+}
+
+// Returns the number of the status of an error of a patch.
+fn status_of_patch(code: PatchCode) -> u8
+    ensures { result ≡ patch_status code }
+{
+    match code {
+        PatchCode::NoMemory => Status::OutOfMemory.number(),
+        _ => Status::EditFailed.number(),
+    }
+}
+
+// Returns the number of the status of an error.
+fn status(error: &Error) -> u8
+    ensures { result ≡ status_of error.now.code error.now.place }
+{
+    Status::of_error(error).number()
+}
+
+// Does what the arguments ask for.
+fn carry_out<S: Source, K: Sink>(
+    alloc: Global,
+    arguments: &Words,
+    source: &mut S,
+    sink: &mut K,
+) -> Result<(), CommandError>
+    ensures done { OnOk result (WithRequest arguments.now (λ r. WritesOutcome r
+        (S.state source.old) (S.state source.new) (K.state sink.old) (K.state sink.new))) }
+    ensures refused { IfErr result (Fails arguments.now (S.state source.old) (S.state source.new)
+        (K.state sink.old) (K.state sink.new)) }
+    ensures taken { TakesAtMost (max_bytes + 1) (S.state source.old) (S.state source.new) }
+    ensures read_told { (S.state source.old).faults < (S.state source.new).faults
+        → IsErrOf result (CommandError.Transfer reading_failed) }
+    ensures write_told { (K.state sink.old).faults < (K.state sink.new).faults
+        → IsErrOf result (CommandError.Transfer writing_failed) }
+{
+    let command = read_command(alloc, arguments)?;
+    transfer(alloc, source, sink, &command)
+}
+
+// Reports an error of a patch and returns its status; or that memory ran out for its text.
+fn report_patch<E: Sink>(alloc: Global, errs: &mut E, error: PatchError) -> u8
+    ensures { ReportsOr (patch_status error.code) (patch_text error.code error.op)
+        (E.state errs.old) (E.state errs.new) result }
+{
+    match text_of_patch(alloc, &error) {
+        Ok(text) => {
+            report_text(errs, text.as_str().as_bytes());
+            status_of_patch(error.code)
+        }
+        Err(error) => {
+            report(errs, &error);
+            status(&error)
+        }
+    }
+}
+
+/// Patches the JSON text of a source and writes the compact text of the result to a sink: all that
+/// the program does. The arguments are one: `--patch=TEXT` for a JSON Patch (RFC 6902), or
+/// `--merge=TEXT` for a JSON Merge Patch (RFC 7396), with a JSON text of at most 254 levels.
+///
+/// Returns the status: 0 if all was done, 1 if the input is not valid, 2 if the arguments are not,
+/// 3 if the patch does not apply, 4 if a read failed, 5 if a write failed, and 6 if memory ran out.
+/// On 1 to 6 one line about the error goes to `errs`.
+///
+/// ```
+/// use json_patch::run_patch;
+/// use json_text::{SliceSource, VecSink, Words};
+/// let mut arguments = Words::new(alloc);
+/// arguments.push("--merge={\"a\": null}")?;
+/// let mut source = SliceSource::new(b"{\"a\": 1, \"b\": 2}");
+/// let (mut sink, mut errs) = (VecSink::new(alloc), VecSink::new(alloc));
+/// assert_eq!(rt; run_patch(alloc, &arguments, &mut source, &mut sink, &mut errs), 0);
+/// assert_eq!(rt; sink.as_slice(), b"{\"b\":2}".as_slice());
+/// ```
+pub fn run_patch<S: Source, K: Sink, E: Sink>(
+    alloc: Global,
+    arguments: &Words,
+    source: &mut S,
+    sink: &mut K,
+    errs: &mut E,
+) -> u8
+    ensures done { result ≡ 0 → Done arguments.now (S.state source.old) (S.state source.new)
+        (K.state sink.old) (K.state sink.new) (E.state errs.old) (E.state errs.new) }
+    ensures refused { result ≢ 0 → Refused result arguments.now
+        (S.state source.old) (S.state source.new)
+        (K.state sink.old) (K.state sink.new) (E.state errs.old) (E.state errs.new) }
+    ensures taken { TakesAtMost (max_bytes + 1) (S.state source.old) (S.state source.new) }
+    ensures read_told { (S.state source.old).faults < (S.state source.new).faults → result ≡ 4 }
+    ensures write_told { (K.state sink.old).faults < (K.state sink.new).faults → result ≡ 5 }
+    ensures complete { IsFit arguments.now (S.state source.old) (S.state source.new)
+        (K.state sink.old) (K.state sink.new) → (result ≡ 0) ⊎ (result ≡ 6) }
+    ensures exact { (code : ErrorCode) (place : Place)
+        → IsFaulty arguments.now (S.state source.old) (S.state source.new) code place
+        → StatusReports 1 (record { code = code; place = place })
+        (E.state errs.old) (E.state errs.new) result }
+    ensures unfit { (failure : PatchFailure) (op : Option ℕ)
+        → IsUnfit arguments.now (S.state source.old) (S.state source.new) failure op
+        → StatusReportsText 3 (patch_text (code_of_failure failure) op)
+        (E.state errs.old) (E.state errs.new) result }
+    ensures words { ¬ (IsRequest arguments.now) → (result ≡ 2) ⊎ (result ≡ 6) }
+{
+    match carry_out(alloc, arguments, source, sink) {
+        Ok(()) => 0,
+        Err(CommandError::Transfer(error)) => {
+            report(errs, &error);
+            status(&error)
+        }
+        Err(CommandError::Patch(error)) => report_patch(alloc, errs, error),
+    }
+}

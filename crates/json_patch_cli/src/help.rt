@@ -1,0 +1,49 @@
+// What the program says of itself.
+use json_command::About;
+
+/// What `--help` alone prints.
+const HELP: &str = "\
+mezdruk patch reads a JSON text from standard input, changes it by a patch,
+and writes it to standard output, compact.
+
+Usage: mezdruk patch --patch=PATCH
+       mezdruk patch --merge=PATCH
+
+  --patch=PATCH   apply a JSON Patch (RFC 6902)
+      mezdruk patch --patch='[{\"op\": \"remove\", \"path\": \"/tags/0\"}]'
+  --merge=PATCH   apply a JSON Merge Patch (RFC 7396)
+      mezdruk patch --merge='{\"license\": \"MIT\", \"private\": null}'
+  --help          print this text
+  --version       print the version
+
+PATCH is a JSON text of at most 254 levels. A JSON Patch is an array of
+operations, which are applied in order, all or none:
+  {\"op\": \"add\", \"path\": P, \"value\": V}
+  {\"op\": \"remove\", \"path\": P}
+  {\"op\": \"replace\", \"path\": P, \"value\": V}
+  {\"op\": \"move\", \"from\": P, \"path\": P}
+  {\"op\": \"copy\", \"from\": P, \"path\": P}
+  {\"op\": \"test\", \"path\": P, \"value\": V}
+P is a JSON Pointer (RFC 6901), as \"/tags/0\". The pointer \"\" is the root.
+
+Status:
+  0  done
+  1  the input is not valid: too large, not UTF-8, no JSON text, or too many
+     levels
+  2  the arguments are not valid
+  3  the patch does not apply
+  4  reading failed
+  5  writing failed
+  6  memory ran out
+  8  the arguments could not be read, for example because one is not UTF-8
+";
+
+/// What `--version` alone prints.
+const VERSION: &str = "json_patch 0.1.0\n";
+
+/// What the program says of itself.
+pub const ABOUT: About = About {
+    help: HELP,
+    version: VERSION,
+    hint: "Run `mezdruk patch --help` for usage.\n",
+};

@@ -1,0 +1,10 @@
+# Completion of the arguments of `mezdruk patch` for bash.
+_patch() {
+    local word=${COMP_WORDS[COMP_CWORD]} arguments="--patch= --merge= --help --version"
+    COMPREPLY=()
+    ((COMP_CWORD == 1)) || return
+    mapfile -t COMPREPLY < <(compgen -W "$arguments" -- "$word")
+    if [[ ${COMPREPLY[*]} == --patch= || ${COMPREPLY[*]} == --merge= ]]; then
+        compopt -o nospace
+    fi
+}
