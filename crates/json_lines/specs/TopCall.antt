@@ -1,5 +1,5 @@
 -- What the call that writes all rows does.
-use Rattle.std.specs.Prelude.{◌≡◌, ℕ, ◌<◌, Bool, false, List, [], ◌++◌, length, IfSome, ⊤, ◌⊎◌}
+use Rattle.std.specs.Prelude.{◌≡◌, ℕ, ◌<◌, Bool, false, List, [], ◌++◌, length, IfSome, ⊤}
 use Rattle.json_text.specs.Known.{Consumes, Appends, told_as}
 use Rattle.json_text.specs.Errors.{reading_failed, writing_failed}
 use Rattle.json_text.specs.Outside.{SinkState, SourceState, Rose}
