@@ -12,7 +12,7 @@ use Rattle.json_lines.specs.Cells.{Column, Command, cell, cell_where, cells, row
 use Rattle.json_model.specs.Edit.{Step}
 use Rattle.json_value.specs.Steps.{tree_at}
 use Rattle.std.specs.Prelude.{None}
-use Rattle.json_lines.specs.Tables.{separator}
+use Rattle.json_lines.specs.Tables.{cell_separator}
 use Rattle.json_lines.proofs.TextWriting.{WritesText-nil, WritesText-then, WritesText-first, WritesText-is}
 
 abbrev pub is_none : List Column → Bool
@@ -27,7 +27,7 @@ tabbed-append t [] ys = refl
 tabbed-append t (x ∷ xs) ys = ap (λ l. 9 ∷ (cell x t ++ l)) (tabbed-append t xs ys) ∙ ap (λ l. 9 ∷ l) (sym (append_assoc (cell x t) (tabbed t xs) (tabbed t ys)))
 
 -- the cells of some columns, of one more, and of others
-pub cells-split : (t : Tree) (xs : List Column) (c : Column) (later : List Column) → cells (xs ++ c ∷ later) t ≡ cells xs t ++ ((separator (is_none xs) ++ cell c t) ++ tabbed t later)
+pub cells-split : (t : Tree) (xs : List Column) (c : Column) (later : List Column) → cells (xs ++ c ∷ later) t ≡ cells xs t ++ ((cell_separator (is_none xs) ++ cell c t) ++ tabbed t later)
 cells-split t [] c later = refl
 cells-split t (x ∷ xs) c later = ap (λ l. cell x t ++ l) (tabbed-append t xs (c ∷ later)) ∙ sym (append_assoc (cell x t) (tabbed t xs) (tabbed t (c ∷ later)))
 
@@ -43,19 +43,19 @@ not-none : (xs : List Column) (c : Column) → false ≡ is_none (xs ++ c ∷ []
 not-none [] c = refl
 not-none (x ∷ xs) c = refl
 
-pub WritesCells-more : (old mid new : SinkState) (first : Bool) (done : List Column) (c : Column) (t : Tree) (u : Unit {0}) → WritesCells old mid first done t → WritesText mid new (separator first ++ cell c t) (Ok u) → WritesCells old new false (done ++ c ∷ []) t
+pub WritesCells-more : (old mid new : SinkState) (first : Bool) (done : List Column) (c : Column) (t : Tree) (u : Unit {0}) → WritesCells old mid first done t → WritesText mid new (cell_separator first ++ cell c t) (Ok u) → WritesCells old new false (done ++ c ∷ []) t
 WritesCells-more old mid new first done c t u h k =
     record {
-      puts = subst (λ l. WritesText old new l (Ok tt)) (sym (cells-split t done c [] ∙ ap (λ l. cells done t ++ l) (append-nil (separator (is_none done) ++ cell c t))))
-          (WritesText-then old mid new (cells done t) (separator (is_none done) ++ cell c t) tt (Ok u) h.puts (subst (λ f. WritesText mid new (separator f ++ cell c t) (Ok u)) h.first_so k));
+      puts = subst (λ l. WritesText old new l (Ok tt)) (sym (cells-split t done c [] ∙ ap (λ l. cells done t ++ l) (append-nil (cell_separator (is_none done) ++ cell c t))))
+          (WritesText-then old mid new (cells done t) (cell_separator (is_none done) ++ cell c t) tt (Ok u) h.puts (subst (λ f. WritesText mid new (cell_separator f ++ cell c t) (Ok u)) h.first_so k));
       first_so = not-none done c;
     }
 
-pub WritesCells-stopped : (old mid new : SinkState) (first : Bool) (done : List Column) (c : Column) (later : List Column) (t : Tree) (e : Error) → WritesCells old mid first done t → WritesText mid new (separator first ++ cell c t) (Err e)
+pub WritesCells-stopped : (old mid new : SinkState) (first : Bool) (done : List Column) (c : Column) (later : List Column) (t : Tree) (e : Error) → WritesCells old mid first done t → WritesText mid new (cell_separator first ++ cell c t) (Err e)
     → WritesText old new (cells (done ++ c ∷ later) t) (Err e)
 WritesCells-stopped old mid new first done c later t e h k =
     subst (λ l. WritesText old new l (Err e)) (sym (cells-split t done c later))
-    (WritesText-then old mid new (cells done t) _ tt (Err e) h.puts (WritesText-first mid new (separator (is_none done) ++ cell c t) (tabbed t later) e (subst (λ f. WritesText mid new (separator f ++ cell c t) (Err e)) h.first_so k)))
+    (WritesText-then old mid new (cells done t) _ tt (Err e) h.puts (WritesText-first mid new (cell_separator (is_none done) ++ cell c t) (tabbed t later) e (subst (λ f. WritesText mid new (cell_separator f ++ cell c t) (Err e)) h.first_so k)))
 
 -- ---- one item of a list
 
@@ -78,5 +78,5 @@ WritesCells-is old new first p q t e h = subst (λ l. WritesCells old new first 
 
 -- the cell at the end of the steps
 pub cell-found : (old new : SinkState) (first : Bool) (c : Column) (o : Option Tree) (steps : List Step) (t : Tree) (r : Result (Unit {0}) Error) → o ≡ tree_at steps t → steps ≡ c.path
-    → WritesText old new (separator first ++ cell_where c.kind o) r → WritesText old new (separator first ++ cell c t) r
-cell-found old new first c o steps t r e f h = WritesText-is old new _ _ r (ap (λ x. separator first ++ cell_where c.kind x) (e ∙ ap (λ p. tree_at p t) f)) h
+    → WritesText old new (cell_separator first ++ cell_where c.kind o) r → WritesText old new (cell_separator first ++ cell c t) r
+cell-found old new first c o steps t r e f h = WritesText-is old new _ _ r (ap (λ x. cell_separator first ++ cell_where c.kind x) (e ∙ ap (λ p. tree_at p t) f)) h

@@ -1,4 +1,4 @@
--- Where the first line stands in the buffer.
+-- The range of the first line in the buffer.
 use Rattle.std.proofs.Common.{◌≡◌, ℕ, ◌+◌, ◌-◌, ◌<◌, ◌≤◌, true, false, List, [], ◌++◌, length, take, drop, slice_range, Option, None, Some, refl, sym, ap, ◌∙◌, subst, arith, append_assoc, inl, inr, ◌⊎◌}
 use Rattle.std.proofs.Math.Seq.{take-append-add, drop-append-add}
 use Rattle.std.proofs.lemmas.List.{length-append, length-take, length-drop, take-take, drop-drop, append-nil}
@@ -15,7 +15,7 @@ use Rattle.json_lines.specs.LineRanges.{new_bytes, ReadsMore, DropsLine, ReadsUn
 use Rattle.json_lines.proofs.Newlines.{unended, alone}
 use Rattle.json_lines.proofs.ReaderSteps.{ReadsBytes-trans, ReadsBytes-none, ReadsUnended-more, held-more}
 
--- the first break, behind bytes that have none
+-- the first newline, after bytes that contain none
 pub IsFirstNewline-behind : (xs ys : List ℕ) (k : ℕ) → has_newline xs ≡ false → IsFirstNewline ys (Some k) → IsFirstNewline (xs ++ ys) (Some (length xs + k))
 IsFirstNewline-behind xs ys k none here =
     let p = unended xs ys none in

@@ -17,7 +17,7 @@ use Rattle.json_lines.specs.declared.run.Tally.{Tally}
 use Rattle.json_lines.specs.Lines.{lines}
 use Rattle.json_lines.specs.Reading.{IsLineOf}
 use Rattle.json_command.specs.Input.{max_bytes}
-use Rattle.json_lines.specs.Rows.{Outcome, row_bytes, is_bad, error_bytes, rows_of, errors_from, HasWithin}
+use Rattle.json_lines.specs.Rows.{Outcome, outcome_row, is_bad, error_bytes, rows_of, errors_from, HasWithin}
 use Rattle.json_lines.specs.LineHandling.{LineHas, ReportsUnlessMuted}
 use Rattle.json_lines.specs.Steps.{RunState, TakesLine, FindsNoLine, ReadingLineFails, HandlingLineFails}
 use Rattle.json_lines.specs.Running.{IsFreshRun, HandlesLines, FinishesLines, FailsEarly, StopsEarly, RowErrorCause}
@@ -57,7 +57,7 @@ pub few-lines : (has : List ℕ → Outcome → Type 0) (a b : RunState) → Han
 few-lines has a b h = omega (arith, h.number, h.read.room, h.read.few)
 
 -- one line more is handled
-handles_more : (has : List ℕ → Outcome → Type 0) (done : List (List ℕ)) (x : List ℕ) (o : Outcome) (s t u e f g : SinkState) (old new : Tally) → HandlesLines has done s t e f old → has x o → WritesText t u (row_bytes o) (Ok tt)
+handles_more : (has : List ℕ → Outcome → Type 0) (done : List (List ℕ)) (x : List ℕ) (o : Outcome) (s t u e f g : SinkState) (old new : Tally) → HandlesLines has done s t e f old → has x o → WritesText t u (outcome_row o) (Ok tt)
     → ReportsUnlessMuted old.muted new.muted f g (error_bytes new.number o) → new.number ≡ 1 + length done → new.bad ≡ (old.bad || is_bad o) → HandlesLines has (done ++ x ∷ []) s u e g new
 handles_more has done x o s t u e f g old new h is row report number bad =
     let os = h.outcomes in
@@ -158,7 +158,7 @@ FailsEarly-handling has a b c e so_far fails =
     let o = failed.row.outcome in
     let now = more.reads in
     let writes : WritesText a.sink c.sink (rows_of os ++ rows_of (o ∷ [])) (Err e) = WritesText-then a.sink b.sink c.sink (rows_of os) (rows_of (o ∷ [])) tt (Err e) so_far.handled.rows
-    (subst (λ l. WritesText b.sink c.sink l (Err e)) (sym (append-nil (row_bytes o))) failed.row.row) in
+    (subst (λ l. WritesText b.sink c.sink l (Err e)) (sym (append-nil (outcome_row o))) failed.row.row) in
     record {
       bytes = now.bytes;
       reads = now.reads;

@@ -24,7 +24,7 @@ use Rattle.json_print.specs.TextWriting.{WritesText}
 use Rattle.json_command.specs.Input.{InputFault, not_utf8, no_text}
 use Rattle.json_lines.specs.Cells.{Command, row}
 use Rattle.json_lines.specs.Outcomes.{max_line, HasOutcome, blank, good, faulty}
-use Rattle.json_lines.specs.Rows.{Row, Bad, row_bytes}
+use Rattle.json_lines.specs.Rows.{Row, Bad, outcome_row}
 use Rattle.json_lines.specs.Reading.{ReaderState, NextLineCall, IsLine, RepeatsError}
 use Rattle.json_lines.specs.LineHandling.{WritesRow, RowFails, ReturnsOutcome, IsWithinLimit}
 use Rattle.json_lines.specs.Tables.{BlankTest}
@@ -98,7 +98,7 @@ module _ (command : Command) (line : List ℕ) (short : length line ≤ max_line
 
   -- memory ran out, and nothing was written
   pub row_unread : (s : SinkState) (e : Error) → e ≡ no_memory → RowFails (HasOutcome command line) s s e
-  row_unread s e is = let some = some_outcome command line in record { outcome = some.0; has_it = some.1; row = WritesText-no-memory s (row_bytes some.0) e is }
+  row_unread s e is = let some = some_outcome command line in record { outcome = some.0; has_it = some.1; row = WritesText-no-memory s (outcome_row some.0) e is }
 
 -- ---- the line that was read
 

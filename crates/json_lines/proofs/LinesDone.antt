@@ -7,7 +7,7 @@ use Rattle.json_lines.specs.Lines.{lines, has_newline, first_line, after_line}
 use Rattle.json_lines.specs.Reading.{IsLine}
 use Rattle.json_lines.proofs.Newlines.{unended, alone, line_by_line}
 
--- these lines are done, which stood in these bytes: of any front of the rest, the lines follow them
+-- these lines are those of these bytes: the lines of any prefix of the rest follow them
 abbrev pub LinesAreDone : List ℕ → List (List ℕ) → List ℕ → Type 0
 LinesAreDone passed done rest = (x y : List ℕ) → rest ≡ x ++ y → lines (passed ++ x) ≡ done ++ lines x
 
@@ -53,7 +53,7 @@ lines_of_ending line rest h =
 pub lines_of_last : (line : List ℕ) → 0 < length line → has_newline line ≡ false → lines line ≡ line ∷ []
 lines_of_last line some h = let p = alone line h in lines_of_some line some ∙ ap (λ l. l ∷ lines (after_line line)) p.0 ∙ ap (λ l. line ∷ lines l) p.1
 
--- the bytes of the first line and the 0A behind it
+-- the bytes of the first line and its newline
 abbrev pub done_part : List ℕ → Bool → List ℕ
 done_part xs true = first_line xs ++ 10 ∷ []
 done_part xs false = xs
@@ -92,7 +92,7 @@ LinesAreDone-more false passed done xs left h some over through =
     subst (λ l. LinesAreDone (passed ++ done_part xs false) (done ++ first_line xs ∷ []) (after_line xs ++ l)) (sym (over refl))
     (LinesAreDone-last passed done xs h some (subst (λ l. LinesAreDone passed done (xs ++ l)) (over refl) through))
 
--- ---- what is behind a line is shorter
+-- ---- the bytes after a line are fewer
 
 after-step : (t : Bool) (xs : List ℕ) → length (after_line xs) ≤ length xs → length (cond t xs (after_line xs)) ≤ length xs
 after-step true xs h = omega arith
@@ -106,7 +106,7 @@ pub after-shorter : (xs : List ℕ) → 0 < length xs → length (after_line xs)
 after-shorter [] h = absurd (omega (arith, h))
 after-shorter (b ∷ xs) h = omega (arith, after-step (b == 10) xs (after-short xs))
 
--- ---- the line that is answered
+-- ---- the line that is returned
 
 pub IsLine-some : (limit : ℕ) (bytes : List ℕ) (line : Line) → IsLine limit bytes (Some line) → 0 < length bytes
 IsLine-some limit bytes (Whole line) is = is.0

@@ -5,7 +5,7 @@ use Rattle.std.specs.List.{slice_split, onto_first}
 use Rattle.memchr.specs.Find.{Passes, is_byte, Nowhere, IsFirstByte}
 use Rattle.json_lines.specs.Lines.{has_newline, first_line, after_line, IsFirstNewline, without_empty_last, lines, LineByLine}
 
--- no line ends in the front
+-- no line ends in the first part
 unended_step : (t : Bool) (b : ℕ) (xs ys : List ℕ) → cond t true (has_newline xs) ≡ false
     → (has_newline xs ≡ false → (first_line (xs ++ ys) ≡ xs ++ first_line ys) × (after_line (xs ++ ys) ≡ after_line ys) × (has_newline (xs ++ ys) ≡ has_newline ys))
     → (cond t [] (b ∷ first_line (xs ++ ys)) ≡ b ∷ (xs ++ first_line ys)) × (cond t (xs ++ ys) (after_line (xs ++ ys)) ≡ after_line ys) × (cond t true (has_newline (xs ++ ys)) ≡ has_newline ys)
@@ -16,7 +16,7 @@ pub unended : (xs ys : List ℕ) → has_newline xs ≡ false → (first_line (x
 unended [] ys h = (refl, refl, refl)
 unended (b ∷ xs) ys h = unended_step (b == 10) b xs ys h (unended xs ys)
 
--- a line ends in the front
+-- a line ends in the first part
 ended_step : (t : Bool) (b : ℕ) (xs ys : List ℕ) → cond t true (has_newline xs) ≡ true
     → (has_newline xs ≡ true → (first_line (xs ++ ys) ≡ first_line xs) × (after_line (xs ++ ys) ≡ after_line xs ++ ys) × (has_newline (xs ++ ys) ≡ true))
     → (cond t [] (b ∷ first_line (xs ++ ys)) ≡ cond t [] (b ∷ first_line xs)) × (cond t (xs ++ ys) (after_line (xs ++ ys)) ≡ cond t xs (after_line xs) ++ ys) × (cond t true (has_newline (xs ++ ys)) ≡ true)
@@ -78,7 +78,7 @@ counted_cons : (piece next : List ℕ) (later : List (List ℕ)) → without_emp
 counted_cons [] next later = refl
 counted_cons (b ∷ bs) next later = refl
 
--- behind a line that ends, the others follow
+-- after a line that ends, the others follow
 counted-more : (piece : List ℕ) (rest : List ℕ) → without_empty_last (piece ∷ slice_split (λ b. b == 10) rest) ≡ piece ∷ without_empty_last (slice_split (λ b. b == 10) rest)
 counted-more piece rest = rw (split_is rest) (counted_cons piece (first_line rest) _)
 

@@ -1,4 +1,4 @@
--- What a call of `next_line` answers.
+-- What a call of `next_line` returns.
 use Rattle.std.proofs.Common.{◌≡◌, ℕ, ◌-◌, ◌<◌, ◌⊎◌, inl, inr, true, List, [], ◌++◌, length, drop, Option, None, Some, Ok, Err, IfSome, MatchOption, refl, sym, ap, ◌∙◌, subst, arith, append_assoc, append-nil, is_some}
 use Rattle.std.proofs.lemmas.List.{length-append, length-take}
 use Rattle.std.proofs.lemmas.Bool.{true≢false, false≢true}
@@ -16,7 +16,7 @@ use Rattle.json_lines.specs.Reading.{line_reader_state, held_bytes, IsLine, Repe
 use Rattle.json_lines.specs.LineRanges.{NextLineFails, FindsLine, IsLineRange, IsLineAt}
 use Rattle.json_lines.proofs.Newlines.{ended}
 
--- what stands at the place is the line
+-- the bytes in the range are the line
 pub IsLine-shown : (limit : ℕ) (bytes items : List ℕ) (place : LineRange) (o : Option Line) → IsLineRange limit bytes items place → IsLineAt items place o → IsLine limit bytes o
 IsLine-shown limit bytes items range.End None is shows = is
 IsLine-shown limit bytes items (range.Bytes from to) (Some (Whole line)) is shows =
@@ -28,7 +28,7 @@ IsLine-shown limit bytes items (range.Bytes from to) (Some TooLong) is shows = a
 IsLine-shown limit bytes items range.TooLong None is shows = absurd shows
 IsLine-shown limit bytes items range.TooLong (Some (Whole line)) is shows = absurd shows
 
--- bytes behind the end of the line change nothing
+-- bytes after the end of the line change nothing
 IsLine-longer : (limit : ℕ) (bytes more : List ℕ) (o : Option Line) → has_newline bytes ≡ true → IsLine limit bytes o → IsLine limit (bytes ++ more) o
 IsLine-longer limit bytes more None ends is = absurd (false≢true (ap has_newline (sym is) ∙ ends))
 IsLine-longer limit bytes more (Some (Whole line)) ends is =

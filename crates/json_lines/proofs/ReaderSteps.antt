@@ -36,7 +36,7 @@ pub ReadsBytes-none : (a b : ReaderState) (s : SourceState) → b.received ≡ a
 ReadsBytes-none a b s received limit =
     record { consumed = Consumes-nil s.left; received_so = omega (arith, received); given_so = counted-none s.given; same_limit = limit }
 
--- what stands behind the bytes that were held
+-- the bytes that are held after a read
 pub held-more : (old new : LineReader) (s u : SourceState) (n : ℕ) → ReadsMore old new s u n → held_bytes new ≡ held_bytes old ++ new_bytes old new
 held-more old new s u n more =
     let end = old.end in

@@ -1,4 +1,4 @@
--- One text behind another, written to a sink.
+-- One text after another, written to a sink.
 use Rattle.std.proofs.Common.{◌≡◌, ℕ, List, [], ◌++◌, Option, Ok, Err, Result, refl, sym, ap, ◌∙◌, subst, arith}
 use Rattle.json_text.specs.Known.{append_known}
 use Rattle.json_text.specs.Outside.{SinkState}

@@ -2,12 +2,12 @@
 use Rattle.std.proofs.Common.{◌≡◌, ℕ, suc, ◌+◌, Bool, true, false, ◌||◌, List, [], ◌∷◌, ◌++◌, length, Ok, Err, refl, sym, ap, ◌∙◌, subst, arith, append_assoc, append-nil}
 use Rattle.json_text.specs.Outside.{SinkState}
 use Rattle.json_text.proofs.Putting.{Puts-then, Puts-first}
-use Rattle.json_lines.specs.Rows.{Outcome, row_bytes, is_bad, error_bytes, rows_of, errors_from, some_bad, AllHave}
+use Rattle.json_lines.specs.Rows.{Outcome, outcome_row, is_bad, error_bytes, rows_of, errors_from, some_bad, AllHave}
 use Rattle.json_lines.specs.LineHandling.{ReportsUnlessMuted}
 
 pub rows_of-append : (os ps : List Outcome) → rows_of (os ++ ps) ≡ rows_of os ++ rows_of ps
 rows_of-append [] ps = refl
-rows_of-append (o ∷ os) ps = ap (λ l. row_bytes o ++ l) (rows_of-append os ps) ∙ sym (append_assoc (row_bytes o) (rows_of os) (rows_of ps))
+rows_of-append (o ∷ os) ps = ap (λ l. outcome_row o ++ l) (rows_of-append os ps) ∙ sym (append_assoc (outcome_row o) (rows_of os) (rows_of ps))
 
 pub errors_from-append : (n : ℕ) (os ps : List Outcome) → errors_from n (os ++ ps) ≡ errors_from n os ++ errors_from (n + length os) ps
 errors_from-append n [] ps = ap (λ m. errors_from m ps) {x = n} {y = n + 0} (omega arith)
@@ -29,8 +29,8 @@ some_bad-append (o ∷ os) ps = ap (λ t. is_bad o || t) (some_bad-append os ps)
 
 -- ---- one outcome more
 
-pub rows_of-more : (os : List Outcome) (o : Outcome) → rows_of (os ++ o ∷ []) ≡ rows_of os ++ row_bytes o
-rows_of-more os o = rows_of-append os (o ∷ []) ∙ ap (λ l. rows_of os ++ l) (append-nil (row_bytes o))
+pub rows_of-more : (os : List Outcome) (o : Outcome) → rows_of (os ++ o ∷ []) ≡ rows_of os ++ outcome_row o
+rows_of-more os o = rows_of-append os (o ∷ []) ∙ ap (λ l. rows_of os ++ l) (append-nil (outcome_row o))
 
 pub errors_from-more : (n : ℕ) (os : List Outcome) (o : Outcome) → errors_from n (os ++ o ∷ []) ≡ errors_from n os ++ error_bytes (n + length os) o
 errors_from-more n os o = errors_from-append n os (o ∷ []) ∙ ap (λ l. errors_from n os ++ l) (append-nil (error_bytes (n + length os) o))

@@ -24,7 +24,7 @@ use Rattle.json_data.proofs.ValueData.{same_value, same_edit}
 use Rattle.json_command.specs.Input.{IsInput}
 use Rattle.json_command.proofs.Inputs.{utf8_no_fault}
 use Rattle.json_lines.specs.Cells.{Column, Command}
-use Rattle.json_lines.specs.Words.{column_of_pair, column_in, columns_in, Spells, SpellsNone, NoColumns, SpellsCommand, SpellsHas, Asks, split_words}
+use Rattle.json_lines.specs.Words.{column_of_pair, column_in, columns_in, WordSpells, WordSpellsNothing, NoColumns, SpellsCommand, SpellsHas, Asks, split_words}
 
 -- ---- the value of a word
 
@@ -128,7 +128,7 @@ not_two (x ∷ y ∷ z ∷ xs) n = refl
 
 -- ---- one meaning
 
-pub one_spelled : {A : Type 0} (reads : Tree → Option A) (word : List ℕ) (x y : A) → Spells reads word x → Spells reads word y → x ≡ y
+pub one_spelled : {A : Type 0} (reads : Tree → Option A) (word : List ℕ) (x y : A) → WordSpells reads word x → WordSpells reads word y → x ≡ y
 one_spelled reads word x y h k = some_is (sym h.so ∙ ap reads (one_tree false h.tree k.tree word h.input.text k.input.text) ∙ k.so)
   where
     some_is : {A : Type 0} {x y : A} → Some x ≡ Some y → x ≡ y
@@ -137,36 +137,36 @@ one_spelled reads word x y h k = some_is (sym h.so ∙ ap reads (one_tree false 
 -- ---- a word
 
 -- the tree that was read spells it
-pub spells : {A : Type 0} (reads : Tree → Option A) (word : List ℕ) (t : Tree) (x : A) → IsInput usual_rules word t → reads t ≡ Some x → Spells reads word x
+pub spells : {A : Type 0} (reads : Tree → Option A) (word : List ℕ) (t : Tree) (x : A) → IsInput usual_rules word t → reads t ≡ Some x → WordSpells reads word x
 spells reads word t x i h = record { tree = t; input = i; so = h }
 
 -- no tree was read
-pub none_read : {A : Type 0} (reads : Tree → Option A) (word : List ℕ) → ((t : Tree) → ¬ (IsInput usual_rules word t)) → SpellsNone reads word
+pub none_read : {A : Type 0} (reads : Tree → Option A) (word : List ℕ) → ((t : Tree) → ¬ (IsInput usual_rules word t)) → WordSpellsNothing reads word
 none_read reads word n x s = n s.tree s.input
 
 -- the tree that was read spells nothing
-none_spelled : {A : Type 0} (reads : Tree → Option A) (word : List ℕ) (t : Tree) → IsInput usual_rules word t → reads t ≡ None → SpellsNone reads word
+none_spelled : {A : Type 0} (reads : Tree → Option A) (word : List ℕ) (t : Tree) → IsInput usual_rules word t → reads t ≡ None → WordSpellsNothing reads word
 none_spelled reads word t i n x s = none_some (sym n ∙ ap reads (one_tree false t s.tree word i.text s.input.text) ∙ s.so)
 
 same_code : (e : Error) (c : ErrorCode) → e ≡ refusal c → e.code ≡ c
 same_code e c h = ap (λ (x : Error). x.code) h
 
 pub unread_word : {A : Type 0} (reads : Tree → Option A) (word : List ℕ) (t : Tree) (e r : Error) → IsInput usual_rules word t → Unspelled (reads t) e → (r ≡ no_memory) ⊎ ((r ≡ bad_words) × (e.code ≢ NoMemory))
-    → (r ≡ no_memory) ⊎ ((r ≡ bad_words) × SpellsNone reads word)
+    → (r ≡ no_memory) ⊎ ((r ≡ bad_words) × WordSpellsNothing reads word)
 unread_word reads word t e r i u (inl m) = inl m
 unread_word reads word t e r i (inl m) (inr (b, n)) = absurd (n (ap (λ (x : Error). x.code) m))
 unread_word reads word t e r i (inr (f, n)) (inr (b, k)) = inr (b, none_spelled reads word t i n)
 
-pub unread_value : {A : Type 0} (reads : Tree → Option A) (word : List ℕ) (e : Error) → (e ≡ no_memory) ⊎ ((e ≡ bad_words) × ((t : Tree) → ¬ (IsInput usual_rules word t))) → (e ≡ no_memory) ⊎ ((e ≡ bad_words) × SpellsNone reads word)
+pub unread_value : {A : Type 0} (reads : Tree → Option A) (word : List ℕ) (e : Error) → (e ≡ no_memory) ⊎ ((e ≡ bad_words) × ((t : Tree) → ¬ (IsInput usual_rules word t))) → (e ≡ no_memory) ⊎ ((e ≡ bad_words) × WordSpellsNothing reads word)
 unread_value reads word e (inl m) = inl m
 unread_value reads word e (inr (b, n)) = inr (b, none_read reads word n)
 
-pub none_few : (word : List ℕ) (e : Error) → (e ≡ no_memory) ⊎ ((e ≡ bad_words) × SpellsNone columns_in word) → (e ≡ no_memory) ⊎ ((e ≡ bad_words) × NoColumns word)
+pub none_few : (word : List ℕ) (e : Error) → (e ≡ no_memory) ⊎ ((e ≡ bad_words) × WordSpellsNothing columns_in word) → (e ≡ no_memory) ⊎ ((e ≡ bad_words) × NoColumns word)
 none_few word e (inl m) = inl m
 none_few word e (inr (b, n)) = inr (b, λ columns s p q. n columns s)
 
 -- there are too few columns, or too many
-pub not_few : (word : List ℕ) (cs : List Column) (n : ℕ) → Spells columns_in word cs → n ≡ length cs → (1 ≤ n → n ≤ 64 → ⊥) → NoColumns word
+pub not_few : (word : List ℕ) (cs : List Column) (n : ℕ) → WordSpells columns_in word cs → n ≡ length cs → (1 ≤ n → n ≤ 64 → ⊥) → NoColumns word
 not_few word cs n s is none columns k p q =
     let same : cs ≡ columns = one_spelled columns_in word cs columns s k in
     none (omega (arith, is, ap length same, p)) (omega (arith, is, ap length same, q))

@@ -9,7 +9,7 @@ use Rattle.json_text.specs.declared.message.FaultText.{FaultText}
 use Rattle.json_lines.specs.declared.line_reader.Line.{Line}
 use Rattle.json_lines.specs.declared.line_reader.Line.TheVariants.{Whole, TooLong}
 use Rattle.json_lines.specs.declared.run.Tally.{Tally}
-use Rattle.json_lines.specs.Rows.{Outcome, Row, Bad, row_bytes, is_bad, error_bytes, line_too_long}
+use Rattle.json_lines.specs.Rows.{Outcome, Row, Bad, outcome_row, is_bad, error_bytes, line_too_long}
 
 -- the error text that is returned: none for a row
 abbrev pub ReturnsOutcome : Outcome → Option FaultText → Type 0
@@ -22,13 +22,13 @@ pub record WritesRow (has : Outcome → Type 0) (old new : SinkState) (fault : O
   pub outcome : Outcome
   pub has_it : has outcome
   pub returned : ReturnsOutcome outcome fault
-  pub row : WritesText old new (row_bytes outcome) (Ok tt)
+  pub row : WritesText old new (outcome_row outcome) (Ok tt)
 
 -- the row of a line was not written, or only a prefix of it
 pub record RowFails (has : Outcome → Type 0) (old new : SinkState) (error : Error) : Type 0 where
   pub outcome : Outcome
   pub has_it : has outcome
-  pub row : WritesText old new (row_bytes outcome) (Err error)
+  pub row : WritesText old new (outcome_row outcome) (Err error)
 
 -- this text was reported, unless reports were given up, as they are where a call fails
 abbrev pub ReportsUnlessMuted : Bool → Bool → SinkState → SinkState → List ℕ → Type 0
@@ -51,7 +51,7 @@ IsWithinLimit limit TooLong = ⊤
 pub record HandlesLine (has : Outcome → Type 0) (old new : Tally) (sink sink' errs errs' : SinkState) : Type 0 where
   pub outcome : Outcome
   pub has_it : has outcome
-  pub row : WritesText sink sink' (row_bytes outcome) (Ok tt)
+  pub row : WritesText sink sink' (outcome_row outcome) (Ok tt)
   pub report : ReportsUnlessMuted old.muted new.muted errs errs' (error_bytes new.number outcome)
   pub number : new.number ≡ old.number + 1
   pub bad : new.bad ≡ (old.bad || is_bad outcome)

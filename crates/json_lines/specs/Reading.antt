@@ -61,9 +61,9 @@ NextLineCause new source source' TooLarge nowhere = (source'.faults ≡ source.f
 NextLineCause new source source' code place = ⊥
 
 -- the error of a result
-abbrev pub error_of : {T : Type 0} → Result T Error → Option Error
-error_of (Ok x) = None
-error_of (Err e) = Some e
+abbrev pub result_error : {T : Type 0} → Result T Error → Option Error
+result_error (Ok x) = None
+result_error (Err e) = Some e
 
 -- a call of a reader that has not stopped
 pub record ReadsLine (old new : ReaderState) (source source' : SourceState) (result : Result (Option Line) Error) : Type 0 where
@@ -82,7 +82,7 @@ pub record ReadsLine (old new : ReaderState) (source source' : SourceState) (res
   pub cause : IfErr result (λ e. NextLineCause new source source' e.code e.place)
   pub few : OnOk result (new.received ≤ max_bytes)
   pub no_fault : OnOk result (source'.faults ≡ source.faults)
-  pub stops : new.stopped ≡ error_of result
+  pub stops : new.stopped ≡ result_error result
 
 -- a call of a reader that has stopped: it returns the same error, and reads nothing
 pub record RepeatsError (error : Error) (old new : ReaderState) (source source' : SourceState) (result : Result (Option Line) Error) : Type 0 where

@@ -7,9 +7,9 @@ pub data Outcome : Type 0 where
   Row : List ℕ → Outcome
   Bad : List ℕ → Outcome
 
-abbrev pub row_bytes : Outcome → List ℕ
-row_bytes (Row bytes) = bytes
-row_bytes (Bad text) = []
+abbrev pub outcome_row : Outcome → List ℕ
+outcome_row (Row bytes) = bytes
+outcome_row (Bad text) = []
 
 abbrev pub is_bad : Outcome → Bool
 is_bad (Row bytes) = false
@@ -30,7 +30,7 @@ line_too_long = Bad (codes "LineTooLong\n")
 
 -- the rows, one after another
 abbrev pub rows_of : List Outcome → List ℕ
-rows_of outcomes = flat_map row_bytes outcomes
+rows_of outcomes = flat_map outcome_row outcomes
 
 -- the errors, where the first outcome is that of the line of this number
 abbrev pub errors_from : ℕ → List Outcome → List ℕ

@@ -73,7 +73,7 @@ pub record FailsEarly (has : List ℕ → Outcome → Type 0) (old new : RunStat
   pub reads : ReadsBytes old.reader new.reader old.source new.source bytes
   pub stops : IfSome old.source.left (λ _. StopsEarly has old.sink new.sink old.errs new.errs new.tally.muted bytes)
   pub cause : NextLineCause new.reader old.source new.source error.code error.place ⊎ (RowErrorCause old.sink new.sink error.code error.place × (new.source.faults ≡ old.source.faults) × (new.reader.received ≤ max_bytes))
-  -- a failed call is always told
+  -- the error tells of each failed call
   pub reading_told : old.source.faults < new.source.faults → error ≡ reading_failed
   pub writing_told : old.sink.faults < new.sink.faults → error ≡ writing_failed
   pub same_loan : new.sink.loan ≡ old.sink.loan

@@ -1,4 +1,4 @@
--- What a table asks for.
+-- The command that a table stands for.
 use Rattle.std.specs.Prelude.{ℕ, List, [], ◌∷◌, Bool, true, false, is_some, map}
 use Rattle.json_grammar.specs.Tree.{Tree}
 use Rattle.json_grammar.specs.Grammar.{ws}
@@ -11,17 +11,17 @@ use Rattle.json_lines.specs.declared.table.Kind.TheVariants.{Text, Int, Bool as 
 use Rattle.json_lines.specs.declared.table.Column.{Column}
 use Rattle.json_lines.specs.declared.table.Table.{Table}
 
-abbrev pub kind_of : Kind → cell.Kind
-kind_of Text = cell.texts
-kind_of Int = cell.integers
-kind_of Truth = cell.booleans
-kind_of Json = cell.any_json
+abbrev pub cell_kind : Kind → cell.Kind
+cell_kind Text = cell.texts
+cell_kind Int = cell.integers
+cell_kind Truth = cell.booleans
+cell_kind Json = cell.any_json
 
-abbrev pub column_of : Column → cell.Column
-column_of c = record { path = path_steps c.path; kind = kind_of c.kind }
+abbrev pub table_column : Column → cell.Column
+table_column c = record { path = path_steps c.path; kind = cell_kind c.kind }
 
-abbrev pub command_of : Table → Command
-command_of t = record { columns = map column_of t.columns.items; has = path_steps t.has }
+abbrev pub table_command : Table → Command
+table_command t = record { columns = map table_column t.columns.items; has = path_steps t.has }
 
 -- whether the tree is of the kind
 abbrev pub is_of_kind : cell.Kind → Tree → Bool
@@ -30,12 +30,12 @@ is_of_kind cell.integers t = is_some (integer_of t)
 is_of_kind cell.booleans t = is_some (bool_of t)
 is_of_kind cell.any_json t = true
 
--- what stands before a cell
-abbrev pub separator : Bool → List ℕ
-separator true = []
-separator false = 9 ∷ []
+-- the bytes before a cell
+abbrev pub cell_separator : Bool → List ℕ
+cell_separator true = []
+cell_separator false = 9 ∷ []
 
--- whether these are whitespace alone
+-- the test whether a line is whitespace alone
 abbrev pub BlankTest : List ℕ → Bool → Type 0
 BlankTest line true = ws line
 BlankTest line false = ¬ (ws line)

@@ -32,37 +32,37 @@ abbrev pub columns_in : Tree → Option (List Column)
 columns_in (list ts) = each_in column_in (trees_list ts)
 columns_in _ = None
 
--- the word is a text, by the usual rules, of a tree that spells this
-pub record Spells {A : Type 0} (reads : Tree → Option A) (word : List ℕ) (spelled : A) : Type 0 where
+-- the word is a text, by the usual rules, of a tree that spells this value
+pub record WordSpells {A : Type 0} (reads : Tree → Option A) (word : List ℕ) (spelled : A) : Type 0 where
   pub tree : Tree
   pub input : IsInput usual_rules word tree
   pub so : reads tree ≡ Some spelled
 
--- it spells nothing of these
-abbrev pub SpellsNone : {A : Type 0} → (Tree → Option A) → List ℕ → Type 0
-SpellsNone {A = A} reads word = (x : A) → ¬ (Spells reads word x)
+-- the word spells no value
+abbrev pub WordSpellsNothing : {A : Type 0} → (Tree → Option A) → List ℕ → Type 0
+WordSpellsNothing {A = A} reads word = (x : A) → ¬ (WordSpells reads word x)
 
 -- the word spells no list of 1 to 64 columns
 abbrev pub NoColumns : List ℕ → Type 0
-NoColumns word = (columns : List Column) → Spells columns_in word columns → 1 ≤ length columns → length columns ≤ 64 → ⊥
+NoColumns word = (columns : List Column) → WordSpells columns_in word columns → 1 ≤ length columns → length columns ≤ 64 → ⊥
 
 -- the option `--has=`
 abbrev pub is_has_option : List ℕ → Bool
 is_has_option word = bytes_eq (take 6 word) (codes "--has=")
 
--- the columns word, and what stands behind `--has=` in the option before or behind it
+-- the columns word, and the text after `--has=` of the option before or after it
 abbrev pub split_words : List (List ℕ) → Option (List ℕ × Option (List ℕ))
 split_words (word ∷ []) = Some (word, None)
 split_words (first ∷ second ∷ []) = cond (is_has_option first) (Some (second, Some (drop 6 first))) (cond (is_has_option second) (Some (first, Some (drop 6 second))) None)
 split_words _ = None
 
--- without the option it is the empty path
+-- without the option the path is empty
 abbrev pub SpellsHas : Option (List ℕ) → List Step → Type 0
 SpellsHas None has = has ≡ []
-SpellsHas (Some word) has = Spells path_in word has
+SpellsHas (Some word) has = WordSpells path_in word has
 
 pub record SpellsCommand (columns_word : List ℕ) (has_word : Option (List ℕ)) (command : Command) : Type 0 where
-  pub columns : Spells columns_in columns_word command.columns
+  pub columns : WordSpells columns_in columns_word command.columns
   pub some : 1 ≤ length command.columns
   pub few : length command.columns ≤ 64
   pub has : SpellsHas has_word command.has

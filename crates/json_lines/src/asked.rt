@@ -13,8 +13,8 @@ ghost use Rattle.json_value.specs.EditTrees.{path_in, each_in};
 ghost use Rattle.json_value.specs.Seen.{seen, elements_seen};
 ghost use Rattle.json_command.specs.Input.{IsInput};
 ghost use Rattle.json_lines.specs.Cells.{Command};
-ghost use Rattle.json_lines.specs.Tables.{kind_of, column_of, command_of};
-ghost use Rattle.json_lines.specs.Words.{kind_named as spec_kind_named, kind_in, column_of_pair, column_in, columns_in, Spells, SpellsNone, NoColumns, is_has_option, split_words, SpellsCommand, SpellsHas, Asks, IsAsked};
+ghost use Rattle.json_lines.specs.Tables.{cell_kind, table_column, table_command};
+ghost use Rattle.json_lines.specs.Words.{kind_named as spec_kind_named, kind_in, column_of_pair, column_in, columns_in, WordSpells, WordSpellsNothing, NoColumns, is_has_option, split_words, SpellsCommand, SpellsHas, Asks, IsAsked};
 
 use crate::table::{Column, Kind, Table};
 use json_command::{BAD_WORDS, arguments_error};
@@ -66,7 +66,7 @@ fn read_path_seen(alloc: Global, view: View<'_>) -> Result<Path>
 
 // Returns the kind with this name.
 fn kind_of_name(name: &str) -> Option<Kind>
-    ensures { option_map kind_of result ≡ spec_kind_named name.now }
+    ensures { option_map cell_kind result ≡ spec_kind_named name.now }
 {
     match name {
         "text" => Some(Kind::Text),
@@ -79,7 +79,7 @@ fn kind_of_name(name: &str) -> Option<Kind>
 
 // Reads the kind that a view names.
 fn read_kind(view: View<'_>) -> Option<Kind>
-    ensures { option_map kind_of result ≡ kind_in (seen view.entry) }
+    ensures { option_map cell_kind result ≡ kind_in (seen view.entry) }
 {
     match view.text() {
         Some(name) => kind_of_name(name),
@@ -103,7 +103,7 @@ fn pair_of_elements<'a>(array: ArrayView<'a>) -> Option<(View<'a>, View<'a>)>
 // Reads the column of a path and a kind.
 fn read_pair(alloc: Global, path: View<'_>, kind: View<'_>) -> Result<Column>
     ensures ok { IfOk result (λ c.
-        column_of_pair (seen path.entry ∷ seen kind.entry ∷ []) ≡ Some (column_of c)) }
+        column_of_pair (seen path.entry ∷ seen kind.entry ∷ []) ≡ Some (table_column c)) }
     ensures err { IfErr result (Unspelled
         (column_of_pair (seen path.entry ∷ seen kind.entry ∷ []))) }
 {
@@ -118,7 +118,7 @@ fn read_pair(alloc: Global, path: View<'_>, kind: View<'_>) -> Result<Column>
 
 // Reads a column, `[path, kind]`.
 fn read_column(alloc: Global, view: View<'_>) -> Result<Column>
-    ensures ok { IfOk result (λ c. column_in (seen view.entry) ≡ Some (column_of c)) }
+    ensures ok { IfOk result (λ c. column_in (seen view.entry) ≡ Some (table_column c)) }
     ensures err { IfErr result (Unspelled (column_in (seen view.entry))) }
 {
     let Some(array) = view.as_array() else {
@@ -133,7 +133,7 @@ fn read_column(alloc: Global, view: View<'_>) -> Result<Column>
 // Reads a column of each element.
 fn read_each(alloc: Global, array: ArrayView<'_>) -> Result<Vec<Column>>
     ensures ok { IfOk result (λ v.
-        each_in column_in (elements_seen array.entry) ≡ Some (map column_of v.items)) }
+        each_in column_in (elements_seen array.entry) ≡ Some (map table_column v.items)) }
     ensures err { IfErr result (Unspelled (each_in column_in (elements_seen array.entry))) }
 {
     let mut columns = Vec::new(alloc);
@@ -146,7 +146,7 @@ fn read_each(alloc: Global, array: ArrayView<'_>) -> Result<Vec<Column>>
 
 // Reads the columns that a value spells.
 fn read_columns(alloc: Global, value: &Value) -> Result<Vec<Column>>
-    ensures ok { IfOk result (λ v. columns_in (tree_of value.now) ≡ Some (map column_of v.items)) }
+    ensures ok { IfOk result (λ v. columns_in (tree_of value.now) ≡ Some (map table_column v.items)) }
     ensures err { IfErr result (Unspelled (columns_in (tree_of value.now))) }
 {
     match value.view().as_array() {
@@ -157,9 +157,9 @@ fn read_columns(alloc: Global, value: &Value) -> Result<Vec<Column>>
 
 // Reads the columns that a word spells.
 fn columns_of_word(alloc: Global, word: &[u8]) -> Result<Vec<Column>>
-    ensures ok { IfOk result (λ v. Spells columns_in word.now (map column_of v.items)) }
+    ensures ok { IfOk result (λ v. WordSpells columns_in word.now (map table_column v.items)) }
     ensures err { IfErr result (λ e. (e ≡ no_memory)
-        ⊎ ((e ≡ bad_words) × SpellsNone columns_in word.now)) }
+        ⊎ ((e ≡ bad_words) × WordSpellsNothing columns_in word.now)) }
 {
     let value = match read_value(alloc, word) {
         Ok(value) => value,
@@ -173,9 +173,9 @@ fn columns_of_word(alloc: Global, word: &[u8]) -> Result<Vec<Column>>
 
 // Reads the path that a word spells.
 fn path_of_word(alloc: Global, word: &[u8]) -> Result<Path>
-    ensures ok { IfOk result (λ p. Spells path_in word.now (path_steps p)) }
+    ensures ok { IfOk result (λ p. WordSpells path_in word.now (path_steps p)) }
     ensures err { IfErr result (λ e. (e ≡ no_memory)
-        ⊎ ((e ≡ bad_words) × SpellsNone path_in word.now)) }
+        ⊎ ((e ≡ bad_words) × WordSpellsNothing path_in word.now)) }
 {
     let value = match read_value(alloc, word) {
         Ok(value) => value,
@@ -202,7 +202,7 @@ fn read_has(alloc: Global, word: Option<&[u8]>) -> Result<Path>
 
 // Reads the 1 to 64 columns that a word spells.
 fn limited_columns(alloc: Global, word: &[u8]) -> Result<Vec<Column>>
-    ensures ok { IfOk result (λ v. Spells columns_in word.now (map column_of v.items)) }
+    ensures ok { IfOk result (λ v. WordSpells columns_in word.now (map table_column v.items)) }
     ensures count { IfOk result (λ v. (1 ≤ length v.items) × (length v.items ≤ 64)) }
     ensures err { IfErr result (λ e. (e ≡ no_memory)
         ⊎ ((e ≡ bad_words) × NoColumns word.now)) }
@@ -224,7 +224,7 @@ fn limited_columns(alloc: Global, word: &[u8]) -> Result<Vec<Column>>
 // Reads the table of a columns word and the text of the option.
 fn read_table(alloc: Global, columns: &[u8], has: Option<&[u8]>) -> Result<Table>
     ensures ok { IfOk result (λ t.
-        SpellsCommand columns.now (option_map (λ s. s.now) has.entry) (command_of t)) }
+        SpellsCommand columns.now (option_map (λ s. s.now) has.entry) (table_command t)) }
     ensures err { IfErr result (λ e. (e ≡ no_memory)
         ⊎ ((e ≡ bad_words)
         × ((k : Command) → ¬ (SpellsCommand columns.now (option_map (λ s. s.now) has.entry) k)))) }
@@ -275,7 +275,7 @@ fn split_words(words: &Words) -> Option<(&[u8], Option<&[u8]>)>
 
 // Reads the table that the words ask for.
 pub(crate) fn asked(alloc: Global, words: &Words) -> Result<Table>
-    ensures ok { IfOk result (λ t. Asks words.now (command_of t)) }
+    ensures ok { IfOk result (λ t. Asks words.now (table_command t)) }
     ensures err { IfErr result (λ e. (e ≡ no_memory) ⊎ ((e ≡ bad_words) × ¬ (IsAsked words.now))) }
 {
     match split_words(words) {

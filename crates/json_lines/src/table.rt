@@ -10,7 +10,7 @@ ghost use Rattle.json_text.specs.declared.error.ErrorCode.TheVariants.{NoMemory}
 ghost use Rattle.json_doc.specs.Docs.{doc_tree, doc_root};
 ghost use Rattle.json_lines.specs.LineHandling.{WritesRow, RowFails};
 ghost use Rattle.json_lines.specs.Outcomes.{HasOutcome};
-ghost use Rattle.json_lines.specs.Tables.{BlankTest, kind_of, column_of, command_of, is_of_kind, separator};
+ghost use Rattle.json_lines.specs.Tables.{BlankTest, cell_kind, table_column, table_command, is_of_kind, cell_separator};
 
 use crate::run::RowWriter;
 use json_doc::{Doc, read_document_with};
@@ -47,7 +47,7 @@ pub(crate) struct Table {
 impl Kind {
     // Returns whether a value is of this kind.
     fn is_of_kind(self, view: View<'_>) -> bool
-        ensures { result ≡ is_of_kind (kind_of self) (seen view.entry) }
+        ensures { result ≡ is_of_kind (cell_kind self) (seen view.entry) }
     {
         match self {
             Kind::Text => view.text().is_some(),
@@ -71,7 +71,7 @@ fn write_bytes<W: Sink>(out: &mut BufferedWriter<W>, piece: &[u8]) -> Result<()>
 fn write_value<W: Sink>(out: &mut BufferedWriter<W>, kind: Kind, view: View<'_>) -> Result<()>
     ensures { WritesText
         (⟦<BufferedWriter<W> as Sink>⟧.state out.old) (⟦<BufferedWriter<W> as Sink>⟧.state out.new)
-        (cell_of (kind_of kind) (seen view.entry)) result }
+        (cell_of (cell_kind kind) (seen view.entry)) result }
 {
     if kind.is_of_kind(view) {
         view.print(OneLine, out)
@@ -88,7 +88,7 @@ fn write_cell<W: Sink>(
 ) -> Result<()>
     ensures { WritesText
         (⟦<BufferedWriter<W> as Sink>⟧.state out.old) (⟦<BufferedWriter<W> as Sink>⟧.state out.new)
-        (cell_where (kind_of kind) (option_map seen found.entry)) result }
+        (cell_where (cell_kind kind) (option_map seen found.entry)) result }
 {
     match found {
         Some(view) => write_value(out, kind, view),
@@ -100,7 +100,7 @@ fn write_cell<W: Sink>(
 fn write_separator<W: Sink>(out: &mut BufferedWriter<W>, first: bool) -> Result<()>
     ensures { WritesText
         (⟦<BufferedWriter<W> as Sink>⟧.state out.old) (⟦<BufferedWriter<W> as Sink>⟧.state out.new)
-        (separator first) result }
+        (cell_separator first) result }
 {
     if first {
         Ok(())
@@ -118,7 +118,7 @@ fn write_next_cell<W: Sink>(
 ) -> Result<()>
     ensures { WritesText
         (⟦<BufferedWriter<W> as Sink>⟧.state out.old) (⟦<BufferedWriter<W> as Sink>⟧.state out.new)
-        (separator first ++ cell_where (kind_of kind) (option_map seen found.entry)) result }
+        (cell_separator first ++ cell_where (cell_kind kind) (option_map seen found.entry)) result }
 {
     match write_separator(out, first) {
         Ok(()) => write_cell(out, kind, found),
@@ -157,11 +157,11 @@ impl Table {
     ) -> Result<Option<FaultText>>
         requires short { length text.now ≤ 1048576 }
         requires full { ¬ (ws text.now) }
-        ensures ok { IfOk result (λ fault. WritesRow (HasOutcome (command_of self.now) text.now)
+        ensures ok { IfOk result (λ fault. WritesRow (HasOutcome (table_command self.now) text.now)
             (⟦<BufferedWriter<W> as Sink>⟧.state out.old)
             (⟦<BufferedWriter<W> as Sink>⟧.state out.new)
             fault) }
-        ensures err { IfErr result (λ e. RowFails (HasOutcome (command_of self.now) text.now)
+        ensures err { IfErr result (λ e. RowFails (HasOutcome (table_command self.now) text.now)
             (⟦<BufferedWriter<W> as Sink>⟧.state out.old)
             (⟦<BufferedWriter<W> as Sink>⟧.state out.new)
             e) }
@@ -181,11 +181,11 @@ impl Table {
         ensures ok { IfOk result (λ fault. (fault ≡ None) × WritesText
             (⟦<BufferedWriter<W> as Sink>⟧.state out.old)
             (⟦<BufferedWriter<W> as Sink>⟧.state out.new)
-            (row (command_of self.now) (doc_tree doc.now (doc_root doc.now))) (Ok tt)) }
+            (row (table_command self.now) (doc_tree doc.now (doc_root doc.now))) (Ok tt)) }
         ensures err { IfErr result (λ e. WritesText
             (⟦<BufferedWriter<W> as Sink>⟧.state out.old)
             (⟦<BufferedWriter<W> as Sink>⟧.state out.new)
-            (row (command_of self.now) (doc_tree doc.now (doc_root doc.now))) (Err e)) }
+            (row (table_command self.now) (doc_tree doc.now (doc_root doc.now))) (Err e)) }
     {
         match self.write_view_row(out, View::packed(doc.view())) {
             Ok(()) => Ok(None),
@@ -198,7 +198,7 @@ impl Table {
         ensures { WritesText
             (⟦<BufferedWriter<W> as Sink>⟧.state out.old)
             (⟦<BufferedWriter<W> as Sink>⟧.state out.new)
-            (cells (command_of self.now).columns (seen view.entry)) result }
+            (cells (table_command self.now).columns (seen view.entry)) result }
     {
         let mut first = true;
         'cells: for column in &self.columns {
@@ -216,7 +216,7 @@ impl Table {
         ensures { WritesText
             (⟦<BufferedWriter<W> as Sink>⟧.state out.old)
             (⟦<BufferedWriter<W> as Sink>⟧.state out.new)
-            (row (command_of self.now) (seen view.entry)) result }
+            (row (table_command self.now) (seen view.entry)) result }
     {
         match view.pointer(self.has.steps()) {
             Some(_) => self.write_cells_line(out, view),
@@ -229,7 +229,7 @@ impl Table {
         ensures { WritesText
             (⟦<BufferedWriter<W> as Sink>⟧.state out.old)
             (⟦<BufferedWriter<W> as Sink>⟧.state out.new)
-            (cells (command_of self.now).columns (seen view.entry) ++ 10 ∷ []) result }
+            (cells (table_command self.now).columns (seen view.entry) ++ 10 ∷ []) result }
     {
         match self.write_cells(out, view) {
             Ok(()) => write_bytes(out, b"\n"),
@@ -239,7 +239,7 @@ impl Table {
 }
 
 impl<W: Sink> RowWriter<BufferedWriter<W>> for Table {
-    ghost has_outcome = { λ t line. HasOutcome (command_of t) line };
+    ghost has_outcome = { λ t line. HasOutcome (table_command t) line };
 
     fn write_row(
         &self,

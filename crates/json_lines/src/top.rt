@@ -3,7 +3,7 @@ ghost use Rattle.std.specs.Prelude.{◌≡◌, ◌≢◌, length, ◌+◌, ◌<�
 ghost use Rattle.json_lines.specs.Cells.{Command};
 ghost use Rattle.json_lines.specs.Outcomes.{HasOutcome};
 ghost use Rattle.json_lines.specs.Rows.{HasWithin};
-ghost use Rattle.json_lines.specs.Tables.{command_of};
+ghost use Rattle.json_lines.specs.Tables.{table_command};
 ghost use Rattle.json_lines.specs.RunResults.{ReadsAll, AppendsRows, TellsErrors, StatusTellsBad, RefusesWords, FailsRun, RunResult, NothingFails};
 ghost use Rattle.json_lines.specs.TopCall.{IsNewTally, WritesAllRows, WritesPartOfTable, run_status as spec_run_status, streams};
 ghost use Rattle.json_lines.specs.Words.{Asks, IsAsked};
@@ -32,11 +32,11 @@ fn write_table<S: Source, K: Sink, E: Sink>(
 ) -> Result<()>
     requires { IsNewTally tally.old }
     ensures ok { OnOk result (WritesAllRows
-        (HasWithin 1048576 (HasOutcome (command_of table.now)))
+        (HasWithin 1048576 (HasOutcome (table_command table.now)))
         (streams (S.state source.old) (K.state sink.old) (E.state errs.old))
         (streams (S.state source.new) (K.state sink.new) (E.state errs.new)) tally.new) }
     ensures err { IfErr result (λ e. WritesPartOfTable
-        (HasWithin 1048576 (HasOutcome (command_of table.now)))
+        (HasWithin 1048576 (HasOutcome (table_command table.now)))
         (streams (S.state source.old) (K.state sink.old) (E.state errs.old))
         (streams (S.state source.new) (K.state sink.new) (E.state errs.new)) tally.new e) }
 {
@@ -90,7 +90,7 @@ fn run_table<S: Source, K: Sink, E: Sink>(
     sink: &mut K,
     errs: &mut E,
 ) -> u8
-    ensures { (words : List (List ℕ)) → Asks words (command_of table.now) → RunResult words
+    ensures { (words : List (List ℕ)) → Asks words (table_command table.now) → RunResult words
         (streams (S.state source.old) (K.state sink.old) (E.state errs.old))
         (streams (S.state source.new) (K.state sink.new) (E.state errs.new)) result }
 {
@@ -198,225 +198,4 @@ pub fn run_lines<S: Source, K: Sink, E: Sink>(
         → (result < 2) ⊎ (result ≡ 6) }
 {
     run_words(alloc, words, source, sink, errs)
-}
-
-#[cfg(test)]
-mod tests {
-    use super::*;
-    use json_text::{FakeSink, FakeSource, SliceSource, VecSink};
-    use std::test::Fail;
-
-    // One row of the table: words, input, what the sink gains, what is told, and the status.
-    struct Row {
-        words: &'static [&'static str],
-        input: &'static [u8],
-        output: &'static [u8],
-        told: &'static [u8],
-        status: u8,
-    }
-
-    const ROWS: [Row; 16] = [
-        Row {
-            words: &["[[[\"a\"],\"int\"],[[\"a\"],\"text\"]]"],
-            input: b"{\"a\":1}\n[\n{\"a\":\"x\"}\n",
-            output: b"1\t-\n-\t\"x\"\n",
-            told: b"2: EofWhileParsing at offset 1, line 1 column 2\n",
-            status: 1,
-        },
-        Row {
-            words: &["--has=[\"b\"]", "[[[\"b\"],\"bool\"]]"],
-            input: b"{\"b\":true}\n\n{\"a\":1}",
-            output: b"true\n",
-            told: b"",
-            status: 0,
-        },
-        Row {
-            words: &["[[[\"b\"],\"bool\"]]", "--has=[\"b\"]"],
-            input: b"{\"b\":true}\n\n{\"a\":1}",
-            output: b"true\n",
-            told: b"",
-            status: 0,
-        },
-        Row {
-            words: &["[[[],\"json\"]]"],
-            input: b"[ 1 , \"x\" ]\r\n \t\n{ \"a\" : { } }",
-            output: b"[1,\"x\"]\n{\"a\":{}}\n",
-            told: b"",
-            status: 0,
-        },
-        Row {
-            words: &["[[[0],\"int\"]]"],
-            input: b"[-0]\n[1.0]\n[18446744073709551615]\n[-9223372036854775809]\n",
-            output: b"-\n-\n18446744073709551615\n-\n",
-            told: b"",
-            status: 0,
-        },
-        Row {
-            words: &["[[[\"a\"],\"json\"]]"],
-            input: b"{\"a\":1,\"a\":2}\n\xff\n{\"a\":3}",
-            output: b"1\n3\n",
-            told: b"2: InvalidUTF8 at offset 0, line 1 column 1\n",
-            status: 1,
-        },
-        Row {
-            words: &["[[[],\"text\"]]"],
-            input: b"",
-            output: b"",
-            told: b"",
-            status: 0,
-        },
-        Row {
-            words: &[],
-            input: b"1",
-            output: b"",
-            told: b"BadWords\n",
-            status: 2,
-        },
-        Row {
-            words: &["[]"],
-            input: b"1",
-            output: b"",
-            told: b"BadWords\n",
-            status: 2,
-        },
-        Row {
-            words: &["[[[],\"texts\"]]"],
-            input: b"1",
-            output: b"",
-            told: b"BadWords\n",
-            status: 2,
-        },
-        Row {
-            words: &["[[[],\"text\",1]]"],
-            input: b"1",
-            output: b"",
-            told: b"BadWords\n",
-            status: 2,
-        },
-        Row {
-            words: &["[[[-1],\"text\"]]"],
-            input: b"1",
-            output: b"",
-            told: b"BadWords\n",
-            status: 2,
-        },
-        Row {
-            words: &["[[[],\"text\"]]", "[[[],\"text\"]]"],
-            input: b"1",
-            output: b"",
-            told: b"BadWords\n",
-            status: 2,
-        },
-        Row {
-            words: &["--has=[]", "--has=[]"],
-            input: b"1",
-            output: b"",
-            told: b"BadWords\n",
-            status: 2,
-        },
-        Row {
-            words: &["--has=1", "[[[],\"text\"]]"],
-            input: b"1",
-            output: b"",
-            told: b"BadWords\n",
-            status: 2,
-        },
-        Row {
-            words: &["--has=[]", "[[[],\"text\"]]", "--has=[]"],
-            input: b"1",
-            output: b"",
-            told: b"BadWords\n",
-            status: 2,
-        },
-    ];
-
-    fn words_of(alloc: Global, words: &[&str]) -> Result<Words> {
-        let mut all = Words::new(alloc);
-        for word in words {
-            all.push(word)?;
-        }
-        Ok(all)
-    }
-
-    #[test]
-    fn gives_each_row(rt: HostRuntime) -> std::result::Result<(), Fail> {
-        for row in &ROWS {
-            let words = words_of(rt.alloc(), row.words)?;
-            let mut source = SliceSource::new(row.input);
-            let mut sink = VecSink::new(rt.alloc());
-            let mut errs = VecSink::new(rt.alloc());
-            let status = run_lines(rt.alloc(), &words, &mut source, &mut sink, &mut errs);
-            assert_eq!(rt; status, row.status);
-            assert_eq!(rt; sink.as_slice(), row.output);
-            assert_eq!(rt; errs.as_slice(), row.told);
-        }
-        Ok(())
-    }
-
-    #[test]
-    fn gives_each_row_byte_by_byte(rt: HostRuntime) -> std::result::Result<(), Fail> {
-        for row in &ROWS {
-            let words = words_of(rt.alloc(), row.words)?;
-            let mut source = FakeSource::new(row.input, 1, &[]);
-            let mut sink = VecSink::new(rt.alloc());
-            let mut errs = VecSink::new(rt.alloc());
-            let status = run_lines(rt.alloc(), &words, &mut source, &mut sink, &mut errs);
-            assert_eq!(rt; status, row.status);
-            assert_eq!(rt; sink.as_slice(), row.output);
-            assert_eq!(rt; errs.as_slice(), row.told);
-        }
-        Ok(())
-    }
-
-    #[test]
-    fn passes_over_a_long_line(rt: HostRuntime) -> std::result::Result<(), Fail> {
-        let words = words_of(rt.alloc(), &["[[[],\"json\"]]"])?;
-        let mut text = vec![in rt.alloc(); b' '; 2097155]?;
-        text[1048577] = b'\n';
-        text[2097154] = b'1';
-        let mut source = SliceSource::new(&text);
-        let mut sink = VecSink::new(rt.alloc());
-        let mut errs = VecSink::new(rt.alloc());
-        let status = run_lines(rt.alloc(), &words, &mut source, &mut sink, &mut errs);
-        assert_eq!(rt; status, 1);
-        assert_eq!(rt; sink.as_slice(), b"".as_slice());
-        assert_eq!(rt;
-            errs.as_slice(),
-            b"1: LineTooLong\n2: LineTooLong\n".as_slice()
-        );
-        let mut source = SliceSource::new(&text[1048579..]);
-        let mut sink = VecSink::new(rt.alloc());
-        let mut errs = VecSink::new(rt.alloc());
-        let status = run_lines(rt.alloc(), &words, &mut source, &mut sink, &mut errs);
-        assert_eq!(rt; status, 0);
-        assert_eq!(rt; sink.as_slice(), b"1\n".as_slice());
-        assert_eq!(rt; errs.as_slice(), b"".as_slice());
-        Ok(())
-    }
-
-    #[test]
-    fn tells_a_failed_read(rt: HostRuntime) -> std::result::Result<(), Fail> {
-        let words = words_of(rt.alloc(), &["[[[],\"json\"]]"])?;
-        let mut source = FakeSource::new(b"1\nx\n3", 3, &[1]);
-        let mut sink = VecSink::new(rt.alloc());
-        let mut errs = VecSink::new(rt.alloc());
-        let status = run_lines(rt.alloc(), &words, &mut source, &mut sink, &mut errs);
-        assert_eq!(rt; status, 4);
-        assert_eq!(rt; errs.as_slice(), b"Io while reading\n".as_slice());
-        Ok(())
-    }
-
-    #[test]
-    fn tells_a_failed_write(rt: HostRuntime) -> std::result::Result<(), Fail> {
-        let words = words_of(rt.alloc(), &["[[[],\"json\"]]"])?;
-        let mut source = SliceSource::new(b"1\nx\n3");
-        let mut sink = FakeSink::new(rt.alloc(), 3, &[0]);
-        let mut errs = VecSink::new(rt.alloc());
-        let status = run_lines(rt.alloc(), &words, &mut source, &mut sink, &mut errs);
-        assert_eq!(rt; status, 5);
-        assert_eq!(rt; sink.as_slice(), b"".as_slice());
-        let told = b"2: InvalidJsonValue at offset 0, line 1 column 1\nIo while writing\n";
-        assert_eq!(rt; errs.as_slice(), told.as_slice());
-        Ok(())
-    }
 }

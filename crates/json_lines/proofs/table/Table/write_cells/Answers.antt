@@ -1,7 +1,7 @@
 use Rattle.std.proofs.Common.{map, take, drop, suc, ap, ◌∙◌, arith, Err, Ok, sym}
 use Rattle.json_value.specs.Seen.{seen}
 use Rattle.json_lines.specs.Cells.{cells}
-use Rattle.json_lines.specs.Tables.{column_of}
+use Rattle.json_lines.specs.Tables.{table_column}
 use Rattle.json_lines.proofs.TextWriting.{WritesText-is}
 use Rattle.json_lines.proofs.CellWriting.{WritesCells-is, WritesCells-start, WritesCells-more, WritesCells-stopped, cell-found, mapped-split, mapped-more}
 use Rattle.json_lines.proofs.table.Table.write_cells.Goals as goal
@@ -15,10 +15,10 @@ returns-in-Err g c =
     let i = c.cells.column-index in
     let x = c.column-item.result in
     let t = seen c.args.view in
-    let split = mapped-split column_of xs i x (omega (arith, c.cells-test.true)) c.column-item.is in
-    WritesText-is _ _ _ _ (Err c.in-Err.error) (ap (λ l. cells l t) (sym split ∙ ap (map column_of) c.deref-column-items.ensures.value))
-    (WritesCells-stopped _ _ _ c.cells.first (map column_of (take i xs)) (column_of x) (map column_of (drop (suc i) xs)) t c.in-Err.error c.cells.invariant
-    (cell-found _ _ c.cells.first (column_of x) _ _ t (Err c.in-Err.error) c.pointer.ensures.tree c.steps.ensures c.in-Err.ensures))
+    let split = mapped-split table_column xs i x (omega (arith, c.cells-test.true)) c.column-item.is in
+    WritesText-is _ _ _ _ (Err c.in-Err.error) (ap (λ l. cells l t) (sym split ∙ ap (map table_column) c.deref-column-items.ensures.value))
+    (WritesCells-stopped _ _ _ c.cells.first (map table_column (take i xs)) (table_column x) (map table_column (drop (suc i) xs)) t c.in-Err.error c.cells.invariant
+    (cell-found _ _ c.cells.first (table_column x) _ _ t (Err c.in-Err.error) c.pointer.ensures.tree c.steps.ensures c.in-Err.ensures))
 
 pub cells-preserved : goal.cells-preserved
 cells-preserved g c =
@@ -26,6 +26,6 @@ cells-preserved g c =
     let i = c.cells.column-index in
     let x = c.column-item.result in
     let t = seen c.args.view in
-    WritesCells-is _ _ _ _ _ t (sym (mapped-more column_of xs i x (omega (arith, c.cells-test.true)) c.column-item.is))
-    (WritesCells-more _ _ _ c.cells.first (map column_of (take i xs)) (column_of x) t c.in-Ok.field-0 c.cells.invariant
-    (cell-found _ _ c.cells.first (column_of x) _ _ t (Ok c.in-Ok.field-0) c.pointer.ensures.tree c.steps.ensures c.in-Ok.ensures))
+    WritesCells-is _ _ _ _ _ t (sym (mapped-more table_column xs i x (omega (arith, c.cells-test.true)) c.column-item.is))
+    (WritesCells-more _ _ _ c.cells.first (map table_column (take i xs)) (table_column x) t c.in-Ok.field-0 c.cells.invariant
+    (cell-found _ _ c.cells.first (table_column x) _ _ t (Ok c.in-Ok.field-0) c.pointer.ensures.tree c.steps.ensures c.in-Ok.ensures))
