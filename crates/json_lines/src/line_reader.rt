@@ -22,8 +22,8 @@ const MAX_BYTES: u64 = 4294967295;
 ///
 /// let mut reader = LineReader::new(alloc, 4)?;
 /// let mut source = SliceSource::new(b"ab\n123456\n");
-/// assert!(reader.next_line(&mut source)? == Some(Line::Whole(b"ab")));
-/// assert!(reader.next_line(&mut source)? == Some(Line::TooLong));
+/// assert!(rt; reader.next_line(&mut source)? == Some(Line::Whole(b"ab")));
+/// assert!(rt; reader.next_line(&mut source)? == Some(Line::TooLong));
 /// ```
 #[derive(Clone, Copy, Debug, PartialEq, Eq)]
 pub enum Line<'a> {
@@ -52,10 +52,10 @@ enum LineRange {
 ///
 /// let mut reader = LineReader::new(alloc, 1024)?;
 /// let mut source = SliceSource::new(b"[1]\n\n[2]");
-/// assert!(reader.next_line(&mut source)? == Some(Line::Whole(b"[1]")));
-/// assert!(reader.next_line(&mut source)? == Some(Line::Whole(b"")));
-/// assert!(reader.next_line(&mut source)? == Some(Line::Whole(b"[2]")));
-/// assert!(reader.next_line(&mut source)? == None);
+/// assert!(rt; reader.next_line(&mut source)? == Some(Line::Whole(b"[1]")));
+/// assert!(rt; reader.next_line(&mut source)? == Some(Line::Whole(b"")));
+/// assert!(rt; reader.next_line(&mut source)? == Some(Line::Whole(b"[2]")));
+/// assert!(rt; reader.next_line(&mut source)? == None);
 /// ```
 #[derive(Drop)]
 pub struct LineReader {

@@ -156,8 +156,9 @@ fn run_words<S: Source, K: Sink, E: Sink>(
 /// let mut source = SliceSource::new(b"{\"id\":1,\"name\":\"Ada\"}\n{\"id\":2}\n");
 /// let mut sink = VecSink::new(alloc);
 /// let mut errs = VecSink::new(alloc);
-/// assert_eq!(run_lines(alloc, &words, &mut source, &mut sink, &mut errs), 0);
-/// assert_eq!(sink.as_slice(), b"1\t\"Ada\"\n2\t-\n");
+/// let status = run_lines(alloc, &words, &mut source, &mut sink, &mut errs);
+/// assert_eq!(rt; status, 0);
+/// assert_eq!(rt; sink.as_slice(), b"1\t\"Ada\"\n2\t-\n".as_slice());
 /// ```
 pub fn run_lines<S: Source, K: Sink, E: Sink>(
     alloc: Global,
