@@ -1,0 +1,131 @@
+-- What a sink gained that was lent to a writer.
+use Rattle.std.proofs.Common.{◌≡◌, ℕ, List, [], ◌∷◌, ◌++◌, refl, sym, ap, subst, ◌∙◌, Bool, false, ◌||◌, Option, Some, None, Result, Ok, Err, OnOk, IfErr, IfSome, arith}
+use Rattle.std.specs.Borrow.{GName}
+use Rattle.json_text.specs.Known.{Grows, append_known}
+use Rattle.json_text.specs.Lending.{lent_as, ComesBack}
+use Rattle.json_text.specs.Outside.{SinkState, SourceState}
+use Rattle.json_text.specs.declared.error.Error.{Error}
+use Rattle.json_text.specs.Errors.{no_memory}
+use Rattle.json_text.proofs.Known.{known-append, known-nil, Consumes-nil}
+use Rattle.json_text.proofs.Putting.{Puts-nil}
+use Rattle.json_lines.specs.LineHandling.{ReportsUnlessMuted}
+use Rattle.json_print.specs.Buffered.{held_behind}
+use Rattle.json_print.specs.Calls.{holds_any}
+use Rattle.json_print.proofs.TextWriting.{front_gained, same_name, grown, sent_back}
+use Rattle.json_lines.specs.Lines.{lines}
+use Rattle.json_lines.specs.Rows.{Outcome, rows_of}
+use Rattle.json_lines.specs.Running.{StopsEarly}
+use Rattle.json_lines.specs.TopCall.{streams, GainsRows, WritesAllRows, WritesFewerRows, WritesPartOfTable, WritesPrefixes}
+use Rattle.json_lines.specs.declared.run.Tally.{Tally}
+use Rattle.json_lines.proofs.HandledLines.{IfSome-map}
+
+-- nothing waits where all was flushed
+none_held : (held : List ℕ) (b : Bool) → holds_any held || b ≡ false → (held ≡ []) × (b ≡ false)
+none_held [] b e = (refl, e)
+none_held (x ∷ held) b e = absurd (cc)
+
+module _ (has : List ℕ → Outcome → Type 0) (s u : SourceState) (old now errs errs' : SinkState) (name : GName) (held : List ℕ) (t : Tally) where
+  gained_now : (b : Bool) → holds_any held || b ≡ false → (done : List (List ℕ)) → GainsRows has done (lent_as old name old.gained) (held_behind (lent_as now name old.gained) held) errs errs' t → GainsRows has done old now errs errs' t
+  gained_now b flushed done h =
+      record {
+        outcomes = h.outcomes;
+        have = h.have;
+        rows = sym (known-nil now.gained) ∙ ap (append_known now.gained) (sym (none_held held b flushed).0) ∙ h.rows;
+        reports = h.reports;
+        bad = h.bad;
+      }
+
+  lent_all : WritesAllRows has (streams s (lent_as old name old.gained) errs) (streams u (held_behind (lent_as now name old.gained) held) errs') t → WritesAllRows has (streams s old errs) (streams u now errs') t
+  lent_all h =
+      record {
+        drained = h.drained;
+        no_fault = h.no_fault;
+        no_sink_fault = h.no_sink_fault;
+        flushed = (none_held held now.unflushed h.flushed).1;
+        handled = IfSome-map s.left (λ b. GainsRows has (lines b) (lent_as old name old.gained) (held_behind (lent_as now name old.gained) held) errs errs' t) (λ b. GainsRows has (lines b) old now errs errs' t)
+            (λ b h'. gained_now now.unflushed h.flushed (lines b) h') h.handled;
+      }
+
+  lent_front : Grows old.gained now.gained → (muted : Bool) (bytes : List ℕ) → StopsEarly has (lent_as old name old.gained) (held_behind (lent_as now name old.gained) held) errs errs' muted bytes → WritesPrefixes has old now errs errs' muted bytes
+  lent_front g muted bytes h =
+      record {
+        done = h.done;
+        begun = h.begun;
+        later = h.later;
+        parted = h.parted;
+        outcomes = h.outcomes;
+        have = h.have;
+        next = h.next;
+        next_have = h.next_have;
+        rows = front_gained old.gained now.gained (rows_of h.outcomes ++ rows_of h.next) (held ++ h.rows.back) (h.rows.whole ∙ known-append now.gained held h.rows.back) g;
+        reports = h.reports;
+      }
+
+  lent_short : Grows old.gained now.gained → (e : Error) → WritesFewerRows has (streams s (lent_as old name old.gained) errs) (streams u (held_behind (lent_as now name old.gained) held) errs') t e → WritesPartOfTable has (streams s old errs) (streams u now errs') t e
+  lent_short g e h =
+      record {
+        bytes = h.bytes;
+        consumed = h.consumed;
+        prefixes = IfSome-map s.left (λ _. StopsEarly has (lent_as old name old.gained) (held_behind (lent_as now name old.gained) held) errs errs' t.muted h.bytes) (λ _. WritesPrefixes has old now errs errs' t.muted h.bytes)
+            (λ _ b. lent_front g t.muted h.bytes b) h.stops;
+        cause = h.cause;
+        reading_told = h.reading_told;
+        writing_told = h.writing_told;
+      }
+
+  module _ (began sent lent : SinkState) (name' : GName) (r : Result (Unit {0}) Error) (b : began ≡ lent_as old name old.gained) (loan : sent.loan ≡ began.loan) (is : sent ≡ held_behind lent held) (back : ComesBack lent now name') where
+    lent_loan : lent.loan ≡ began.loan
+    lent_loan = ap (λ (x : SinkState). x.loan) (sym is) ∙ loan
+
+    pub written_name : name' ≡ name
+    written_name = same_name old now lent began name name' b lent_loan back
+
+    here : sent ≡ held_behind (lent_as now name old.gained) held
+    here = is ∙ ap (λ x. held_behind x held) (sent_back old now lent began name name' b lent_loan back)
+
+    pub written_ok : OnOk r (WritesAllRows has (streams s began errs) (streams u sent errs') t) → OnOk r (WritesAllRows has (streams s old errs) (streams u now errs') t)
+    written_ok h = by r h
+      where
+        by : (r : Result (Unit {0}) Error) → OnOk r (WritesAllRows has (streams s began errs) (streams u sent errs') t) → OnOk r (WritesAllRows has (streams s old errs) (streams u now errs') t)
+        by (Err e) h = tt
+        by (Ok v) h = lent_all (subst (λ x. WritesAllRows has (streams s x errs) (streams u (held_behind (lent_as now name old.gained) held) errs') t) b (subst (λ x. WritesAllRows has (streams s began errs) (streams u x errs') t) here h))
+
+    pub written_err : IfErr r (λ e. WritesFewerRows has (streams s began errs) (streams u sent errs') t e) → IfErr r (λ e. WritesPartOfTable has (streams s old errs) (streams u now errs') t e)
+    written_err h = by r h
+      where
+        by : (r : Result (Unit {0}) Error) → IfErr r (λ e. WritesFewerRows has (streams s began errs) (streams u sent errs') t e) → IfErr r (λ e. WritesPartOfTable has (streams s old errs) (streams u now errs') t e)
+        by (Ok v) h = tt
+        by (Err e) h =
+            lent_short (grown old now lent began name name' b lent_loan back) e
+            (subst (λ x. WritesFewerRows has (streams s x errs) (streams u (held_behind (lent_as now name old.gained) held) errs') t e) b (subst (λ x. WritesFewerRows has (streams s began errs) (streams u x errs') t e) here h))
+
+-- memory ran out for the buffer
+pub short_none : (has : List ℕ → Outcome → Type 0) (s : SourceState) (sink errs : SinkState) (t : Tally) (e : Error) → e ≡ no_memory → t.muted ≡ false → WritesPartOfTable has (streams s sink errs) (streams s sink errs) t e
+short_none has s sink errs t e is unmuted =
+    subst (WritesPartOfTable has (streams s sink errs) (streams s sink errs) t) (sym is)
+    (record {
+      bytes = [];
+      consumed = Consumes-nil s.left;
+      prefixes = some_prefix s.left;
+      cause = tt;
+      reading_told = λ l. absurd (omega (arith, l));
+      writing_told = λ l. absurd (omega (arith, l));
+    })
+  where
+    nothing : WritesPrefixes has sink sink errs errs t.muted []
+    nothing = record {
+      done = [];
+      begun = [];
+      later = [];
+      parted = refl;
+      outcomes = [];
+      have = tt;
+      next = [];
+      next_have = tt;
+      rows = record { front = []; back = []; whole = refl; gains = sym (known-nil sink.gained) };
+      reports = subst (λ d. ReportsUnlessMuted false d errs errs []) (sym unmuted) (Puts-nil errs);
+    }
+
+    some_prefix : (o : Option (List ℕ)) → IfSome o (λ _. WritesPrefixes has sink sink errs errs t.muted [])
+    some_prefix None = tt
+    some_prefix (Some x) = nothing

@@ -1,0 +1,17 @@
+pub mod Newlines
+pub mod TextWriting
+pub mod ReaderSteps
+pub mod FindingLines
+pub mod NextLineCalls
+pub mod LinesDone
+pub mod Totals
+pub mod HandledLines
+pub mod RunStatus
+pub mod OneOutcome
+pub mod CellWriting
+pub mod LineRows
+pub mod LentSinks
+pub mod RunResults
+pub mod WordsSpelled
+pub mod ReadingLines
+pub mod Pieces

@@ -1,0 +1,256 @@
+-- What the top call does, for each status.
+use Rattle.std.proofs.Common.{◌≡◌, ◌≢◌, ◌⊎◌, inl, inr, ◌<◌, ◌≤◌, ℕ, List, [], ◌++◌, length, refl, sym, ap, subst, ◌∙◌, Bool, true, false, Option, Some, None, IfSome, arith, append_assoc}
+use Rattle.std.specs.Prelude.{if◌then◌else◌}
+use Rattle.std.proofs.lemmas.List.{length-append}
+use Rattle.json_text.specs.Errors.{no_memory, bad_words}
+use Rattle.json_text.specs.FaultText.{text_of}
+use Rattle.json_text.specs.Known.{Consumes, Appends, prepend_known}
+use Rattle.json_text.specs.Outside.{SinkState, SourceState, Rose}
+use Rattle.json_text.specs.Transfer.{AppendsFront}
+use Rattle.json_text.specs.declared.error.Error.{Error}
+use Rattle.json_text.specs.declared.error.ErrorCode.{ErrorCode}
+use Rattle.json_text.specs.declared.error.ErrorCode.TheVariants.{NoMemory, Io, TooLarge}
+use Rattle.json_text.specs.declared.error.Place.{Place}
+use Rattle.json_text.specs.declared.error.Place.TheVariants.{None as nowhere, Reading, Writing}
+use Rattle.json_text.proofs.Known.{Consumes-nil}
+use Rattle.json_text.proofs.Putting.{AppendsFront-first}
+use Rattle.json_command.specs.Reporting.{Reports}
+use Rattle.json_lines.specs.Cells.{Command}
+use Rattle.json_lines.specs.Lines.{lines}
+use Rattle.json_lines.specs.Outcomes.{HasOutcome, HaveOutcomes}
+use Rattle.json_command.specs.Input.{max_bytes}
+use Rattle.json_lines.specs.Rows.{Outcome, HasWithin, rows_of, errors_from, some_bad}
+use Rattle.json_lines.specs.RunResults.{OfOutcomes, Completes, RefusesWords, AppendsRowsPrefix, TellsErrorsPrefix, FailsBeforeReading, FailsWhileReading, FailsRun, RunResult, NothingFails}
+use Rattle.json_lines.specs.TopCall.{Streams, GainsRows, WritesAllRows, WritesPartOfTable, WritesPrefixes, RunErrorCause, run_status}
+use Rattle.json_lines.specs.Words.{Asks, IsAsked}
+use Rattle.json_lines.specs.declared.run.Tally.{Tally}
+use Rattle.json_lines.proofs.HandledLines.{IfSome-map}
+use Rattle.json_lines.proofs.OneOutcome.{some_outcomes, all_within}
+use Rattle.json_lines.proofs.RunStatus.{Reports-from, Reports-last}
+use Rattle.json_lines.proofs.Totals.{rows_of-append, AllHave-append}
+
+abbrev within : Command → List ℕ → Outcome → Type 0
+within command = HasWithin 1048576 (HasOutcome command)
+
+-- ---- the run is complete
+
+-- of the outcomes of all lines
+of_lines : (words : List (List ℕ)) (command : Command) (known : Option (List ℕ)) (a c errs errs' : SinkState) (t : Tally) (Q : List Outcome → Type 0) → Asks words command
+    → ((b : List ℕ) → (h : GainsRows (within command) (lines b) a c errs errs' t) → Q h.outcomes) → IfSome known (λ b. GainsRows (within command) (lines b) a c errs errs' t) → OfOutcomes words known Q
+of_lines words command known a c errs errs' t Q asked f h =
+    record {
+      command = command;
+      asked = asked;
+      so = IfSome-map known (λ b. GainsRows (within command) (lines b) a c errs errs' t) (λ b. (outcomes : List Outcome) × HaveOutcomes command (lines b) outcomes × Q outcomes)
+          (λ b g. (g.outcomes, all_within command (lines b) g.outcomes g.have, f b g)) h;
+    }
+
+status_bool : (t : Bool) (n : ℕ) → n ≡ (if t then 1 else 0) → (n ≡ 0) ⊎ (n ≡ 1)
+status_bool true n h = inr h
+status_bool false n h = inl h
+
+pub completes-from : (words : List (List ℕ)) (command : Command) (a c : Streams) (t : Tally) (n : ℕ) → Asks words command → WritesAllRows (within command) a c t → n ≡ (if t.bad then 1 else 0) → Completes words a c n
+completes-from words command a c t n asked all is =
+    record {
+      known = status_bool t.bad n is;
+      all = record { drained = all.drained; read = all.no_fault; written = all.no_sink_fault; flushed = all.flushed };
+      rows = of_lines words command a.source.left a.sink c.sink a.errs c.errs t (λ os. Appends a.sink.gained c.sink.gained (rows_of os)) asked (λ b h. h.rows) all.handled;
+      errors = of_lines words command a.source.left a.sink c.sink a.errs c.errs t (λ os. Reports (errors_from 1 os) a.errs c.errs) asked (λ b h. Reports-from t.muted a.errs c.errs (errors_from 1 h.outcomes) h.reports) all.handled;
+      bad = of_lines words command a.source.left a.sink c.sink a.errs c.errs t (λ os. n ≡ (if some_bad os then 1 else 0)) asked (λ b h. is ∙ ap (λ t. if t then 1 else 0) h.bad) all.handled;
+    }
+
+-- ---- the run failed
+
+-- the outcomes of all lines, where those of the later ones are any
+module _ (command : Command) (a c : Streams) (errs : SinkState) (muted : Bool) (bytes : List ℕ) (h : WritesPrefixes (within command) a.sink c.sink a.errs c.errs muted bytes) where
+  abbrev later_outcomes : List Outcome
+  later_outcomes = (some_outcomes command h.later).0
+
+  abbrev all_outcomes : List Outcome
+  all_outcomes = h.outcomes ++ (h.next ++ later_outcomes)
+
+  all_have : HaveOutcomes command (lines bytes) all_outcomes
+  all_have =
+      subst (λ l. HaveOutcomes command l all_outcomes) (sym h.parted)
+      (AllHave-append (HasOutcome command) h.done (h.begun ++ h.later) h.outcomes (h.next ++ later_outcomes) (all_within command h.done h.outcomes h.have)
+      (AllHave-append (HasOutcome command) h.begun h.later h.next later_outcomes (all_within command h.begun h.next h.next_have) (some_outcomes command h.later).1))
+
+  all_rows : rows_of h.outcomes ++ rows_of h.next ++ rows_of later_outcomes ≡ rows_of all_outcomes
+  all_rows =
+      append_assoc (rows_of h.outcomes) (rows_of h.next) (rows_of later_outcomes) ∙ ap (λ l. rows_of h.outcomes ++ l) (sym (rows_of-append h.next later_outcomes)) ∙ sym (rows_of-append h.outcomes (h.next ++ later_outcomes))
+
+  rows_prefix : AppendsRowsPrefix command bytes a (record { source = c.source; sink = c.sink; errs = errs })
+  rows_prefix =
+      record { outcomes = all_outcomes; have = all_have; gained = subst (AppendsFront a.sink.gained c.sink.gained) all_rows (AppendsFront-first a.sink.gained c.sink.gained (rows_of h.outcomes ++ rows_of h.next) (rows_of later_outcomes) h.rows) }
+
+  errors_prefix : (e : Error) → (muted ≡ false → Reports (text_of e) c.errs errs) → (muted ≡ true → errs ≡ c.errs) → TellsErrorsPrefix command bytes e a (record { source = c.source; sink = c.sink; errs = errs })
+  errors_prefix e reported silent =
+      record {
+        outcomes = all_outcomes;
+        have = all_have;
+        first = h.outcomes;
+        later = h.next ++ later_outcomes;
+        parted = refl;
+        told = Reports-last muted a.errs c.errs errs (errors_from 1 h.outcomes) (text_of e) h.reports reported silent;
+      }
+
+cause_errs : (code : ErrorCode) (place : Place) (bytes : List ℕ) (a c : Streams) (errs : SinkState) → RunErrorCause bytes a c code place → RunErrorCause bytes a (record { source = c.source; sink = c.sink; errs = errs }) code place
+cause_errs NoMemory nowhere bytes a c errs h = tt
+cause_errs Io Reading bytes a c errs h = h
+cause_errs Io Writing bytes a c errs h = h
+cause_errs TooLarge nowhere bytes a c errs h = h
+cause_errs code place bytes a c errs h = absurd h
+
+pub fails-from : (words : List (List ℕ)) (command : Command) (a c : Streams) (errs : SinkState) (t : Tally) (e : Error) (n : ℕ) → Asks words command → WritesPartOfTable (within command) a c t e → (t.muted ≡ false → Reports (text_of e) c.errs errs) → (t.muted ≡ true → errs ≡ c.errs)
+    → n ≡ run_status e.code e.place → FailsRun words a (record { source = c.source; sink = c.sink; errs = errs }) n
+fails-from words command a c errs t e n asked part reported silent is =
+    record {
+      error = e;
+      status_is = is;
+      bytes = part.bytes;
+      consumed = part.consumed;
+      cause = cause_errs e.code e.place part.bytes a c errs part.cause;
+      did = inr (record {
+        command = command;
+        asked = asked;
+        rows = IfSome-map a.source.left (λ _. WritesPrefixes (within command) a.sink c.sink a.errs c.errs t.muted part.bytes) (λ _. AppendsRowsPrefix command part.bytes a (record { source = c.source; sink = c.sink; errs = errs }))
+            (λ _ h. rows_prefix command a c errs t.muted part.bytes h) part.prefixes;
+        errors = IfSome-map a.source.left (λ _. WritesPrefixes (within command) a.sink c.sink a.errs c.errs t.muted part.bytes) (λ _. TellsErrorsPrefix command part.bytes e a (record { source = c.source; sink = c.sink; errs = errs }))
+            (λ _ h. errors_prefix command a c errs t.muted part.bytes h e reported silent) part.prefixes;
+      });
+      read_told = λ l. is ∙ ap (λ e. run_status e.code e.place) (part.reading_told l);
+      write_told = λ l. is ∙ ap (λ e. run_status e.code e.place) (part.writing_told l);
+    }
+
+-- ---- the words alone
+
+pub memory_ran_out : (words : List (List ℕ)) (s : SourceState) (sink errs errs' : SinkState) (e : Error) (n : ℕ) → e ≡ no_memory → Reports (text_of e) errs errs' → n ≡ run_status e.code e.place
+    → FailsRun words (record { source = s; sink = sink; errs = errs }) (record { source = s; sink = sink; errs = errs' }) n
+memory_ran_out words s sink errs errs' e n is told status =
+    record {
+      error = e;
+      status_is = status;
+      bytes = [];
+      consumed = Consumes-nil s.left;
+      cause = subst (λ (x : Error). RunErrorCause [] (record { source = s; sink = sink; errs = errs }) (record { source = s; sink = sink; errs = errs' }) x.code x.place) (sym is) tt;
+      did = inl (record { lacks = is; unread = refl; unwritten = refl; told = told });
+      read_told = λ l. absurd (omega (arith, l));
+      write_told = λ l. absurd (omega (arith, l));
+    }
+
+pub unasked-from : (words : List (List ℕ)) (s : SourceState) (sink errs errs' : SinkState) (e : Error) (n : ℕ) → Reports (text_of e) errs errs' → n ≡ run_status e.code e.place → (e ≡ no_memory) ⊎ ((e ≡ bad_words) × ¬ (IsAsked words))
+    → RunResult words (record { source = s; sink = sink; errs = errs }) (record { source = s; sink = sink; errs = errs' }) n
+unasked-from words s sink errs errs' e n reports status (inl is) = inr (inr (memory_ran_out words s sink errs errs' e n is reports status))
+unasked-from words s sink errs errs' e n reports status (inr (is, unasked)) =
+    inr (inl (
+      status ∙ ap (λ (x : Error). run_status x.code x.place) is,
+      record { unasked = unasked; unread = refl; unwritten = refl; told = subst (λ x. Reports (text_of x) errs errs') is reports },
+    ))
+
+-- ---- which of the three it is
+
+failure_above : (code : ErrorCode) (place : Place) (bytes : List ℕ) (a c : Streams) → RunErrorCause bytes a c code place → 2 < run_status code place
+failure_above NoMemory nowhere bytes a c h = omega arith
+failure_above Io Reading bytes a c h = omega arith
+failure_above Io Writing bytes a c h = omega arith
+failure_above TooLarge nowhere bytes a c h = omega arith
+failure_above code place bytes a c h = absurd h
+
+status_known : (code : ErrorCode) (place : Place) (bytes : List ℕ) (a c : Streams) → RunErrorCause bytes a c code place → (run_status code place ≤ 7) × (run_status code place ≡ 3 → ⊥)
+status_known NoMemory nowhere bytes a c h = (omega arith, λ e. omega (arith, e))
+status_known Io Reading bytes a c h = (omega arith, λ e. omega (arith, e))
+status_known Io Writing bytes a c h = (omega arith, λ e. omega (arith, e))
+status_known TooLarge nowhere bytes a c h = (omega arith, λ e. omega (arith, e))
+status_known code place bytes a c h = absurd h
+
+reading_rose : (code : ErrorCode) (place : Place) (bytes : List ℕ) (a c : Streams) → RunErrorCause bytes a c code place → run_status code place ≡ 4 → Rose a.source.faults c.source.faults
+reading_rose NoMemory nowhere bytes a c h e = absurd (omega (arith, e))
+reading_rose Io Reading bytes a c h e = h
+reading_rose Io Writing bytes a c h e = absurd (omega (arith, e))
+reading_rose TooLarge nowhere bytes a c h e = absurd (omega (arith, e))
+reading_rose code place bytes a c h e = absurd h
+
+writing_rose : (code : ErrorCode) (place : Place) (bytes : List ℕ) (a c : Streams) → RunErrorCause bytes a c code place → run_status code place ≡ 5 → Rose a.sink.faults c.sink.faults
+writing_rose NoMemory nowhere bytes a c h e = absurd (omega (arith, e))
+writing_rose Io Reading bytes a c h e = absurd (omega (arith, e))
+writing_rose Io Writing bytes a c h e = h
+writing_rose TooLarge nowhere bytes a c h e = absurd (omega (arith, e))
+writing_rose code place bytes a c h e = absurd h
+
+too_many : (code : ErrorCode) (place : Place) (bytes : List ℕ) (a c : Streams) → RunErrorCause bytes a c code place → run_status code place ≡ 7 → max_bytes < length bytes
+too_many NoMemory nowhere bytes a c h e = absurd (omega (arith, e))
+too_many Io Reading bytes a c h e = absurd (omega (arith, e))
+too_many Io Writing bytes a c h e = absurd (omega (arith, e))
+too_many TooLarge nowhere bytes a c h e = h
+too_many code place bytes a c h e = absurd h
+
+module _ (words : List (List ℕ)) (old new : Streams) (n : ℕ) where
+  above : FailsRun words old new n → 2 < n
+  above b = omega (arith, b.status_is, failure_above b.error.code b.error.place b.bytes old new b.cause)
+
+  below : Completes words old new n → n < 2
+  below d = elim d.known [ inl h ↦ omega (arith, h) | inr h ↦ omega (arith, h) ]
+
+  pub is-complete-run : RunResult words old new n → n < 2 → Completes words old new n
+  is-complete-run (inl d) l = d
+  is-complete-run (inr (inl (e, r))) l = absurd (omega (arith, e, l))
+  is-complete-run (inr (inr b)) l = absurd (omega (arith, l, above b))
+
+  pub is-refused : RunResult words old new n → n ≡ 2 → RefusesWords words old new
+  is-refused (inl d) e = absurd (omega (arith, e, below d))
+  is-refused (inr (inl (f, r))) e = r
+  is-refused (inr (inr b)) e = absurd (omega (arith, e, above b))
+
+  pub is-failed : RunResult words old new n → 2 < n → FailsRun words old new n
+  is-failed (inl d) l = absurd (omega (arith, l, below d))
+  is-failed (inr (inl (e, r))) l = absurd (omega (arith, e, l))
+  is-failed (inr (inr b)) l = b
+
+  pub is-known : RunResult words old new n → (n ≤ 7) × (n ≢ 3)
+  is-known (inl d) = (omega (arith, below d), λ e. omega (arith, e, below d))
+  is-known (inr (inl (e, r))) = (omega (arith, e), λ f. omega (arith, e, f))
+  is-known (inr (inr b)) = let k = status_known b.error.code b.error.place b.bytes old new b.cause in (omega (arith, b.status_is, k.0), λ e. k.1 (sym b.status_is ∙ e))
+
+  pub is-read-fault : RunResult words old new n → n ≡ 4 → Rose old.source.faults new.source.faults
+  is-read-fault h e = let b = is-failed h (omega (arith, e)) in reading_rose b.error.code b.error.place b.bytes old new b.cause (sym b.status_is ∙ e)
+
+  pub is-write-fault : RunResult words old new n → n ≡ 5 → Rose old.sink.faults new.sink.faults
+  is-write-fault h e = let b = is-failed h (omega (arith, e)) in writing_rose b.error.code b.error.place b.bytes old new b.cause (sym b.status_is ∙ e)
+
+  pub is-large : RunResult words old new n → n ≡ 7 → (bytes : List ℕ) × Consumes old.source.left new.source.left bytes × (max_bytes < length bytes)
+  is-large h e = let b = is-failed h (omega (arith, e)) in (b.bytes, b.consumed, too_many b.error.code b.error.place b.bytes old new b.cause (sym b.status_is ∙ e))
+
+  pub read-told : RunResult words old new n → old.source.faults < new.source.faults → n ≡ 4
+  read-told (inl d) l = absurd (omega (arith, l, d.all.read))
+  read-told (inr (inl (e, r))) l = absurd (omega (arith, l, ap (λ (s : SourceState). s.faults) r.unread))
+  read-told (inr (inr b)) l = b.read_told l
+
+  pub write-told : RunResult words old new n → old.sink.faults < new.sink.faults → n ≡ 5
+  write-told (inl d) l = absurd (omega (arith, l, d.all.written))
+  write-told (inr (inl (e, r))) l = absurd (omega (arith, l, ap (λ (s : SinkState). s.faults) r.unwritten))
+  write-told (inr (inr b)) l = b.write_told l
+
+  unasked_fails : ¬ (IsAsked words) → (b : FailsRun words old new n) → FailsBeforeReading b.error old new ⊎ FailsWhileReading words b.bytes b.error old new → n ≡ 6
+  unasked_fails none b (inl u) = b.status_is ∙ ap (λ (x : Error). run_status x.code x.place) u.lacks
+  unasked_fails none b (inr g) = absurd (none (g.command, g.asked))
+
+  pub is-unasked : RunResult words old new n → ¬ (IsAsked words) → (n ≡ 2) ⊎ (n ≡ 6)
+  is-unasked (inl d) none = absurd (none (d.rows.command, d.rows.asked))
+  is-unasked (inr (inl (e, r))) none = inl e
+  is-unasked (inr (inr b)) none = inr (unasked_fails none b b.did)
+
+  few_bytes : (left : Option (List ℕ)) (bytes all : List ℕ) → prepend_known bytes left ≡ Some all → length bytes ≤ length all
+  few_bytes None bytes all h = absurd (cc)
+  few_bytes (Some rest) bytes all h = let e : bytes ++ rest ≡ all = cc in omega (arith, length-append bytes rest, ap length e)
+
+  nothing_fails : (code : ErrorCode) (place : Place) (bytes : List ℕ) → NothingFails words old new → Consumes old.source.left new.source.left bytes → RunErrorCause bytes old new code place → run_status code place ≡ 6
+  nothing_fails NoMemory nowhere bytes good consumed h = refl
+  nothing_fails Io Reading bytes good consumed h = absurd (good.read h)
+  nothing_fails Io Writing bytes good consumed h = absurd (good.written h)
+  nothing_fails TooLarge nowhere bytes good consumed h = absurd (omega (arith, h, good.few, few_bytes new.source.left bytes good.bytes (sym consumed ∙ good.known)))
+  nothing_fails code place bytes good consumed h = absurd h
+
+  pub is-complete : RunResult words old new n → NothingFails words old new → (n < 2) ⊎ (n ≡ 6)
+  is-complete (inl d) good = inl (below d)
+  is-complete (inr (inl (e, r))) good = absurd (r.unasked good.asked)
+  is-complete (inr (inr b)) good = inr (b.status_is ∙ nothing_fails b.error.code b.error.place b.bytes good b.consumed b.cause)

@@ -1,0 +1,171 @@
+-- From the loop over the lines to the call that writes all rows.
+use Rattle.std.proofs.Common.{◌≡◌, ℕ, ◌<◌, ◌≤◌, ◌⊎◌, inl, inr, Bool, true, false, List, [], ◌++◌, length, Option, None, Some, Ok, Err, Result, IfSome, refl, sym, ◌∙◌, subst, arith, append-nil}
+use Rattle.std.proofs.lemmas.Bool.{cases_lt}
+use Rattle.json_text.specs.Known.{Keeps}
+use Rattle.json_text.specs.Outside.{SinkState, Rose}
+use Rattle.json_text.specs.Transfer.{FlushesAll, Puts, WritingCause}
+use Rattle.json_text.specs.declared.error.Error.{Error}
+use Rattle.json_text.specs.declared.error.ErrorCode.{ErrorCode}
+use Rattle.json_text.specs.declared.error.ErrorCode.TheVariants.{NoMemory, Io, TooLarge}
+use Rattle.json_text.specs.declared.error.Place.{Place}
+use Rattle.json_text.specs.declared.error.Place.TheVariants.{None as nowhere, Reading, Writing}
+use Rattle.json_text.specs.Errors.{no_memory, writing_failed}
+use Rattle.json_text.proofs.Known.{Consumes-nil, Appends-nil, Appends-kept, Appends-trans}
+use Rattle.json_text.proofs.Putting.{AppendsFront-first, AppendsFront-then, Puts-nil}
+use Rattle.json_command.specs.Reporting.{Reports}
+use Rattle.json_lines.specs.declared.run.Tally.{Tally}
+use Rattle.json_lines.specs.Lines.{lines}
+use Rattle.json_lines.specs.Reading.{ReaderState, NextLineCause}
+use Rattle.json_lines.specs.Rows.{Outcome, rows_of}
+use Rattle.json_lines.specs.LineHandling.{ReportsUnlessMuted}
+use Rattle.json_lines.specs.Steps.{RunState}
+use Rattle.json_lines.specs.Running.{IsFreshRun, HandlesLines, FinishesLines, FailsEarly, StopsEarly, RowErrorCause}
+use Rattle.json_lines.specs.TopCall.{Streams, RunErrorCause, GainsRows, WritesAllRows, WritesFewerRows}
+use Rattle.json_lines.proofs.TextWriting.{Begins-part}
+use Rattle.json_lines.proofs.HandledLines.{IfSome-map}
+
+abbrev pub streams_of : RunState → Streams
+streams_of s = record { source = s.source; sink = s.sink; errs = s.errs }
+
+cause-line : (code : ErrorCode) (place : Place) (bytes : List ℕ) (a c : Streams) (reader : ReaderState) → reader.received ≡ length bytes → NextLineCause reader a.source c.source code place → RunErrorCause bytes a c code place
+cause-line Io Reading bytes a c reader received h = h.0
+cause-line TooLarge nowhere bytes a c reader received h = omega (arith, received, h.1)
+cause-line code place bytes a c reader received h = absurd h
+
+cause-row : (code : ErrorCode) (place : Place) (bytes : List ℕ) (a c : Streams) → RowErrorCause a.sink c.sink code place → RunErrorCause bytes a c code place
+cause-row NoMemory nowhere bytes a c h = tt
+cause-row Io Writing bytes a c h = h
+cause-row code place bytes a c h = absurd h
+
+cause-flush : (code : ErrorCode) (place : Place) (bytes : List ℕ) (a c : Streams) (mid : SinkState) → mid.faults ≡ a.sink.faults → WritingCause mid c.sink code place → RunErrorCause bytes a c code place
+cause-flush NoMemory nowhere bytes a c mid same h = tt
+cause-flush Io Writing bytes a c mid same h = subst (λ n. Rose n c.sink.faults) same h
+cause-flush code place bytes a c mid same h = absurd h
+
+causes : (a c : RunState) (e : Error) (bytes : List ℕ) (P Q : Type 0) → c.reader.received ≡ length bytes → NextLineCause c.reader a.source c.source e.code e.place ⊎ (RowErrorCause a.sink c.sink e.code e.place × P × Q) → RunErrorCause bytes (streams_of a) (streams_of c) e.code e.place
+causes a c e bytes P Q received (inl h) = cause-line e.code e.place bytes (streams_of a) (streams_of c) c.reader received h
+causes a c e bytes P Q received (inr h) = cause-row e.code e.place bytes (streams_of a) (streams_of c) h.0
+
+pub WritesFewerRows-run : (has : List ℕ → Outcome → Type 0) (a c : RunState) (e : Error) → IsFreshRun a → FailsEarly has a c e → WritesFewerRows has (streams_of a) (streams_of c) c.tally e
+WritesFewerRows-run has a c e fresh fails =
+    record {
+      bytes = fails.bytes;
+      consumed = fails.reads.consumed;
+      stops = fails.stops;
+      cause = causes a c e fails.bytes _ _ (omega (arith, fails.reads.received_so, fresh.received)) fails.cause;
+      reading_told = fails.reading_told;
+      writing_told = fails.writing_told;
+    }
+
+-- memory ran out for the reader
+pub WritesFewerRows-none : (has : List ℕ → Outcome → Type 0) (a : Streams) (t : Tally) → t.muted ≡ false → WritesFewerRows has a a t no_memory
+WritesFewerRows-none has a t unmuted =
+    record {
+      bytes = [];
+      consumed = Consumes-nil a.source.left;
+      stops = some_stops a.source.left;
+      cause = tt;
+      reading_told = λ l. absurd (omega (arith, l));
+      writing_told = λ l. absurd (omega (arith, l));
+    }
+  where
+    nothing : StopsEarly has a.sink a.sink a.errs a.errs t.muted []
+    nothing = record {
+      done = [];
+      begun = [];
+      later = [];
+      parted = refl;
+      outcomes = [];
+      have = tt;
+      next = [];
+      next_have = tt;
+      rows = Begins-part a.sink.gained a.sink.gained [] [] (Appends-nil a.sink.gained);
+      reports = subst (λ d. ReportsUnlessMuted false d a.errs a.errs []) (sym unmuted) (Puts-nil a.errs);
+    }
+
+    some_stops : (o : Option (List ℕ)) → IfSome o (λ _. StopsEarly has a.sink a.sink a.errs a.errs t.muted [])
+    some_stops None = tt
+    some_stops (Some x) = nothing
+
+-- the flush after all lines
+abbrev pub with_sink : RunState → SinkState → Streams
+with_sink s sink = record { source = s.source; sink = sink; errs = s.errs }
+
+same_faults : (a b : ℕ) → a ≤ b → (a < b → ⊥) → b ≡ a
+same_faults a b le none = elim (cases_lt a b) [ inl l ↦ absurd (none l) | inr l ↦ omega (arith, l, le) ]
+
+ok_no_error : (u : Unit {0}) (e : Error) → Ok u ≡ Err e → ⊥
+ok_no_error u e h = cc
+
+abbrev failed : Error → Result (Unit {0}) Error
+failed e = Err e
+
+err_same : (e f : Error) → failed e ≡ failed f → e ≡ f
+err_same e f h = cc
+
+gains_flushed : (has : List ℕ → Outcome → Type 0) (done : List (List ℕ)) (a c sink errs errs' : SinkState) (t : Tally) → Keeps c.gained sink.gained → HandlesLines has done a c errs errs' t → GainsRows has done a sink errs errs' t
+gains_flushed has done a c sink errs errs' t keeps h =
+    record { outcomes = h.outcomes; have = h.have; rows = Appends-kept a.gained c.gained sink.gained (rows_of h.outcomes) h.rows.ok keeps; reports = h.reports; bad = h.bad }
+
+pub WritesAllRows-flushed : (has : List ℕ → Outcome → Type 0) (a c : RunState) (sink : SinkState) (u : Unit {0}) → FinishesLines has a c → FlushesAll c.sink sink (Ok u) → WritesAllRows has (streams_of a) (with_sink c sink) c.tally
+WritesAllRows-flushed has a c sink u run flush =
+    record {
+      drained = run.drained;
+      no_fault = run.no_fault;
+      no_sink_fault = same_faults c.sink.faults sink.faults flush.later.faults (λ l. ok_no_error u writing_failed (flush.told l)) ∙ run.no_sink_fault;
+      flushed = flush.ok;
+      handled = IfSome-map a.source.left (λ b. HandlesLines has (lines b) a.sink c.sink a.errs c.errs c.tally) (λ b. GainsRows has (lines b) a.sink sink a.errs c.errs c.tally)
+          (λ b h. gains_flushed has (lines b) a.sink c.sink sink a.errs c.errs c.tally flush.keeps h) run.handled;
+    }
+
+flush_stops : (has : List ℕ → Outcome → Type 0) (o : Option (List ℕ)) (bytes : List ℕ) (a c sink errs errs' : SinkState) (t : Tally) → IfSome o (λ b. b ≡ bytes)
+    → IfSome o (λ b. HandlesLines has (lines b) a c errs errs' t) → Keeps c.gained sink.gained
+    → IfSome o (λ _. StopsEarly has a sink errs errs' t.muted bytes)
+flush_stops has None bytes a c sink errs errs' t is handled keeps = tt
+flush_stops has (Some b) bytes a c sink errs errs' t is handled keeps =
+    subst (StopsEarly has a sink errs errs' t.muted) is
+    (record {
+      done = lines b;
+      begun = [];
+      later = [];
+      parted = sym (append-nil (lines b));
+      outcomes = handled.outcomes;
+      have = handled.have;
+      next = [];
+      next_have = tt;
+      rows = Begins-part a.gained sink.gained (rows_of handled.outcomes) [] (Appends-kept a.gained c.gained sink.gained (rows_of handled.outcomes) handled.rows.ok keeps);
+      reports = handled.reports;
+    })
+
+pub WritesFewerRows-flush : (has : List ℕ → Outcome → Type 0) (a c : RunState) (sink : SinkState) (e : Error) → FinishesLines has a c → FlushesAll c.sink sink (Err e) → WritesFewerRows has (streams_of a) (with_sink c sink) c.tally e
+WritesFewerRows-flush has a c sink e run flush =
+    record {
+      bytes = run.bytes;
+      consumed = run.reads.consumed;
+      stops = flush_stops has a.source.left run.bytes a.sink c.sink sink a.errs c.errs c.tally run.all run.handled flush.keeps;
+      cause = cause-flush e.code e.place run.bytes (streams_of a) (with_sink c sink) c.sink run.no_sink_fault flush.cause;
+      reading_told = λ l. absurd (omega (arith, l, run.no_fault));
+      writing_told = λ l. err_same e writing_failed (flush.told (omega (arith, l, run.no_sink_fault)));
+    }
+
+-- ---- what was reported
+
+told-row : (code : ErrorCode) (place : Place) (a c : SinkState) → WritingCause a c code place → Rose a.faults c.faults ⊎ Rose a.lacks c.lacks
+told-row NoMemory nowhere a c h = inr h
+told-row Io Writing a c h = inl h
+told-row code place a c h = absurd h
+
+pub Reports-from : (muted : Bool) (a c : SinkState) (text : List ℕ) → ReportsUnlessMuted false muted a c text → Reports text a c
+Reports-from false a c text h = inl h.ok
+Reports-from true a c text h = inr (h.1.err, told-row h.0.code h.0.place a c h.1.cause)
+
+-- all was reported, and then one text more
+last_text : (a b c : SinkState) (xs text : List ℕ) → Puts a b xs (Ok tt) → Reports text b c → Reports (xs ++ text) a c
+last_text a b c xs text h (inl k) = inl (Appends-trans a.gained b.gained c.gained xs text h.ok k)
+last_text a b c xs text h (inr (front, inl rose)) = inr (AppendsFront-then a.gained b.gained c.gained xs text h.ok front, inl (subst (λ n. Rose n c.faults) h.faults_ok rose))
+last_text a b c xs text h (inr (front, inr rose)) = inr (AppendsFront-then a.gained b.gained c.gained xs text h.ok front, inr (subst (λ n. Rose n c.lacks) h.lacks_ok rose))
+
+pub Reports-last : (muted : Bool) (a b c : SinkState) (xs text : List ℕ) → ReportsUnlessMuted false muted a b xs → (muted ≡ false → Reports text b c) → (muted ≡ true → c ≡ b) → Reports (xs ++ text) a c
+Reports-last false a b c xs text h reported silent = last_text a b c xs text h (reported refl)
+Reports-last true a b c xs text h reported silent =
+    subst (Reports (xs ++ text) a) (sym (silent refl)) (inr (AppendsFront-first a.gained b.gained xs text h.1.err, told-row h.0.code h.0.place a b h.1.cause))

@@ -1,0 +1,204 @@
+-- What words spell.
+use Rattle.std.proofs.Common.{◌≡◌, ◌≢◌, ◌⊎◌, inl, inr, ◌∙◌, ℕ, ◌≤◌, ◌^◌, false, List, [], ◌∷◌, length, Option, Some, None, MatchOption, slice_get, refl, sym, ap, subst, arith}
+use Rattle.json_grammar.specs.Tree.{Tree, null, boolean, num, text, list, pairs, trees_list}
+use Rattle.json_grammar.proofs.TextUtf8.{text_utf8}
+use Rattle.json_grammar.proofs.Values.{one_tree}
+use Rattle.json_text.specs.Errors.{no_memory, bad_words}
+use Rattle.json_text.specs.Ruled.{usual_rules}
+use Rattle.json_text.specs.declared.error.Error.{Error}
+use Rattle.json_text.specs.declared.error.ErrorCode.{ErrorCode}
+use Rattle.json_text.specs.declared.error.ErrorCode.TheVariants.{NoMemory, TooLarge, InvalidUTF8, TypeUnmatched, NumberOutOfRange, ExpectedNumericKey}
+use Rattle.json_text.specs.declared.error.Place.{Place}
+use Rattle.json_text.specs.declared.error.Place.TheVariants.{None as nowhere}
+use Rattle.json_text.proofs.NoText.{no_text}
+use Rattle.json_model.specs.Edit.{Step, push_at}
+use Rattle.json_value.specs.EditTrees.{path_in, each_in}
+use Rattle.json_value.specs.Seen.{list_of}
+use Rattle.json_data.specs.Calls.{ReadsText, TreeRefused, ReadingFails}
+use Rattle.json_data.specs.Reading.{gives, refuses}
+use Rattle.json_data.specs.ReadingValues.{value_datum, read_value, path_datum, spelled, read_path}
+use Rattle.json_data.specs.Refusals.{refusal}
+use Rattle.json_data.specs.Spelled.{Unspelled}
+use Rattle.json_data.specs.ValueCalls.{TreeReadingFails}
+use Rattle.json_data.proofs.ValueData.{same_value, same_edit}
+use Rattle.json_command.specs.Input.{IsInput}
+use Rattle.json_command.proofs.Inputs.{utf8_no_fault}
+use Rattle.json_lines.specs.Cells.{Column, Command}
+use Rattle.json_lines.specs.Words.{column_of_pair, column_in, columns_in, WordSpells, WordSpellsNothing, NoColumns, SpellsCommand, SpellsHas, Asks, split_words}
+
+-- ---- the value of a word
+
+pub value_input : (word : List ℕ) (t : Tree) → ¬ (2 ^ 32 ≤ length word) → ReadsText 254 read_value word (gives (value_datum t)) → IsInput usual_rules word t
+value_input word t short (u, h, d, e) =
+    let same : u ≡ t = same_value u t (cc) in
+    subst (IsInput usual_rules word) same (record { short = omega (arith, short); text = h; fit = (d, λ x. absurd (cc)) })
+
+never_refused : (word : List ℕ) (c : ErrorCode) (p : Place) → TreeRefused 254 read_value word c p → ⊥
+never_refused word c p ((t, h, d, e), b) = cc
+
+pub no_input : (word : List ℕ) (c : ErrorCode) (place : Place) → c ≢ NoMemory → ReadingFails 254 read_value word c place → (t : Tree) → ¬ (IsInput usual_rules word t)
+no_input word NoMemory place n h t i = absurd (n refl)
+no_input word TooLarge nowhere n h t i = omega (arith, h, i.short)
+no_input word InvalidUTF8 place n h t i = utf8_no_fault word h.0 h.1 (text_utf8 false t word i.text)
+no_input word TypeUnmatched place n h t i = never_refused word TypeUnmatched place h
+no_input word NumberOutOfRange place n h t i = never_refused word NumberOutOfRange place h
+no_input word ExpectedNumericKey place n h t i = never_refused word ExpectedNumericKey place h
+no_input word c place n h t i = no_text false 254 word c h.1.0 h.1.2 t i.text i.fit.0
+
+-- ---- paths
+
+same_path : (p q : List Step) → path_datum p ≡ path_datum q → p ≡ q
+same_path p q e = pushed (same_edit (push_at p null) (push_at q null) (cc))
+  where
+    pushed : push_at p null ≡ push_at q null → p ≡ q
+    pushed e = cc
+
+pub path_known : (t : Tree) (p : List Step) → read_path t ≡ gives (path_datum p) → path_in t ≡ Some p
+path_known t p e = by (path_in t) e
+  where
+    by : (o : Option (List Step)) → spelled path_datum o ≡ gives (path_datum p) → o ≡ Some p
+    by None e = absurd (cc)
+    by (Some q) e = ap Some (same_path q p (cc))
+
+path_refused : (t : Tree) (c : ErrorCode) → read_path t ≡ refuses c → (c ≡ TypeUnmatched) × (path_in t ≡ None)
+path_refused t c e = by (path_in t) e
+  where
+    by : (o : Option (List Step)) → spelled path_datum o ≡ refuses c → (c ≡ TypeUnmatched) × (o ≡ None)
+    by None e = (cc, refl)
+    by (Some q) e = absurd (cc)
+
+unspelled_by : (t : Tree) (code : ErrorCode) (place : Place) → TreeReadingFails read_path t code place → Unspelled (path_in t) (record { code = code; place = place })
+unspelled_by t NoMemory nowhere h = inl refl
+unspelled_by t TypeUnmatched nowhere h = inr (refl, (path_refused t TypeUnmatched h).1)
+unspelled_by t NumberOutOfRange nowhere h = let e : NumberOutOfRange ≡ TypeUnmatched = (path_refused t NumberOutOfRange h).0 in absurd (cc)
+unspelled_by t ExpectedNumericKey nowhere h = let e : ExpectedNumericKey ≡ TypeUnmatched = (path_refused t ExpectedNumericKey h).0 in absurd (cc)
+unspelled_by t code place h = absurd h
+
+pub path_unspelled : (t : Tree) (e : Error) → TreeReadingFails read_path t e.code e.place → Unspelled (path_in t) e
+path_unspelled t e h = unspelled_by t e.code e.place h
+
+-- ---- arrays
+
+none_some : {A : Type 0} {x : A} → None ≡ Some x → ⊥
+none_some e = cc
+
+pub column_of_array : (t : Tree) (xs : List Tree) → Some xs ≡ list_of t → column_in t ≡ column_of_pair xs
+column_of_array (list ts) xs e = let i : xs ≡ trees_list ts = cc in ap column_of_pair (sym i)
+column_of_array null xs e = absurd (none_some (sym e))
+column_of_array (boolean b) xs e = absurd (none_some (sym e))
+column_of_array (num l) xs e = absurd (none_some (sym e))
+column_of_array (text s) xs e = absurd (none_some (sym e))
+column_of_array (pairs ps) xs e = absurd (none_some (sym e))
+
+pub columns_of_array : (t : Tree) (xs : List Tree) → Some xs ≡ list_of t → columns_in t ≡ each_in column_in xs
+columns_of_array (list ts) xs e = let i : xs ≡ trees_list ts = cc in ap (each_in column_in) (sym i)
+columns_of_array null xs e = absurd (none_some (sym e))
+columns_of_array (boolean b) xs e = absurd (none_some (sym e))
+columns_of_array (num l) xs e = absurd (none_some (sym e))
+columns_of_array (text s) xs e = absurd (none_some (sym e))
+columns_of_array (pairs ps) xs e = absurd (none_some (sym e))
+
+pub no_column : (t : Tree) → None ≡ list_of t → column_in t ≡ None
+no_column (list ts) e = absurd (none_some e)
+no_column null e = refl
+no_column (boolean b) e = refl
+no_column (num l) e = refl
+no_column (text s) e = refl
+no_column (pairs ps) e = refl
+
+pub no_columns : (t : Tree) → None ≡ list_of t → columns_in t ≡ None
+no_columns (list ts) e = absurd (none_some e)
+no_columns null e = refl
+no_columns (boolean b) e = refl
+no_columns (num l) e = refl
+no_columns (text s) e = refl
+no_columns (pairs ps) e = refl
+
+pub pair_of : (xs : List Tree) (a b : Tree) → length xs ≡ 2 → Some a ≡ slice_get xs 0 → Some b ≡ slice_get xs 1 → xs ≡ a ∷ b ∷ []
+pair_of [] a b n e f = absurd (omega arith)
+pair_of (x ∷ []) a b n e f = absurd (omega arith)
+pair_of (x ∷ y ∷ []) a b n e f = cc
+pair_of (x ∷ y ∷ z ∷ xs) a b n e f = absurd (omega arith)
+
+pub not_two : (xs : List Tree) → length xs ≢ 2 → column_of_pair xs ≡ None
+not_two [] n = refl
+not_two (x ∷ []) n = refl
+not_two (x ∷ y ∷ []) n = absurd (n refl)
+not_two (x ∷ y ∷ z ∷ xs) n = refl
+
+-- ---- one meaning
+
+pub one_spelled : {A : Type 0} (reads : Tree → Option A) (word : List ℕ) (x y : A) → WordSpells reads word x → WordSpells reads word y → x ≡ y
+one_spelled reads word x y h k = some_is (sym h.so ∙ ap reads (one_tree false h.tree k.tree word h.input.text k.input.text) ∙ k.so)
+  where
+    some_is : {A : Type 0} {x y : A} → Some x ≡ Some y → x ≡ y
+    some_is e = cc
+
+-- ---- a word
+
+-- the tree that was read spells it
+pub spells : {A : Type 0} (reads : Tree → Option A) (word : List ℕ) (t : Tree) (x : A) → IsInput usual_rules word t → reads t ≡ Some x → WordSpells reads word x
+spells reads word t x i h = record { tree = t; input = i; so = h }
+
+-- no tree was read
+pub none_read : {A : Type 0} (reads : Tree → Option A) (word : List ℕ) → ((t : Tree) → ¬ (IsInput usual_rules word t)) → WordSpellsNothing reads word
+none_read reads word n x s = n s.tree s.input
+
+-- the tree that was read spells nothing
+none_spelled : {A : Type 0} (reads : Tree → Option A) (word : List ℕ) (t : Tree) → IsInput usual_rules word t → reads t ≡ None → WordSpellsNothing reads word
+none_spelled reads word t i n x s = none_some (sym n ∙ ap reads (one_tree false t s.tree word i.text s.input.text) ∙ s.so)
+
+same_code : (e : Error) (c : ErrorCode) → e ≡ refusal c → e.code ≡ c
+same_code e c h = ap (λ (x : Error). x.code) h
+
+pub unread_word : {A : Type 0} (reads : Tree → Option A) (word : List ℕ) (t : Tree) (e r : Error) → IsInput usual_rules word t → Unspelled (reads t) e → (r ≡ no_memory) ⊎ ((r ≡ bad_words) × (e.code ≢ NoMemory))
+    → (r ≡ no_memory) ⊎ ((r ≡ bad_words) × WordSpellsNothing reads word)
+unread_word reads word t e r i u (inl m) = inl m
+unread_word reads word t e r i (inl m) (inr (b, n)) = absurd (n (ap (λ (x : Error). x.code) m))
+unread_word reads word t e r i (inr (f, n)) (inr (b, k)) = inr (b, none_spelled reads word t i n)
+
+pub unread_value : {A : Type 0} (reads : Tree → Option A) (word : List ℕ) (e : Error) → (e ≡ no_memory) ⊎ ((e ≡ bad_words) × ((t : Tree) → ¬ (IsInput usual_rules word t))) → (e ≡ no_memory) ⊎ ((e ≡ bad_words) × WordSpellsNothing reads word)
+unread_value reads word e (inl m) = inl m
+unread_value reads word e (inr (b, n)) = inr (b, none_read reads word n)
+
+pub none_few : (word : List ℕ) (e : Error) → (e ≡ no_memory) ⊎ ((e ≡ bad_words) × WordSpellsNothing columns_in word) → (e ≡ no_memory) ⊎ ((e ≡ bad_words) × NoColumns word)
+none_few word e (inl m) = inl m
+none_few word e (inr (b, n)) = inr (b, λ columns s p q. n columns s)
+
+-- there are too few columns, or too many
+pub not_few : (word : List ℕ) (cs : List Column) (n : ℕ) → WordSpells columns_in word cs → n ≡ length cs → (1 ≤ n → n ≤ 64 → ⊥) → NoColumns word
+not_few word cs n s is none columns k p q =
+    let same : cs ≡ columns = one_spelled columns_in word cs columns s k in
+    none (omega (arith, is, ap length same, p)) (omega (arith, is, ap length same, q))
+
+-- ---- the command
+
+pub no_command : (word : List ℕ) (has : Option (List ℕ)) (e : Error) → (e ≡ no_memory) ⊎ ((e ≡ bad_words) × NoColumns word) → (e ≡ no_memory) ⊎ ((e ≡ bad_words) × ((k : Command) → ¬ (SpellsCommand word has k)))
+no_command word has e (inl m) = inl m
+no_command word has e (inr (b, n)) = inr (b, λ k s. n k.columns s.columns s.some s.few)
+
+pub no_has : (word : List ℕ) (has : Option (List ℕ)) (e : Error) → (e ≡ no_memory) ⊎ ((e ≡ bad_words) × ((p : List Step) → ¬ (SpellsHas has p))) → (e ≡ no_memory) ⊎ ((e ≡ bad_words) × ((k : Command) → ¬ (SpellsCommand word has k)))
+no_has word has e (inl m) = inl m
+no_has word has e (inr (b, n)) = inr (b, λ k s. n k.has s.has)
+
+pub two_words : (words : List (List ℕ)) (a b c d : List ℕ) → length words ≡ 2 → slice_get words 0 ≡ Some a → slice_get words 1 ≡ Some b → c ≡ a → d ≡ b → c ∷ d ∷ [] ≡ words
+two_words [] a b c d n e f g h = absurd (omega arith)
+two_words (x ∷ []) a b c d n e f g h = absurd (omega arith)
+two_words (x ∷ y ∷ []) a b c d n e f g h = cc
+two_words (x ∷ y ∷ z ∷ xs) a b c d n e f g h = absurd (omega arith)
+
+-- ---- one command
+
+one_has : (has : Option (List ℕ)) (p q : List Step) → SpellsHas has p → SpellsHas has q → p ≡ q
+one_has None p q h k = h ∙ sym k
+one_has (Some word) p q h k = one_spelled path_in word p q h k
+
+same_command : (cs ds : List Column) (p q : List Step) → cs ≡ ds → p ≡ q → ◌≡◌ {A = Command} (record { columns = cs; has = p }) (record { columns = ds; has = q })
+same_command cs ds p q e f = rw (e, f) refl
+
+by_parts : (parts : Option (List ℕ × Option (List ℕ))) (c d : Command) → MatchOption parts ⊥ (λ p. SpellsCommand p.0 p.1 c) → MatchOption parts ⊥ (λ p. SpellsCommand p.0 p.1 d) → c ≡ d
+by_parts None c d h k = absurd h
+by_parts (Some p) c d h k = same_command c.columns d.columns c.has d.has (one_spelled columns_in p.0 c.columns d.columns h.columns k.columns) (one_has p.1 c.has d.has h.has k.has)
+
+pub one_command : (words : List (List ℕ)) (c d : Command) → Asks words c → Asks words d → c ≡ d
+one_command words c d h k = by_parts (split_words words) c d h k

@@ -1,0 +1,8 @@
+use Rattle.json_value.specs.Denotes.{tree_of}
+use Rattle.json_lines.specs.Words.{columns_in}
+use Rattle.json_lines.proofs.WordsSpelled.{unread_word}
+use Rattle.json_lines.proofs.asked.columns_of_word.Goals as goal
+
+pub returns-clause-err : goal.returns-clause-err
+returns-clause-err c =
+    unread_word columns_in c.args.word.now (tree_of c.in-Ok.value) c.in-Err-read_columns.error c.arguments_error.result c.in-Ok.ensures.ok c.in-Err-read_columns.ensures.err c.arguments_error.ensures

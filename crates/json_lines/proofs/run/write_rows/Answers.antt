@@ -1,0 +1,38 @@
+use Rattle.std.proofs.Common.{ℕ, List, inl, inr, subst}
+use Rattle.json_text.specs.declared.error.Error.{Error}
+use Rattle.json_lines.specs.Running.{run_state, FailsEarly}
+use Rattle.json_lines.specs.Rows.{Outcome, HasWithin}
+use Rattle.json_lines.specs.Steps.{RunState, StepResult, StepFails}
+use Rattle.json_lines.proofs.HandledLines.{HandledLines, HandledLines-start, HandledLines-more, HandledLines-smaller, FailsEarly-reading, FailsEarly-handling}
+use Rattle.json_lines.proofs.run.write_rows.Goals as goal
+
+fails : (has : List ℕ → Outcome → Type 0) (a b n : RunState) (e : Error) → HandledLines has a b → StepFails has b n e → FailsEarly (HasWithin a.reader.limit has) a n e
+fails has a b n e so_far (inl reading) = FailsEarly-reading has a b n e so_far reading
+fails has a b n e so_far (inr handling) = FailsEarly-handling has a b n e so_far handling
+
+pub line-init : goal.line-init
+line-init g c = HandledLines-start _ _ c.requires.fresh
+
+pub line-smaller : goal.line-smaller
+line-smaller g c =
+    let has = g.R.RowWriter.has_outcome c.args.rows.now in
+    let a = run_state c.args.reader.now (g.S.Source.state c.args.source.now) (g.K.Sink.state c.args.sink.now) (g.E.Sink.state c.args.errs.now) c.args.tally.now in
+    let b = run_state c.line.reader (g.S.Source.state c.line.source) (g.K.Sink.state c.line.sink) (g.E.Sink.state c.line.errs) c.line.tally in
+    let n = run_state c.step.new.reader (g.S.Source.state c.step.new.source) (g.K.Sink.state c.step.new.sink) (g.E.Sink.state c.step.new.errs) c.step.new.tally in
+    HandledLines-smaller has a b n c.line.invariant (subst (StepResult has b n) c.in-Ok-true.field-0-test c.in-Ok-true.ensures.ok)
+
+pub line-preserved : goal.line-preserved
+line-preserved g c =
+    let has = g.R.RowWriter.has_outcome c.args.rows.now in
+    let a = run_state c.args.reader.now (g.S.Source.state c.args.source.now) (g.K.Sink.state c.args.sink.now) (g.E.Sink.state c.args.errs.now) c.args.tally.now in
+    let b = run_state c.line.reader (g.S.Source.state c.line.source) (g.K.Sink.state c.line.sink) (g.E.Sink.state c.line.errs) c.line.tally in
+    let n = run_state c.step.new.reader (g.S.Source.state c.step.new.source) (g.K.Sink.state c.step.new.sink) (g.E.Sink.state c.step.new.errs) c.step.new.tally in
+    HandledLines-more has a b n c.line.invariant (subst (StepResult has b n) c.in-Ok-true.field-0-test c.in-Ok-true.ensures.ok)
+
+pub returns-in-Err-clause-err : goal.returns-in-Err-clause-err
+returns-in-Err-clause-err g c =
+    let has = g.R.RowWriter.has_outcome c.args.rows.now in
+    let a = run_state c.args.reader.now (g.S.Source.state c.args.source.now) (g.K.Sink.state c.args.sink.now) (g.E.Sink.state c.args.errs.now) c.args.tally.now in
+    let b = run_state c.line.reader (g.S.Source.state c.line.source) (g.K.Sink.state c.line.sink) (g.E.Sink.state c.line.errs) c.line.tally in
+    let n = run_state c.step.new.reader (g.S.Source.state c.step.new.source) (g.K.Sink.state c.step.new.sink) (g.E.Sink.state c.step.new.errs) c.step.new.tally in
+    fails has a b n c.in-Err.error c.line.invariant c.in-Err.ensures.err

@@ -1,0 +1,14 @@
+use Rattle.std.proofs.Common.{◌+◌, ◌-◌, length}
+use Rattle.json_lines.specs.Reading.{held_bytes}
+use Rattle.json_lines.specs.Running.{run_state}
+use Rattle.json_lines.proofs.HandledLines.{HandledLines}
+use Rattle.json_lines.proofs.run.write_rows.Given as goal
+
+abbrev pub invariant-line : goal.invariant-line
+invariant-line g l =
+    HandledLines (g.R.RowWriter.has_outcome l.rows)
+    (run_state l.fn.reader (g.S.Source.state l.fn.source) (g.K.Sink.state l.fn.sink) (g.E.Sink.state l.fn.errs) l.fn.tally)
+    (run_state l.reader (g.S.Source.state l.source) (g.K.Sink.state l.sink) (g.E.Sink.state l.errs) l.tally)
+
+abbrev pub decreases-line : goal.decreases-line
+decreases-line g l = 4294967295 - l.reader.received + length (held_bytes l.reader)

@@ -1,0 +1,6 @@
+use Rattle.std.proofs.Common.{refl}
+use Rattle.json_lines.proofs.LineRows.{blank-known}
+use Rattle.json_lines.proofs.table.is_blank.Goals as goal
+
+pub returns : goal.returns
+returns c = blank-known c.args.line.now c.ws_run.result _ refl c.ws_run.ensures.within.1 c.ws_run.ensures.space c.ws_run.ensures.stop

@@ -1,0 +1,15 @@
+pub mod Lines
+pub mod Reading
+pub mod LineRanges
+pub mod Ranges
+pub mod Rows
+pub mod LineHandling
+pub mod Steps
+pub mod Running
+pub mod TopCall
+pub mod Cells
+pub mod Outcomes
+pub mod Words
+pub mod RunResults
+pub mod Tables
+pub mod Laws

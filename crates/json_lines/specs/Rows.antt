@@ -1,0 +1,52 @@
+-- The outcomes of lines: a row of each good one, and an error of each bad one.
+use Rattle.std.specs.Prelude.{◌≡◌, ℕ, ◌+◌, ◌<◌, ◌≤◌, ◌⊎◌, Bool, true, false, ◌||◌, List, [], ◌∷◌, ◌++◌, length, codes, decimal, ⊤}
+use Rattle.std.specs.List.{flat_map}
+
+-- the outcome of one line: the bytes of its row, or the text of its error
+pub data Outcome : Type 0 where
+  Row : List ℕ → Outcome
+  Bad : List ℕ → Outcome
+
+abbrev pub outcome_row : Outcome → List ℕ
+outcome_row (Row bytes) = bytes
+outcome_row (Bad text) = []
+
+abbrev pub is_bad : Outcome → Bool
+is_bad (Row bytes) = false
+is_bad (Bad text) = true
+
+-- the number of the line, a colon, a space and the text of its error
+abbrev pub error_line : ℕ → List ℕ → List ℕ
+error_line number text = decimal number ++ (codes ": " ++ text)
+
+abbrev pub error_bytes : ℕ → Outcome → List ℕ
+error_bytes number (Row bytes) = []
+error_bytes number (Bad text) = error_line number text
+
+abbrev pub line_too_long : Outcome
+line_too_long = Bad (codes "LineTooLong\n")
+
+-- ---- of many lines
+
+-- the rows, one after another
+abbrev pub rows_of : List Outcome → List ℕ
+rows_of outcomes = flat_map outcome_row outcomes
+
+-- the errors, where the first outcome is that of the line of this number
+abbrev pub errors_from : ℕ → List Outcome → List ℕ
+errors_from number [] = []
+errors_from number (outcome ∷ later) = error_bytes number outcome ++ errors_from (number + 1) later
+
+abbrev pub some_bad : List Outcome → Bool
+some_bad [] = false
+some_bad (outcome ∷ later) = is_bad outcome || some_bad later
+
+-- each line has its outcome
+abbrev pub AllHave : (List ℕ → Outcome → Type 0) → List (List ℕ) → List Outcome → Type 0
+AllHave has [] [] = ⊤
+AllHave has (line ∷ lines) (outcome ∷ outcomes) = has line outcome × AllHave has lines outcomes
+AllHave has _ _ = ⊥
+
+-- a line over the limit is bad, whatever it contains
+abbrev pub HasWithin : ℕ → (List ℕ → Outcome → Type 0) → List ℕ → Outcome → Type 0
+HasWithin limit has line outcome = ((limit < length line) × (outcome ≡ line_too_long)) ⊎ ((length line ≤ limit) × has line outcome)

@@ -1,0 +1,119 @@
+-- What a run over lines does, for each status.
+use Rattle.std.specs.Prelude.{◌≡◌, ◌⊎◌, ℕ, ◌<◌, ◌≤◌, false, List, [], ◌++◌, length, Option, Some, IfSome, if◌then◌else◌}
+use Rattle.json_text.specs.Errors.{bad_words, no_memory}
+use Rattle.json_text.specs.FaultText.{text_of}
+use Rattle.json_text.specs.Known.{Consumes, Appends, told_as}
+use Rattle.json_text.specs.Outside.{Rose}
+use Rattle.json_text.specs.Transfer.{AppendsFront}
+use Rattle.json_text.specs.declared.error.Error.{Error}
+use Rattle.json_lines.specs.Cells.{Command}
+use Rattle.json_lines.specs.Lines.{lines}
+use Rattle.json_lines.specs.Outcomes.{HaveOutcomes}
+use Rattle.json_command.specs.Input.{max_bytes}
+use Rattle.json_command.specs.Reporting.{Reports}
+use Rattle.json_lines.specs.Rows.{Outcome, rows_of, errors_from, some_bad}
+use Rattle.json_lines.specs.TopCall.{Streams, RunErrorCause, run_status}
+use Rattle.json_lines.specs.Words.{Asks, IsAsked}
+
+-- the words ask for a command, and where the bytes of the source are known, this holds of the
+-- outcomes of their lines
+pub record OfOutcomes (words : List (List ℕ)) (known : Option (List ℕ)) (holds : List Outcome → Type 0) : Type 0 where
+  pub command : Command
+  pub asked : Asks words command
+  pub so : IfSome known (λ bytes. (outcomes : List Outcome) × HaveOutcomes command (lines bytes) outcomes × holds outcomes)
+
+-- ---- status 0 or 1: the run is complete
+
+-- the source was read to its end, no call of source or sink failed, and the sink was flushed
+pub record ReadsAll (old new : Streams) : Type 0 where
+  pub drained : new.source.left ≡ told_as old.source.left []
+  pub read : new.source.faults ≡ old.source.faults
+  pub written : new.sink.faults ≡ old.sink.faults
+  pub flushed : new.sink.unflushed ≡ false
+
+-- the sink gained exactly the rows of all lines
+abbrev pub AppendsRows : List (List ℕ) → Streams → Streams → Type 0
+AppendsRows words old new = OfOutcomes words old.source.left (λ outcomes. Appends old.sink.gained new.sink.gained (rows_of outcomes))
+
+-- the error of each bad line was reported with its number, or a prefix of these errors where that
+-- sink failed or memory ran out
+abbrev pub TellsErrors : List (List ℕ) → Streams → Streams → Type 0
+TellsErrors words old new = OfOutcomes words old.source.left (λ outcomes. Reports (errors_from 1 outcomes) old.errs new.errs)
+
+-- the status says whether some line is bad
+abbrev pub StatusTellsBad : List (List ℕ) → Streams → ℕ → Type 0
+StatusTellsBad words old status = OfOutcomes words old.source.left (λ outcomes. status ≡ (if some_bad outcomes then 1 else 0))
+
+pub record Completes (words : List (List ℕ)) (old new : Streams) (status : ℕ) : Type 0 where
+  pub known : (status ≡ 0) ⊎ (status ≡ 1)
+  pub all : ReadsAll old new
+  pub rows : AppendsRows words old new
+  pub errors : TellsErrors words old new
+  pub bad : StatusTellsBad words old status
+
+-- ---- status 2: the words ask for nothing, and nothing was read or written
+
+pub record RefusesWords (words : List (List ℕ)) (old new : Streams) : Type 0 where
+  pub unasked : ¬ (IsAsked words)
+  pub unread : new.source ≡ old.source
+  pub unwritten : new.sink ≡ old.sink
+  pub told : Reports (text_of bad_words) old.errs new.errs
+
+-- ---- status 4, 5, 6 or 7: the run failed
+
+-- the sink gained a prefix of the rows of the lines of these bytes
+pub record AppendsRowsPrefix (command : Command) (bytes : List ℕ) (old new : Streams) : Type 0 where
+  pub outcomes : List Outcome
+  pub have : HaveOutcomes command (lines bytes) outcomes
+  pub gained : AppendsFront old.sink.gained new.sink.gained (rows_of outcomes)
+
+-- the errors of the first of their lines were reported and then the error of the run, or a prefix
+-- of this where that sink failed or memory ran out
+pub record TellsErrorsPrefix (command : Command) (bytes : List ℕ) (error : Error) (old new : Streams) : Type 0 where
+  pub outcomes : List Outcome
+  pub have : HaveOutcomes command (lines bytes) outcomes
+  pub first : List Outcome
+  pub later : List Outcome
+  pub parted : outcomes ≡ first ++ later
+  pub told : Reports (errors_from 1 first ++ text_of error) old.errs new.errs
+
+-- memory ran out before the words were known
+pub record FailsBeforeReading (error : Error) (old new : Streams) : Type 0 where
+  pub lacks : error ≡ no_memory
+  pub unread : new.source ≡ old.source
+  pub unwritten : new.sink ≡ old.sink
+  pub told : Reports (text_of error) old.errs new.errs
+
+-- the words ask for a command, and a part of it was done
+pub record FailsWhileReading (words : List (List ℕ)) (bytes : List ℕ) (error : Error) (old new : Streams) : Type 0 where
+  pub command : Command
+  pub asked : Asks words command
+  pub rows : IfSome old.source.left (λ _. AppendsRowsPrefix command bytes old new)
+  pub errors : IfSome old.source.left (λ _. TellsErrorsPrefix command bytes error old new)
+
+pub record FailsRun (words : List (List ℕ)) (old new : Streams) (status : ℕ) : Type 0 where
+  pub error : Error
+  pub status_is : status ≡ run_status error.code error.place
+  -- the bytes that the source gave in this call
+  pub bytes : List ℕ
+  pub consumed : Consumes old.source.left new.source.left bytes
+  pub cause : RunErrorCause bytes old new error.code error.place
+  pub did : FailsBeforeReading error old new ⊎ FailsWhileReading words bytes error old new
+  -- the status tells of each failed call of source or sink
+  pub read_told : old.source.faults < new.source.faults → status ≡ 4
+  pub write_told : old.sink.faults < new.sink.faults → status ≡ 5
+
+-- ---- all of it
+
+abbrev pub RunResult : List (List ℕ) → Streams → Streams → ℕ → Type 0
+RunResult words old new status = Completes words old new status ⊎ ((status ≡ 2) × RefusesWords words old new) ⊎ FailsRun words old new status
+
+-- the words ask for a command, the source has at most 4,294,967,295 bytes, which are known, and
+-- no call failed
+pub record NothingFails (words : List (List ℕ)) (old new : Streams) : Type 0 where
+  pub asked : IsAsked words
+  pub bytes : List ℕ
+  pub known : old.source.left ≡ Some bytes
+  pub few : length bytes ≤ max_bytes
+  pub read : ¬ (Rose old.source.faults new.source.faults)
+  pub written : ¬ (Rose old.sink.faults new.sink.faults)

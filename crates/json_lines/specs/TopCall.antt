@@ -1,0 +1,96 @@
+-- What the call that writes all rows does.
+use Rattle.std.specs.Prelude.{◌≡◌, ℕ, ◌<◌, Bool, false, List, [], ◌++◌, length, IfSome, ⊤}
+use Rattle.json_text.specs.Known.{Consumes, Appends, told_as}
+use Rattle.json_text.specs.Errors.{reading_failed, writing_failed}
+use Rattle.json_text.specs.Outside.{SinkState, SourceState, Rose}
+use Rattle.json_text.specs.Transfer.{AppendsFront}
+use Rattle.json_command.specs.Statuses.{status_number, status_of}
+use Rattle.json_command.specs.declared.status.Status.TheVariants.{TooMuchInput}
+use Rattle.json_text.specs.declared.error.Error.{Error}
+use Rattle.json_text.specs.declared.error.ErrorCode.{ErrorCode}
+use Rattle.json_text.specs.declared.error.ErrorCode.TheVariants.{NoMemory, Io, TooLarge}
+use Rattle.json_text.specs.declared.error.Place.{Place}
+use Rattle.json_text.specs.declared.error.Place.TheVariants.{None as nowhere, Reading, Writing}
+use Rattle.json_lines.specs.declared.run.Tally.{Tally}
+use Rattle.json_lines.specs.Lines.{lines}
+use Rattle.json_command.specs.Input.{max_bytes}
+use Rattle.json_lines.specs.Rows.{Outcome, rows_of, errors_from, some_bad, AllHave}
+use Rattle.json_lines.specs.LineHandling.{ReportsUnlessMuted}
+use Rattle.json_lines.specs.Running.{StopsEarly}
+
+-- the states of the source, the sink and the sink of errors
+pub record Streams : Type 0 where
+  pub source : SourceState
+  pub sink : SinkState
+  pub errs : SinkState
+
+abbrev pub streams : SourceState → SinkState → SinkState → Streams
+streams source sink errs = record { source = source; sink = sink; errs = errs }
+
+-- why a run failed that had read these bytes
+abbrev pub RunErrorCause : List ℕ → Streams → Streams → ErrorCode → Place → Type 0
+RunErrorCause bytes old new NoMemory nowhere = ⊤
+RunErrorCause bytes old new Io Reading = Rose old.source.faults new.source.faults
+RunErrorCause bytes old new Io Writing = Rose old.sink.faults new.sink.faults
+RunErrorCause bytes old new TooLarge nowhere = max_bytes < length bytes
+RunErrorCause bytes old new code place = ⊥
+
+-- the sink gained exactly the rows of these lines, and their errors were reported
+pub record GainsRows (has : List ℕ → Outcome → Type 0) (done : List (List ℕ)) (sink sink' errs errs' : SinkState) (tally : Tally) : Type 0 where
+  pub outcomes : List Outcome
+  pub have : AllHave has done outcomes
+  pub rows : Appends sink.gained sink'.gained (rows_of outcomes)
+  pub reports : ReportsUnlessMuted false tally.muted errs errs' (errors_from 1 outcomes)
+  pub bad : tally.bad ≡ some_bad outcomes
+
+-- all rows were written and flushed
+pub record WritesAllRows (has : List ℕ → Outcome → Type 0) (old new : Streams) (tally : Tally) : Type 0 where
+  pub drained : new.source.left ≡ told_as old.source.left []
+  pub no_fault : new.source.faults ≡ old.source.faults
+  pub no_sink_fault : new.sink.faults ≡ old.sink.faults
+  pub flushed : new.sink.unflushed ≡ false
+  pub handled : IfSome old.source.left (λ b. GainsRows has (lines b) old.sink new.sink old.errs new.errs tally)
+
+-- the call failed, and the writer may hold rows back
+pub record WritesFewerRows (has : List ℕ → Outcome → Type 0) (old new : Streams) (tally : Tally) (error : Error) : Type 0 where
+  pub bytes : List ℕ
+  pub consumed : Consumes old.source.left new.source.left bytes
+  pub stops : IfSome old.source.left (λ _. StopsEarly has old.sink new.sink old.errs new.errs tally.muted bytes)
+  pub cause : RunErrorCause bytes old new error.code error.place
+  pub reading_told : old.source.faults < new.source.faults → error ≡ reading_failed
+  pub writing_told : old.sink.faults < new.sink.faults → error ≡ writing_failed
+
+-- a new tally
+pub record IsNewTally (t : Tally) : Type 0 where
+  pub number : t.number ≡ 0
+  pub good : t.bad ≡ false
+  pub unmuted : t.muted ≡ false
+
+-- the sink itself gained a prefix of the rows, and the errors of the handled lines are reported
+pub record WritesPrefixes (has : List ℕ → Outcome → Type 0) (sink sink' errs errs' : SinkState) (muted : Bool) (bytes : List ℕ) : Type 0 where
+  pub done : List (List ℕ)
+  pub begun : List (List ℕ)
+  pub later : List (List ℕ)
+  pub parted : lines bytes ≡ done ++ (begun ++ later)
+  pub outcomes : List Outcome
+  pub have : AllHave has done outcomes
+  pub next : List Outcome
+  pub next_have : AllHave has begun next
+  pub rows : AppendsFront sink.gained sink'.gained (rows_of outcomes ++ rows_of next)
+  pub reports : ReportsUnlessMuted false muted errs errs' (errors_from 1 outcomes)
+
+-- the call failed, seen from the sink itself
+pub record WritesPartOfTable (has : List ℕ → Outcome → Type 0) (old new : Streams) (tally : Tally) (error : Error) : Type 0 where
+  pub bytes : List ℕ
+  pub consumed : Consumes old.source.left new.source.left bytes
+  pub prefixes : IfSome old.source.left (λ _. WritesPrefixes has old.sink new.sink old.errs new.errs tally.muted bytes)
+  pub cause : RunErrorCause bytes old new error.code error.place
+  pub reading_told : old.source.faults < new.source.faults → error ≡ reading_failed
+  pub writing_told : old.sink.faults < new.sink.faults → error ≡ writing_failed
+
+-- ---- the statuses
+
+-- the status of an error
+abbrev pub run_status : ErrorCode → Place → ℕ
+run_status TooLarge nowhere = status_number TooMuchInput
+run_status code place = status_of code place

@@ -1,0 +1,285 @@
+// Reads what the words of the command line ask for.
+ghost use Rattle.std.specs.Prelude.{◌≡◌, ◌≢◌, ◌⊎◌, ◌≤◌, List, ℕ, [], ◌∷◌, length, map, drop, cond, Some, None, IfOk, IfErr, MatchOption, option_map};
+ghost use Rattle.json_grammar.specs.Tree.{Tree};
+ghost use Rattle.json_text.specs.Errors.{no_memory, bad_words};
+ghost use Rattle.json_text.specs.Ruled.{usual_rules};
+ghost use Rattle.json_text.specs.declared.error.ErrorCode.TheVariants.{NoMemory, TypeUnmatched};
+ghost use Rattle.json_data.specs.Refusals.{refusal as spec_refusal};
+ghost use Rattle.json_data.specs.Spelled.{Unspelled};
+ghost use Rattle.json_model.specs.Edit.{Step};
+ghost use Rattle.json_value.specs.Denotes.{tree_of};
+ghost use Rattle.json_value.specs.Edits.{path_steps};
+ghost use Rattle.json_value.specs.EditTrees.{path_in, each_in};
+ghost use Rattle.json_value.specs.Seen.{seen, elements_seen};
+ghost use Rattle.json_command.specs.Input.{IsInput};
+ghost use Rattle.json_lines.specs.Cells.{Command};
+ghost use Rattle.json_lines.specs.Tables.{cell_kind, table_column, table_command};
+ghost use Rattle.json_lines.specs.Words.{kind_named as spec_kind_named, kind_in, column_of_pair, column_in, columns_in, WordSpells, WordSpellsNothing, NoColumns, is_has_option, split_words, SpellsCommand, SpellsHas, Asks, IsAsked};
+
+use crate::table::{Column, Kind, Table};
+use json_command::{BAD_WORDS, arguments_error};
+use json_data::{from_slice, from_value, refusal};
+use json_text::{Error, ErrorCode, Result, Words};
+use json_value::{ArrayView, Path, Value, View};
+use std::alloc::Global;
+
+// Returns the error of a value that spells something else.
+fn type_unmatched() -> Error
+    ensures { result ≡ spec_refusal TypeUnmatched }
+{
+    refusal(ErrorCode::TypeUnmatched)
+}
+
+// Reads the value of a word, by the usual rules.
+fn read_value(alloc: Global, word: &[u8]) -> Result<Value>
+    ensures ok { IfOk result (λ v. IsInput usual_rules word.now (tree_of v)) }
+    ensures err { IfErr result (λ e. (e ≡ no_memory)
+        ⊎ ((e ≡ bad_words) × ((t : Tree) → ¬ (IsInput usual_rules word.now t)))) }
+{
+    match from_slice::<Value>(alloc, word) {
+        Ok(value) => Ok(value),
+        Err(error) => Err(arguments_error(error.code)),
+    }
+}
+
+// Reads the path that a value spells.
+fn read_path(alloc: Global, value: &Value) -> Result<Path>
+    ensures ok { IfOk result (λ p. path_in (tree_of value.now) ≡ Some (path_steps p)) }
+    ensures err { IfErr result (Unspelled (path_in (tree_of value.now))) }
+{
+    match from_value::<Path>(alloc, value) {
+        Ok(path) => Ok(path),
+        Err(error) => Err(error),
+    }
+}
+
+// Reads the path that a view spells.
+fn read_path_seen(alloc: Global, view: View<'_>) -> Result<Path>
+    ensures ok { IfOk result (λ p. path_in (seen view.entry) ≡ Some (path_steps p)) }
+    ensures err { IfErr result (Unspelled (path_in (seen view.entry))) }
+{
+    match view.to_value(alloc) {
+        Ok(value) => read_path(alloc, &value),
+        Err(error) => Err(error),
+    }
+}
+
+// Returns the kind with this name.
+fn kind_of_name(name: &str) -> Option<Kind>
+    ensures { option_map cell_kind result ≡ spec_kind_named name.now }
+{
+    match name {
+        "text" => Some(Kind::Text),
+        "int" => Some(Kind::Int),
+        "bool" => Some(Kind::Bool),
+        "json" => Some(Kind::Json),
+        _ => None,
+    }
+}
+
+// Reads the kind that a view names.
+fn read_kind(view: View<'_>) -> Option<Kind>
+    ensures { option_map cell_kind result ≡ kind_in (seen view.entry) }
+{
+    match view.text() {
+        Some(name) => kind_of_name(name),
+        None => None,
+    }
+}
+
+// Returns the two elements of an array; `None` if it has fewer or more.
+fn pair_of_elements<'a>(array: ArrayView<'a>) -> Option<(View<'a>, View<'a>)>
+    ensures { MatchOption result (length (elements_seen array.entry) ≢ 2)
+        (λ p. elements_seen array.entry ≡ seen p.0 ∷ seen p.1 ∷ []) }
+{
+    if array.len() != 2 {
+        return None;
+    }
+    let first = array.get(0)?;
+    let second = array.get(1)?;
+    Some((first, second))
+}
+
+// Reads the column of a path and a kind.
+fn read_pair(alloc: Global, path: View<'_>, kind: View<'_>) -> Result<Column>
+    ensures ok { IfOk result (λ c.
+        column_of_pair (seen path.entry ∷ seen kind.entry ∷ []) ≡ Some (table_column c)) }
+    ensures err { IfErr result (Unspelled
+        (column_of_pair (seen path.entry ∷ seen kind.entry ∷ []))) }
+{
+    let Some(kind) = read_kind(kind) else {
+        return Err(type_unmatched());
+    };
+    match read_path_seen(alloc, path) {
+        Ok(path) => Ok(Column { path, kind }),
+        Err(error) => Err(error),
+    }
+}
+
+// Reads a column, `[path, kind]`.
+fn read_column(alloc: Global, view: View<'_>) -> Result<Column>
+    ensures ok { IfOk result (λ c. column_in (seen view.entry) ≡ Some (table_column c)) }
+    ensures err { IfErr result (Unspelled (column_in (seen view.entry))) }
+{
+    let Some(array) = view.as_array() else {
+        return Err(type_unmatched());
+    };
+    match pair_of_elements(array) {
+        Some((path, kind)) => read_pair(alloc, path, kind),
+        None => Err(type_unmatched()),
+    }
+}
+
+// Reads a column of each element.
+fn read_each(alloc: Global, array: ArrayView<'_>) -> Result<Vec<Column>>
+    ensures ok { IfOk result (λ v.
+        each_in column_in (elements_seen array.entry) ≡ Some (map table_column v.items)) }
+    ensures err { IfErr result (Unspelled (each_in column_in (elements_seen array.entry))) }
+{
+    let mut columns = Vec::new(alloc);
+    'columns: for element in array.iter() {
+        let column = read_column(alloc, element)?;
+        columns.push(column)?;
+    }
+    Ok(columns)
+}
+
+// Reads the columns that a value spells.
+fn read_columns(alloc: Global, value: &Value) -> Result<Vec<Column>>
+    ensures ok { IfOk result (λ v. columns_in (tree_of value.now) ≡ Some (map table_column v.items)) }
+    ensures err { IfErr result (Unspelled (columns_in (tree_of value.now))) }
+{
+    match value.view().as_array() {
+        Some(array) => read_each(alloc, array),
+        None => Err(type_unmatched()),
+    }
+}
+
+// Reads the columns that a word spells.
+fn columns_of_word(alloc: Global, word: &[u8]) -> Result<Vec<Column>>
+    ensures ok { IfOk result (λ v. WordSpells columns_in word.now (map table_column v.items)) }
+    ensures err { IfErr result (λ e. (e ≡ no_memory)
+        ⊎ ((e ≡ bad_words) × WordSpellsNothing columns_in word.now)) }
+{
+    let value = match read_value(alloc, word) {
+        Ok(value) => value,
+        Err(error) => return Err(error),
+    };
+    match read_columns(alloc, &value) {
+        Ok(columns) => Ok(columns),
+        Err(error) => Err(arguments_error(error.code)),
+    }
+}
+
+// Reads the path that a word spells.
+fn path_of_word(alloc: Global, word: &[u8]) -> Result<Path>
+    ensures ok { IfOk result (λ p. WordSpells path_in word.now (path_steps p)) }
+    ensures err { IfErr result (λ e. (e ≡ no_memory)
+        ⊎ ((e ≡ bad_words) × WordSpellsNothing path_in word.now)) }
+{
+    let value = match read_value(alloc, word) {
+        Ok(value) => value,
+        Err(error) => return Err(error),
+    };
+    match read_path(alloc, &value) {
+        Ok(path) => Ok(path),
+        Err(error) => Err(arguments_error(error.code)),
+    }
+}
+
+// Reads the path of the option `--has=`; the empty path if there is no option.
+fn read_has(alloc: Global, word: Option<&[u8]>) -> Result<Path>
+    ensures ok { IfOk result (λ p. SpellsHas (option_map (λ s. s.now) word.entry) (path_steps p)) }
+    ensures err { IfErr result (λ e. (e ≡ no_memory)
+        ⊎ ((e ≡ bad_words)
+        × ((p : List Step) → ¬ (SpellsHas (option_map (λ s. s.now) word.entry) p)))) }
+{
+    match word {
+        Some(word) => path_of_word(alloc, word),
+        None => Ok(Path::new(alloc)),
+    }
+}
+
+// Reads the 1 to 64 columns that a word spells.
+fn limited_columns(alloc: Global, word: &[u8]) -> Result<Vec<Column>>
+    ensures ok { IfOk result (λ v. WordSpells columns_in word.now (map table_column v.items)) }
+    ensures count { IfOk result (λ v. (1 ≤ length v.items) × (length v.items ≤ 64)) }
+    ensures err { IfErr result (λ e. (e ≡ no_memory)
+        ⊎ ((e ≡ bad_words) × NoColumns word.now)) }
+{
+    let columns = match columns_of_word(alloc, word) {
+        Ok(columns) => columns,
+        Err(error) => return Err(error),
+    };
+    let count = columns.len();
+    if count < 1 {
+        return Err(BAD_WORDS);
+    }
+    if count > 64 {
+        return Err(BAD_WORDS);
+    }
+    Ok(columns)
+}
+
+// Reads the table of a columns word and the text of the option.
+fn read_table(alloc: Global, columns: &[u8], has: Option<&[u8]>) -> Result<Table>
+    ensures ok { IfOk result (λ t.
+        SpellsCommand columns.now (option_map (λ s. s.now) has.entry) (table_command t)) }
+    ensures err { IfErr result (λ e. (e ≡ no_memory)
+        ⊎ ((e ≡ bad_words)
+        × ((k : Command) → ¬ (SpellsCommand columns.now (option_map (λ s. s.now) has.entry) k)))) }
+{
+    let columns = match limited_columns(alloc, columns) {
+        Ok(columns) => columns,
+        Err(error) => return Err(error),
+    };
+    match read_has(alloc, has) {
+        Ok(has) => Ok(Table { columns, has }),
+        Err(error) => Err(error),
+    }
+}
+
+// Returns the text after `--has=`.
+fn has_option(word: &[u8]) -> Option<&[u8]>
+    ensures { option_map (λ s. s.now) result
+        ≡ cond (is_has_option word.now) (Some (drop 6 word.now)) None }
+{
+    word.strip_prefix(b"--has=")
+}
+
+// Returns the columns word and the text of the option, of two words.
+fn split_pair<'a>(first: &'a [u8], second: &'a [u8]) -> Option<(&'a [u8], Option<&'a [u8]>)>
+    ensures { option_map (λ p. (p.0.now, option_map (λ s. s.now) p.1)) result
+        ≡ split_words (first.now ∷ second.now ∷ []) }
+{
+    if let Some(has) = has_option(first) {
+        return Some((second, Some(has)));
+    }
+    if let Some(has) = has_option(second) {
+        return Some((first, Some(has)));
+    }
+    None
+}
+
+// Returns the columns word and the text of the option, if any.
+fn split_words(words: &Words) -> Option<(&[u8], Option<&[u8]>)>
+    ensures { option_map (λ p. (p.0.now, option_map (λ s. s.now) p.1)) result
+        ≡ split_words words.now }
+{
+    match words.len() {
+        1 => Some((words.word(0).as_bytes(), None)),
+        2 => split_pair(words.word(0).as_bytes(), words.word(1).as_bytes()),
+        _ => None,
+    }
+}
+
+// Reads the table that the words ask for.
+pub(crate) fn asked(alloc: Global, words: &Words) -> Result<Table>
+    ensures ok { IfOk result (λ t. Asks words.now (table_command t)) }
+    ensures err { IfErr result (λ e. (e ≡ no_memory) ⊎ ((e ≡ bad_words) × ¬ (IsAsked words.now))) }
+{
+    match split_words(words) {
+        Some((columns, has)) => read_table(alloc, columns, has),
+        None => Err(BAD_WORDS),
+    }
+}

@@ -1,0 +1,230 @@
+// Writes the row of each line, and reports the error of each bad one.
+ghost use Rattle.std.specs.Prelude.{◌≡◌, ◌+◌, ◌++◌, ◌<◌, ◌≤◌, List, ℕ, length, IfOk, IfErr, OnOk, Ok, Err, true, Bool, ◌⊎◌};
+ghost use Rattle.json_text.specs.Transfer.{Puts};
+ghost use Rattle.json_lines.specs.Rows.{Outcome, HasWithin, error_line};
+ghost use Rattle.json_lines.specs.Reading.{line_reader_state};
+ghost use Rattle.json_lines.specs.Running.{IsFreshRun, FinishesLines, FailsEarly, run_state};
+ghost use Rattle.json_lines.specs.LineHandling.{ReportsUnlessMuted};
+ghost use Rattle.json_lines.specs.TopCall.{IsNewTally, WritesAllRows, WritesFewerRows, streams};
+ghost use Rattle.json_lines.specs.Steps.{StepResult, StepFails};
+
+use crate::{Line, LineReader};
+use itoa::Buffer;
+use json_text::{FaultText, Result, Sink, Source, flush_all, put_all};
+use std::alloc::Global;
+
+// A line of more bytes is too long.
+const MAX_LINE: usize = 1048576;
+
+/// Writes the row of a line.
+pub(crate) trait RowWriter<K: Sink> {
+    ghost use Rattle.json_lines.specs.LineHandling.{WritesRow, RowFails};
+
+    /// The outcomes that a line has.
+    ghost has_outcome: { Self → List ℕ → Outcome → Type 0 };
+
+    /// Writes the row of a good line, or returns the error text of a bad one.
+    fn write_row(&self, alloc: Global, line: &[u8], sink: &mut K) -> Result<Option<FaultText>>
+        requires short { length line.now ≤ 1048576 }
+        ensures ok { IfOk result (λ fault.
+            WritesRow (has_outcome self.now line.now) (K.state sink.old) (K.state sink.new) fault) }
+        ensures err { IfErr result (λ e.
+            RowFails (has_outcome self.now line.now) (K.state sink.old) (K.state sink.new) e) };
+}
+
+// How far a run has come.
+#[derive(Drop)]
+pub(crate) struct Tally {
+    // the number of lines so far
+    pub(crate) number: u64,
+    // whether one of them was bad
+    pub(crate) bad: bool,
+    // whether a report failed, after which none is made
+    pub(crate) muted: bool,
+}
+
+// ReportsUnlessMuted one error, with the number of its line.
+fn write_error_line<E: Sink>(errs: &mut E, number: u64, text: &[u8]) -> Result<()>
+    ensures { Puts (E.state errs.old) (E.state errs.new) (error_line number text.now) result }
+{
+    let mut buffer = Buffer::new();
+    write_three(errs, buffer.format(number).as_bytes(), b": ", text)
+}
+
+// Writes three texts, one after another.
+fn write_three<E: Sink>(errs: &mut E, first: &[u8], second: &[u8], third: &[u8]) -> Result<()>
+    ensures { Puts (E.state errs.old) (E.state errs.new)
+        (first.now ++ (second.now ++ third.now)) result }
+{
+    match put_all(errs, first) {
+        Ok(()) => write_both(errs, second, third),
+        Err(error) => Err(error),
+    }
+}
+
+// Writes two texts, one after another.
+fn write_both<E: Sink>(errs: &mut E, first: &[u8], second: &[u8]) -> Result<()>
+    ensures { Puts (E.state errs.old) (E.state errs.new) (first.now ++ second.now) result }
+{
+    match put_all(errs, first) {
+        Ok(()) => put_all(errs, second),
+        Err(error) => Err(error),
+    }
+}
+
+impl Tally {
+    ghost use Rattle.json_lines.specs.LineHandling.{HandlesLine, LineFails, LineHas, IsWithinLimit};
+
+    // ReportsUnlessMuted the error of the line of this number, unless a report failed.
+    fn report_bad<E: Sink>(&mut self, errs: &mut E, text: &[u8])
+        ensures reports { ReportsUnlessMuted self.old.muted self.new.muted
+            (E.state errs.old) (E.state errs.new) (error_line self.old.number text.now) }
+        ensures number { self.new.number ≡ self.old.number }
+        ensures bad { self.new.bad ≡ true }
+    {
+        self.bad = true;
+        if self.muted {
+            return;
+        }
+        match write_error_line(errs, self.number, text) {
+            Ok(()) => {}
+            Err(_) => self.muted = true,
+        }
+    }
+
+    // Counts a line, and writes its row or reports its error.
+    fn handle_line<R: RowWriter<K>, K: Sink, E: Sink>(
+        &mut self,
+        alloc: Global,
+        rows: &R,
+        line: Line<'_>,
+        sink: &mut K,
+        errs: &mut E,
+    ) -> Result<()>
+        requires few { self.old.number < u64.MAX }
+        requires short { IsWithinLimit 1048576 line }
+        ensures ok { OnOk result (HandlesLine (LineHas (R.has_outcome rows.now) line.entry)
+            self.old self.new
+            (K.state sink.old) (K.state sink.new) (E.state errs.old) (E.state errs.new)) }
+        ensures err { IfErr result (λ e. LineFails (LineHas (R.has_outcome rows.now) line.entry)
+            self.old self.new
+            (K.state sink.old) (K.state sink.new) (E.state errs.old) (E.state errs.new) e) }
+    {
+        self.number += 1;
+        let bytes = match line {
+            Line::Whole(bytes) => bytes,
+            Line::TooLong => {
+                self.report_bad(errs, b"LineTooLong\n");
+                return Ok(());
+            }
+        };
+        match rows.write_row(alloc, bytes, sink) {
+            Ok(None) => Ok(()),
+            Ok(Some(text)) => {
+                self.report_bad(errs, text.as_bytes());
+                Ok(())
+            }
+            Err(error) => Err(error),
+        }
+    }
+}
+
+// Reads and handles one line. Returns false if there is none.
+fn step<R: RowWriter<K>, S: Source, K: Sink, E: Sink>(
+    alloc: Global,
+    rows: &R,
+    reader: &mut LineReader,
+    source: &mut S,
+    sink: &mut K,
+    errs: &mut E,
+    tally: &mut Tally,
+) -> Result<bool>
+    requires few { tally.old.number < u64.MAX }
+    requires limit { (line_reader_state reader.old).limit ≤ 1048576 }
+    ensures ok { IfOk result (λ more. StepResult (R.has_outcome rows.now)
+        (run_state reader.old
+        (S.state source.old) (K.state sink.old) (E.state errs.old) tally.old)
+        (run_state reader.new
+        (S.state source.new) (K.state sink.new) (E.state errs.new) tally.new) more) }
+    ensures err { IfErr result (λ e. StepFails (R.has_outcome rows.now)
+        (run_state reader.old
+        (S.state source.old) (K.state sink.old) (E.state errs.old) tally.old)
+        (run_state reader.new
+        (S.state source.new) (K.state sink.new) (E.state errs.new) tally.new) e) }
+{
+    let line = match reader.next_line(source) {
+        Ok(Some(line)) => line,
+        Ok(None) => return Ok(false),
+        Err(error) => return Err(error),
+    };
+    match tally.handle_line(alloc, rows, line, sink, errs) {
+        Ok(()) => Ok(true),
+        Err(error) => Err(error),
+    }
+}
+
+// Reads and handles all lines.
+fn write_rows<R: RowWriter<K>, S: Source, K: Sink, E: Sink>(
+    alloc: Global,
+    rows: &R,
+    reader: &mut LineReader,
+    source: &mut S,
+    sink: &mut K,
+    errs: &mut E,
+    tally: &mut Tally,
+) -> Result<()>
+    requires limit { (line_reader_state reader.old).limit ≤ 1048576 }
+    requires fresh { IsFreshRun
+        (run_state reader.old
+        (S.state source.old) (K.state sink.old) (E.state errs.old) tally.old) }
+    ensures ok { OnOk result (FinishesLines
+        (HasWithin (line_reader_state reader.old).limit (R.has_outcome rows.now))
+        (run_state reader.old
+        (S.state source.old) (K.state sink.old) (E.state errs.old) tally.old)
+        (run_state reader.new
+        (S.state source.new) (K.state sink.new) (E.state errs.new) tally.new)) }
+    ensures err { IfErr result (λ e. FailsEarly
+        (HasWithin (line_reader_state reader.old).limit (R.has_outcome rows.now))
+        (run_state reader.old
+        (S.state source.old) (K.state sink.old) (E.state errs.old) tally.old)
+        (run_state reader.new
+        (S.state source.new) (K.state sink.new) (E.state errs.new) tally.new) e) }
+{
+    'line: loop {
+        match step(alloc, rows, reader, source, sink, errs, tally) {
+            Ok(true) => {}
+            Ok(false) => return Ok(()),
+            Err(error) => return Err(error),
+        }
+    }
+}
+
+/// Reads and handles all lines with a reader of their own, and flushes the sink.
+pub(crate) fn write_all_rows<R: RowWriter<K>, S: Source, K: Sink, E: Sink>(
+    alloc: Global,
+    rows: &R,
+    source: &mut S,
+    sink: &mut K,
+    errs: &mut E,
+    tally: &mut Tally,
+) -> Result<()>
+    requires { IsNewTally tally.old }
+    ensures ok { OnOk result (WritesAllRows (HasWithin 1048576 (R.has_outcome rows.now))
+        (streams (S.state source.old) (K.state sink.old) (E.state errs.old))
+        (streams (S.state source.new) (K.state sink.new) (E.state errs.new))
+        tally.new) }
+    ensures err { IfErr result (λ e. WritesFewerRows (HasWithin 1048576 (R.has_outcome rows.now))
+        (streams (S.state source.old) (K.state sink.old) (E.state errs.old))
+        (streams (S.state source.new) (K.state sink.new) (E.state errs.new))
+        tally.new e) }
+    ensures loan { (K.state sink.new).loan ≡ (K.state sink.old).loan }
+{
+    let mut reader = match LineReader::new(alloc, MAX_LINE) {
+        Ok(reader) => reader,
+        Err(error) => return Err(error),
+    };
+    match write_rows(alloc, rows, &mut reader, source, sink, errs, tally) {
+        Ok(()) => flush_all(sink),
+        Err(error) => Err(error),
+    }
+}

@@ -1,0 +1,202 @@
+// The top call: words, a source, a sink and a sink of errors.
+ghost use Rattle.std.specs.Prelude.{◌≡◌, ◌≢◌, length, ◌+◌, ◌<◌, ◌≤◌, ◌⊎◌, List, ℕ, true, false, OnOk, IfErr, if◌then◌else◌};
+ghost use Rattle.json_lines.specs.Cells.{Command};
+ghost use Rattle.json_lines.specs.Outcomes.{HasOutcome};
+ghost use Rattle.json_lines.specs.Rows.{HasWithin};
+ghost use Rattle.json_lines.specs.Tables.{table_command};
+ghost use Rattle.json_lines.specs.RunResults.{ReadsAll, AppendsRows, TellsErrors, StatusTellsBad, RefusesWords, FailsRun, RunResult, NothingFails};
+ghost use Rattle.json_lines.specs.TopCall.{IsNewTally, WritesAllRows, WritesPartOfTable, run_status as spec_run_status, streams};
+ghost use Rattle.json_lines.specs.Words.{Asks, IsAsked};
+ghost use Rattle.json_command.specs.Input.{max_bytes};
+ghost use Rattle.json_command.specs.Reporting.{Reports};
+ghost use Rattle.json_text.specs.FaultText.{text_of};
+ghost use Rattle.json_text.specs.Known.{Consumes};
+ghost use Rattle.json_text.specs.Outside.{Rose};
+
+use crate::asked::asked;
+use crate::run::{Tally, write_all_rows};
+use crate::table::Table;
+use json_command::{Status, report};
+use json_print::{Buffer, BufferedWriter};
+use json_text::{Error, ErrorCode, LentSink, Place, Result, Sink, Source, Words};
+use std::alloc::Global;
+
+// Writes the rows of all lines, through a buffer.
+fn write_table<S: Source, K: Sink, E: Sink>(
+    alloc: Global,
+    table: &Table,
+    source: &mut S,
+    sink: &mut K,
+    errs: &mut E,
+    tally: &mut Tally,
+) -> Result<()>
+    requires { IsNewTally tally.old }
+    ensures ok { OnOk result (WritesAllRows
+        (HasWithin 1048576 (HasOutcome (table_command table.now)))
+        (streams (S.state source.old) (K.state sink.old) (E.state errs.old))
+        (streams (S.state source.new) (K.state sink.new) (E.state errs.new)) tally.new) }
+    ensures err { IfErr result (λ e. WritesPartOfTable
+        (HasWithin 1048576 (HasOutcome (table_command table.now)))
+        (streams (S.state source.old) (K.state sink.old) (E.state errs.old))
+        (streams (S.state source.new) (K.state sink.new) (E.state errs.new)) tally.new e) }
+{
+    let buffer = match Buffer::new(alloc) {
+        Ok(buffer) => buffer,
+        Err(error) => return Err(error),
+    };
+    let mut writer = BufferedWriter::with_buffer(buffer, LentSink::new(sink));
+    let outcome = write_all_rows(alloc, table, source, &mut writer, errs, tally);
+    let _sink = writer.into_inner().into_inner();
+    outcome
+}
+
+// Returns the status of an error.
+fn run_status(error: &Error) -> u8
+    ensures { result ≡ spec_run_status error.now.code error.now.place }
+{
+    match (error.code, error.place) {
+        (ErrorCode::TooLarge, Place::None) => Status::TooMuchInput.number(),
+        (_, _) => Status::of_error(error).number(),
+    }
+}
+
+// Returns the status of a run that is complete.
+fn done_status(bad: bool) -> u8
+    ensures { result ≡ (if bad then 1 else 0) }
+{
+    if bad {
+        Status::InvalidInput.number()
+    } else {
+        Status::Success.number()
+    }
+}
+
+// Reports an error, unless a report failed.
+fn report_unless_muted<E: Sink>(errs: &mut E, muted: bool, error: &Error)
+    ensures reported { muted ≡ false
+        → Reports (text_of error.now) (E.state errs.old) (E.state errs.new) }
+    ensures silent { muted ≡ true → E.state errs.new ≡ E.state errs.old }
+{
+    if !muted {
+        report(errs, error);
+    }
+}
+
+// Writes the rows of all lines, and reports the error of each bad one.
+fn run_table<S: Source, K: Sink, E: Sink>(
+    alloc: Global,
+    table: &Table,
+    source: &mut S,
+    sink: &mut K,
+    errs: &mut E,
+) -> u8
+    ensures { (words : List (List ℕ)) → Asks words (table_command table.now) → RunResult words
+        (streams (S.state source.old) (K.state sink.old) (E.state errs.old))
+        (streams (S.state source.new) (K.state sink.new) (E.state errs.new)) result }
+{
+    let mut tally = Tally {
+        number: 0,
+        bad: false,
+        muted: false,
+    };
+    match write_table(alloc, table, source, sink, errs, &mut tally) {
+        Ok(()) => done_status(tally.bad),
+        Err(error) => {
+            report_unless_muted(errs, tally.muted, &error);
+            run_status(&error)
+        }
+    }
+}
+
+// Does all that `run_lines` does.
+fn run_words<S: Source, K: Sink, E: Sink>(
+    alloc: Global,
+    words: &Words,
+    source: &mut S,
+    sink: &mut K,
+    errs: &mut E,
+) -> u8
+    ensures { RunResult words.now
+        (streams (S.state source.old) (K.state sink.old) (E.state errs.old))
+        (streams (S.state source.new) (K.state sink.new) (E.state errs.new)) result }
+{
+    match asked(alloc, words) {
+        Ok(table) => run_table(alloc, &table, source, sink, errs),
+        Err(error) => {
+            report(errs, &error);
+            run_status(&error)
+        }
+    }
+}
+
+/// Filters JSON Lines: writes a row for each good line of `source`, and the error of each bad line.
+///
+/// `words` are a columns word and the option `--has=PATH`, which may come before or after it. The
+/// columns word is a JSON array of 1 to 64 columns `[path, kind]`. A path is an array of keys and
+/// indexes; a kind is one of `"text"`, `"int"`, `"bool"` and `"json"`. A line where the path of
+/// `--has` leads to no value has no row.
+///
+/// A row is the cells of its columns, with tabs between them and a newline at the end. A cell is
+/// the compact text of the value at its path, or `-` where there is no value of its kind. Lines of
+/// whitespace alone are skipped. A line is bad if it has more than 1,048,576 bytes or is no JSON
+/// text (RFC 8259) of at most 254 levels in UTF-8; `errs` gets its number, counted from 1, and its
+/// error.
+///
+/// Returns the status: 0 if all lines are good, 1 if some line is bad, 2 if `words` are others,
+/// 4 if reading failed, 5 if writing failed, 6 if memory ran out, and 7 if the source has more than
+/// 4,294,967,295 bytes. After 4, 5, 6 and 7 `sink` has a prefix of the rows, and `errs` a prefix of
+/// the errors and then the error of the run.
+///
+/// ```
+/// use json_lines::run_lines;
+/// use json_text::{SliceSource, VecSink, Words};
+///
+/// let mut words = Words::new(alloc);
+/// words.push("[[[\"id\"],\"int\"],[[\"name\"],\"text\"]]")?;
+/// let mut source = SliceSource::new(b"{\"id\":1,\"name\":\"Ada\"}\n{\"id\":2}\n");
+/// let mut sink = VecSink::new(alloc);
+/// let mut errs = VecSink::new(alloc);
+/// let status = run_lines(alloc, &words, &mut source, &mut sink, &mut errs);
+/// assert_eq!(rt; status, 0);
+/// assert_eq!(rt; sink.as_slice(), b"1\t\"Ada\"\n2\t-\n".as_slice());
+/// ```
+pub fn run_lines<S: Source, K: Sink, E: Sink>(
+    alloc: Global,
+    words: &Words,
+    source: &mut S,
+    sink: &mut K,
+    errs: &mut E,
+) -> u8
+    ensures read { result < 2 → ReadsAll
+        (streams (S.state source.old) (K.state sink.old) (E.state errs.old))
+        (streams (S.state source.new) (K.state sink.new) (E.state errs.new)) }
+    ensures rows { result < 2 → AppendsRows words.now
+        (streams (S.state source.old) (K.state sink.old) (E.state errs.old))
+        (streams (S.state source.new) (K.state sink.new) (E.state errs.new)) }
+    ensures errors { result < 2 → TellsErrors words.now
+        (streams (S.state source.old) (K.state sink.old) (E.state errs.old))
+        (streams (S.state source.new) (K.state sink.new) (E.state errs.new)) }
+    ensures bad { result < 2 → StatusTellsBad words.now
+        (streams (S.state source.old) (K.state sink.old) (E.state errs.old)) result }
+    ensures words { result ≡ 2 → RefusesWords words.now
+        (streams (S.state source.old) (K.state sink.old) (E.state errs.old))
+        (streams (S.state source.new) (K.state sink.new) (E.state errs.new)) }
+    ensures failed { 2 < result → FailsRun words.now
+        (streams (S.state source.old) (K.state sink.old) (E.state errs.old))
+        (streams (S.state source.new) (K.state sink.new) (E.state errs.new)) result }
+    ensures known { (result ≤ 7) × (result ≢ 3) }
+    ensures reading { result ≡ 4 → Rose (S.state source.old).faults (S.state source.new).faults }
+    ensures writing { result ≡ 5 → Rose (K.state sink.old).faults (K.state sink.new).faults }
+    ensures large { result ≡ 7 → (bytes : List ℕ)
+        × Consumes (S.state source.old).left (S.state source.new).left bytes
+        × (max_bytes < length bytes) }
+    ensures read_told { (S.state source.old).faults < (S.state source.new).faults → result ≡ 4 }
+    ensures write_told { (K.state sink.old).faults < (K.state sink.new).faults → result ≡ 5 }
+    ensures unasked { ¬ (IsAsked words.now) → (result ≡ 2) ⊎ (result ≡ 6) }
+    ensures complete { NothingFails words.now
+        (streams (S.state source.old) (K.state sink.old) (E.state errs.old))
+        (streams (S.state source.new) (K.state sink.new) (E.state errs.new))
+        → (result < 2) ⊎ (result ≡ 6) }
+{
+    run_words(alloc, words, source, sink, errs)
+}

@@ -1,0 +1,53 @@
+// What the program says of itself.
+
+use json_command::About;
+
+/// What `--help` alone prints.
+const HELP: &str = "\
+json_lines reads JSON Lines from standard input, one JSON text a line, and
+writes a row of cells for each line to standard output.
+
+Usage: mezdruk lines [--has=PATH] COLUMNS
+
+COLUMNS is a JSON array of 1 to 64 columns, [path, kind]:
+  [path, \"text\"]   the string there, as JSON
+  [path, \"int\"]    the integer there, from -2^63 to 2^64 - 1
+  [path, \"bool\"]   true or false
+  [path, \"json\"]   any value, compact
+      mezdruk lines '[[[\"id\"], \"int\"], [[\"user\", \"name\"], \"text\"]]'
+
+A path is an array of steps, from the root on: a key, or an index from 0.
+The path [] is the root.
+
+Options, before or after the columns:
+  --has=PATH    write a row only where the path leads to a value
+      mezdruk lines --has='[\"error\"]' '[[[], \"json\"]]'
+  --help        print this text; stands alone
+  --version     print the version; stands alone
+
+The cells of a row are separated by tabs. A cell is - where the path leads to
+no value, or to one of another kind. Lines of whitespace are skipped. A line
+is bad if it has more than 1048576 bytes, is not UTF-8, or is no JSON text of
+at most 254 levels. Its number and its error go to standard error, and the
+other lines are filtered all the same.
+
+Status:
+  0  done
+  1  done, and some line is bad
+  2  the arguments are not valid
+  4  reading failed
+  5  writing failed
+  6  memory ran out
+  7  the input has more than 4294967295 bytes
+  8  the arguments could not be read, for example because one is not UTF-8
+";
+
+/// What `--version` alone prints.
+const VERSION: &str = "json_lines 0.1.0\n";
+
+/// What the program says of itself.
+pub const ABOUT: About = About {
+    help: HELP,
+    version: VERSION,
+    hint: "Run `mezdruk lines --help` for usage.\n",
+};

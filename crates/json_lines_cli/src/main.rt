@@ -1,0 +1,26 @@
+//! The program `json_lines`: filters JSON Lines from standard input to rows of cells on standard
+//! output. `run_lines` of the library `json_lines` does all of it; what is here hands it the
+//! arguments and the streams.
+//!
+//!     printf '{"a":1}\n{"a":2}\n' | mezdruk lines '[[["a"],"int"]]'
+#![tactic(auto)]
+
+mod help;
+#[cfg(test)]
+mod tests;
+
+use crate::help::ABOUT;
+use json_command::Console;
+use json_lines::run_lines;
+use std::process::ExitCode;
+
+fn main(rt: HostRuntime) -> ExitCode {
+    let mut console = match Console::open(&rt, &ABOUT) {
+        Ok(console) => console,
+        Err(status) => return ExitCode::from(status.number()),
+    };
+    let (source, sink, errs) = (&mut console.source, &mut console.sink, &mut console.errs);
+    let status = run_lines(rt.alloc(), &console.arguments, source, sink, errs);
+    ABOUT.add_hint(status, &mut console.errs);
+    ExitCode::from(status)
+}

@@ -1,0 +1,37 @@
+// What is said of `--help`, of `--version` and of invalid arguments.
+use crate::help::ABOUT;
+use json_text::{VecSink, Words};
+use std::test::Fail;
+
+#[test]
+fn help_and_version_stand_alone(rt: HostRuntime) -> Result<(), Fail> {
+    let alloc = rt.alloc();
+    for (given, begins) in [
+        ("--help", Some("json_lines reads JSON Lines")),
+        ("--version", Some("json_lines 0.1.0\n")),
+        ("--has=[]", None),
+        ("-help", None),
+    ] {
+        let mut arguments = Words::new(alloc);
+        arguments.push(given)?;
+        let text = ABOUT.text_asked(&arguments);
+        assert_eq!(rt; text.is_some(), begins.is_some(), "{given}");
+        assert!(rt;
+            text.unwrap_or("").starts_with(begins.unwrap_or("")),
+            "{given}"
+        );
+    }
+    Ok(())
+}
+
+#[test]
+fn invalid_arguments_are_told_where_to_look(rt: HostRuntime) {
+    let mut errs = VecSink::new(rt.alloc());
+    ABOUT.add_hint(1, &mut errs);
+    assert!(rt; errs.as_slice().is_empty());
+    ABOUT.add_hint(2, &mut errs);
+    assert_eq!(rt;
+        errs.as_slice(),
+        b"Run `mezdruk lines --help` for usage.\n".as_slice()
+    );
+}
