@@ -1,9 +1,8 @@
 -- What the loop over the lines keeps.
-use Rattle.std.proofs.Common.{◌≡◌, ℕ, ◌+◌, ◌-◌, ◌<◌, ◌≤◌, ◌⊎◌, inl, inr, Bool, false, ◌||◌, List, [], ◌∷◌, ◌++◌, length, Option, None, Some, Ok, Err, Result, IfSome, refl, sym, ap, ◌∙◌, subst, arith, append_assoc, append-nil}
+use Rattle.std.proofs.Common.{◌≡◌, ℕ, ◌+◌, ◌-◌, ◌<◌, ◌≤◌, inl, inr, false, ◌||◌, List, [], ◌∷◌, ◌++◌, length, Option, None, Some, Ok, Err, Result, IfSome, refl, sym, ap, ◌∙◌, subst, arith, append_assoc, append-nil}
 use Rattle.std.proofs.lemmas.List.{length-append}
-use Rattle.json_text.specs.Known.{append_known}
-use Rattle.json_text.specs.Outside.{SinkState, SourceState}
-use Rattle.json_print.specs.Printer.{Begins as BeginsWith, StopCause}
+use Rattle.json_text.specs.Outside.{SinkState}
+use Rattle.json_print.specs.Printer.{StopCause}
 use Rattle.json_print.specs.TextWriting.{WritesText}
 use Rattle.json_text.specs.declared.error.Error.{Error}
 use Rattle.json_text.specs.declared.error.ErrorCode.{ErrorCode}
@@ -18,12 +17,12 @@ use Rattle.json_lines.specs.declared.run.Tally.{Tally}
 use Rattle.json_lines.specs.Lines.{lines}
 use Rattle.json_lines.specs.Reading.{IsLineOf}
 use Rattle.json_command.specs.Input.{max_bytes}
-use Rattle.json_lines.specs.Rows.{Outcome, row_bytes, is_bad, error_bytes, rows_of, errors_from, some_bad, AllHave, HasWithin}
+use Rattle.json_lines.specs.Rows.{Outcome, row_bytes, is_bad, error_bytes, rows_of, errors_from, HasWithin}
 use Rattle.json_lines.specs.LineHandling.{LineHas, ReportsUnlessMuted}
 use Rattle.json_lines.specs.Steps.{RunState, TakesLine, FindsNoLine, ReadingLineFails, HandlingLineFails}
 use Rattle.json_lines.specs.Running.{IsFreshRun, HandlesLines, FinishesLines, FailsEarly, StopsEarly, RowErrorCause}
 use Rattle.json_lines.proofs.ReadingLines.{ReadsLines, ReadsLines-start, ReadsLines-more, ReadsLines-end, ReadsLines-fail, ReadsLines-parted}
-use Rattle.json_lines.proofs.TextWriting.{WritesText-nil, WritesText-then, WritesText-first, Begins-part}
+use Rattle.json_lines.proofs.TextWriting.{WritesText-nil, WritesText-then, Begins-part}
 use Rattle.json_lines.proofs.Totals.{rows_of-more, errors_from-more, some_bad-more, AllHave-append, AllHave-length, ReportsUnlessMuted-then}
 
 -- these lines were read and handled

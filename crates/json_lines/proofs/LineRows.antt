@@ -24,7 +24,7 @@ use Rattle.json_print.specs.TextWriting.{WritesText}
 use Rattle.json_command.specs.Input.{InputFault, not_utf8, no_text}
 use Rattle.json_lines.specs.Cells.{Command, row}
 use Rattle.json_lines.specs.Outcomes.{max_line, HasOutcome, blank, good, faulty}
-use Rattle.json_lines.specs.Rows.{Outcome, Row, Bad, row_bytes}
+use Rattle.json_lines.specs.Rows.{Row, Bad, row_bytes}
 use Rattle.json_lines.specs.Reading.{ReaderState, NextLineCall, IsLine, RepeatsError}
 use Rattle.json_lines.specs.LineHandling.{WritesRow, RowFails, ReturnsOutcome, IsWithinLimit}
 use Rattle.json_lines.specs.Tables.{BlankTest}

@@ -1,5 +1,5 @@
 -- Bytes that are filtered in pieces, where the first piece ends with a newline.
-use Rattle.std.proofs.Common.{◌≡◌, ◌⊎◌, inl, inr, ℕ, ◌+◌, ◌==◌, Bool, true, false, ◌||◌, List, [], ◌∷◌, ◌++◌, length, refl, sym, ap, ◌∙◌, subst, append_assoc, append-nil}
+use Rattle.std.proofs.Common.{◌≡◌, inl, inr, ℕ, ◌+◌, ◌==◌, Bool, true, false, ◌||◌, List, [], ◌∷◌, ◌++◌, length, refl, sym, ap, ◌∙◌, subst, append_assoc}
 use Rattle.std.proofs.lemmas.Bool.{cond-false, eqb-true}
 use Rattle.json_lines.specs.Cells.{Command}
 use Rattle.json_lines.specs.Laws.{EndsWithNewline, Filters}

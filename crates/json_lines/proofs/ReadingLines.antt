@@ -1,4 +1,5 @@
--- The reader's side of a loop over lines, for any program that calls `next_line` until it returns `None` or an error.
+-- The reader's side of a loop over lines, for any program that calls `next_line` until it returns
+-- `None` or an error.
 use Rattle.std.proofs.Common.{◌≡◌, ℕ, ◌+◌, ◌-◌, ◌<◌, ◌≤◌, ◌⊎◌, inl, inr, Bool, true, false, List, [], ◌∷◌, ◌++◌, length, Option, None, Some, Ok, Err, IfSome, refl, sym, ap, ◌∙◌, subst, arith, append_assoc, append-nil}
 use Rattle.std.proofs.lemmas.List.{length-append}
 use Rattle.std.proofs.lemmas.Bool.{false≢true}

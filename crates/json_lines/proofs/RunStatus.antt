@@ -1,8 +1,7 @@
 -- From the loop over the lines to the call that writes all rows.
-use Rattle.std.proofs.Common.{◌≡◌, ℕ, ◌<◌, ◌≤◌, ◌⊎◌, inl, inr, Bool, true, false, List, [], ◌++◌, length, Option, None, Some, Ok, Err, Result, IfSome, refl, sym, ap, ◌∙◌, subst, arith, append-nil}
+use Rattle.std.proofs.Common.{◌≡◌, ℕ, ◌<◌, ◌≤◌, ◌⊎◌, inl, inr, Bool, true, false, List, [], ◌++◌, length, Option, None, Some, Ok, Err, Result, IfSome, refl, sym, ◌∙◌, subst, arith, append-nil}
 use Rattle.std.proofs.lemmas.Bool.{cases_lt}
-use Rattle.json_text.specs.Known.{Appends, Keeps, append_known}
-use Rattle.json_print.specs.Printer.{Begins as BeginsWith}
+use Rattle.json_text.specs.Known.{Keeps}
 use Rattle.json_text.specs.Outside.{SinkState, Rose}
 use Rattle.json_text.specs.Transfer.{FlushesAll, Puts, WritingCause}
 use Rattle.json_text.specs.declared.error.Error.{Error}

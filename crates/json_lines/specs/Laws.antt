@@ -21,7 +21,8 @@ OneCommand = (words : List (List ℕ)) (c c' : Command) → Asks words c → Ask
 abbrev pub EndsWithNewline : List ℕ → Type 0
 EndsWithNewline bytes = (bytes ≡ []) ⊎ ((front : List ℕ) × (bytes ≡ front ++ 10 ∷ []))
 
--- what the command makes of these bytes, the first line of which has this number: the rows, the errors, and whether some line is bad
+-- what the command makes of these bytes, the first line of which has this number: the rows, the
+-- errors, and whether some line is bad
 pub record Filters (command : Command) (number : ℕ) (bytes rows errors : List ℕ) (bad : Bool) : Type 0 where
   pub outcomes : List Outcome
   pub have : HaveOutcomes command (lines bytes) outcomes
@@ -29,8 +30,8 @@ pub record Filters (command : Command) (number : ℕ) (bytes rows errors : List 
   pub errors_so : errors ≡ errors_from number outcomes
   pub bad_so : bad ≡ some_bad outcomes
 
--- The first piece ends with a newline. Then the rows of both are those of the first and then those of the second. So are the errors, where the lines of the
--- second are counted on from the first.
+-- The first piece ends with a newline. Then the rows of both are those of the first and then those
+-- of the second. So are the errors, where the lines of the second are counted on from the first.
 abbrev pub PieceByPiece : Type 0
 PieceByPiece = (command : Command) (number : ℕ) (a b rows rows' errors errors' : List ℕ) (bad bad' : Bool) → EndsWithNewline a
     → Filters command number a rows errors bad → Filters command (number + length (lines a)) b rows' errors' bad'

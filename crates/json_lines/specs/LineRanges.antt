@@ -1,4 +1,4 @@
--- How a reader finds the first line of what it holds and reads, and where the line is in its buffer.
+-- How a reader finds the first line of what it holds and reads, and its range in the buffer.
 use Rattle.std.specs.Prelude.{◌≡◌, ℕ, ◌+◌, ◌<◌, ◌≤◌, ◌⊎◌, true, false, List, [], ◌++◌, length, take, slice_range, None, Some, IfOk, OnOk, IfErr, MatchOption, Result, ⊤}
 use Rattle.std.specs.declared.option.Option.{Option}
 use Rattle.json_text.specs.Known.{told_as}
@@ -57,7 +57,7 @@ pub record SkipsLine (old new : ReaderState) (source source' : SourceState) : Ty
   pub no_newline : has_newline (old.held ++ bytes) ≡ false
   pub goes_on : new.stopped ≡ None
 
--- the reader lost the first line of what it held and read, with its newline; the last line needs none
+-- the reader lost the first line of what it held and read, and its newline; the last needs none
 pub record DropsLine (old new : ReaderState) (source source' : SourceState) (bytes : List ℕ) : Type 0 where
   pub reads : ReadsBytes old new source source' bytes
   pub no_fault : source'.faults ≡ source.faults

@@ -14,8 +14,9 @@ use Rattle.json_lines.specs.Rows.{Outcome, Row, Bad, AllHave, line_too_long}
 abbrev pub max_line : ℕ
 max_line = 1048576
 
--- A line with more bytes is bad. Of the others, one of whitespace alone (RFC 8259, section 2) is skipped, a text of a tree of at most 254 levels has the row
--- of the tree, and every other one is bad: it is not UTF-8 (section 8.1), or has a fault of the grammar.
+-- A line with more bytes is bad. Of the others, one of whitespace alone (RFC 8259, section 2) is
+-- skipped. A text of a tree of at most 254 levels has the row of the tree. Every other line is bad:
+-- it is not UTF-8 (section 8.1), or has a fault of the grammar.
 pub data HasOutcome (command : Command) : List ℕ → Outcome → Type 0 where
   too_long : {line : List ℕ} → max_line < length line → HasOutcome command line line_too_long
   blank : {line : List ℕ} → length line ≤ max_line → ws line → HasOutcome command line (Row [])

@@ -70,10 +70,11 @@ pub record ReadsLine (old new : ReaderState) (source source' : SourceState) (res
   -- what the reads of this call gave
   pub bytes : List ℕ
   pub reads : ReadsBytes old new source source' bytes
-  -- where the bytes of the source are known: the first line of all that is held and left is returned, and lost with its newline
+  -- where the bytes of the source are known: the first line of all that is held and left is
+  -- returned, and lost with its newline
   pub line : IfOk result (λ o. IfSome (prepend_known old.held source.left) (λ all. IsLine old.limit all o))
   pub rest : OnOk result (prepend_known new.held source'.left ≡ option_map after_line (prepend_known old.held source.left))
-  -- over every source: the same of what was held and read, in which a line ends unless the source did
+  -- over every source: the same of what was held and read, where a line or the source ends
   pub line_read : IfOk result (λ o. IsLine old.limit (old.held ++ bytes) o)
   pub rest_read : OnOk result (new.held ≡ after_line (old.held ++ bytes))
   pub ended : OnOk result ((has_newline (old.held ++ bytes) ≡ true) ⊎ (source'.left ≡ told_as source.left []))

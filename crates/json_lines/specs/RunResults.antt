@@ -15,7 +15,8 @@ use Rattle.json_lines.specs.Rows.{Outcome, rows_of, errors_from, some_bad}
 use Rattle.json_lines.specs.TopCall.{Streams, RunErrorCause, run_status}
 use Rattle.json_lines.specs.Words.{Asks, IsAsked}
 
--- the words ask for a command, and where the bytes of the source are known, this holds of the outcomes of their lines
+-- the words ask for a command, and where the bytes of the source are known, this holds of the
+-- outcomes of their lines
 pub record OfOutcomes (words : List (List ℕ)) (known : Option (List ℕ)) (holds : List Outcome → Type 0) : Type 0 where
   pub command : Command
   pub asked : Asks words command
@@ -34,7 +35,8 @@ pub record ReadsAll (old new : Streams) : Type 0 where
 abbrev pub AppendsRows : List (List ℕ) → Streams → Streams → Type 0
 AppendsRows words old new = OfOutcomes words old.source.left (λ outcomes. Appends old.sink.gained new.sink.gained (rows_of outcomes))
 
--- the error of each bad line was told with its number, or a prefix of these errors where that sink failed or memory ran out
+-- the error of each bad line was reported with its number, or a prefix of these errors where that
+-- sink failed or memory ran out
 abbrev pub TellsErrors : List (List ℕ) → Streams → Streams → Type 0
 TellsErrors words old new = OfOutcomes words old.source.left (λ outcomes. Reports (errors_from 1 outcomes) old.errs new.errs)
 
@@ -65,7 +67,8 @@ pub record AppendsRowsPrefix (command : Command) (bytes : List ℕ) (old new : S
   pub have : HaveOutcomes command (lines bytes) outcomes
   pub gained : AppendsFront old.sink.gained new.sink.gained (rows_of outcomes)
 
--- the errors of the first of their lines were told and then the error of the run, or a prefix of this where that sink failed or memory ran out
+-- the errors of the first of their lines were reported and then the error of the run, or a prefix
+-- of this where that sink failed or memory ran out
 pub record TellsErrorsPrefix (command : Command) (bytes : List ℕ) (error : Error) (old new : Streams) : Type 0 where
   pub outcomes : List Outcome
   pub have : HaveOutcomes command (lines bytes) outcomes
@@ -96,7 +99,7 @@ pub record FailsRun (words : List (List ℕ)) (old new : Streams) (status : ℕ)
   pub consumed : Consumes old.source.left new.source.left bytes
   pub cause : RunErrorCause bytes old new error.code error.place
   pub did : FailsBeforeReading error old new ⊎ FailsWhileReading words bytes error old new
-  -- a failed call of source or sink is always told
+  -- the status tells of each failed call of source or sink
   pub read_told : old.source.faults < new.source.faults → status ≡ 4
   pub write_told : old.sink.faults < new.sink.faults → status ≡ 5
 
@@ -105,7 +108,8 @@ pub record FailsRun (words : List (List ℕ)) (old new : Streams) (status : ℕ)
 abbrev pub RunResult : List (List ℕ) → Streams → Streams → ℕ → Type 0
 RunResult words old new status = Completes words old new status ⊎ ((status ≡ 2) × RefusesWords words old new) ⊎ FailsRun words old new status
 
--- the words ask for a command, the source has at most 4,294,967,295 bytes, which are known, and no call failed
+-- the words ask for a command, the source has at most 4,294,967,295 bytes, which are known, and
+-- no call failed
 pub record NothingFails (words : List (List ℕ)) (old new : Streams) : Type 0 where
   pub asked : IsAsked words
   pub bytes : List ℕ

@@ -1,5 +1,5 @@
 -- What the call that writes all rows does.
-use Rattle.std.specs.Prelude.{◌≡◌, ℕ, ◌<◌, Bool, false, List, [], ◌++◌, length, IfSome, ⊤, ◌⊎◌}
+use Rattle.std.specs.Prelude.{◌≡◌, ℕ, ◌<◌, Bool, false, List, [], ◌++◌, length, IfSome, ⊤}
 use Rattle.json_text.specs.Known.{Consumes, Appends, told_as}
 use Rattle.json_text.specs.Errors.{reading_failed, writing_failed}
 use Rattle.json_text.specs.Outside.{SinkState, SourceState, Rose}
@@ -66,7 +66,7 @@ pub record IsNewTally (t : Tally) : Type 0 where
   pub good : t.bad ≡ false
   pub unmuted : t.muted ≡ false
 
--- the sink itself gained a prefix of the rows, and the errors of the lines that were handled are reported
+-- the sink itself gained a prefix of the rows, and the errors of the handled lines are reported
 pub record WritesPrefixes (has : List ℕ → Outcome → Type 0) (sink sink' errs errs' : SinkState) (muted : Bool) (bytes : List ℕ) : Type 0 where
   pub done : List (List ℕ)
   pub begun : List (List ℕ)

@@ -104,7 +104,8 @@ fn pair_of_elements<'a>(array: ArrayView<'a>) -> Option<(View<'a>, View<'a>)>
 fn read_pair(alloc: Global, path: View<'_>, kind: View<'_>) -> Result<Column>
     ensures ok { IfOk result (λ c.
         column_of_pair (seen path.entry ∷ seen kind.entry ∷ []) ≡ Some (column_of c)) }
-    ensures err { IfErr result (Unspelled (column_of_pair (seen path.entry ∷ seen kind.entry ∷ []))) }
+    ensures err { IfErr result (Unspelled
+        (column_of_pair (seen path.entry ∷ seen kind.entry ∷ []))) }
 {
     let Some(kind) = read_kind(kind) else {
         return Err(type_unmatched());
@@ -240,7 +241,8 @@ fn read_table(alloc: Global, columns: &[u8], has: Option<&[u8]>) -> Result<Table
 
 // Returns the text after `--has=`.
 fn has_option(word: &[u8]) -> Option<&[u8]>
-    ensures { option_map (λ s. s.now) result ≡ cond (is_has_option word.now) (Some (drop 6 word.now)) None }
+    ensures { option_map (λ s. s.now) result
+        ≡ cond (is_has_option word.now) (Some (drop 6 word.now)) None }
 {
     word.strip_prefix(b"--has=")
 }
@@ -261,7 +263,8 @@ fn split_pair<'a>(first: &'a [u8], second: &'a [u8]) -> Option<(&'a [u8], Option
 
 // Returns the columns word and the text of the option, if any.
 fn split_words(words: &Words) -> Option<(&[u8], Option<&[u8]>)>
-    ensures { option_map (λ p. (p.0.now, option_map (λ s. s.now) p.1)) result ≡ split_words words.now }
+    ensures { option_map (λ p. (p.0.now, option_map (λ s. s.now) p.1)) result
+        ≡ split_words words.now }
 {
     match words.len() {
         1 => Some((words.word(0).as_bytes(), None)),

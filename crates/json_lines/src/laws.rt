@@ -23,14 +23,15 @@ pub fn one_command()
     ensures { OneCommand }
 {}
 
-/// Where some bytes end with a newline, the lines of these and of others after them are those of the
-/// first and then those of the others.
+/// Where some bytes end with a newline, the lines of these and of others after them are those of
+/// the first and then those of the others.
 pub fn lines_in_pieces()
     ensures { LinesInPieces }
 {}
 
-/// Bytes that are cut after a newline can be filtered apart: the rows and the errors of the whole are
-/// those of the first piece and then those of the second, with the lines of the second counted on.
+/// Bytes that are cut after a newline can be filtered apart: the rows and the errors of the whole
+/// are those of the first piece and then those of the second, with the lines of the second counted
+/// on.
 pub fn piece_by_piece()
     ensures { PieceByPiece }
 {}

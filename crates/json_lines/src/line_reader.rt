@@ -114,8 +114,11 @@ impl LineReader {
     fn read_more<S: Source>(&mut self, source: &mut S) -> Result<usize>
         requires room { self.old.end < vec_len self.old.buffer }
         requires going { self.old.stopped ≡ None }
-        ensures ok { IfOk result (λ n. ReadsMore self.old self.new (S.state source.old) (S.state source.new) n) }
-        ensures err { IfErr result (λ e. NextLineFails (line_reader_state self.old) (line_reader_state self.new) (S.state source.old) (S.state source.new) e) }
+        ensures ok { IfOk result (λ n.
+            ReadsMore self.old self.new (S.state source.old) (S.state source.new) n) }
+        ensures err { IfErr result (λ e. NextLineFails
+            (line_reader_state self.old) (line_reader_state self.new)
+            (S.state source.old) (S.state source.new) e) }
     {
         let end = self.end;
         match source.read(&mut self.buffer[end..]) {
@@ -165,13 +168,15 @@ impl LineReader {
     ///
     /// # Errors
     ///
-    /// Returns `Io` while reading if a read failed, and `TooLarge` once this reader has received more
-    /// than 4,294,967,295 bytes. After an error every later call returns the same error and reads
-    /// nothing.
+    /// Returns `Io` while reading if a read failed, and `TooLarge` once this reader has received
+    /// more than 4,294,967,295 bytes. After an error every later call returns the same error and
+    /// reads nothing.
     pub fn next_line<S: Source>(&mut self, source: &mut S) -> Result<Option<Line<'_>>>
-        ensures answer { (new : ReaderState) × NextLineCall (line_reader_state self.old) new (S.state source.old) (S.state source.new) result }
+        ensures answer { (new : ReaderState) × NextLineCall (line_reader_state self.old) new
+            (S.state source.old) (S.state source.new) result }
         ensures* after { sem 𝓛 (Rests the_row self.entry (λ new.
-            NextLineCall (line_reader_state self.old) (line_reader_state new) (S.state source.old) (S.state source.new) result)) }
+            NextLineCall (line_reader_state self.old) (line_reader_state new)
+            (S.state source.old) (S.state source.new) result)) }
     {
         match self.locate_line(source) {
             Ok(LineRange::End) => Ok(None),
@@ -196,8 +201,11 @@ impl LineReader {
     #[inline(always)]
     fn find_line<S: Source>(&mut self, source: &mut S) -> Result<LineRange>
         requires going { self.old.stopped ≡ None }
-        ensures ok { IfOk result (λ found. FindsLine self.old self.new (S.state source.old) (S.state source.new) found) }
-        ensures err { IfErr result (λ e. NextLineFails (line_reader_state self.old) (line_reader_state self.new) (S.state source.old) (S.state source.new) e) }
+        ensures ok { IfOk result (λ found.
+            FindsLine self.old self.new (S.state source.old) (S.state source.new) found) }
+        ensures err { IfErr result (λ e. NextLineFails
+            (line_reader_state self.old) (line_reader_state self.new)
+            (S.state source.old) (S.state source.new) e) }
     {
         let from = self.start;
         match find_newline(&self.buffer[from..self.end]) {
@@ -215,8 +223,11 @@ impl LineReader {
     fn read_line<S: Source>(&mut self, source: &mut S) -> Result<LineRange>
         requires going { self.old.stopped ≡ None }
         requires unended { has_newline (held_bytes self.old) ≡ false }
-        ensures ok { IfOk result (λ found. FindsLine self.old self.new (S.state source.old) (S.state source.new) found) }
-        ensures err { IfErr result (λ e. NextLineFails (line_reader_state self.old) (line_reader_state self.new) (S.state source.old) (S.state source.new) e) }
+        ensures ok { IfOk result (λ found.
+            FindsLine self.old self.new (S.state source.old) (S.state source.new) found) }
+        ensures err { IfErr result (λ e. NextLineFails
+            (line_reader_state self.old) (line_reader_state self.new)
+            (S.state source.old) (S.state source.new) e) }
     {
         'wait: while self.end - self.start <= self.limit {
             self.make_room();
@@ -246,8 +257,11 @@ impl LineReader {
         requires going { self.old.stopped ≡ None }
         requires unended { has_newline (held_bytes self.old) ≡ false }
         requires long { self.old.limit < length (held_bytes self.old) }
-        ensures ok { IfOk result (λ found. FindsLine self.old self.new (S.state source.old) (S.state source.new) found) }
-        ensures err { IfErr result (λ e. NextLineFails (line_reader_state self.old) (line_reader_state self.new) (S.state source.old) (S.state source.new) e) }
+        ensures ok { IfOk result (λ found.
+            FindsLine self.old self.new (S.state source.old) (S.state source.new) found) }
+        ensures err { IfErr result (λ e. NextLineFails
+            (line_reader_state self.old) (line_reader_state self.new)
+            (S.state source.old) (S.state source.new) e) }
     {
         self.start = 0;
         self.end = 0;

@@ -53,7 +53,8 @@ fn write_error_line<E: Sink>(errs: &mut E, number: u64, text: &[u8]) -> Result<(
 
 // Writes three texts, one after another.
 fn write_three<E: Sink>(errs: &mut E, first: &[u8], second: &[u8], third: &[u8]) -> Result<()>
-    ensures { Puts (E.state errs.old) (E.state errs.new) (first.now ++ (second.now ++ third.now)) result }
+    ensures { Puts (E.state errs.old) (E.state errs.new)
+        (first.now ++ (second.now ++ third.now)) result }
 {
     match put_all(errs, first) {
         Ok(()) => write_both(errs, second, third),
@@ -76,8 +77,8 @@ impl Tally {
 
     // ReportsUnlessMuted the error of the line of this number, unless a report failed.
     fn report_bad<E: Sink>(&mut self, errs: &mut E, text: &[u8])
-        ensures reports { ReportsUnlessMuted self.old.muted self.new.muted (E.state errs.old) (E.state errs.new)
-            (error_line self.old.number text.now) }
+        ensures reports { ReportsUnlessMuted self.old.muted self.new.muted
+            (E.state errs.old) (E.state errs.new) (error_line self.old.number text.now) }
         ensures number { self.new.number ≡ self.old.number }
         ensures bad { self.new.bad ≡ true }
     {
@@ -141,11 +142,15 @@ fn step<R: RowWriter<K>, S: Source, K: Sink, E: Sink>(
     requires few { tally.old.number < u64.MAX }
     requires limit { (line_reader_state reader.old).limit ≤ 1048576 }
     ensures ok { IfOk result (λ more. StepResult (R.has_outcome rows.now)
-        (run_state reader.old (S.state source.old) (K.state sink.old) (E.state errs.old) tally.old)
-        (run_state reader.new (S.state source.new) (K.state sink.new) (E.state errs.new) tally.new) more) }
+        (run_state reader.old
+        (S.state source.old) (K.state sink.old) (E.state errs.old) tally.old)
+        (run_state reader.new
+        (S.state source.new) (K.state sink.new) (E.state errs.new) tally.new) more) }
     ensures err { IfErr result (λ e. StepFails (R.has_outcome rows.now)
-        (run_state reader.old (S.state source.old) (K.state sink.old) (E.state errs.old) tally.old)
-        (run_state reader.new (S.state source.new) (K.state sink.new) (E.state errs.new) tally.new) e) }
+        (run_state reader.old
+        (S.state source.old) (K.state sink.old) (E.state errs.old) tally.old)
+        (run_state reader.new
+        (S.state source.new) (K.state sink.new) (E.state errs.new) tally.new) e) }
 {
     let line = match reader.next_line(source) {
         Ok(Some(line)) => line,
@@ -170,15 +175,20 @@ fn write_rows<R: RowWriter<K>, S: Source, K: Sink, E: Sink>(
 ) -> Result<()>
     requires limit { (line_reader_state reader.old).limit ≤ 1048576 }
     requires fresh { IsFreshRun
-        (run_state reader.old (S.state source.old) (K.state sink.old) (E.state errs.old) tally.old) }
+        (run_state reader.old
+        (S.state source.old) (K.state sink.old) (E.state errs.old) tally.old) }
     ensures ok { OnOk result (FinishesLines
         (HasWithin (line_reader_state reader.old).limit (R.has_outcome rows.now))
-        (run_state reader.old (S.state source.old) (K.state sink.old) (E.state errs.old) tally.old)
-        (run_state reader.new (S.state source.new) (K.state sink.new) (E.state errs.new) tally.new)) }
+        (run_state reader.old
+        (S.state source.old) (K.state sink.old) (E.state errs.old) tally.old)
+        (run_state reader.new
+        (S.state source.new) (K.state sink.new) (E.state errs.new) tally.new)) }
     ensures err { IfErr result (λ e. FailsEarly
         (HasWithin (line_reader_state reader.old).limit (R.has_outcome rows.now))
-        (run_state reader.old (S.state source.old) (K.state sink.old) (E.state errs.old) tally.old)
-        (run_state reader.new (S.state source.new) (K.state sink.new) (E.state errs.new) tally.new) e) }
+        (run_state reader.old
+        (S.state source.old) (K.state sink.old) (E.state errs.old) tally.old)
+        (run_state reader.new
+        (S.state source.new) (K.state sink.new) (E.state errs.new) tally.new) e) }
 {
     'line: loop {
         match step(alloc, rows, reader, source, sink, errs, tally) {

@@ -158,10 +158,12 @@ impl Table {
         requires short { length text.now ≤ 1048576 }
         requires full { ¬ (ws text.now) }
         ensures ok { IfOk result (λ fault. WritesRow (HasOutcome (command_of self.now) text.now)
-            (⟦<BufferedWriter<W> as Sink>⟧.state out.old) (⟦<BufferedWriter<W> as Sink>⟧.state out.new)
+            (⟦<BufferedWriter<W> as Sink>⟧.state out.old)
+            (⟦<BufferedWriter<W> as Sink>⟧.state out.new)
             fault) }
         ensures err { IfErr result (λ e. RowFails (HasOutcome (command_of self.now) text.now)
-            (⟦<BufferedWriter<W> as Sink>⟧.state out.old) (⟦<BufferedWriter<W> as Sink>⟧.state out.new)
+            (⟦<BufferedWriter<W> as Sink>⟧.state out.old)
+            (⟦<BufferedWriter<W> as Sink>⟧.state out.new)
             e) }
     {
         match read_document_with(alloc, text, Rules::usual()) {
@@ -177,10 +179,12 @@ impl Table {
         out: &mut BufferedWriter<W>,
     ) -> Result<Option<FaultText>>
         ensures ok { IfOk result (λ fault. (fault ≡ None) × WritesText
-            (⟦<BufferedWriter<W> as Sink>⟧.state out.old) (⟦<BufferedWriter<W> as Sink>⟧.state out.new)
+            (⟦<BufferedWriter<W> as Sink>⟧.state out.old)
+            (⟦<BufferedWriter<W> as Sink>⟧.state out.new)
             (row (command_of self.now) (doc_tree doc.now (doc_root doc.now))) (Ok tt)) }
         ensures err { IfErr result (λ e. WritesText
-            (⟦<BufferedWriter<W> as Sink>⟧.state out.old) (⟦<BufferedWriter<W> as Sink>⟧.state out.new)
+            (⟦<BufferedWriter<W> as Sink>⟧.state out.old)
+            (⟦<BufferedWriter<W> as Sink>⟧.state out.new)
             (row (command_of self.now) (doc_tree doc.now (doc_root doc.now))) (Err e)) }
     {
         match self.write_view_row(out, View::packed(doc.view())) {
@@ -192,7 +196,8 @@ impl Table {
     // Writes the cells, with tabs between them.
     fn write_cells<W: Sink>(&self, out: &mut BufferedWriter<W>, view: View<'_>) -> Result<()>
         ensures { WritesText
-            (⟦<BufferedWriter<W> as Sink>⟧.state out.old) (⟦<BufferedWriter<W> as Sink>⟧.state out.new)
+            (⟦<BufferedWriter<W> as Sink>⟧.state out.old)
+            (⟦<BufferedWriter<W> as Sink>⟧.state out.new)
             (cells (command_of self.now).columns (seen view.entry)) result }
     {
         let mut first = true;
@@ -209,7 +214,8 @@ impl Table {
     // Writes the row of a value, if it has one.
     fn write_view_row<W: Sink>(&self, out: &mut BufferedWriter<W>, view: View<'_>) -> Result<()>
         ensures { WritesText
-            (⟦<BufferedWriter<W> as Sink>⟧.state out.old) (⟦<BufferedWriter<W> as Sink>⟧.state out.new)
+            (⟦<BufferedWriter<W> as Sink>⟧.state out.old)
+            (⟦<BufferedWriter<W> as Sink>⟧.state out.new)
             (row (command_of self.now) (seen view.entry)) result }
     {
         match view.pointer(self.has.steps()) {
@@ -221,7 +227,8 @@ impl Table {
     // Writes the cells and a newline.
     fn write_cells_line<W: Sink>(&self, out: &mut BufferedWriter<W>, view: View<'_>) -> Result<()>
         ensures { WritesText
-            (⟦<BufferedWriter<W> as Sink>⟧.state out.old) (⟦<BufferedWriter<W> as Sink>⟧.state out.new)
+            (⟦<BufferedWriter<W> as Sink>⟧.state out.old)
+            (⟦<BufferedWriter<W> as Sink>⟧.state out.new)
             (cells (command_of self.now).columns (seen view.entry) ++ 10 ∷ []) result }
     {
         match self.write_cells(out, view) {

@@ -31,10 +31,12 @@ fn write_table<S: Source, K: Sink, E: Sink>(
     tally: &mut Tally,
 ) -> Result<()>
     requires { IsNewTally tally.old }
-    ensures ok { OnOk result (WritesAllRows (HasWithin 1048576 (HasOutcome (command_of table.now)))
+    ensures ok { OnOk result (WritesAllRows
+        (HasWithin 1048576 (HasOutcome (command_of table.now)))
         (streams (S.state source.old) (K.state sink.old) (E.state errs.old))
         (streams (S.state source.new) (K.state sink.new) (E.state errs.new)) tally.new) }
-    ensures err { IfErr result (λ e. WritesPartOfTable (HasWithin 1048576 (HasOutcome (command_of table.now)))
+    ensures err { IfErr result (λ e. WritesPartOfTable
+        (HasWithin 1048576 (HasOutcome (command_of table.now)))
         (streams (S.state source.old) (K.state sink.old) (E.state errs.old))
         (streams (S.state source.new) (K.state sink.new) (E.state errs.new)) tally.new e) }
 {
@@ -134,10 +136,11 @@ fn run_words<S: Source, K: Sink, E: Sink>(
 /// indexes; a kind is one of `"text"`, `"int"`, `"bool"` and `"json"`. A line where the path of
 /// `--has` leads to no value has no row.
 ///
-/// A row is the cells of its columns, with tabs between them and a newline at the end. A cell is the
-/// compact text of the value at its path, or `-` where there is no value of its kind. Lines of
-/// whitespace alone are skipped. A line is bad if it has more than 1,048,576 bytes or is no JSON text
-/// (RFC 8259) of at most 254 levels in UTF-8; `errs` gets its number, counted from 1, and its error.
+/// A row is the cells of its columns, with tabs between them and a newline at the end. A cell is
+/// the compact text of the value at its path, or `-` where there is no value of its kind. Lines of
+/// whitespace alone are skipped. A line is bad if it has more than 1,048,576 bytes or is no JSON
+/// text (RFC 8259) of at most 254 levels in UTF-8; `errs` gets its number, counted from 1, and its
+/// error.
 ///
 /// Returns the status: 0 if all lines are good, 1 if some line is bad, 2 if `words` are others,
 /// 4 if reading failed, 5 if writing failed, 6 if memory ran out, and 7 if the source has more than
@@ -184,13 +187,15 @@ pub fn run_lines<S: Source, K: Sink, E: Sink>(
     ensures reading { result ≡ 4 → Rose (S.state source.old).faults (S.state source.new).faults }
     ensures writing { result ≡ 5 → Rose (K.state sink.old).faults (K.state sink.new).faults }
     ensures large { result ≡ 7 → (bytes : List ℕ)
-        × Consumes (S.state source.old).left (S.state source.new).left bytes × (max_bytes < length bytes) }
+        × Consumes (S.state source.old).left (S.state source.new).left bytes
+        × (max_bytes < length bytes) }
     ensures read_told { (S.state source.old).faults < (S.state source.new).faults → result ≡ 4 }
     ensures write_told { (K.state sink.old).faults < (K.state sink.new).faults → result ≡ 5 }
     ensures unasked { ¬ (IsAsked words.now) → (result ≡ 2) ⊎ (result ≡ 6) }
     ensures complete { NothingFails words.now
         (streams (S.state source.old) (K.state sink.old) (E.state errs.old))
-        (streams (S.state source.new) (K.state sink.new) (E.state errs.new)) → (result < 2) ⊎ (result ≡ 6) }
+        (streams (S.state source.new) (K.state sink.new) (E.state errs.new))
+        → (result < 2) ⊎ (result ≡ 6) }
 {
     run_words(alloc, words, source, sink, errs)
 }
