@@ -1,5 +1,5 @@
 -- What the status of a run says.
-use Rattle.std.proofs.Common.{◌≡◌, ◌≢◌, ◌⊎◌, ◌∙◌, inl, inr, ℕ, ◌<◌, ◌≤◌, List, [], length, ◌++◌, Option, Some, None, sym, ap, subst, arith}
+use Rattle.std.proofs.Common.{◌≡◌, ◌≢◌, ◌⊎◌, ◌∙◌, inl, inr, ℕ, ◌<◌, ◌≤◌, List, [], length, ◌++◌, Option, Some, None, refl, sym, ap, subst, arith}
 use Rattle.std.proofs.lemmas.List.{length-append}
 use Rattle.json_text.specs.declared.error.Error.{Error}
 use Rattle.json_text.specs.declared.error.ErrorCode.{ErrorCode}
@@ -52,7 +52,7 @@ few_bytes (Some rest) bytes all h = let e : bytes ++ rest ≡ all = cc in omega 
 
 module _ (words : List (List ℕ)) (old new : Streams) (errs errs' : SinkState) (n : ℕ) where
   no_memory_alone : (code : ErrorCode) (place : Place) (bytes : List ℕ) → NothingFails words old new → Consumes old.source.left new.source.left bytes → RunErrorCause bytes old new code place → run_status code place ≡ 6
-  no_memory_alone NoMemory nowhere bytes good consumed h = omega arith
+  no_memory_alone NoMemory nowhere bytes good consumed h = refl
   no_memory_alone Io Reading bytes good consumed h = absurd (good.read h)
   no_memory_alone Io Writing bytes good consumed h = absurd (good.written h)
   no_memory_alone TooLarge nowhere bytes good consumed h = absurd (omega (arith, h, good.few, few_bytes new.source.left bytes good.bytes (sym consumed ∙ good.known)))

@@ -93,7 +93,7 @@ MethodIsNoText =
 abbrev pub UnknownMethod : Type 0
 UnknownMethod =
     Gives (served_tree with_one (call (codes "getter") (at_a ∷ []) (text (codes "1")))) with_one
-    (Some (codes "{\"jsonrpc\":\"2.0\",\"error\":{\"code\":-32601,\"message\":\"Method not lookup\"},\"id\":\"1\"}"))
+    (Some (codes "{\"jsonrpc\":\"2.0\",\"error\":{\"code\":-32601,\"message\":\"Method not found\"},\"id\":\"1\"}"))
 
 -- a param is missing; the id is null
 abbrev pub MissingParam : Type 0
@@ -113,7 +113,7 @@ ParamsByName =
 abbrev pub NothingThere : Type 0
 NothingThere =
     Gives (served_tree with_one (call (codes "get") (array (text (codes "b") ∷ []) ∷ []) (digits (codes "1")))) with_one
-    (Some (codes "{\"jsonrpc\":\"2.0\",\"error\":{\"code\":-32000,\"message\":\"Not lookup\"},\"id\":1}"))
+    (Some (codes "{\"jsonrpc\":\"2.0\",\"error\":{\"code\":-32000,\"message\":\"Not found\"},\"id\":1}"))
 
 abbrev pub AnotherKind : Type 0
 AnotherKind =

@@ -31,7 +31,8 @@ abbrev pub get_with : List Tree → Option Operation
 get_with (p ∷ []) = option_map get (path_in p)
 get_with _ = None
 
--- what a method asks for with these params: those of an edit are written as after its name in an edits argument
+-- what a method asks for with these params: those of an edit are the elements after its name in
+-- an edits argument
 abbrev pub operation_with : List ℕ → List Tree → Option Operation
 operation_with name params = cond (bytes_eq name (codes "get")) (get_with params) (option_map change (edit_named name params))
 

@@ -139,7 +139,7 @@ RunResult words old new errs errs' status = Completes words old new errs errs' s
 abbrev pub IsRunStatus : ℕ → Type 0
 IsRunStatus status = (status ≤ 7) × (status ≢ 1) × (status ≢ 3)
 
--- there are no words, the source has at most 4,294,967,295 bytes, which are known, and no call failed
+-- there are no words, the source has at most 4,294,967,295 known bytes, and no call failed
 pub record NothingFails (words : List (List ℕ)) (old new : Streams) : Type 0 where
   pub no_words : words ≡ []
   pub bytes : List ℕ

@@ -4,26 +4,27 @@
 //! use json_rpc::run_rpc;
 //! use json_text::{SliceSource, VecSink, Words};
 //! let words = Words::new(alloc);
-//! let mut source = SliceSource::new(b"{\"jsonrpc\":\"2.0\",\"method\":\"get\",\"params\":[[]],\"id\":1}");
+//! let line = b"{\"jsonrpc\":\"2.0\",\"method\":\"get\",\"params\":[[]],\"id\":1}";
+//! let mut source = SliceSource::new(line);
 //! let (mut sink, mut errs) = (VecSink::new(alloc), VecSink::new(alloc));
 //! assert_eq!(rt; run_rpc(alloc, &words, &mut source, &mut sink, &mut errs), 0);
 //! assert_eq!(rt; sink.as_slice(), b"{\"jsonrpc\":\"2.0\",\"result\":null,\"id\":1}\n".as_slice());
 //! ```
 #![tactic(auto)]
 
-mod reply;
-pub mod examples;
 mod error;
+pub mod examples;
 pub mod laws;
+mod lines;
 mod message;
 mod operation;
 mod perform;
+mod reply;
 mod request;
 mod response;
 mod run;
-mod service;
 mod serve;
-mod lines;
+mod service;
 
 pub use error::RpcError;
 pub use run::run_rpc;

@@ -113,7 +113,8 @@ fn two_params<'a>(params: Option<View<'a>>) -> Option<(View<'a>, View<'a>)>
 // Returns the three params by position; `None` if there are more or fewer.
 fn three_params<'a>(params: Option<View<'a>>) -> Option<(View<'a>, View<'a>, View<'a>)>
     ensures { MatchOption result (length (positional_params (option_map seen params.entry)) ≢ 3)
-        (λ p. positional_params (option_map seen params.entry) ≡ seen p.0 ∷ seen p.1 ∷ seen p.2 ∷ []) }
+        (λ p. positional_params (option_map seen params.entry)
+        ≡ seen p.0 ∷ seen p.1 ∷ seen p.2 ∷ []) }
 {
     let array = params_of(params)?;
     if array.len() != 3 {

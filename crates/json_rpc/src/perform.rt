@@ -79,7 +79,11 @@ pub(crate) fn get(
 }
 
 // Applies an edit, or returns the error that it does not apply.
-fn apply(alloc: Global, document: &mut Value, edit: &Edit) -> Result<std::result::Result<(), RpcError>>
+fn apply(
+    alloc: Global,
+    document: &mut Value,
+    edit: &Edit,
+) -> Result<std::result::Result<(), RpcError>>
     ensures ok { IfOk result (λ r. Applies (tree_of document.old) (edit_of edit.now)
         (tree_of document.new) r) }
     ensures kept { OnErr result (tree_of document.new ≡ tree_of document.old) }

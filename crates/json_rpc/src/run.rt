@@ -116,11 +116,11 @@ fn run_words<S: Source, K: Sink, E: Sink>(
 ///
 /// A line is a request or a batch of requests. The methods are `get [path]`, `set [path, value]`,
 /// `insert [path, key, value]`, `push [path, value]` and `remove [path, step]`, with parameters by
-/// position alone. A path is an array of keys and indexes. Each reply is compact, has a newline after
-/// it, and is flushed before the next line is read.
+/// position alone. A path is an array of keys and indexes. Each reply is compact, ends with a
+/// newline, and is flushed before the next line is read.
 ///
 /// A line of whitespace alone has no reply. A line of more than 1,048,576 bytes, or that is no JSON
-/// text (RFC 8259) of at most 254 levels in UTF-8, gets the error -32700, and the next line is served.
+/// text (RFC 8259) of at most 254 levels in UTF-8, gets the error -32700, and the run goes on.
 ///
 /// Returns the status: 0 if all lines were served, 2 if there are any `words`, 4 if reading failed,
 /// 5 if writing failed, 6 if memory ran out, and 7 if the source has more than 4,294,967,295 bytes.
@@ -166,7 +166,8 @@ pub fn run_rpc<S: Source, K: Sink, E: Sink>(
     ensures reading { result ≡ 4 → Rose (S.state source.old).faults (S.state source.new).faults }
     ensures writing { result ≡ 5 → Rose (K.state sink.old).faults (K.state sink.new).faults }
     ensures large { result ≡ 7 → (bytes : List ℕ)
-        × Consumes (S.state source.old).left (S.state source.new).left bytes × (max_bytes < length bytes) }
+        × Consumes (S.state source.old).left (S.state source.new).left bytes
+        × (max_bytes < length bytes) }
     ensures read_told { (S.state source.old).faults < (S.state source.new).faults → result ≡ 4 }
     ensures write_told { (K.state sink.old).faults < (K.state sink.new).faults → result ≡ 5 }
     ensures complete { NothingFails words.now (streams (S.state source.old) (K.state sink.old))

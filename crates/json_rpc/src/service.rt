@@ -19,7 +19,7 @@ use std::alloc::Global;
 
 /// A document that JSON-RPC 2.0 requests read and edit. It begins as null.
 ///
-/// Values that are put into the document share the text of their line with it, so that text stays in
+/// Values that are put into the document share the text of their line with it. That text stays in
 /// memory as long as a part of it is in the document.
 ///
 /// ```
@@ -28,9 +28,10 @@ use std::alloc::Global;
 /// let mut service = Service::new();
 /// let line = Line::Whole(b"{\"jsonrpc\":\"2.0\",\"method\":\"set\",\"params\":[[],[1]]}");
 /// assert!(rt; service.serve(alloc, line)?.is_none());
-/// let line = Line::Whole(b"{\"jsonrpc\":\"2.0\",\"method\":\"get\",\"params\":[[0]],\"id\":\"x\"}");
-/// let reply = service.serve(alloc, line)?.ok_or("no reply")?;
-/// assert_eq!(rt; reply.to_string(alloc)?.as_str(), "{\"jsonrpc\":\"2.0\",\"result\":1,\"id\":\"x\"}");
+/// let line = b"{\"jsonrpc\":\"2.0\",\"method\":\"get\",\"params\":[[0]],\"id\":\"x\"}";
+/// let reply = service.serve(alloc, Line::Whole(line))?.ok_or("no reply")?;
+/// let expected = "{\"jsonrpc\":\"2.0\",\"result\":1,\"id\":\"x\"}";
+/// assert_eq!(rt; reply.to_string(alloc)?.as_str(), expected);
 /// ```
 #[derive(Drop)]
 pub struct Service {
@@ -85,12 +86,12 @@ impl Service {
         }
     }
 
-    /// Serves a line and returns the reply, if there is one: none for a line of whitespace alone, for
-    /// a notification and for a batch of notifications (JSON-RPC 2.0, sections 4.1 and 6).
+    /// Serves a line and returns the reply, if there is one. Whitespace alone, a notification and a
+    /// batch of notifications have none (JSON-RPC 2.0, sections 4.1 and 6).
     ///
-    /// A line of more than 1,048,576 bytes, or that is no JSON text (RFC 8259) of at most 254 levels
-    /// in UTF-8, gets a reply with `ParseError`. Fails with `NoMemory` alone, and then the document is
-    /// as it was.
+    /// A line of more than 1,048,576 bytes, or that is no JSON text (RFC 8259) of at most 254
+    /// levels in UTF-8, has a reply with `ParseError`. Fails with `NoMemory` alone, and then the
+    /// document is as it was.
     pub fn serve(&mut self, alloc: Global, line: Line<'_>) -> Result<Option<Value>>
         ensures ok { IfOk result (λ o. Serves (document_of self.old) line.entry
             (document_of self.new) (option_map tree_of o)) }

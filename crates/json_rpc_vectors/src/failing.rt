@@ -19,7 +19,11 @@ fn each_reply_is_sent_before_the_next_line_is_read(rt: HostRuntime) -> Result<()
         let mut source = FakeSource::new(&lines, LINE.len(), &fails);
         let outcome = serve(alloc, &mut source);
         assert_eq!(rt; outcome.status, 4, "{served} lines");
-        assert_eq!(rt; outcome.replies.as_slice(), replies.as_slice(), "{served} lines");
+        assert_eq!(rt;
+            outcome.replies.as_slice(),
+            replies.as_slice(),
+            "{served} lines"
+        );
         assert_eq!(rt; outcome.errors.as_slice(), b"Io while reading\n".as_slice());
         lines.extend_from_slice(LINE.as_bytes())?;
         replies.extend_from_slice(REPLY.as_bytes())?;

@@ -3,7 +3,8 @@ use crate::run::{has_replies, serve_bytes};
 use std::alloc::Global;
 use std::test::Fail;
 
-const PARSE_ERROR: &str = "{\"jsonrpc\":\"2.0\",\"error\":{\"code\":-32700,\"message\":\"Parse error\"},\"id\":null}\n";
+const PARSE_ERROR: &str =
+    "{\"jsonrpc\":\"2.0\",\"error\":{\"code\":-32700,\"message\":\"Parse error\"},\"id\":null}\n";
 
 // What a line shows, the line, and its reply from a document that is null.
 const LINES: [(&str, &str, &str); 26] = [
@@ -154,7 +155,9 @@ fn lines_have_their_replies(rt: HostRuntime) {
 fn a_line_that_is_not_utf8_is_a_parse_error(rt: HostRuntime) -> Result<(), Fail> {
     let alloc = rt.alloc();
     let mut input = Vec::new(alloc);
-    input.extend_from_slice(b"\"\xff\"\n{\"jsonrpc\":\"2.0\",\"method\":\"get\",\"params\":[[]],\"id\":1}\n")?;
+    input.extend_from_slice(
+        b"\"\xff\"\n{\"jsonrpc\":\"2.0\",\"method\":\"get\",\"params\":[[]],\"id\":1}\n",
+    )?;
     let mut expected = Vec::new(alloc);
     expected.extend_from_slice(PARSE_ERROR.as_bytes())?;
     expected.extend_from_slice(b"{\"jsonrpc\":\"2.0\",\"result\":null,\"id\":1}\n")?;
@@ -213,7 +216,9 @@ fn a_batch_of_10000_notifications_has_no_reply(rt: HostRuntime) -> Result<(), Fa
         }
         input.extend_from_slice(b"{\"jsonrpc\":\"2.0\",\"method\":\"push\",\"params\":[[],0]}")?;
     }
-    input.extend_from_slice(b"]\n{\"jsonrpc\":\"2.0\",\"method\":\"get\",\"params\":[[9999]],\"id\":1}\n{\"jsonrpc\":\"2.0\",\"method\":\"get\",\"params\":[[10000]],\"id\":2}")?;
+    input.extend_from_slice(
+        b"]\n{\"jsonrpc\":\"2.0\",\"method\":\"get\",\"params\":[[9999]],\"id\":1}\n{\"jsonrpc\":\"2.0\",\"method\":\"get\",\"params\":[[10000]],\"id\":2}",
+    )?;
     let outcome = serve_bytes(alloc, &input);
     assert_eq!(rt; outcome.status, 0);
     assert_eq!(rt;

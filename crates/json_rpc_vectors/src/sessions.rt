@@ -8,16 +8,8 @@ const SESSIONS: [(&str, &str, &str); 17] = [
         "{\"jsonrpc\":\"2.0\",\"method\":\"set\",\"params\":[[],{\"a\":1}],\"id\":1}\n{\"jsonrpc\":\"2.0\",\"method\":\"push\",\"params\":[[\"a\"],2]}\n[{\"jsonrpc\":\"2.0\",\"method\":\"get\",\"params\":[[\"a\"]],\"id\":\"x\"},1]\n{\n",
         "{\"jsonrpc\":\"2.0\",\"result\":null,\"id\":1}\n[{\"jsonrpc\":\"2.0\",\"result\":1,\"id\":\"x\"},{\"jsonrpc\":\"2.0\",\"error\":{\"code\":-32600,\"message\":\"Invalid Request\"},\"id\":null}]\n{\"jsonrpc\":\"2.0\",\"error\":{\"code\":-32700,\"message\":\"Parse error\"},\"id\":null}\n",
     ),
-    (
-        "nothing",
-        "",
-        "",
-    ),
-    (
-        "lines of whitespace",
-        "\n \t\r\n\n",
-        "",
-    ),
+    ("nothing", "", ""),
+    ("lines of whitespace", "\n \t\r\n\n", ""),
     (
         "an id that is null, and no newline at the end",
         "{\"jsonrpc\":\"2.0\",\"method\":\"get\",\"params\":[[]],\"id\":null}",
