@@ -4,6 +4,7 @@ use json_text::{FakeSource, SliceSource, Source, VecSink, Words};
 use std::alloc::Global;
 
 /// What a session came to.
+#[derive(Drop)]
 pub struct Outcome {
     pub status: u8,
     pub replies: VecSink,
