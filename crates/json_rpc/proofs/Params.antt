@@ -1,0 +1,57 @@
+-- The params by position, and the members of a request.
+use Rattle.std.proofs.Common.{◌≡◌, ◌∙◌, ℕ, List, [], ◌∷◌, length, Bool, true, false, cond, Option, Some, None, slice_get, codes, refl, sym, ap₂, arith}
+use Rattle.json_grammar.specs.Tree.{Tree, null, boolean, num, text, list, pairs}
+use Rattle.json_doc.specs.Readings.{string_of}
+use Rattle.json_rpc.specs.Requests.{member, is_valid, request_with, request_of}
+
+none_some : {A : Type 0} {x : A} → None ≡ Some x → ⊥
+none_some e = cc
+
+pub one_of : (xs : List Tree) (a : Tree) → length xs ≡ 1 → Some a ≡ slice_get xs 0 → xs ≡ a ∷ []
+one_of [] a n e = absurd (omega arith)
+one_of (x ∷ []) a n e = cc
+one_of (x ∷ y ∷ xs) a n e = absurd (omega arith)
+
+pub two_of : (xs : List Tree) (a b : Tree) → length xs ≡ 2 → Some a ≡ slice_get xs 0 → Some b ≡ slice_get xs 1 → xs ≡ a ∷ b ∷ []
+two_of [] a b n e f = absurd (omega arith)
+two_of (x ∷ []) a b n e f = absurd (omega arith)
+two_of (x ∷ y ∷ []) a b n e f = cc
+two_of (x ∷ y ∷ z ∷ xs) a b n e f = absurd (omega arith)
+
+pub three_of : (xs : List Tree) (a b d : Tree) → length xs ≡ 3 → Some a ≡ slice_get xs 0 → Some b ≡ slice_get xs 1 → Some d ≡ slice_get xs 2 → xs ≡ a ∷ b ∷ d ∷ []
+three_of [] a b d n e f g = absurd (omega arith)
+three_of (x ∷ []) a b d n e f g = absurd (omega arith)
+three_of (x ∷ y ∷ []) a b d n e f g = absurd (omega arith)
+three_of (x ∷ y ∷ z ∷ []) a b d n e f g = cc
+three_of (x ∷ y ∷ z ∷ w ∷ xs) a b d n e f g = absurd (omega arith)
+
+-- the request of a version and a method that are texts
+texts : (j m : Tree) (v n : List ℕ) (params id : Option Tree) → Some v ≡ string_of j → Some n ≡ string_of m
+    → request_with (Some j) (Some m) params id ≡ cond (is_valid v params id) (Some (record { method = n; params = params; id = id })) None
+texts (text v') (text n') v n params id e f = let g : v' ≡ v = cc in let h : n' ≡ n = cc in ap₂ (λ v n. cond (is_valid v params id) (Some (record { method = n; params = params; id = id })) None) g h
+texts (text v') null v n params id e f = absurd (none_some (sym f))
+texts (text v') (boolean b) v n params id e f = absurd (none_some (sym f))
+texts (text v') (num l) v n params id e f = absurd (none_some (sym f))
+texts (text v') (list ts) v n params id e f = absurd (none_some (sym f))
+texts (text v') (pairs ps) v n params id e f = absurd (none_some (sym f))
+texts null m v n params id e f = absurd (none_some (sym e))
+texts (boolean b) m v n params id e f = absurd (none_some (sym e))
+texts (num l) m v n params id e f = absurd (none_some (sym e))
+texts (list ts) m v n params id e f = absurd (none_some (sym e))
+texts (pairs ps) m v n params id e f = absurd (none_some (sym e))
+
+pub request_is : (t j m : Tree) (v n : List ℕ) (params id : Option Tree) → Some j ≡ member (codes "jsonrpc") t → Some v ≡ string_of j → Some m ≡ member (codes "method") t → Some n ≡ string_of m
+    → params ≡ member (codes "params") t → id ≡ member (codes "id") t
+    → request_of t ≡ cond (is_valid v params id) (Some (record { method = n; params = params; id = id })) None
+request_is t j m v n params id a b c d e f =
+    ap₂ (λ x y. request_with x y (member (codes "params") t) (member (codes "id") t)) (sym a) (sym c)
+    ∙ ap₂ (λ p i. request_with (Some j) (Some m) p i) (sym e) (sym f)
+    ∙ texts j m v n params id b d
+
+pub chosen : {A : Type 0} (b : Bool) (x y z : A) → b ≡ true → z ≡ x → z ≡ cond b x y
+chosen true x y z e f = f
+chosen false x y z e f = cc
+
+pub not_chosen : {A : Type 0} (b : Bool) (x y : A) → b ≡ false → y ≡ cond b x y
+not_chosen true x y e = cc
+not_chosen false x y e = refl

@@ -1,0 +1,225 @@
+-- From the loop over the lines to the call that serves all of them.
+use Rattle.std.proofs.Common.{◌≡◌, ◌∙◌, inl, inr, ℕ, ◌+◌, ◌<◌, ◌≤◌, List, [], ◌∷◌, length, Bool, false, ◌||◌, Option, Some, None, Result, Ok, Err, OnOk, IfErr, IfSome, refl, sym, subst, ap, arith}
+use Rattle.std.specs.Borrow.{GName}
+use Rattle.std.proofs.lemmas.Bool.{cases_lt}
+use Rattle.json_grammar.specs.Tree.{null}
+use Rattle.json_text.specs.declared.error.Error.{Error}
+use Rattle.json_text.specs.declared.error.ErrorCode.{ErrorCode}
+use Rattle.json_text.specs.declared.error.ErrorCode.TheVariants.{NoMemory, Io, TooLarge}
+use Rattle.json_text.specs.declared.error.Place.{Place}
+use Rattle.json_text.specs.declared.error.Place.TheVariants.{None as nowhere, Reading, Writing}
+use Rattle.json_text.specs.Errors.{no_memory, writing_failed}
+use Rattle.json_text.specs.Known.{Appends, Grows, append_known}
+use Rattle.json_text.specs.Lending.{lent_as, ComesBack}
+use Rattle.json_text.specs.Outside.{SinkState, SourceState, Rose, counted}
+use Rattle.json_text.specs.Transfer.{FlushesAll, WritingCause}
+use Rattle.json_text.proofs.Known.{known-nil, known-append, Consumes-nil}
+use Rattle.json_print.specs.Buffered.{held_behind}
+use Rattle.json_print.specs.Calls.{holds_any}
+use Rattle.json_print.specs.Printer.{Begins as BeginsWith, StopCause}
+use Rattle.json_print.proofs.TextWriting.{front_gained, same_name, grown, sent_back}
+use Rattle.json_command.specs.Input.{max_bytes}
+use Rattle.json_lines.specs.Lines.{lines}
+use Rattle.json_lines.specs.Reading.{ReaderState, ReadsBytes, NextLineCause, fresh_reader}
+use Rattle.json_rpc.specs.Serving.{Message, max_line_bytes}
+use Rattle.json_rpc.specs.Sessions.{AreMessages, replies}
+use Rattle.json_rpc.specs.Steps.{RunState, IsFreshRun, FinishesLines, StopsEarly}
+use Rattle.json_rpc.specs.RunResults.{Streams, streams, GivesBytes, ServesAll, RunErrorCause, StopsRun, StopsBuffered}
+
+pub fresh_run : (s : RunState) → s.reader ≡ fresh_reader max_line_bytes → IsFreshRun s
+fresh_run s e = record { limit = ap (λ r. r.limit) e; held = ap (λ r. r.held) e; received = ap (λ r. r.received) e; going = ap (λ r. r.stopped) e }
+
+-- ---- the last flush
+
+ok_err : (u : Unit {0}) (e : Error) → Ok u ≡ Err e → ⊥
+ok_err u e h = cc
+
+same_faults : (a b : ℕ) → a ≤ b → (a < b → ⊥) → b ≡ a
+same_faults a b le none = elim (cases_lt a b) [ inl l ↦ absurd (none l) | inr l ↦ omega (arith, l, le) ]
+
+abbrev failed : Error → Result (Unit {0}) Error
+failed e = Err e
+
+err_is : (e f : Error) → failed e ≡ failed f → e ≡ f
+err_is e f h = cc
+
+gives_bytes : (a c : RunState) (bytes : List ℕ) → ReadsBytes a.reader c.reader a.source c.source bytes → GivesBytes a.source c.source bytes
+gives_bytes a c bytes h = record { consumed = h.consumed; given_so = h.given_so }
+
+few_bytes : (n m k : ℕ) → n ≡ 0 → m ≡ n + k → m ≤ max_bytes → k ≤ max_bytes
+few_bytes n m k e f l = omega (arith, e, f, l)
+
+serves_all : (a c : RunState) (out : SinkState) (u : Unit {0}) → IsFreshRun a → a.document ≡ null → FinishesLines a c → FlushesAll c.out out (Ok u) → ServesAll (streams a.source a.out) (streams c.source out)
+serves_all a c out u fresh begins all flush =
+    record {
+      reads = record {
+        bytes = all.bytes;
+        gives = gives_bytes a c all.bytes all.reads;
+        few = few_bytes a.reader.received c.reader.received (length all.bytes) fresh.received all.reads.received_so all.few;
+        drained = all.drained;
+        read = all.no_fault;
+      };
+      appends = record {
+        messages = all.messages;
+        are = all.are;
+        gained = subst (λ t. Appends a.out.gained out.gained (replies t all.messages)) begins (flush.keeps ∙ all.writes.ok);
+      };
+      writes = record {
+        written = same_faults c.out.faults out.faults flush.later.faults (λ l. ok_err u writing_failed (flush.told l)) ∙ all.writes.calm;
+        flushed = flush.ok;
+      };
+    }
+
+flush_cause : (bytes : List ℕ) (s s' : SourceState) (a b c : SinkState) (code : ErrorCode) (place : Place) → b.faults ≡ a.faults → WritingCause b c code place → RunErrorCause bytes (streams s a) (streams s' c) code place
+flush_cause bytes s s' a b c NoMemory nowhere e h = tt
+flush_cause bytes s s' a b c Io Writing e h = subst (λ n. Rose n c.faults) e h
+flush_cause bytes s s' a b c code place e h = absurd h
+
+both_some : (o : Option (List ℕ)) (bytes : List ℕ) (ms : List Message) → IfSome o (λ b. b ≡ bytes) → IfSome o (λ b. AreMessages (lines b) ms) → IfSome o (λ _. AreMessages (lines bytes) ms)
+both_some None bytes ms e h = tt
+both_some (Some b) bytes ms e h = subst (λ b. AreMessages (lines b) ms) e h
+
+flush_stops : (a c : RunState) (out : SinkState) (e : Error) → a.document ≡ null → FinishesLines a c → FlushesAll c.out out (Err e) → StopsBuffered (streams a.source a.out) (streams c.source out) e
+flush_stops a c out e begins all flush =
+    record {
+      bytes = all.bytes;
+      gives = gives_bytes a c all.bytes all.reads;
+      messages = all.messages;
+      are = both_some a.source.left all.bytes all.messages all.all all.are;
+      prefix = subst (λ t. BeginsWith out.gained (append_known a.out.gained (replies t all.messages))) begins
+          (record { back = []; whole = sym (known-nil out.gained ∙ flush.keeps ∙ all.writes.ok) });
+      same_loan = flush.later.same_loan ∙ all.writes.same_loan;
+      cause = flush_cause all.bytes a.source c.source a.out c.out out e.code e.place all.writes.calm flush.cause;
+      reading_told = λ l. absurd (omega (arith, l, all.no_fault));
+      writing_told = λ l. err_is e writing_failed (flush.told (omega (arith, l, all.writes.calm)));
+    }
+
+pub flushed_ok : (a c : RunState) (out : SinkState) (r : Result (Unit {0}) Error) → IsFreshRun a → a.document ≡ null → FinishesLines a c → FlushesAll c.out out r → OnOk r (ServesAll (streams a.source a.out) (streams c.source out))
+flushed_ok a c out (Ok u) fresh begins all flush = serves_all a c out u fresh begins all flush
+flushed_ok a c out (Err e) fresh begins all flush = tt
+
+pub flushed_err : (a c : RunState) (out : SinkState) (r : Result (Unit {0}) Error) → a.document ≡ null → FinishesLines a c → FlushesAll c.out out r → IfErr r (λ e. StopsBuffered (streams a.source a.out) (streams c.source out) e)
+flushed_err a c out (Ok u) begins all flush = tt
+flushed_err a c out (Err e) begins all flush = flush_stops a c out e begins all flush
+
+-- ---- the loop failed
+
+reading_cause : (bytes : List ℕ) (new : ReaderState) (s s' : SourceState) (a c : SinkState) (code : ErrorCode) (place : Place) → new.received ≡ length bytes → NextLineCause new s s' code place → RunErrorCause bytes (streams s a) (streams s' c) code place
+reading_cause bytes new s s' a c Io Reading e h = h.0
+reading_cause bytes new s s' a c TooLarge nowhere e h = omega (arith, e, h.1)
+reading_cause bytes new s s' a c code place e h = absurd h
+
+writing_cause : (bytes : List ℕ) (s s' : SourceState) (a c : SinkState) (code : ErrorCode) (place : Place) → StopCause a.faults c.faults code place → RunErrorCause bytes (streams s a) (streams s' c) code place
+writing_cause bytes s s' a c NoMemory nowhere h = tt
+writing_cause bytes s s' a c Io Writing h = h
+writing_cause bytes s s' a c code place h = absurd h
+
+pub loop_stops : (a c : RunState) (e : Error) → IsFreshRun a → a.document ≡ null → StopsEarly a c e → StopsBuffered (streams a.source a.out) (streams c.source c.out) e
+loop_stops a c e fresh begins stop =
+    let received : c.reader.received ≡ length stop.bytes = omega (arith, fresh.received, stop.reads.received_so) in
+    record {
+      bytes = stop.bytes;
+      gives = gives_bytes a c stop.bytes stop.reads;
+      messages = stop.messages;
+      are = stop.are;
+      prefix = subst (λ t. BeginsWith c.out.gained (append_known a.out.gained (replies t stop.messages))) begins stop.prefix;
+      same_loan = stop.same_loan;
+      cause = elim stop.cause [
+        | inl h ↦ reading_cause stop.bytes c.reader a.source c.source a.out c.out e.code e.place received h
+        | inr h ↦ writing_cause stop.bytes a.source c.source a.out c.out e.code e.place h.0
+      ];
+      reading_told = stop.reading_told;
+      writing_told = stop.writing_told;
+    }
+
+-- ---- a sink that was lent
+
+none_held : (held : List ℕ) (b : Bool) → holds_any held || b ≡ false → (held ≡ []) × (b ≡ false)
+none_held [] b e = (refl, e)
+none_held (x ∷ held) b e = absurd (cc)
+
+abbrev Lent : SinkState → GName → SinkState
+Lent old name = lent_as old name old.gained
+
+abbrev Back : SinkState → SinkState → GName → List ℕ → SinkState
+Back old new name held = held_behind (lent_as new name old.gained) held
+
+lent_serves : (s s' : SourceState) (old new : SinkState) (name : GName) (held : List ℕ) → ServesAll (streams s (Lent old name)) (streams s' (Back old new name held)) → ServesAll (streams s old) (streams s' new)
+lent_serves s s' old new name held h =
+    let none = none_held held new.unflushed h.writes.flushed in
+    record {
+      reads = record { bytes = h.reads.bytes; gives = h.reads.gives; few = h.reads.few; drained = h.reads.drained; read = h.reads.read };
+      appends = record {
+        messages = h.appends.messages;
+        are = h.appends.are;
+        gained = sym (known-nil new.gained) ∙ ap (append_known new.gained) (sym none.0) ∙ h.appends.gained;
+      };
+      writes = record { written = h.writes.written; flushed = none.1 };
+    }
+
+lent_cause : (bytes : List ℕ) (s s' : SourceState) (old new : SinkState) (name : GName) (held : List ℕ) (code : ErrorCode) (place : Place) → RunErrorCause bytes (streams s (Lent old name)) (streams s' (Back old new name held)) code place
+    → RunErrorCause bytes (streams s old) (streams s' new) code place
+lent_cause bytes s s' old new name held NoMemory nowhere h = tt
+lent_cause bytes s s' old new name held Io Reading h = h
+lent_cause bytes s s' old new name held Io Writing h = h
+lent_cause bytes s s' old new name held TooLarge nowhere h = h
+lent_cause bytes s s' old new name held code place h = absurd h
+
+lent_stops : (s s' : SourceState) (old new : SinkState) (name : GName) (held : List ℕ) (e : Error) → Grows old.gained new.gained → StopsBuffered (streams s (Lent old name)) (streams s' (Back old new name held)) e → StopsRun (streams s old) (streams s' new) e
+lent_stops s s' old new name held e g h =
+    record {
+      bytes = h.bytes;
+      gives = h.gives;
+      prefix = record {
+        messages = h.messages;
+        are = h.are;
+        gained = front_gained old.gained new.gained (replies null h.messages) _ (h.prefix.whole ∙ known-append new.gained held h.prefix.back) g;
+      };
+      cause = lent_cause h.bytes s s' old new name held e.code e.place h.cause;
+      reading_told = h.reading_told;
+      writing_told = h.writing_told;
+    }
+
+module _ (old now sent lent began : SinkState) (name name' : GName) (held : List ℕ) (b : began ≡ lent_as old name old.gained) (loan_kept : sent.loan ≡ began.loan) (s : sent ≡ held_behind lent held) (back : ComesBack lent now name') where
+  loan : lent.loan ≡ began.loan
+  loan = ap (λ (x : SinkState). x.loan) (sym s) ∙ loan_kept
+
+  is : sent ≡ Back old now name held
+  is = s ∙ ap (λ x. held_behind x held) (sent_back old now lent began name name' b loan back)
+
+  pub same_sink : name' ≡ name
+  same_sink = same_name old now lent began name name' b loan back
+
+  pub served_through : (u u' : SourceState) (r : Result (Unit {0}) Error) → OnOk r (ServesAll (streams u began) (streams u' sent)) → OnOk r (ServesAll (streams u old) (streams u' now))
+  served_through u u' (Ok v) h = lent_serves u u' old now name held (subst (λ (x : SinkState). ServesAll (streams u (Lent old name)) (streams u' x)) is (subst (λ (x : SinkState). ServesAll (streams u x) (streams u' sent)) b h))
+  served_through u u' (Err e) h = tt
+
+  pub stopped_through : (u u' : SourceState) (r : Result (Unit {0}) Error) → IfErr r (λ e. StopsBuffered (streams u began) (streams u' sent) e) → IfErr r (λ e. StopsRun (streams u old) (streams u' now) e)
+  stopped_through u u' (Ok v) h = tt
+  stopped_through u u' (Err e) h =
+      lent_stops u u' old now name held e (grown old now lent began name name' b loan back)
+      (subst (λ (x : SinkState). StopsBuffered (streams u (Lent old name)) (streams u' x) e) is (subst (λ (x : SinkState). StopsBuffered (streams u x) (streams u' sent) e) b h))
+
+-- ---- memory ran out before anything was read
+
+no_messages : (o : Option (List ℕ)) → IfSome o (λ _. AreMessages (lines []) [])
+no_messages None = tt
+no_messages (Some b) = tt
+
+counted_none : (n : ℕ) → n ≡ counted 0 n
+counted_none n = omega arith
+
+pub stops_at_once : (s : SourceState) (k : SinkState) (e : Error) → e ≡ no_memory → StopsRun (streams s k) (streams s k) e
+stops_at_once s k e h =
+    record {
+      bytes = [];
+      gives = record { consumed = Consumes-nil s.left; given_so = counted_none s.given };
+      prefix = record {
+        messages = [];
+        are = no_messages s.left;
+        gained = record { front = []; back = []; whole = refl; gains = sym (known-nil k.gained) };
+      };
+      cause = subst (λ (x : Error). RunErrorCause [] (streams s k) (streams s k) x.code x.place) (sym h) tt;
+      reading_told = λ l. absurd (omega (arith, l));
+      writing_told = λ l. absurd (omega (arith, l));
+    }

@@ -1,0 +1,42 @@
+-- What the types of the code stand for.
+use Rattle.std.specs.Prelude.{option_map}
+use Rattle.json_value.specs.Edits.{path_steps, edit_of}
+use Rattle.json_value.specs.Seen.{seen}
+use Rattle.json_grammar.specs.Tree.{Tree}
+use Rattle.json_value.specs.Denotes.{tree_of}
+use Rattle.json_text.specs.Outside.{SinkState, SourceState}
+use Rattle.json_lines.specs.declared.line_reader.LineReader.{LineReader}
+use Rattle.json_lines.specs.Reading.{line_reader_state}
+use Rattle.json_rpc.specs.Steps.{RunState}
+use Rattle.json_rpc.specs.Requests as spec
+use Rattle.json_rpc.specs.Serving as serve
+use Rattle.json_rpc.specs.declared.message.Message.{Message}
+use Rattle.json_rpc.specs.declared.message.Message.TheVariants.{Blank, Unreadable, Readable}
+use Rattle.json_rpc.specs.declared.service.Service.{Service}
+use Rattle.json_rpc.specs.Methods as methods
+use Rattle.json_rpc.specs.declared.request.Request.{Request}
+use Rattle.json_rpc.specs.declared.operation.Operation.{Operation}
+use Rattle.json_rpc.specs.declared.operation.Operation.TheVariants.{Get, Change}
+
+-- the request that was read
+abbrev pub request_seen : Request → spec.Request
+request_seen r = record { method = r.method.now; params = option_map seen r.params; id = option_map seen r.id }
+
+-- what an operation asks for
+abbrev pub operation_denoted : Operation → methods.Operation
+operation_denoted (Get p) = methods.get (path_steps p)
+operation_denoted (Change e) = methods.change (edit_of e)
+
+-- what a line that was read is
+abbrev pub message_denoted : Message → serve.Message
+message_denoted Blank = serve.blank
+message_denoted Unreadable = serve.unreadable
+message_denoted (Readable v) = serve.readable (tree_of v)
+
+-- the document of a service
+abbrev pub document_of : Service → Tree
+document_of s = tree_of s.document
+
+-- all that a step of a run may change
+abbrev pub run_state : LineReader → SourceState → SinkState → Service → RunState
+run_state reader source out service = record { reader = line_reader_state reader; source = source; out = out; document = document_of service }

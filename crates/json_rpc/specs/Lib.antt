@@ -1,0 +1,11 @@
+pub mod Requests
+pub mod Responses
+pub mod Methods
+pub mod Serving
+pub mod Denoted
+pub mod Perform
+pub mod Laws
+pub mod Examples
+pub mod Sessions
+pub mod Steps
+pub mod RunResults

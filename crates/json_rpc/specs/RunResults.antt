@@ -1,0 +1,149 @@
+-- What a run does, for each status.
+use Rattle.std.specs.Prelude.{◌≡◌, ◌≢◌, ◌⊎◌, ℕ, ◌<◌, ◌≤◌, List, [], length, false, Some, IfSome, ⊤}
+use Rattle.json_grammar.specs.Tree.{null}
+use Rattle.json_text.specs.declared.error.Error.{Error}
+use Rattle.json_text.specs.declared.error.ErrorCode.{ErrorCode}
+use Rattle.json_text.specs.declared.error.ErrorCode.TheVariants.{NoMemory, Io, TooLarge}
+use Rattle.json_text.specs.declared.error.Place.{Place}
+use Rattle.json_text.specs.declared.error.Place.TheVariants.{None as nowhere, Reading, Writing}
+use Rattle.json_text.specs.Errors.{reading_failed, writing_failed, bad_words}
+use Rattle.json_text.specs.FaultText.{text_of}
+use Rattle.json_text.specs.Known.{Appends, Consumes, append_known, told_as}
+use Rattle.json_text.specs.Outside.{SourceState, SinkState, Rose, counted}
+use Rattle.json_text.specs.Transfer.{AppendsFront}
+use Rattle.json_print.specs.Printer.{Begins as BeginsWith}
+use Rattle.json_command.specs.Input.{max_bytes}
+use Rattle.json_command.specs.Reporting.{Reports}
+use Rattle.json_command.specs.Statuses.{status_number, status_of}
+use Rattle.json_command.specs.declared.status.Status.TheVariants.{TooMuchInput}
+use Rattle.json_lines.specs.Lines.{lines}
+use Rattle.json_rpc.specs.Serving.{Message}
+use Rattle.json_rpc.specs.Sessions.{AreMessages, replies}
+
+-- the states of the source and the sink
+pub record Streams : Type 0 where
+  pub source : SourceState
+  pub sink : SinkState
+
+abbrev pub streams : SourceState → SinkState → Streams
+streams source sink = record { source = source; sink = sink }
+
+-- the source gave these bytes in this call
+pub record GivesBytes (source source' : SourceState) (bytes : List ℕ) : Type 0 where
+  pub consumed : Consumes source.left source'.left bytes
+  pub given_so : source'.given ≡ counted (length bytes) source.given
+
+-- ---- status 0: every line was served
+
+-- the source was read to its end, which came within the limit, and no read failed
+pub record ReadsAll (old new : Streams) : Type 0 where
+  pub bytes : List ℕ
+  pub gives : GivesBytes old.source new.source bytes
+  pub few : length bytes ≤ max_bytes
+  pub drained : new.source.left ≡ told_as old.source.left []
+  pub read : new.source.faults ≡ old.source.faults
+
+-- the sink gained exactly the replies to all lines, where the document was null
+pub record AppendsReplies (old new : Streams) : Type 0 where
+  pub messages : List Message
+  pub are : IfSome old.source.left (λ b. AreMessages (lines b) messages)
+  pub gained : Appends old.sink.gained new.sink.gained (replies null messages)
+
+-- no write failed, and the sink was flushed
+pub record WritesAll (old new : Streams) : Type 0 where
+  pub written : new.sink.faults ≡ old.sink.faults
+  pub flushed : new.sink.unflushed ≡ false
+
+pub record ServesAll (old new : Streams) : Type 0 where
+  pub reads : ReadsAll old new
+  pub appends : AppendsReplies old new
+  pub writes : WritesAll old new
+
+-- ---- status 4, 5, 6 or 7: the run failed
+
+-- why a run failed to which the source gave these bytes
+abbrev pub RunErrorCause : List ℕ → Streams → Streams → ErrorCode → Place → Type 0
+RunErrorCause bytes old new NoMemory nowhere = ⊤
+RunErrorCause bytes old new Io Reading = Rose old.source.faults new.source.faults
+RunErrorCause bytes old new Io Writing = Rose old.sink.faults new.sink.faults
+RunErrorCause bytes old new TooLarge nowhere = max_bytes < length bytes
+RunErrorCause bytes old new code place = ⊥
+
+-- the sink gained a prefix of the replies to the lines of these bytes
+pub record AppendsRepliesPrefix (bytes : List ℕ) (old new : Streams) : Type 0 where
+  pub messages : List Message
+  pub are : IfSome old.source.left (λ _. AreMessages (lines bytes) messages)
+  pub gained : AppendsFront old.sink.gained new.sink.gained (replies null messages)
+
+pub record StopsRun (old new : Streams) (error : Error) : Type 0 where
+  pub bytes : List ℕ
+  pub gives : GivesBytes old.source new.source bytes
+  pub prefix : AppendsRepliesPrefix bytes old new
+  pub cause : RunErrorCause bytes old new error.code error.place
+  -- a failed call is always told
+  pub reading_told : old.source.faults < new.source.faults → error ≡ reading_failed
+  pub writing_told : old.sink.faults < new.sink.faults → error ≡ writing_failed
+
+-- the same of a sink that may hold bytes back
+pub record StopsBuffered (old new : Streams) (error : Error) : Type 0 where
+  pub bytes : List ℕ
+  pub gives : GivesBytes old.source new.source bytes
+  pub messages : List Message
+  pub are : IfSome old.source.left (λ _. AreMessages (lines bytes) messages)
+  pub prefix : BeginsWith new.sink.gained (append_known old.sink.gained (replies null messages))
+  pub same_loan : new.sink.loan ≡ old.sink.loan
+  pub cause : RunErrorCause bytes old new error.code error.place
+  pub reading_told : old.source.faults < new.source.faults → error ≡ reading_failed
+  pub writing_told : old.sink.faults < new.sink.faults → error ≡ writing_failed
+
+-- ---- all of it
+
+-- the status of an error
+abbrev pub run_status : ErrorCode → Place → ℕ
+run_status TooLarge nowhere = status_number TooMuchInput
+run_status code place = status_of code place
+
+-- there are words, which are looked at first: nothing was read or written
+pub record RefusesWords (words : List (List ℕ)) (old new : Streams) (error : Error) : Type 0 where
+  pub some : words ≢ []
+  pub told : error ≡ bad_words
+  pub unread : new.source ≡ old.source
+  pub unwritten : new.sink ≡ old.sink
+
+-- there are no words, and the run stopped
+pub record FailsRun (words : List (List ℕ)) (old new : Streams) (error : Error) : Type 0 where
+  pub none : words ≡ []
+  pub stops : StopsRun old new error
+
+abbrev pub RunFails : List (List ℕ) → Streams → Streams → Error → Type 0
+RunFails words old new error = RefusesWords words old new error ⊎ FailsRun words old new error
+
+-- the run failed with this status, and its error was reported
+pub record ReportsFailure (words : List (List ℕ)) (old new : Streams) (errs errs' : SinkState) (status : ℕ) : Type 0 where
+  pub error : Error
+  pub status_is : status ≡ run_status error.code error.place
+  pub fails : RunFails words old new error
+  pub reports : Reports (text_of error) errs errs'
+
+-- status 0: every line was served, and nothing was reported
+pub record Completes (words : List (List ℕ)) (old new : Streams) (errs errs' : SinkState) (status : ℕ) : Type 0 where
+  pub is : status ≡ 0
+  pub none : words ≡ []
+  pub serves : ServesAll old new
+  pub silent : errs' ≡ errs
+
+abbrev pub RunResult : List (List ℕ) → Streams → Streams → SinkState → SinkState → ℕ → Type 0
+RunResult words old new errs errs' status = Completes words old new errs errs' status ⊎ ReportsFailure words old new errs errs' status
+
+-- the statuses of a run
+abbrev pub IsRunStatus : ℕ → Type 0
+IsRunStatus status = (status ≤ 7) × (status ≢ 1) × (status ≢ 3)
+
+-- there are no words, the source has at most 4,294,967,295 known bytes, and no call failed
+pub record NothingFails (words : List (List ℕ)) (old new : Streams) : Type 0 where
+  pub no_words : words ≡ []
+  pub bytes : List ℕ
+  pub known : old.source.left ≡ Some bytes
+  pub few : length bytes ≤ max_bytes
+  pub read : ¬ (Rose old.source.faults new.source.faults)
+  pub written : ¬ (Rose old.sink.faults new.sink.faults)

@@ -1,0 +1,94 @@
+-- What one step of the loop over lines does, and all of them.
+use Rattle.std.specs.Prelude.{◌≡◌, ◌⊎◌, ℕ, ◌<◌, ◌≤◌, Bool, true, false, List, [], None, Some, Ok, Err, IfSome}
+use Rattle.json_grammar.specs.Tree.{Tree}
+use Rattle.json_text.specs.declared.error.Error.{Error}
+use Rattle.json_text.specs.Errors.{reading_failed, writing_failed}
+use Rattle.json_text.specs.Known.{append_known, told_as}
+use Rattle.json_text.specs.Outside.{SinkState, SourceState}
+use Rattle.json_print.specs.Printer.{Begins as BeginsWith, StopCause}
+use Rattle.json_print.specs.TextWriting.{WritesText}
+use Rattle.json_command.specs.Input.{max_bytes}
+use Rattle.json_lines.specs.declared.line_reader.Line.{Line}
+use Rattle.json_lines.specs.Lines.{lines}
+use Rattle.json_lines.specs.Reading.{ReaderState, NextLineCall, ReadsBytes, NextLineCause}
+use Rattle.json_rpc.specs.Serving.{Message, max_line_bytes}
+use Rattle.json_rpc.specs.Sessions.{AreMessages, replies, ServesLine, ServingFails}
+
+-- all that a step may change
+pub record RunState : Type 0 where
+  pub reader : ReaderState
+  pub source : SourceState
+  pub out : SinkState
+  pub document : Tree
+
+-- ---- one step
+
+-- a line was read and served, and its reply written
+pub record TakesLine (old new : RunState) : Type 0 where
+  pub line : Line
+  pub read : NextLineCall old.reader new.reader old.source new.source (Ok (Some line))
+  pub serves : ServesLine old.document line new.document old.out new.out
+
+-- there was no further line
+pub record FindsNoLine (old new : RunState) : Type 0 where
+  pub read : NextLineCall old.reader new.reader old.source new.source (Ok None)
+  pub out : new.out ≡ old.out
+  pub document : new.document ≡ old.document
+
+abbrev pub StepResult : RunState → RunState → Bool → Type 0
+StepResult old new true = TakesLine old new
+StepResult old new false = FindsNoLine old new
+
+-- reading the line failed
+pub record ReadingLineFails (old new : RunState) (error : Error) : Type 0 where
+  pub read : NextLineCall old.reader new.reader old.source new.source (Err error)
+  pub out : new.out ≡ old.out
+
+-- a line was read, and serving it failed
+pub record ServingLineFails (old new : RunState) (error : Error) : Type 0 where
+  pub line : Line
+  pub read : NextLineCall old.reader new.reader old.source new.source (Ok (Some line))
+  pub failed : ServingFails old.document line new.document old.out new.out error
+
+abbrev pub StepFails : RunState → RunState → Error → Type 0
+StepFails old new error = ReadingLineFails old new error ⊎ ServingLineFails old new error
+
+-- ---- all steps
+
+-- nothing was read yet
+pub record IsFreshRun (s : RunState) : Type 0 where
+  pub limit : s.reader.limit ≡ max_line_bytes
+  pub held : s.reader.held ≡ []
+  pub received : s.reader.received ≡ 0
+  pub going : s.reader.stopped ≡ None
+
+-- all lines were served, and their replies written
+pub record FinishesLines (old new : RunState) : Type 0 where
+  pub bytes : List ℕ
+  pub reads : ReadsBytes old.reader new.reader old.source new.source bytes
+  pub all : IfSome old.source.left (λ b. b ≡ bytes)
+  pub drained : new.source.left ≡ told_as old.source.left []
+  pub no_fault : new.source.faults ≡ old.source.faults
+  pub few : new.reader.received ≤ max_bytes
+  pub messages : List Message
+  pub are : IfSome old.source.left (λ b. AreMessages (lines b) messages)
+  pub writes : WritesText old.out new.out (replies old.document messages) (Ok tt)
+
+-- why the loop failed
+abbrev pub LoopErrorCause : RunState → RunState → Error → Type 0
+LoopErrorCause old new error =
+    NextLineCause new.reader old.source new.source error.code error.place
+    ⊎ (StopCause old.out.faults new.out.faults error.code error.place × (new.source.faults ≡ old.source.faults) × (new.reader.received ≤ max_bytes))
+
+-- the loop failed: of the replies to all lines that were read a prefix was written
+pub record StopsEarly (old new : RunState) (error : Error) : Type 0 where
+  pub bytes : List ℕ
+  pub reads : ReadsBytes old.reader new.reader old.source new.source bytes
+  pub messages : List Message
+  pub are : IfSome old.source.left (λ _. AreMessages (lines bytes) messages)
+  pub prefix : BeginsWith new.out.gained (append_known old.out.gained (replies old.document messages))
+  pub same_loan : new.out.loan ≡ old.out.loan
+  pub cause : LoopErrorCause old new error
+  -- a failed call is always told
+  pub reading_told : old.source.faults < new.source.faults → error ≡ reading_failed
+  pub writing_told : old.out.faults < new.out.faults → error ≡ writing_failed

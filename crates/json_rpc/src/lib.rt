@@ -1,0 +1,31 @@
+//! JSON-RPC 2.0 over one document: requests on lines read and change it, and each reply is a line.
+//!
+//! ```
+//! use json_rpc::run_rpc;
+//! use json_text::{SliceSource, VecSink, Words};
+//! let words = Words::new(alloc);
+//! let line = b"{\"jsonrpc\":\"2.0\",\"method\":\"get\",\"params\":[[]],\"id\":1}";
+//! let mut source = SliceSource::new(line);
+//! let (mut sink, mut errs) = (VecSink::new(alloc), VecSink::new(alloc));
+//! assert_eq!(rt; run_rpc(alloc, &words, &mut source, &mut sink, &mut errs), 0);
+//! assert_eq!(rt; sink.as_slice(), b"{\"jsonrpc\":\"2.0\",\"result\":null,\"id\":1}\n".as_slice());
+//! ```
+#![tactic(auto)]
+
+mod error;
+pub mod examples;
+pub mod laws;
+mod lines;
+mod message;
+mod operation;
+mod perform;
+mod reply;
+mod request;
+mod response;
+mod run;
+mod serve;
+mod service;
+
+pub use error::RpcError;
+pub use run::run_rpc;
+pub use service::Service;

@@ -1,0 +1,90 @@
+// Serves the lines of a source, one after another.
+ghost use Rattle.std.specs.Prelude.{OnOk, IfOk, IfErr};
+ghost use Rattle.json_lines.specs.Reading.{line_reader_state};
+ghost use Rattle.json_rpc.specs.Denoted.{document_of, run_state};
+ghost use Rattle.json_rpc.specs.Steps.{StepResult, StepFails, IsFreshRun, FinishesLines, StopsEarly};
+
+use crate::reply::serve_line;
+use crate::service::Service;
+use json_lines::LineReader;
+use json_print::BufferedWriter;
+use json_text::{Result, Sink, Source};
+use std::alloc::Global;
+
+// Reads one line, serves it and writes its reply. Returns false if there is no line.
+fn step<S: Source, W: Sink>(
+    alloc: Global,
+    service: &mut Service,
+    reader: &mut LineReader,
+    source: &mut S,
+    out: &mut BufferedWriter<W>,
+) -> Result<bool>
+    ensures ok { IfOk result (λ more. StepResult
+        (record {
+          reader = line_reader_state reader.old;
+          source = S.state source.old;
+          out = ⟦<BufferedWriter<W> as Sink>⟧.state out.old;
+          document = document_of service.old;
+        })
+        (record {
+          reader = line_reader_state reader.new;
+          source = S.state source.new;
+          out = ⟦<BufferedWriter<W> as Sink>⟧.state out.new;
+          document = document_of service.new;
+        })
+        more) }
+    ensures err { IfErr result (λ e. StepFails
+        (record {
+          reader = line_reader_state reader.old;
+          source = S.state source.old;
+          out = ⟦<BufferedWriter<W> as Sink>⟧.state out.old;
+          document = document_of service.old;
+        })
+        (record {
+          reader = line_reader_state reader.new;
+          source = S.state source.new;
+          out = ⟦<BufferedWriter<W> as Sink>⟧.state out.new;
+          document = document_of service.new;
+        })
+        e) }
+{
+    let line = match reader.next_line(source) {
+        Ok(Some(line)) => line,
+        Ok(None) => return Ok(false),
+        Err(error) => return Err(error),
+    };
+    match serve_line(alloc, service, line, out) {
+        Ok(()) => Ok(true),
+        Err(error) => Err(error),
+    }
+}
+
+/// Serves all lines, and flushes the reply to each before the next one is read.
+pub(crate) fn serve_lines<S: Source, W: Sink>(
+    alloc: Global,
+    service: &mut Service,
+    reader: &mut LineReader,
+    source: &mut S,
+    out: &mut BufferedWriter<W>,
+) -> Result<()>
+    requires { IsFreshRun (run_state reader.old (S.state source.old)
+        (⟦<BufferedWriter<W> as Sink>⟧.state out.old) service.old) }
+    ensures ok { OnOk result (FinishesLines
+        (run_state reader.old (S.state source.old)
+        (⟦<BufferedWriter<W> as Sink>⟧.state out.old) service.old)
+        (run_state reader.new (S.state source.new)
+        (⟦<BufferedWriter<W> as Sink>⟧.state out.new) service.new)) }
+    ensures err { IfErr result (λ e. StopsEarly
+        (run_state reader.old (S.state source.old)
+        (⟦<BufferedWriter<W> as Sink>⟧.state out.old) service.old)
+        (run_state reader.new (S.state source.new)
+        (⟦<BufferedWriter<W> as Sink>⟧.state out.new) service.new) e) }
+{
+    'line: loop {
+        match step(alloc, service, reader, source, out) {
+            Ok(true) => {}
+            Ok(false) => return Ok(()),
+            Err(error) => return Err(error),
+        }
+    }
+}

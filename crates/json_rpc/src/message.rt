@@ -1,0 +1,68 @@
+// Reads a line.
+ghost use Rattle.std.specs.Prelude.{◌≤◌, ◌↔◌, IfOk, IsTrue, length};
+ghost use Rattle.json_grammar.specs.Grammar.{ws};
+ghost use Rattle.json_value.specs.Failures.{OnlyNoMemory};
+ghost use Rattle.json_rpc.specs.Serving.{IsMessage, max_line_bytes};
+ghost use Rattle.json_rpc.specs.Denoted.{message_denoted};
+
+use json_doc::read_document;
+use json_text::{ErrorCode, Result, check_utf8, ws_run};
+use json_value::Value;
+use std::alloc::Global;
+
+/// The maximum number of bytes of a line.
+pub(crate) const MAX_LINE_BYTES: usize = 1_048_576;
+
+/// What a line is.
+#[derive(Drop)]
+pub(crate) enum Message {
+    /// Whitespace alone.
+    Blank,
+    /// Too long, or no JSON text of at most 254 levels.
+    Unreadable,
+    /// A JSON text of this value.
+    Readable(Value),
+}
+
+// Returns whether the bytes are whitespace alone.
+fn is_blank(bytes: &[u8]) -> bool
+    ensures { IsTrue result ↔ ws bytes.now }
+{
+    ws_run(bytes, 0) == bytes.len()
+}
+
+// Reads a text that is not whitespace alone.
+fn read_text(alloc: Global, text: &str) -> Result<Message>
+    requires size { length text.now ≤ max_line_bytes }
+    requires full { ¬ (ws text.now) }
+    ensures ok { IfOk result (λ m. IsMessage text.now (message_denoted m)) }
+    ensures only { OnlyNoMemory result }
+{
+    match read_document(alloc, text) {
+        Ok(doc) => {
+            let value = Value::from_place(alloc, &doc, doc.root())?;
+            Ok(Message::Readable(value))
+        }
+        Err(error) => match error.code {
+            ErrorCode::NoMemory => Err(error),
+            _ => Ok(Message::Unreadable),
+        },
+    }
+}
+
+/// Reads the bytes of a line.
+pub(crate) fn read_message(alloc: Global, bytes: &[u8]) -> Result<Message>
+    ensures ok { IfOk result (λ m. IsMessage bytes.now (message_denoted m)) }
+    ensures only { OnlyNoMemory result }
+{
+    if bytes.len() > MAX_LINE_BYTES {
+        return Ok(Message::Unreadable);
+    }
+    if is_blank(bytes) {
+        return Ok(Message::Blank);
+    }
+    match check_utf8(bytes) {
+        Ok(text) => read_text(alloc, text),
+        Err(_) => Ok(Message::Unreadable),
+    }
+}

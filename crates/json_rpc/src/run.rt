@@ -1,0 +1,177 @@
+// The whole program, over any source and any sinks.
+ghost use Rattle.std.specs.Prelude.{◌≡◌, ◌≢◌, ◌⊎◌, ◌<◌, List, ℕ, [], length, OnOk, IfErr};
+ghost use Rattle.json_command.specs.Input.{max_bytes};
+ghost use Rattle.json_lines.specs.Reading.{line_reader_state, fresh_reader};
+ghost use Rattle.json_rpc.specs.RunResults.{streams, ReadsAll, AppendsReplies, WritesAll, ServesAll, StopsRun, StopsBuffered, RunFails, RefusesWords, ReportsFailure, RunResult, IsRunStatus, NothingFails, run_status as spec_run_status};
+ghost use Rattle.json_text.specs.Errors.{bad_words};
+ghost use Rattle.json_text.specs.Known.{Consumes};
+ghost use Rattle.json_text.specs.Outside.{Rose};
+
+use crate::lines::serve_lines;
+use crate::message::MAX_LINE_BYTES;
+use crate::service::Service;
+use json_command::{BAD_WORDS, Status, report};
+use json_lines::LineReader;
+use json_print::{Buffer, BufferedWriter};
+use json_text::{Error, ErrorCode, LentSink, Place, Result, Sink, Source, Words, flush_all};
+use std::alloc::Global;
+
+// Serves all lines of the source, with replies to the writer, and returns the writer.
+fn serve_buffered<S: Source, W: Sink>(
+    alloc: Global,
+    reader: LineReader,
+    source: &mut S,
+    writer: BufferedWriter<W>,
+) -> (BufferedWriter<W>, Result<()>)
+    requires { line_reader_state reader ≡ fresh_reader 1048576 }
+    ensures ok { OnOk result.1 (ServesAll
+        (streams (S.state source.old) (⟦<BufferedWriter<W> as Sink>⟧.state writer))
+        (streams (S.state source.new) (⟦<BufferedWriter<W> as Sink>⟧.state result.0))) }
+    ensures err { IfErr result.1 (λ e. StopsBuffered
+        (streams (S.state source.old) (⟦<BufferedWriter<W> as Sink>⟧.state writer))
+        (streams (S.state source.new) (⟦<BufferedWriter<W> as Sink>⟧.state result.0)) e) }
+    ensures loan { (⟦<BufferedWriter<W> as Sink>⟧.state result.0).loan
+        ≡ (⟦<BufferedWriter<W> as Sink>⟧.state writer).loan }
+{
+    let mut service = Service::new();
+    let mut reader = reader;
+    let mut out = writer;
+    match serve_lines(alloc, &mut service, &mut reader, source, &mut out) {
+        Ok(()) => {
+            let flushed = flush_all(&mut out);
+            (out, flushed)
+        }
+        Err(error) => (out, Err(error)),
+    }
+}
+
+// Serves all lines of the source, with replies to the sink.
+fn serve_all<S: Source, K: Sink>(alloc: Global, source: &mut S, sink: &mut K) -> Result<()>
+    ensures ok { OnOk result (ServesAll (streams (S.state source.old) (K.state sink.old))
+        (streams (S.state source.new) (K.state sink.new))) }
+    ensures err { IfErr result (λ e. StopsRun (streams (S.state source.old) (K.state sink.old))
+        (streams (S.state source.new) (K.state sink.new)) e) }
+{
+    let reader = LineReader::new(alloc, MAX_LINE_BYTES)?;
+    let buffer = Buffer::new(alloc)?;
+    let writer = BufferedWriter::with_buffer(buffer, LentSink::new(sink));
+    let (writer, outcome) = serve_buffered(alloc, reader, source, writer);
+    let _sink = writer.into_inner().into_inner();
+    outcome
+}
+
+// Serves all lines if there are no words.
+fn serve_without_words<S: Source, K: Sink>(
+    alloc: Global,
+    words: &Words,
+    source: &mut S,
+    sink: &mut K,
+) -> Result<()>
+    ensures none { OnOk result (words.now ≡ []) }
+    ensures ok { OnOk result (ServesAll (streams (S.state source.old) (K.state sink.old))
+        (streams (S.state source.new) (K.state sink.new))) }
+    ensures err { IfErr result (λ e. RunFails words.now
+        (streams (S.state source.old) (K.state sink.old))
+        (streams (S.state source.new) (K.state sink.new)) e) }
+{
+    if words.len() != 0 {
+        return Err(BAD_WORDS);
+    }
+    serve_all(alloc, source, sink)
+}
+
+// Returns the status of an error.
+fn run_status(error: &Error) -> u8
+    ensures { result ≡ spec_run_status error.now.code error.now.place }
+{
+    match (error.code, error.place) {
+        (ErrorCode::TooLarge, Place::None) => Status::TooMuchInput.number(),
+        (_, _) => Status::of_error(error).number(),
+    }
+}
+
+// Does all that `run_rpc` does.
+fn run_words<S: Source, K: Sink, E: Sink>(
+    alloc: Global,
+    words: &Words,
+    source: &mut S,
+    sink: &mut K,
+    errs: &mut E,
+) -> u8
+    ensures { RunResult words.now (streams (S.state source.old) (K.state sink.old))
+        (streams (S.state source.new) (K.state sink.new))
+        (E.state errs.old) (E.state errs.new) result }
+{
+    match serve_without_words(alloc, words, source, sink) {
+        Ok(()) => Status::Success.number(),
+        Err(error) => {
+            report(errs, &error);
+            run_status(&error)
+        }
+    }
+}
+
+/// Serves JSON-RPC 2.0 over one document, which begins as null: reads `source` line by line, and
+/// writes the reply to each line, if there is one, to `sink`.
+///
+/// A line is a request or a batch of requests. The methods are `get [path]`, `set [path, value]`,
+/// `insert [path, key, value]`, `push [path, value]` and `remove [path, step]`, with parameters by
+/// position alone. A path is an array of keys and indexes. Each reply is compact, ends with a
+/// newline, and is flushed before the next line is read.
+///
+/// A line of whitespace alone has no reply. A line of more than 1,048,576 bytes, or that is no JSON
+/// text (RFC 8259) of at most 254 levels in UTF-8, gets the error -32700, and the run goes on.
+///
+/// Returns the status: 0 if all lines were served, 2 if there are any `words`, 4 if reading failed,
+/// 5 if writing failed, 6 if memory ran out, and 7 if the source has more than 4,294,967,295 bytes.
+/// If the status is not 0, `errs` gets the text of the error, and after 4, 5, 6 and 7 `sink` has a
+/// prefix of the replies.
+///
+/// ```
+/// use json_rpc::run_rpc;
+/// use json_text::{SliceSource, VecSink, Words};
+/// let lines = b"\
+/// {\"jsonrpc\":\"2.0\",\"method\":\"set\",\"params\":[[],[1]]}
+/// {\"jsonrpc\":\"2.0\",\"method\":\"get\",\"params\":[[0]],\"id\":7}
+/// ";
+/// let (mut sink, mut errs) = (VecSink::new(alloc), VecSink::new(alloc));
+/// let mut source = SliceSource::new(lines);
+/// let status = run_rpc(alloc, &Words::new(alloc), &mut source, &mut sink, &mut errs);
+/// assert_eq!(rt; status, 0);
+/// assert_eq!(rt; sink.as_slice(), b"{\"jsonrpc\":\"2.0\",\"result\":1,\"id\":7}\n".as_slice());
+/// ```
+pub fn run_rpc<S: Source, K: Sink, E: Sink>(
+    alloc: Global,
+    words: &Words,
+    source: &mut S,
+    sink: &mut K,
+    errs: &mut E,
+) -> u8
+    ensures read { result ≡ 0 → ReadsAll (streams (S.state source.old) (K.state sink.old))
+        (streams (S.state source.new) (K.state sink.new)) }
+    ensures replies { result ≡ 0 → AppendsReplies (streams (S.state source.old) (K.state sink.old))
+        (streams (S.state source.new) (K.state sink.new)) }
+    ensures written { result ≡ 0 → WritesAll (streams (S.state source.old) (K.state sink.old))
+        (streams (S.state source.new) (K.state sink.new)) }
+    ensures silent { result ≡ 0 → E.state errs.new ≡ E.state errs.old }
+    ensures failed { result ≢ 0 → ReportsFailure words.now
+        (streams (S.state source.old) (K.state sink.old))
+        (streams (S.state source.new) (K.state sink.new))
+        (E.state errs.old) (E.state errs.new) result }
+    ensures refused { result ≡ 2 → RefusesWords words.now
+        (streams (S.state source.old) (K.state sink.old))
+        (streams (S.state source.new) (K.state sink.new)) bad_words }
+    ensures words { words.now ≢ [] → result ≡ 2 }
+    ensures known { IsRunStatus result }
+    ensures reading { result ≡ 4 → Rose (S.state source.old).faults (S.state source.new).faults }
+    ensures writing { result ≡ 5 → Rose (K.state sink.old).faults (K.state sink.new).faults }
+    ensures large { result ≡ 7 → (bytes : List ℕ)
+        × Consumes (S.state source.old).left (S.state source.new).left bytes
+        × (max_bytes < length bytes) }
+    ensures read_told { (S.state source.old).faults < (S.state source.new).faults → result ≡ 4 }
+    ensures write_told { (K.state sink.old).faults < (K.state sink.new).faults → result ≡ 5 }
+    ensures complete { NothingFails words.now (streams (S.state source.old) (K.state sink.old))
+        (streams (S.state source.new) (K.state sink.new)) → (result ≡ 0) ⊎ (result ≡ 6) }
+{
+    run_words(alloc, words, source, sink, errs)
+}

@@ -1,0 +1,121 @@
+// Serves a value: one request, or a batch of them.
+ghost use Rattle.std.specs.Prelude.{◌≡◌, IfOk, OnErr, Some, map, option_map};
+ghost use Rattle.json_grammar.specs.Tree.{null};
+ghost use Rattle.json_value.specs.Denotes.{tree_of};
+ghost use Rattle.json_value.specs.Failures.{OnlyNoMemory};
+ghost use Rattle.json_value.specs.Seen.{seen, elements_seen};
+ghost use Rattle.json_rpc.specs.Responses.{error_response};
+ghost use Rattle.json_rpc.specs.Serving.{responded, executed, member_served, batch_served, batch_reply, whole_batch_served, served_tree};
+ghost use Rattle.json_rpc.specs.Denoted.{request_seen};
+ghost use Rattle.json_rpc.specs.declared.error.RpcError.TheVariants.{InvalidRequest};
+
+use crate::error::RpcError;
+use crate::operation::{Operation, read_operation};
+use crate::perform::{change, get};
+use crate::request::{Request, read_request};
+use crate::response::{error_response, error_with};
+use json_text::Result;
+use json_value::{ArrayView, Value, View};
+use std::alloc::Global;
+
+// Executes a request and returns its response; `None` for a notification.
+fn execute(alloc: Global, document: &mut Value, request: &Request<'_>) -> Result<Option<Value>>
+    ensures ok { IfOk result (λ o. let r = request_seen request.now in
+        responded (tree_of document.old) r.id (executed r (tree_of document.old))
+        ≡ (tree_of document.new, option_map tree_of o)) }
+    ensures kept { OnErr result (tree_of document.new ≡ tree_of document.old) }
+    ensures only { OnlyNoMemory result }
+{
+    match read_operation(alloc, request)? {
+        Ok(Operation::Get(path)) => get(alloc, document, &path, request.id),
+        Ok(Operation::Change(edit)) => change(alloc, document, &edit, request.id),
+        Err(error) => error_response(alloc, error, request.id),
+    }
+}
+
+// Returns the response to a value that is no valid request.
+fn invalid_request(alloc: Global) -> Result<Value>
+    ensures ok { IfOk result (λ v. tree_of v ≡ error_response InvalidRequest null) }
+    ensures only { OnlyNoMemory result }
+{
+    error_with(alloc, RpcError::InvalidRequest, Value::new_null())
+}
+
+// Serves one request.
+fn serve_member(alloc: Global, document: &mut Value, view: View<'_>) -> Result<Option<Value>>
+    ensures ok { IfOk result (λ o. member_served (tree_of document.old) (seen view.entry)
+        ≡ (tree_of document.new, option_map tree_of o)) }
+    ensures kept { OnErr result (tree_of document.new ≡ tree_of document.old) }
+    ensures only { OnlyNoMemory result }
+{
+    match read_request(view) {
+        Some(request) => execute(alloc, document, &request),
+        None => {
+            let reply = invalid_request(alloc)?;
+            Ok(Some(reply))
+        }
+    }
+}
+
+// Serves the members of a batch in turn, and returns their responses.
+fn serve_members(alloc: Global, document: &mut Value, members: ArrayView<'_>) -> Result<Vec<Value>>
+    ensures ok { IfOk result (λ rs.
+        batch_served (tree_of document.old) (elements_seen members.entry)
+        ≡ (tree_of document.new, map tree_of rs.items)) }
+    ensures only { OnlyNoMemory result }
+{
+    let mut replies = Vec::new(alloc);
+    'members: for member in members.iter() {
+        if let Some(reply) = serve_member(alloc, document, member)? {
+            replies.push(reply)?;
+        }
+    }
+    Ok(replies)
+}
+
+// Returns the reply to a batch; `None` if there is no response.
+fn reply_of(replies: Vec<Value>) -> Option<Value>
+    ensures { option_map tree_of result ≡ batch_reply (map tree_of replies.items) }
+{
+    if replies.is_empty() {
+        None
+    } else {
+        Some(Value::from_vec(replies))
+    }
+}
+
+// Serves a batch that has a member, on a clone of the document: if memory runs out half way, the
+// document stays as it is.
+fn serve_batch(alloc: Global, document: &mut Value, members: ArrayView<'_>) -> Result<Option<Value>>
+    ensures ok { IfOk result (λ o.
+        whole_batch_served (tree_of document.old) (elements_seen members.entry)
+        ≡ (tree_of document.new, option_map tree_of o)) }
+    ensures kept { OnErr result (tree_of document.new ≡ tree_of document.old) }
+    ensures only { OnlyNoMemory result }
+{
+    let mut next = document.clone(alloc)?;
+    let replies = serve_members(alloc, &mut next, members)?;
+    *document = next;
+    Ok(reply_of(replies))
+}
+
+/// Serves a value: a batch if it is an array, and else one request.
+pub(crate) fn serve_tree(
+    alloc: Global,
+    document: &mut Value,
+    view: View<'_>,
+) -> Result<Option<Value>>
+    ensures ok { IfOk result (λ o. served_tree (tree_of document.old) (seen view.entry)
+        ≡ (tree_of document.new, option_map tree_of o)) }
+    ensures kept { OnErr result (tree_of document.new ≡ tree_of document.old) }
+    ensures only { OnlyNoMemory result }
+{
+    let Some(members) = view.as_array() else {
+        return serve_member(alloc, document, view);
+    };
+    if members.is_empty() {
+        let reply = invalid_request(alloc)?;
+        return Ok(Some(reply));
+    }
+    serve_batch(alloc, document, members)
+}

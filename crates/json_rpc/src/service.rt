@@ -1,0 +1,104 @@
+// The service: a document, and what serves a line.
+ghost use Rattle.std.specs.Prelude.{◌≡◌, IfOk, OnErr, option_map};
+ghost use Rattle.json_grammar.specs.Tree.{null};
+ghost use Rattle.json_value.specs.Denotes.{tree_of};
+ghost use Rattle.json_value.specs.Failures.{OnlyNoMemory};
+ghost use Rattle.json_rpc.specs.Responses.{error_response};
+ghost use Rattle.json_rpc.specs.Serving.{LineIsMessage, Serves, served};
+ghost use Rattle.json_rpc.specs.Denoted.{message_denoted};
+ghost use Rattle.json_rpc.specs.declared.error.RpcError.TheVariants.{ParseError};
+
+use crate::error::RpcError;
+use crate::message::{Message, read_message};
+use crate::response::error_with;
+use crate::serve::serve_tree;
+use json_lines::Line;
+use json_text::Result;
+use json_value::Value;
+use std::alloc::Global;
+
+/// A document that JSON-RPC 2.0 requests read and edit. It begins as null.
+///
+/// Values that are put into the document share the text of their line with it. That text stays in
+/// memory as long as a part of it is in the document.
+///
+/// ```
+/// use json_lines::Line;
+/// use json_rpc::Service;
+/// let mut service = Service::new();
+/// let line = Line::Whole(b"{\"jsonrpc\":\"2.0\",\"method\":\"set\",\"params\":[[],[1]]}");
+/// assert!(rt; service.serve(alloc, line)?.is_none());
+/// let line = b"{\"jsonrpc\":\"2.0\",\"method\":\"get\",\"params\":[[0]],\"id\":\"x\"}";
+/// let reply = service.serve(alloc, Line::Whole(line))?.ok_or("no reply")?;
+/// let expected = "{\"jsonrpc\":\"2.0\",\"result\":1,\"id\":\"x\"}";
+/// assert_eq!(rt; reply.to_string(alloc)?.as_str(), expected);
+/// ```
+#[derive(Drop)]
+pub struct Service {
+    document: Value,
+}
+
+// Returns the response to a line that cannot be read.
+fn parse_error(alloc: Global) -> Result<Value>
+    ensures ok { IfOk result (λ v. tree_of v ≡ error_response ParseError null) }
+    ensures only { OnlyNoMemory result }
+{
+    error_with(alloc, RpcError::ParseError, Value::new_null())
+}
+
+// Serves a line that was read.
+fn serve_message(alloc: Global, document: &mut Value, message: Message) -> Result<Option<Value>>
+    ensures ok { IfOk result (λ o. served (tree_of document.old) (message_denoted message)
+        ≡ (tree_of document.new, option_map tree_of o)) }
+    ensures kept { OnErr result (tree_of document.new ≡ tree_of document.old) }
+    ensures only { OnlyNoMemory result }
+{
+    match message {
+        Message::Blank => Ok(None),
+        Message::Unreadable => {
+            let reply = parse_error(alloc)?;
+            Ok(Some(reply))
+        }
+        Message::Readable(value) => serve_tree(alloc, document, value.view()),
+    }
+}
+
+// Reads a line.
+fn error_message(alloc: Global, line: Line<'_>) -> Result<Message>
+    ensures ok { IfOk result (λ m. LineIsMessage line.entry (message_denoted m)) }
+    ensures only { OnlyNoMemory result }
+{
+    match line {
+        Line::Whole(bytes) => read_message(alloc, bytes),
+        Line::TooLong => Ok(Message::Unreadable),
+    }
+}
+
+impl Service {
+    ghost use Rattle.json_rpc.specs.Denoted.{document_of};
+
+    /// Returns a service whose document is null. Allocates nothing.
+    pub fn new() -> Service
+        ensures { document_of result ≡ null }
+    {
+        Service {
+            document: Value::new_null(),
+        }
+    }
+
+    /// Serves a line and returns the reply, if there is one. Whitespace alone, a notification and a
+    /// batch of notifications have none (JSON-RPC 2.0, sections 4.1 and 6).
+    ///
+    /// A line of more than 1,048,576 bytes, or that is no JSON text (RFC 8259) of at most 254
+    /// levels in UTF-8, has a reply with `ParseError`. Fails with `NoMemory` alone, and then the
+    /// document is as it was.
+    pub fn serve(&mut self, alloc: Global, line: Line<'_>) -> Result<Option<Value>>
+        ensures ok { IfOk result (λ o. Serves (document_of self.old) line.entry
+            (document_of self.new) (option_map tree_of o)) }
+        ensures kept { OnErr result (document_of self.new ≡ document_of self.old) }
+        ensures only { OnlyNoMemory result }
+    {
+        let message = error_message(alloc, line)?;
+        serve_message(alloc, &mut self.document, message)
+    }
+}

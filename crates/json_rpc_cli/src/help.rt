@@ -1,0 +1,57 @@
+// What the program says of itself.
+
+use json_command::About;
+
+/// What `--help` alone prints.
+const HELP: &str = "\
+rpc serves JSON-RPC 2.0 over one JSON document, which begins as null. It reads
+requests from standard input, one line each, and writes each reply as a line to
+standard output before it reads the next line.
+
+Usage: rpc [OPTION]
+
+Options, at most one:
+  --help        print this text
+  --version     print the version
+
+A line is a request or a batch of requests, at most 1,048,576 bytes and 254
+levels. The methods take their params by position:
+  get     [path]               return the value that the path leads to
+  set     [path, value]        put the value where the path leads
+  insert  [path, key, value]   put a member into the object there
+  push    [path, value]        append an element to the array there
+  remove  [path, step]         take a key or the element of an index out
+Those that change the document return null. For example:
+      {\"jsonrpc\": \"2.0\", \"method\": \"set\", \"params\": [[], {\"a\": 1}], \"id\": 1}
+      {\"jsonrpc\": \"2.0\", \"method\": \"get\", \"params\": [[\"a\"]], \"id\": 2}
+
+A path is an array of steps, from the root on: a key, or an index from 0.
+The path [] is the root. A request without an id has no reply.
+
+Errors in replies:
+  -32700  the line is no JSON text, or is too long or too deep
+  -32600  the value is no valid request
+  -32601  there is no method of this name
+  -32602  the params are missing or have another form
+  -32000  there is no such key or index
+  -32001  a step or the method meets a value of another kind
+
+Status:
+  0  every line was served
+  2  the arguments are not valid
+  4  reading failed
+  5  writing failed
+  6  memory ran out
+  7  the input has more than 4,294,967,295 bytes
+  8  the arguments could not be read, for example because one is not UTF-8
+";
+
+/// What `--version` alone prints.
+const VERSION: &str = "rpc 0.1.0\n";
+
+/// What the program says of itself.
+pub const ABOUT: About = About {
+    help: HELP,
+    version: VERSION,
+    hint: "Run `rpc --help` for usage.\n",
+};
