@@ -1,0 +1,30 @@
+use Rattle.std.proofs.Common.{◌≡◌, ℕ, ◌∷◌, ◌≤◌, length, IsOk, sym, ap, ◌∙◌, subst, map, arith}
+use Rattle.std.specs.Vec.Iter.{into_iter_items}
+use Rattle.json_grammar.specs.Tree.{list_pairs}
+use Rattle.json_value.specs.Denotes.{pair_of}
+use Rattle.json_value.specs.declared.pair.Keyed.{Keyed}
+use Rattle.json_value.specs.declared.value.Value.{Value}
+use Rattle.json_history.specs.Change.{insert_members}
+use Rattle.json_history.specs.ChangeTrees.{removed_member}
+use Rattle.json_history.proofs.Restoring.{first_member_in_range, first_member_inserted}
+use Rattle.json_history.proofs.restore.insert_reserved_members.Goals as goal
+
+pub insert_member-requires-clause-within : goal.insert_member-requires-clause-within
+insert_member-requires-clause-within c =
+    let ps = list_pairs (map pair_of c.loop-place.pairs.items) in
+    let low = first_member_in_range (c.in-Some.place, c.in-Some.pair) (into_iter_items c.next.new.self) c.loop-place.pairs.items
+    (subst (λ es. IsOk (insert_members (map removed_member es) ps)) c.in-Some.ensures.steps.0 (subst IsOk (sym c.loop-place.invariant.done) c.requires.places)) in
+    omega (arith, low, c.loop-place.pairs.ok.0)
+
+pub loop-place-preserved : goal.loop-place-preserved
+loop-place-preserved c =
+    let e : ℕ × Keyed Value = (c.in-Some.place, c.in-Some.pair) in
+    let es = into_iter_items c.next.new.self in
+    let ps = c.loop-place.pairs.items in
+    let qs = c.insert_member.new.pairs.items in
+    let ms = list_pairs (map pair_of ps) in
+    let low = first_member_in_range e es ps (subst (λ ns. IsOk (insert_members (map removed_member ns) ms)) c.in-Some.ensures.steps.0 (subst IsOk (sym c.loop-place.invariant.done) c.requires.places)) in
+    record {
+      done = sym (first_member_inserted e es ps qs low c.insert_member.ensures.items) ∙ ap (λ ns. insert_members (map removed_member ns) ms) (sym c.in-Some.ensures.steps.0) ∙ c.loop-place.invariant.done;
+      room = omega (arith, c.insert_member.ensures.len, c.insert_member.ensures.capacity, c.loop-place.invariant.room, ap length c.in-Some.ensures.steps.0);
+    }

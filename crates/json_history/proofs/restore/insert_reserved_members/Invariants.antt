@@ -1,0 +1,14 @@
+use Rattle.std.proofs.Common.{◌≡◌, ◌+◌, ◌≤◌, map, length}
+use Rattle.std.specs.Vec.{vec_len, vec_capacity}
+use Rattle.std.specs.Vec.Iter.{into_iter_items}
+use Rattle.json_grammar.specs.Tree.{list_pairs}
+use Rattle.json_value.specs.Denotes.{pair_of}
+use Rattle.json_history.specs.Change.{insert_members}
+use Rattle.json_history.specs.ChangeTrees.{removed_member}
+use Rattle.json_history.proofs.restore.insert_reserved_members.Given as goal
+
+abbrev pub invariant-loop-place : goal.invariant-loop-place
+invariant-loop-place l = record {
+  done : insert_members (map removed_member (into_iter_items l.place-iterator)) (list_pairs (map pair_of l.pairs.items)) ≡ insert_members (map removed_member l.fn.members.items) (list_pairs (map pair_of l.fn.pairs.items));
+  room : vec_len l.pairs + length (into_iter_items l.place-iterator) ≤ vec_capacity l.pairs;
+}

@@ -1,0 +1,10 @@
+use Rattle.std.proofs.Common.{map, ap, ◌∙◌}
+use Rattle.json_value.specs.Denotes.{tree_of}
+use Rattle.json_history.specs.Target.{all_but_last}
+use Rattle.json_history.proofs.Restoring.{map_all_but_last}
+use Rattle.json_history.proofs.restore.remove_last_element.Goals as goal
+
+pub returns-clause-ok : goal.returns-clause-ok
+returns-clause-ok c =
+    let list = c.in_ok-list.list.now in
+    ap (map tree_of) c.pop_last.ensures ∙ map_all_but_last tree_of list.items _ list.ok.0 ∙ ap all_but_last c.in_ok-list.ensures.list

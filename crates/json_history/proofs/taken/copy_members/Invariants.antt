@@ -1,0 +1,6 @@
+use Rattle.std.proofs.Common.{◌≡◌, take, map}
+use Rattle.json_history.specs.ChangeTrees.{removed_member}
+use Rattle.json_history.proofs.taken.copy_members.Given as goal
+
+abbrev pub invariant-loop-member : goal.invariant-loop-member
+invariant-loop-member l = map removed_member l.copies.items ≡ map removed_member (take l.member-index l.taken.list.items)
