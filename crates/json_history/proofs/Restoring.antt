@@ -73,44 +73,44 @@ without_last_pairs (p ∷ ps) h = ap (within pairs) (without_last_member_listed 
 -- ---- an array
 
 module _ (v : Value) (a b : Container Value) (is : v ≡ Array a) where
-  array_tree : tree_of v ≡ list (list_trees (list_in a))
-  array_tree = ap tree_of is ∙ array_tree a
+  old_array_tree : tree_of v ≡ list (list_trees (list_in a))
+  old_array_tree = ap tree_of is ∙ array_tree a
 
   array_result : (ts : List Tree) → list_in b ≡ ts → ◌≡◌ {A = Changed Tree} (Ok (list (list_trees ts))) (Ok (tree_of (Array b)))
   array_result ts e = sym (ap (λ us. Ok (list (list_trees us))) e) ∙ ap (λ (t : Tree). Ok t) (sym (array_tree b))
 
   pub array_kept : list_in b ≡ list_in a → tree_of (Array b) ≡ tree_of v
-  array_kept e = array_tree b ∙ ap (λ us. list (list_trees us)) e ∙ sym array_tree
+  array_kept e = array_tree b ∙ ap (λ us. list (list_trees us)) e ∙ sym old_array_tree
 
   pub array_shortened : IsOk (without_last (tree_of v)) → list_in b ≡ all_but_last (list_in a) → without_last (tree_of v) ≡ Ok (tree_of (Array b))
   array_shortened h e =
-      ap without_last array_tree
-      ∙ without_last_list (list_in a) (subst (λ (t : Tree). IsOk (without_last t)) array_tree h)
+      ap without_last old_array_tree
+      ∙ without_last_list (list_in a) (subst (λ (t : Tree). IsOk (without_last t)) old_array_tree h)
       ∙ array_result (all_but_last (list_in a)) e
 
 -- ---- an object
 
 module _ (v : Value) (a b : Container (Keyed Value)) (is : v ≡ Object a) where
-  object_tree : tree_of v ≡ pairs (list_pairs (pairs_in a))
-  object_tree = ap tree_of is ∙ object_tree a
+  old_object_tree : tree_of v ≡ pairs (list_pairs (pairs_in a))
+  old_object_tree = ap tree_of is ∙ object_tree a
 
   object_result : (ps : List (List ℕ × Tree)) → pairs_in b ≡ ps → ◌≡◌ {A = Changed Tree} (Ok (pairs (list_pairs ps))) (Ok (tree_of (Object b)))
   object_result ps e = sym (ap (λ qs. Ok (pairs (list_pairs qs))) e) ∙ ap (λ (t : Tree). Ok t) (sym (object_tree b))
 
   pub object_kept : pairs_in b ≡ pairs_in a → tree_of (Object b) ≡ tree_of v
-  object_kept e = object_tree b ∙ ap (λ qs. pairs (list_pairs qs)) e ∙ sym object_tree
+  object_kept e = object_tree b ∙ ap (λ qs. pairs (list_pairs qs)) e ∙ sym old_object_tree
 
   pub object_shortened : IsOk (without_last (tree_of v)) → pairs_in b ≡ all_but_last (pairs_in a) → without_last (tree_of v) ≡ Ok (tree_of (Object b))
   object_shortened h e =
-      ap without_last object_tree
-      ∙ without_last_pairs (pairs_in a) (subst (λ (t : Tree). IsOk (without_last t)) object_tree h)
+      ap without_last old_object_tree
+      ∙ without_last_pairs (pairs_in a) (subst (λ (t : Tree). IsOk (without_last t)) old_object_tree h)
       ∙ object_result (all_but_last (pairs_in a)) e
 
   pub object_members_in_range : (es : RemovedMembers) → IsOk (on_pairs (insert_members es) (tree_of v)) → IsOk (insert_members es (list_pairs (pairs_in a)))
-  object_members_in_range es h = within_is_ok pairs (insert_members es (list_pairs (pairs_in a))) (subst (λ (t : Tree). IsOk (on_pairs (insert_members es) t)) object_tree h)
+  object_members_in_range es h = within_is_ok pairs (insert_members es (list_pairs (pairs_in a))) (subst (λ (t : Tree). IsOk (on_pairs (insert_members es) t)) old_object_tree h)
 
   pub object_members_inserted : (es : RemovedMembers) → insert_members es (list_pairs (pairs_in a)) ≡ Ok (list_pairs (pairs_in b)) → on_pairs (insert_members es) (tree_of v) ≡ Ok (tree_of (Object b))
-  object_members_inserted es e = ap (on_pairs (insert_members es)) object_tree ∙ ap (within pairs) e ∙ ap (λ (t : Tree). Ok t) (sym (object_tree b))
+  object_members_inserted es e = ap (on_pairs (insert_members es)) old_object_tree ∙ ap (within pairs) e ∙ ap (λ (t : Tree). Ok t) (sym (object_tree b))
 
 -- ---- one element
 
@@ -127,11 +127,11 @@ insert_element_listed (suc i) u (t ∷ ts) l = ap (within (λ us. tree_and t us)
 
 module _ (v : Value) (a b : Container Value) (is : v ≡ Array a) (i : ℕ) (u : Tree) where
   pub element_in_range : IsOk (on_list (insert_element_at i u) (tree_of v)) → i ≤ length (list_in a)
-  element_in_range h = insert_element_in_range i u (list_in a) (within_is_ok list (insert_element_at i u (list_trees (list_in a))) (subst (λ (t : Tree). IsOk (on_list (insert_element_at i u) t)) (array_tree v a b is) h))
+  element_in_range h = insert_element_in_range i u (list_in a) (within_is_ok list (insert_element_at i u (list_trees (list_in a))) (subst (λ (t : Tree). IsOk (on_list (insert_element_at i u) t)) (old_array_tree v a b is) h))
 
   pub element_inserted : IsOk (on_list (insert_element_at i u) (tree_of v)) → list_in b ≡ insert (list_in a) i u → on_list (insert_element_at i u) (tree_of v) ≡ Ok (tree_of (Array b))
   element_inserted h e =
-      ap (on_list (insert_element_at i u)) (array_tree v a b is)
+      ap (on_list (insert_element_at i u)) (old_array_tree v a b is)
       ∙ ap (within list) (insert_element_listed i u (list_in a) (element_in_range h))
       ∙ array_result v a b is (insert (list_in a) i u) e
 

@@ -50,7 +50,7 @@ fn numbered(error: Error, number: u32) -> Error
 /// among all calls, and with `NoMemory` where memory runs out. Asks its caller for fewer than 2^32
 /// calls.
 pub fn make_calls(alloc: Global, history: &mut History, calls: Vec<Call>) -> Result<()>
-    requires { length calls.items < 2 ^ 32 }
+    requires few { length calls.items < 2 ^ 32 }
     ensures ok { OnOk result
         (run_calls_from 0 (history_of (log_of history.old)) (map call_of calls.items)
         ≡ Ok (history_of (log_of history.new))) }

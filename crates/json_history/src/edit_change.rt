@@ -19,13 +19,13 @@ use json_value::{Edit, ObjectView, Pair, Path, PointerNode, Text, Value, View};
 use std::alloc::Global;
 
 // The change of an insertion; `None` if there is no object.
-fn change_of_insert(alloc: Global, place: View<'_>, path: &Path, key: &Text) -> Result<Option<Change>>
+fn change_of_insert(alloc: Global, target: View<'_>, path: &Path, key: &Text) -> Result<Option<Change>>
     ensures told { IfOk result (λ o. option_map change_of o
         ≡ result_ok (insert_change_in (path_steps path.now) (text_bytes key.now)
-        (seen place.entry))) }
+        (seen target.entry))) }
     ensures only { OnlyNoMemory result }
 {
-    let Some(object) = place.as_object() else {
+    let Some(object) = target.as_object() else {
         return Ok(None);
     };
     match object.get(key.as_str()) {
@@ -42,12 +42,12 @@ fn change_of_insert(alloc: Global, place: View<'_>, path: &Path, key: &Text) -> 
 }
 
 // The change of a push; `None` if there is no array.
-fn change_of_push(alloc: Global, place: View<'_>, path: &Path) -> Result<Option<Change>>
+fn change_of_push(alloc: Global, target: View<'_>, path: &Path) -> Result<Option<Change>>
     ensures told { IfOk result (λ o. option_map change_of o
-        ≡ result_ok (push_change_in (path_steps path.now) (seen place.entry))) }
+        ≡ result_ok (push_change_in (path_steps path.now) (seen target.entry))) }
     ensures only { OnlyNoMemory result }
 {
-    match place.as_array() {
+    match target.as_array() {
         Some(_) => {
             let path = copy_path(alloc, path)?;
             Ok(Some(Change::DropLast { path }))
@@ -57,12 +57,12 @@ fn change_of_push(alloc: Global, place: View<'_>, path: &Path) -> Result<Option<
 }
 
 // The change of an element's removal; `None` if there is no such element.
-fn change_of_removed_element(alloc: Global, place: View<'_>, path: &Path, index: usize) -> Result<Option<Change>>
+fn change_of_removed_element(alloc: Global, target: View<'_>, path: &Path, index: usize) -> Result<Option<Change>>
     ensures told { IfOk result (λ o. option_map change_of o
-        ≡ result_ok (remove_change_in (path_steps path.now) (index_step index) (seen place.entry))) }
+        ≡ result_ok (remove_change_in (path_steps path.now) (index_step index) (seen target.entry))) }
     ensures only { OnlyNoMemory result }
 {
-    match place.get(index) {
+    match target.get(index) {
         Some(old) => {
             let old = old.to_value(alloc)?;
             let path = copy_path(alloc, path)?;
@@ -73,13 +73,13 @@ fn change_of_removed_element(alloc: Global, place: View<'_>, path: &Path, index:
 }
 
 // A copy of a member, with its index.
-fn copy_member_at(alloc: Global, place: usize, key: &str, value: View<'_>) -> Result<(usize, Pair)>
-    ensures member { IfOk result (λ e. removed_member e ≡ (place, key.now, seen value.entry)) }
+fn copy_member_at(alloc: Global, index: usize, key: &str, value: View<'_>) -> Result<(usize, Pair)>
+    ensures member { IfOk result (λ e. removed_member e ≡ (index, key.now, seen value.entry)) }
     ensures only { OnlyNoMemory result }
 {
     let key = Text::copy(alloc, key)?;
     let value = value.to_value(alloc)?;
-    Ok((place, Pair::new(key, value)))
+    Ok((index, Pair::new(key, value)))
 }
 
 // Copies of the members with the key, with their indexes.
@@ -101,13 +101,13 @@ fn members_with_key(alloc: Global, object: ObjectView<'_>, key: &str) -> Result<
 }
 
 // The change of a key's removal; `None` if there is no object, or no member with the key.
-fn change_of_removed_members(alloc: Global, place: View<'_>, path: &Path, key: &Text) -> Result<Option<Change>>
+fn change_of_removed_members(alloc: Global, target: View<'_>, path: &Path, key: &Text) -> Result<Option<Change>>
     ensures told { IfOk result (λ o. option_map change_of o
         ≡ result_ok (remove_change_in (path_steps path.now) (key_step (text_bytes key.now))
-        (seen place.entry))) }
+        (seen target.entry))) }
     ensures only { OnlyNoMemory result }
 {
-    let Some(object) = place.as_object() else {
+    let Some(object) = target.as_object() else {
         return Ok(None);
     };
     let list = members_with_key(alloc, object, key.as_str())?;
@@ -121,23 +121,23 @@ fn change_of_removed_members(alloc: Global, place: View<'_>, path: &Path, key: &
     }))
 }
 
-// The change of the edit, where `place` is the value at its path; `None` if it does not apply.
-fn change_at(alloc: Global, place: View<'_>, edit: &Edit) -> Result<Option<Change>>
+// The change of the edit, where `target` is the value at its path; `None` if it does not apply.
+fn change_at(alloc: Global, target: View<'_>, edit: &Edit) -> Result<Option<Change>>
     ensures told { IfOk result (λ o. option_map change_of o
-        ≡ result_ok (change_in edit.now (seen place.entry))) }
+        ≡ result_ok (change_in edit.now (seen target.entry))) }
     ensures only { OnlyNoMemory result }
 {
     match edit {
         Edit::Set { path, .. } => {
-            let old = place.to_value(alloc)?;
+            let old = target.to_value(alloc)?;
             let path = copy_path(alloc, path)?;
             Ok(Some(Change::Put { path, old }))
         }
-        Edit::Insert { path, key, .. } => change_of_insert(alloc, place, path, key),
-        Edit::Push { path, .. } => change_of_push(alloc, place, path),
+        Edit::Insert { path, key, .. } => change_of_insert(alloc, target, path, key),
+        Edit::Push { path, .. } => change_of_push(alloc, target, path),
         Edit::Remove { path, step } => match step {
-            PointerNode::Index(index) => change_of_removed_element(alloc, place, path, *index),
-            PointerNode::Key(key) => change_of_removed_members(alloc, place, path, key),
+            PointerNode::Index(index) => change_of_removed_element(alloc, target, path, *index),
+            PointerNode::Key(key) => change_of_removed_members(alloc, target, path, key),
         },
     }
 }
@@ -149,7 +149,7 @@ pub(crate) fn change_of_edit(alloc: Global, value: &Value, edit: &Edit) -> Resul
     ensures only { OnlyNoMemory result }
 {
     match value.pointer(edit.path().steps()) {
-        Some(place) => change_at(alloc, place, edit),
+        Some(target) => change_at(alloc, target, edit),
         None => Ok(None),
     }
 }

@@ -61,27 +61,27 @@ fn last_push_edit(alloc: Global, array: ArrayView<'_>, path: &Path) -> Result<Op
 }
 
 // The edit that adds the last member or element; `None` if there is none.
-fn last_edit(alloc: Global, place: View<'_>, path: &Path) -> Result<Option<Edit>>
+fn last_edit(alloc: Global, target: View<'_>, path: &Path) -> Result<Option<Edit>>
     ensures edit { IfOk result (λ o. option_map edit_of o
-        ≡ result_ok (edit_of_last (path_steps path.now) (seen place.entry))) }
+        ≡ result_ok (edit_of_last (path_steps path.now) (seen target.entry))) }
     ensures only { OnlyNoMemory result }
 {
-    if let Some(object) = place.as_object() {
+    if let Some(object) = target.as_object() {
         return last_insert_edit(alloc, object, path);
     }
-    match place.as_array() {
+    match target.as_array() {
         Some(array) => last_push_edit(alloc, array, path),
         None => Ok(None),
     }
 }
 
 // The edit that sets the value at the path.
-fn set_edit(alloc: Global, place: View<'_>, path: &Path) -> Result<Option<Edit>>
+fn set_edit(alloc: Global, target: View<'_>, path: &Path) -> Result<Option<Edit>>
     ensures edit { IfOk result (λ o. option_map edit_of o
-        ≡ Some (set_at (path_steps path.now) (seen place.entry))) }
+        ≡ Some (set_at (path_steps path.now) (seen target.entry))) }
     ensures only { OnlyNoMemory result }
 {
-    let value = place.to_value(alloc)?;
+    let value = target.to_value(alloc)?;
     let path = copy_path(alloc, path)?;
     Ok(Some(Edit::Set { path, value }))
 }
@@ -113,11 +113,11 @@ pub(crate) fn edit_to_redo(alloc: Global, value: &Value, change: &Change) -> Res
 {
     match change {
         Change::Put { path, .. } => match value.pointer(path.steps()) {
-            Some(place) => set_edit(alloc, place, path),
+            Some(target) => set_edit(alloc, target, path),
             None => Ok(None),
         },
         Change::DropLast { path } => match value.pointer(path.steps()) {
-            Some(place) => last_edit(alloc, place, path),
+            Some(target) => last_edit(alloc, target, path),
             None => Ok(None),
         },
         Change::PutBack { path, index, .. } => {

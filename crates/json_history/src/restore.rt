@@ -100,14 +100,14 @@ fn insert_element(value: &mut Value, alloc: Global, index: usize, old: &Value) -
 }
 
 // Inserts a member at an index. There is room for it.
-fn insert_member(pairs: &mut Vec<Pair>, place: usize, pair: Pair)
+fn insert_member(pairs: &mut Vec<Pair>, index: usize, pair: Pair)
     requires room { vec_len pairs.old < vec_capacity pairs.old }
-    requires within { place ≤ vec_len pairs.old }
-    ensures items { pairs.new.items ≡ insert pairs.old.items place pair }
+    requires within { index ≤ vec_len pairs.old }
+    ensures items { pairs.new.items ≡ insert pairs.old.items index pair }
     ensures len { vec_len pairs.new ≡ vec_len pairs.old + 1 }
     ensures capacity { vec_capacity pairs.old ≤ vec_capacity pairs.new }
 {
-    let _ = pairs.insert(place, pair);
+    let _ = pairs.insert(index, pair);
 }
 
 // Inserts members at their indexes, one after another. There is room for them.
@@ -119,8 +119,8 @@ fn insert_reserved_members(pairs: &mut Vec<Pair>, members: Vec<(usize, Pair)>)
         (list_pairs (map pair_of pairs.old.items))
         ≡ Ok (list_pairs (map pair_of pairs.new.items)) }
 {
-    for (place, pair) in members {
-        insert_member(pairs, place, pair);
+    for (index, pair) in members {
+        insert_member(pairs, index, pair);
     }
 }
 

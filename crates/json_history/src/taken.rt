@@ -42,8 +42,8 @@ impl Taken {
         ensures { slice_get (removed_members self.now) i
             ≡ Some (result.0, (pair_of result.1.now).0, (pair_of result.1.now).1) }
     {
-        let (place, pair) = &self.list[i];
-        (*place, pair)
+        let (index, pair) = &self.list[i];
+        (*index, pair)
     }
 }
 
@@ -52,10 +52,10 @@ fn copy_member(alloc: Global, member: &(usize, Pair)) -> Result<(usize, Pair)>
     ensures member { IfOk result (λ e. removed_member e ≡ removed_member member.now) }
     ensures only { OnlyNoMemory result }
 {
-    let (place, pair) = member;
+    let (index, pair) = member;
     let key = Text::copy(alloc, pair.key())?;
     let value = pair.value().clone(alloc)?;
-    Ok((*place, Pair::new(key, value)))
+    Ok((*index, Pair::new(key, value)))
 }
 
 // Copies of the members with their indexes.

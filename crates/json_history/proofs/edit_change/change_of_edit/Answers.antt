@@ -13,8 +13,8 @@ use Rattle.json_history.proofs.edit_change.change_of_edit.Goals as goal
 
 pub returns-in-Some-clause-told : goal.returns-in-Some-clause-told
 returns-in-Some-clause-told c =
-    IfOk-weaker c.change_at.result (λ o. option_map change_of o ≡ result_ok (change_in c.args.edit.now (seen c.in-Some.place))) (λ o. option_map change_of o ≡ result_ok (change (tree_of c.args.value.now) (edit_of c.args.edit.now)))
-    (λ o e. e ∙ ap result_ok (sym (change_at_target c.args.edit.now _ (tree_of c.args.value.now) (seen c.in-Some.place) (c.steps.ensures ∙ c.path.ensures.steps) (sym c.in-Some.ensures.tree))))
+    IfOk-weaker c.change_at.result (λ o. option_map change_of o ≡ result_ok (change_in c.args.edit.now (seen c.in-Some.target))) (λ o. option_map change_of o ≡ result_ok (change (tree_of c.args.value.now) (edit_of c.args.edit.now)))
+    (λ o e. e ∙ ap result_ok (sym (change_at_target c.args.edit.now _ (tree_of c.args.value.now) (seen c.in-Some.target) (c.steps.ensures ∙ c.path.ensures.steps) (sym c.in-Some.ensures.tree))))
     c.change_at.ensures.told
 
 pub returns-in-None-clause-told : goal.returns-in-None-clause-told

@@ -16,7 +16,7 @@ returns-in_ok-path-in-Some-get-clause-told c =
     let ms = members_seen c.in-Some.object in
     ap (λ q. Some (put q (tree_of c.in_ok-old-in-Some-get.old))) c.in_ok-path-in-Some-get.ensures.path
     ∙ ap (λ t. Some (put (p ++ key_step k ∷ []) t)) c.in_ok-old-in-Some-get.ensures.tree
-    ∙ insert_change_found p k (seen c.args.place) ms (Some (seen c.in-Some-get.old)) (sym c.in-Some.ensures.trees)
+    ∙ insert_change_found p k (seen c.args.target) ms (Some (seen c.in-Some-get.old)) (sym c.in-Some.ensures.trees)
     (ap (λ n. option_map (λ (q : List ℕ × Tree). q.1) (first_of n ms)) (sym c.as_str.ensures) ∙ sym c.in-Some-get.ensures.tree)
 
 pub returns-in_ok-path-in-None-clause-told : goal.returns-in_ok-path-in-None-clause-told
@@ -25,5 +25,5 @@ returns-in_ok-path-in-None-clause-told c =
     let k = text_bytes c.args.key.now in
     let ms = members_seen c.in-Some.object in
     ap (λ q. Some (drop_last q)) c.in_ok-path-in-None.ensures.path
-    ∙ insert_change_found p k (seen c.args.place) ms None (sym c.in-Some.ensures.trees)
+    ∙ insert_change_found p k (seen c.args.target) ms None (sym c.in-Some.ensures.trees)
     (ap (λ n. option_map (λ (q : List ℕ × Tree). q.1) (first_of n ms)) (sym c.as_str.ensures) ∙ sym c.in-None.ensures.tree)

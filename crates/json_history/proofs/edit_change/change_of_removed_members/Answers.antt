@@ -12,7 +12,7 @@ pub returns-then-is_empty-clause-told : goal.returns-then-is_empty-clause-told
 returns-then-is_empty-clause-told c =
     let k = text_bytes c.args.key.now in
     let ps = list_pairs (members_seen c.in-Some.object) in
-    key_change_none (path_steps c.args.path.now) k (seen c.args.place) (members_seen c.in-Some.object) (sym c.in-Some.ensures.trees)
+    key_change_none (path_steps c.args.path.now) k (seen c.args.target) (members_seen c.in-Some.object) (sym c.in-Some.ensures.trees)
     (ap (λ n. members_named 0 n ps) (sym c.as_str.ensures) ∙ sym c.in_ok-list.ensures.members ∙ removed_members_empty c.in_ok-list.list.items _ c.in_ok-list.list.ok.0 (sym c.is_empty.ensures ∙ c.if-is_empty.true))
 
 pub returns-clause-told : goal.returns-clause-told
@@ -23,5 +23,5 @@ returns-clause-told c =
     let same = c.in_ok-list.ensures.members ∙ ap (λ n. members_named 0 n ps) c.as_str.ensures in
     ap (λ q. Some (put_pairs q (map removed_member c.in_ok-list.list.items))) c.in_ok-path.ensures.path
     ∙ ap (λ es. Some (put_pairs p es)) same
-    ∙ key_change_some p k (seen c.args.place) (members_seen c.in-Some.object) (sym c.in-Some.ensures.trees)
+    ∙ key_change_some p k (seen c.args.target) (members_seen c.in-Some.object) (sym c.in-Some.ensures.trees)
     (λ e. removed_members_nonempty c.in_ok-list.list.items _ c.in_ok-list.list.ok.0 (sym c.is_empty.ensures ∙ c.if-is_empty.false) (same ∙ e))

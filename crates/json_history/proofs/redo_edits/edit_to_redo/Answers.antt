@@ -14,7 +14,7 @@ use Rattle.json_history.proofs.redo_edits.edit_to_redo.Goals as goal
 pub returns-in-Some-clause-edit : goal.returns-in-Some-clause-edit
 returns-in-Some-clause-edit c =
     let t = tree_of c.args.value.now in
-    let u = seen c.in-Some.place in
+    let u = seen c.in-Some.target in
     IfOk-weaker c.set_edit.result (λ o. option_map edit_of o ≡ Some (set_at (path_steps c.in-Put.path) u)) (λ o. option_map edit_of o ≡ result_ok (redo_edit t (change_of c.args.change.now)))
     (λ o e. e ∙ put_redo_found c.args.change.now c.in-Put.path _ t c.steps.ensures c.in-Put.old u c.in-Put.is (sym c.in-Some.ensures.tree))
     c.set_edit.ensures.edit
@@ -25,7 +25,7 @@ returns-in-None-clause-edit c = put_redo_missing c.args.change.now c.in-Put.path
 pub returns-in-Some-pointer-clause-edit : goal.returns-in-Some-pointer-clause-edit
 returns-in-Some-pointer-clause-edit c =
     let t = tree_of c.args.value.now in
-    let u = seen c.in-Some-pointer.place in
+    let u = seen c.in-Some-pointer.target in
     IfOk-weaker c.last_edit.result (λ o. option_map edit_of o ≡ result_ok (edit_of_last (path_steps c.in-DropLast.path) u)) (λ o. option_map edit_of o ≡ result_ok (redo_edit t (change_of c.args.change.now)))
     (λ o e. e ∙ drop_redo_found c.args.change.now c.in-DropLast.path _ t c.steps-in-DropLast.ensures u c.in-DropLast.is (sym c.in-Some-pointer.ensures.tree))
     c.last_edit.ensures.edit

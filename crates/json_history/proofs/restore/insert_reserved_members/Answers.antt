@@ -11,20 +11,20 @@ use Rattle.json_history.proofs.restore.insert_reserved_members.Goals as goal
 
 pub insert_member-requires-clause-within : goal.insert_member-requires-clause-within
 insert_member-requires-clause-within c =
-    let ps = list_pairs (map pair_of c.loop-place.pairs.items) in
-    let low = first_member_in_range (c.in-Some.place, c.in-Some.pair) (into_iter_items c.next.new.self) c.loop-place.pairs.items
-    (subst (λ es. IsOk (insert_members (map removed_member es) ps)) c.in-Some.ensures.steps.0 (subst IsOk (sym c.loop-place.invariant.done) c.requires.places)) in
-    omega (arith, low, c.loop-place.pairs.ok.0)
+    let ps = list_pairs (map pair_of c.loop-index.pairs.items) in
+    let low = first_member_in_range (c.in-Some.index, c.in-Some.pair) (into_iter_items c.next.new.self) c.loop-index.pairs.items
+    (subst (λ es. IsOk (insert_members (map removed_member es) ps)) c.in-Some.ensures.steps.0 (subst IsOk (sym c.loop-index.invariant.done) c.requires.places)) in
+    omega (arith, low, c.loop-index.pairs.ok.0)
 
-pub loop-place-preserved : goal.loop-place-preserved
-loop-place-preserved c =
-    let e : ℕ × Keyed Value = (c.in-Some.place, c.in-Some.pair) in
+pub loop-index-preserved : goal.loop-index-preserved
+loop-index-preserved c =
+    let e : ℕ × Keyed Value = (c.in-Some.index, c.in-Some.pair) in
     let es = into_iter_items c.next.new.self in
-    let ps = c.loop-place.pairs.items in
+    let ps = c.loop-index.pairs.items in
     let qs = c.insert_member.new.pairs.items in
     let ms = list_pairs (map pair_of ps) in
-    let low = first_member_in_range e es ps (subst (λ ns. IsOk (insert_members (map removed_member ns) ms)) c.in-Some.ensures.steps.0 (subst IsOk (sym c.loop-place.invariant.done) c.requires.places)) in
+    let low = first_member_in_range e es ps (subst (λ ns. IsOk (insert_members (map removed_member ns) ms)) c.in-Some.ensures.steps.0 (subst IsOk (sym c.loop-index.invariant.done) c.requires.places)) in
     record {
-      done = sym (first_member_inserted e es ps qs low c.insert_member.ensures.items) ∙ ap (λ ns. insert_members (map removed_member ns) ms) (sym c.in-Some.ensures.steps.0) ∙ c.loop-place.invariant.done;
-      room = omega (arith, c.insert_member.ensures.len, c.insert_member.ensures.capacity, c.loop-place.invariant.room, ap length c.in-Some.ensures.steps.0);
+      done = sym (first_member_inserted e es ps qs low c.insert_member.ensures.items) ∙ ap (λ ns. insert_members (map removed_member ns) ms) (sym c.in-Some.ensures.steps.0) ∙ c.loop-index.invariant.done;
+      room = omega (arith, c.insert_member.ensures.len, c.insert_member.ensures.capacity, c.loop-index.invariant.room, ap length c.in-Some.ensures.steps.0);
     }

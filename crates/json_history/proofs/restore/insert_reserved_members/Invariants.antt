@@ -7,8 +7,8 @@ use Rattle.json_history.specs.Change.{insert_members}
 use Rattle.json_history.specs.ChangeTrees.{removed_member}
 use Rattle.json_history.proofs.restore.insert_reserved_members.Given as goal
 
-abbrev pub invariant-loop-place : goal.invariant-loop-place
-invariant-loop-place l = record {
-  done : insert_members (map removed_member (into_iter_items l.place-iterator)) (list_pairs (map pair_of l.pairs.items)) ≡ insert_members (map removed_member l.fn.members.items) (list_pairs (map pair_of l.fn.pairs.items));
-  room : vec_len l.pairs + length (into_iter_items l.place-iterator) ≤ vec_capacity l.pairs;
+abbrev pub invariant-loop-index : goal.invariant-loop-index
+invariant-loop-index l = record {
+  done : insert_members (map removed_member (into_iter_items l.index-iterator)) (list_pairs (map pair_of l.pairs.items)) ≡ insert_members (map removed_member l.fn.members.items) (list_pairs (map pair_of l.fn.pairs.items));
+  room : vec_len l.pairs + length (into_iter_items l.index-iterator) ≤ vec_capacity l.pairs;
 }
