@@ -1,4 +1,4 @@
-# Completion of the words of `reshape` for bash.
+# Completion of the arguments of `reshape` for bash; `tools/mezdruk.bash` sources it too.
 _reshape() {
     local word=${COMP_WORDS[COMP_CWORD]} given=" ${COMP_WORDS[*]:1:COMP_CWORD-1} " words=""
     COMPREPLY=()

@@ -1,5 +1,5 @@
 -- What the known bytes of a source come to.
-use Rattle.std.proofs.Common.{◌≡◌, ◌⊎◌, inl, inr, ℕ, ◌<◌, List, length, Some, None, Option, IfSome, Ok, Err, Result, IsErrOf, refl, subst, ap, false}
+use Rattle.std.proofs.Common.{◌≡◌, ◌⊎◌, inl, inr, ℕ, ◌<◌, List, length, Some, None, Option, IfSome, Err, Result, refl, subst, ap, false}
 use Rattle.json_grammar.specs.Tree.{Tree}
 use Rattle.json_grammar.specs.Rules.{Rules}
 use Rattle.json_grammar.proofs.Values.{one_tree}

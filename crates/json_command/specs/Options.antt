@@ -1,5 +1,5 @@
 -- The number that an option asks for: `--NAME=N`.
-use Rattle.std.specs.Prelude.{ℕ, ◌-◌, Bool, cond, ◌&&◌, ◌||◌, ◌==◌, nat_le, slice_index, List, Option, Some, None, option_and_then, ℤ, pos, negsuc, bytes_eq, codes}
+use Rattle.std.specs.Prelude.{ℕ, Bool, cond, ◌&&◌, ◌||◌, ◌==◌, nat_le, slice_index, List, Option, Some, None, option_and_then, ℤ, pos, negsuc, bytes_eq, codes}
 use Rattle.std.specs.List.{before_first, after_first}
 use Rattle.json_number.specs.Integers.{integer_in}
 

@@ -4,7 +4,7 @@ ghost use Rattle.json_command.specs.Arguments.{text_asked, StatusWrites, SaysAsk
 ghost use Rattle.json_command.specs.Reporting.{Reports};
 
 use crate::output::write_text;
-use crate::report::report_text;
+use crate::reporting::report_text;
 use crate::status::Status;
 use json_text::{Sink, Words};
 
@@ -35,8 +35,8 @@ pub struct About {
 }
 
 impl About {
-    /// Returns the text that the arguments ask for: the help for `--help` alone, the version for `--version` alone, and `None` for
-    /// all else.
+    /// Returns the text that the arguments ask for: the help for `--help` alone, the version for
+    /// `--version` alone, and `None` for all else.
     pub fn text_asked(&self, arguments: &Words) -> Option<&'static str>
         ensures { option_map (λ s. s.now) result
             ≡ text_asked self.now.help.now self.now.version.now arguments.now }
@@ -51,8 +51,8 @@ impl About {
         }
     }
 
-    /// Writes the text that the arguments ask for, flushed, and returns the status: `Success`, `WriteFailed` or `OutOfMemory`. Returns
-    /// `None`, and writes nothing, where they ask for none.
+    /// Writes the text that the arguments ask for, flushed, and returns the status: `Success`,
+    /// `WriteFailed` or `OutOfMemory`. Returns `None`, and writes nothing, where they ask for none.
     pub fn say_asked<K: Sink>(&self, arguments: &Words, sink: &mut K) -> Option<Status>
         ensures said { IfSome result (SaysAsked self.now.help.now self.now.version.now arguments.now
             (K.state sink.old) (K.state sink.new)) }

@@ -12,10 +12,9 @@ use crate::status::Status;
 use json_doc::{Doc, read_document_with};
 use json_text::{Error, ErrorCode, Place, Rules, StdSink, StdSource, Words};
 use std::alloc::Global;
-use std::env;
-use std::io;
 use std::rc::Rc;
 use std::rt::{Stderr, Stdin, Stdout};
+use std::{env, io};
 
 /// The error of arguments that are not valid.
 pub const BAD_WORDS: Error = Error {
@@ -23,8 +22,8 @@ pub const BAD_WORDS: Error = Error {
     place: Place::None,
 };
 
-/// Returns the error of an argument that could not be read as it has to be: `NoMemory` where memory ran out, and else
-/// `BadWords`.
+/// Returns the error of an argument that could not be read as it has to be: `NoMemory` where memory
+/// ran out, and else `BadWords`.
 pub fn arguments_error(code: ErrorCode) -> Error
     ensures { (result ≡ no_memory) ⊎ ((result ≡ bad_words) × (code ≢ NoMemory)) }
 {
@@ -37,8 +36,9 @@ pub fn arguments_error(code: ErrorCode) -> Error
     }
 }
 
-/// Returns the document of an argument that is a JSON text (RFC 8259), read by the usual rules: of at most 254 levels, and keys may
-/// repeat. Fails with `BadWords` where it is none or has more than 4,294,967,295 bytes, and with `NoMemory` where memory runs out.
+/// Returns the document of an argument that is a JSON text (RFC 8259), read by the usual rules: of
+/// at most 254 levels, and keys may repeat. Fails with `BadWords` where it is none or has more than
+/// 4,294,967,295 bytes, and with `NoMemory` where memory runs out.
 ///
 /// ```
 /// use json_command::{BAD_WORDS, read_argument};
@@ -75,9 +75,10 @@ pub struct Console {
 }
 
 impl Console {
-    /// Opens the standard streams and copies the arguments. Returns a status where the program is over with that: `OutOfMemory` where
-    /// memory runs out; `NoArguments` where the arguments cannot be read, for example because one is not UTF-8; and where they ask for
-    /// the help or the version, which is written then, the status of that.
+    /// Opens the standard streams and copies the arguments. Returns a status where the program is
+    /// over with that: `OutOfMemory` where memory runs out; `NoArguments` where the arguments
+    /// cannot be read, for example because one is not UTF-8; and where they ask for the help or the
+    /// version, which is written then, the status of that.
     pub fn open(rt: &HostRuntime, about: &About) -> Result<Console, Status> {
         let mut arguments = Words::new(rt.alloc());
         for argument in env::args(rt).map_err(unread)?.skip(1) {

@@ -14,9 +14,10 @@ use std::rc::Rc;
 /// The greatest number of bytes that are read.
 pub(crate) const MAX_BYTES: usize = 4_294_967_295;
 
-/// Reads all that the source has left and returns its document by the rules (RFC 8259). Fails with `Io` at `Reading` where the
-/// source fails, `TooLarge` where it has more than 4,294,967,295 bytes, `InvalidUTF8` and each fault of the grammar by the rules at
-/// its offset, and `NoMemory` where memory runs out.
+/// Reads all that the source has left and returns its document by the rules (RFC 8259). Fails with
+/// `Io` at `Reading` where the source fails, `TooLarge` where it has more than 4,294,967,295 bytes,
+/// `InvalidUTF8` and each fault of the grammar by the rules at its offset, and `NoMemory` where
+/// memory runs out.
 pub fn read_document_from<S: Source>(alloc: Global, source: &mut S, rules: Rules) -> Result<Rc<Doc>>
     ensures read { IfOk result (λ d. ReadsInput (rules_of rules)
         (S.state source.old) (S.state source.new) (doc_tree d.value (doc_root d.value))) }

@@ -1,5 +1,6 @@
-//! What the programs of this repository share: reading a document from a source, printing a value to a sink, reporting errors,
-//! exit statuses, numeric options, help and version, and the opening of the command line.
+//! What the programs of this repository share: reading a document from a source, printing a value
+//! to a sink, reporting errors, exit statuses, numeric options, help and version, and the opening
+//! of the command line.
 //!
 //! ```
 //! use json_command::{print_value, read_document_from};
@@ -21,7 +22,7 @@ mod document;
 pub mod laws;
 mod options;
 mod output;
-mod report;
+mod reporting;
 pub mod rows;
 mod status;
 
@@ -30,5 +31,5 @@ pub use arguments::{BAD_WORDS, Console, arguments_error, read_argument};
 pub use document::read_document_from;
 pub use options::option_number;
 pub use output::{print_value, write_text};
-pub use report::{report, report_text};
+pub use reporting::{report, report_text};
 pub use status::Status;

@@ -23,8 +23,9 @@ fn number_in(digits: &str, max: u32) -> Option<u32>
     }
 }
 
-/// Returns the number that an option asks for: of `--depth=3` by the name `--depth` it is 3. `None` where the option has another
-/// name, or what follows the first `=` is no decimal number from 0 to `max` without leading zeros.
+/// Returns the number that an option asks for: of `--depth=3` by the name `--depth` it is 3. `None`
+/// where the option has another name, or what follows the first `=` is no decimal number from 0 to
+/// `max` without leading zeros.
 ///
 /// ```
 /// use json_command::option_number;

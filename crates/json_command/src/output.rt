@@ -16,8 +16,8 @@ use json_text::{LentSink, Result, Sink, flush_all, put_all};
 use json_value::Value;
 use std::alloc::Global;
 
-// The text with the members of each object in the order of their keys, by the calls of a formatter that has written nothing.
-// Gives the writer back.
+// The text with the members of each object in the order of their keys, by the calls of a formatter
+// that has written nothing. Gives the writer back.
 fn in_order<W: Sink, F: Formatter + Drop>(
     alloc: Global,
     value: &Value,
@@ -26,7 +26,8 @@ fn in_order<W: Sink, F: Formatter + Drop>(
 ) -> (W, Result<()>)
     requires fresh { F.fresh formatter }
     ensures text { (indent : Option (List ℕ)) → LaidOut F.form formatter indent 0 false
-        → WritesText (W.state writer) (W.state result.0) (shown_as indent true (tree_of value.now)) result.1 }
+        → WritesText (W.state writer) (W.state result.0)
+        (shown_as indent true (tree_of value.now)) result.1 }
 {
     let mut out = Serializer::with_formatter(alloc, writer, formatter);
     let went = value.view().emit_sorted(alloc, &mut out);
@@ -133,8 +134,9 @@ fn sent<W: Sink>(
     flushed(writer, written)
 }
 
-/// Writes the text of the value's tree in the style by pieces of at most 8,192 bytes, and flushes the sink. Fails with `Io` at
-/// `Writing` where the sink fails, and with `NoMemory` where memory runs out; the sink gained a prefix of the text then.
+/// Writes the text of the value's tree in the style by pieces of at most 8,192 bytes, and flushes
+/// the sink. Fails with `Io` at `Writing` where the sink fails, and with `NoMemory` where memory
+/// runs out; the sink gained a prefix of the text then.
 pub fn print_value<K: Sink>(
     alloc: Global,
     value: &Value,
@@ -151,8 +153,8 @@ pub fn print_value<K: Sink>(
     outcome
 }
 
-/// Writes a text and flushes the sink. Fails with `Io` at `Writing` where the sink fails, and with `NoMemory` where it finds no
-/// memory; the sink gained a prefix of the text then.
+/// Writes a text and flushes the sink. Fails with `Io` at `Writing` where the sink fails, and with
+/// `NoMemory` where it finds no memory; the sink gained a prefix of the text then.
 pub fn write_text<K: Sink>(sink: &mut K, text: &[u8]) -> Result<()>
     ensures { Prints (K.state sink.old) (K.state sink.new) text.now result }
 {

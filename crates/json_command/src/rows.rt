@@ -1,9 +1,11 @@
-//! Worked rows of a program: a table of inputs and arguments, each with the status and the texts that the program comes to.
+//! Worked rows of a program: a table of inputs and arguments, each with the status and the texts
+//! that the program comes to.
 //!
-//! A row is a line of fields, each closed by `|`: the input, the status, the output, the errors without their last line break, and
-//! then the arguments. `«N PIECE»` stands for N times the piece; of the first, third and fourth field `%XX` is a byte. A line that
-//! begins with `#` says what follows. Where the status is that of invalid arguments the source fails at its first call, so a program
-//! that reads it comes to another status.
+//! A row is a line of fields, each closed by `|`: the input, the status, the output, the errors
+//! without their last line break, and then the arguments. `«N PIECE»` stands for N times the piece;
+//! of the first, third and fourth field `%XX` is a byte. A line that begins with `#` says what
+//! follows. Where the status is that of invalid arguments the source fails at its first call, so a
+//! program that reads it comes to another status.
 //!
 //! ```
 //! use json_command::rows::differing_rows;
@@ -100,7 +102,8 @@ fn read_row(alloc: Global, line: &str) -> Result<Option<Row>>
     }))
 }
 
-// Whether the program comes to what the row says, by a source that gives at most `at_once` bytes a call.
+// Whether the program comes to what the row says, by a source that gives at most `at_once` bytes a
+// call.
 fn holds<F>(alloc: Global, row: &Row, at_once: usize, run: &F) -> bool
 where
     F: Fn(Global, &Words, &mut FakeSource<'_>, &mut VecSink, &mut VecSink) -> u8,
@@ -117,8 +120,9 @@ where
         && errs.as_slice() == row.errors.as_slice()
 }
 
-/// Runs a program on worked rows and returns how many come to something else, or cannot be read. The source gives at most
-/// `at_once` bytes a call. Returns `NoMemory` where memory runs out for a row.
+/// Runs a program on worked rows and returns how many come to something else, or cannot be read.
+/// The source gives at most `at_once` bytes a call. Returns `NoMemory` where memory runs out for a
+/// row.
 pub fn differing_rows<F>(alloc: Global, rows: &str, at_once: usize, run: F) -> Result<u32>
 where
     F: Fn(Global, &Words, &mut FakeSource<'_>, &mut VecSink, &mut VecSink) -> u8,

@@ -43,8 +43,9 @@ impl Status {
         self as u8
     }
 
-    /// Returns the status of an error: `OutOfMemory`, `ReadFailed` or `WriteFailed` by its code and place, `InvalidArguments`
-    /// for `BadWords`, `EditFailed` for `NotFound` and `TypeUnmatched`, and `InvalidInput` for every other.
+    /// Returns the status of an error: `OutOfMemory`, `ReadFailed` or `WriteFailed` by its code and
+    /// place, `InvalidArguments` for `BadWords`, `EditFailed` for `NotFound` and `TypeUnmatched`,
+    /// and `InvalidInput` for every other.
     pub fn of_error(error: &Error) -> Status
         ensures { result ≡ error_status error.now.code error.now.place }
     {

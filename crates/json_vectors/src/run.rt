@@ -20,7 +20,8 @@ fn differing(alloc: Global, rows: &str) -> Result<u32>
     })
 }
 
-/// Runs the worked examples of `run`, and returns how many come to something else: none, where memory suffices.
+/// Runs the worked examples of `run`, and returns how many come to something else: none, where
+/// memory suffices.
 pub fn vectors(alloc: Global) -> Result<u32>
     ensures { IfErr result (λ e. e ≡ no_memory) }
 {

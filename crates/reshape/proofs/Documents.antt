@@ -1,8 +1,7 @@
 -- From the bytes of a source to a document.
-use Rattle.std.proofs.Common.{Bool, true, cond, ◌≡◌, inl, inr, ℕ, ◌≤◌, List, length, false, Ok, Err, Result, OnOk, refl, sym, subst, ◌∙◌, ap, IsUtf8}
+use Rattle.std.proofs.Common.{Bool, true, cond, ◌≡◌, inl, inr, ℕ, List, false, Ok, Err, Result, OnOk, refl, sym, ◌∙◌, ap}
 use Rattle.json_grammar.specs.Tree.{Tree}
-use Rattle.json_grammar.specs.Grammar.{is_text}
-use Rattle.json_grammar.specs.Rules.{Rules, fits}
+use Rattle.json_grammar.specs.Rules.{Rules}
 use Rattle.json_grammar.specs.Proper.{IsProper}
 use Rattle.json_grammar.proofs.Values.{one_tree}
 use Rattle.json_model.specs.Edit.{Edit, edited}
@@ -13,18 +12,14 @@ use Rattle.json_model.proofs.Printing.{shown_text}
 use Rattle.json_text.specs.declared.error.Error.{Error}
 use Rattle.json_text.specs.Known.{Appends}
 use Rattle.json_text.specs.declared.error.ErrorCode.{ErrorCode}
-use Rattle.json_text.specs.declared.error.ErrorCode.TheVariants.{NoMemory, Io, TooLarge, InvalidUTF8, NotFound, TypeUnmatched}
+use Rattle.json_text.specs.declared.error.ErrorCode.TheVariants.{NoMemory, Io, TooLarge, NotFound, TypeUnmatched}
 use Rattle.json_text.specs.declared.error.Place.{Place}
 use Rattle.json_text.specs.declared.error.Place.TheVariants.{None as nowhere, Reading, Writing, Edit as in_edit}
 use Rattle.json_text.specs.Outside.{SourceState, SinkState}
-use Rattle.json_text.specs.Transfer.{ReadsWithin}
-use Rattle.json_text.specs.Utf8.{Utf8Cause}
 use Rattle.json_doc.specs.declared.doc.Doc.{Doc}
-use Rattle.json_doc.specs.Docs.{IsDocOf, doc_tree, doc_root, doc_cells, doc_text}
-use Rattle.json_doc.specs.Reading.{ReadingFailsWith}
+use Rattle.json_doc.specs.Docs.{doc_tree, doc_root}
 use Rattle.json_value.specs.declared.value.Value.{Value}
 use Rattle.json_value.specs.Denotes.{tree_of}
-use Rattle.json_doc.proofs.Trees.{spelled}
 use Rattle.json_command.proofs.Inputs.{no_io, no_not_found, no_type_unmatched}
 use Rattle.json_command.specs.Reading.{ReadsInput, ReadingFails}
 use Rattle.json_command.specs.Printing.{PrintingFails}

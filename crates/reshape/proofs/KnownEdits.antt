@@ -1,9 +1,8 @@
 -- What the known bytes of a source come to behind edits.
-use Rattle.std.proofs.Common.{◌≡◌, ◌⊎◌, inl, inr, ℕ, ◌<◌, List, length, Some, None, Option, IfSome, Ok, Err, Result, OnOk, IfErr, IsErrOf, refl, sym, subst, ap, ◌∙◌, false}
+use Rattle.std.proofs.Common.{◌≡◌, ◌⊎◌, inl, inr, ℕ, List, Ok, Err, Result, OnOk, IfErr, IsErrOf, refl, sym, ap, ◌∙◌}
 use Rattle.std.specs.Result.{IsOkUnless}
 use Rattle.json_grammar.specs.Tree.{Tree}
 use Rattle.json_grammar.specs.Rules.{Rules}
-use Rattle.json_grammar.proofs.Values.{one_tree}
 use Rattle.json_model.specs.Edit.{Edit, edited, Refusal, not_found, type_unmatched}
 use Rattle.json_text.specs.declared.error.Error.{Error}
 use Rattle.json_text.specs.declared.error.ErrorCode.{ErrorCode}
@@ -11,10 +10,8 @@ use Rattle.json_text.specs.declared.error.ErrorCode.TheVariants.{NoMemory, Io, T
 use Rattle.json_text.specs.declared.error.Place.{Place}
 use Rattle.json_text.specs.declared.error.Place.TheVariants.{None as nowhere, Reading, Writing, Edit as in_edit}
 use Rattle.json_text.specs.Errors.{no_memory}
-use Rattle.json_text.specs.Known.{Drains}
 use Rattle.json_text.specs.Outside.{SourceState, SinkState}
-use Rattle.json_text.specs.Transfer.{ReadsWithin}
-use Rattle.json_command.specs.Reading.{ReadsInput, ReadsFault, KnownFault}
+use Rattle.json_command.specs.Reading.{ReadsInput, KnownFault}
 use Rattle.reshape.specs.Reshape.{Layout, Reshapes, ReadsUnfit, Refuses}
 use Rattle.reshape.specs.Known.{KnownFit, KnownUnfit, edit_refused}
 use Rattle.json_command.proofs.KnownBytes.{large_known, fault_known, no_fault, same_fault, same_made, fault_not_read, one_of}

@@ -1,5 +1,5 @@
 -- What an edits word spells.
-use Rattle.std.proofs.Common.{◌≡◌, ◌≢◌, ◌∙◌, false, true, ℕ, ◌≤◌, ◌^◌, List, [], ◌∷◌, length, map, Option, Some, None, refl, sym, ap, arith}
+use Rattle.std.proofs.Common.{◌≡◌, ◌≢◌, ◌∙◌, false, ℕ, ◌≤◌, ◌^◌, List, [], ◌∷◌, length, map, Some, None, refl, sym, ap, arith}
 use Rattle.json_grammar.specs.Tree.{Tree, null, boolean, num, text, list, pairs}
 use Rattle.json_grammar.proofs.TextUtf8.{text_utf8}
 use Rattle.json_grammar.proofs.Values.{one_tree}

@@ -1,9 +1,5 @@
 -- Laws of the words of the command line.
-use Rattle.std.specs.Prelude.{◌≡◌, ◌⊎◌, ℕ, List}
-use Rattle.json_grammar.specs.Rules.{Rules}
-use Rattle.json_text.specs.declared.error.ErrorCode.{ErrorCode}
-use Rattle.json_text.specs.declared.error.Place.{Place}
-use Rattle.json_command.specs.Input.{IsValid, InputFault}
+use Rattle.std.specs.Prelude.{◌≡◌, ℕ, List}
 use Rattle.reshape.specs.Options.{Command, Asks, IsReshaping, AsksMade}
 
 -- words ask for one command at most: for the same edits in the same layout by the same rules

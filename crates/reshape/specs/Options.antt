@@ -1,8 +1,8 @@
 -- What all words of the command line ask for: the options, in any order, and the edits word among them.
-use Rattle.std.specs.Prelude.{◌≡◌, ◌⊎◌, ℕ, ◌-◌, Bool, true, not, cond, ◌&&◌, ◌||◌, ◌==◌, nat_le, slice_index, List, [], ◌∷◌, length, take, drop, replicate, filter, filter_map, Option, Some, None, is_some, unwrap_or, option_map, option_and_then, option_to_list, ℤ, pos, negsuc, bytes_eq, codes}
-use Rattle.std.specs.List.{list_all, before_first, after_first}
+use Rattle.std.specs.Prelude.{◌≡◌, ◌⊎◌, ℕ, ◌-◌, Bool, true, not, cond, ◌&&◌, ◌||◌, nat_le, List, [], ◌∷◌, length, take, drop, replicate, filter, filter_map, Option, Some, None, is_some, unwrap_or, option_map, option_to_list, bytes_eq, codes}
+use Rattle.std.specs.List.{list_all}
 use Rattle.json_grammar.specs.Rules.{Rules}
-use Rattle.json_number.specs.Integers.{integer_in}
+use Rattle.json_command.specs.Options.{number_after}
 use Rattle.json_text.specs.Ruled.{usual_rules}
 use Rattle.json_model.specs.Edit.{Edit}
 use Rattle.reshape.specs.Words.{AsksEdits}

@@ -10,7 +10,7 @@ use Rattle.json_print.specs.Shown.{shown_as}
 use Rattle.json_print.specs.Styles.{indent_of, is_sorted}
 use Rattle.json_print.specs.declared.style.Style.{Style}
 use Rattle.json_text.specs.Outside.{SourceState, SinkState, Rose, RoseBy}
-use Rattle.json_text.specs.Transfer.{ReadsWithin, AppendsFront}
+use Rattle.json_text.specs.Transfer.{AppendsFront}
 use Rattle.json_text.specs.declared.error.ErrorCode.{ErrorCode}
 use Rattle.json_text.specs.declared.error.ErrorCode.TheVariants.{NoMemory, Io, TooLarge, NotFound, TypeUnmatched}
 use Rattle.json_text.specs.declared.error.Place.{Place}

@@ -2,12 +2,10 @@
 use Rattle.std.specs.Prelude.{◌≡◌, ◌⊎◌, ℕ, List}
 use Rattle.json_text.specs.declared.error.Error.{Error}
 use Rattle.json_text.specs.declared.error.ErrorCode.{ErrorCode}
-use Rattle.json_text.specs.declared.error.ErrorCode.TheVariants.{NoMemory, Io, NotFound, TypeUnmatched, BadWords}
+use Rattle.json_text.specs.declared.error.ErrorCode.TheVariants.{NoMemory, BadWords}
 use Rattle.json_text.specs.declared.error.Place.{Place}
-use Rattle.json_text.specs.declared.error.Place.TheVariants.{None as nowhere, Writing}
-use Rattle.json_text.specs.Known.{Appends}
-use Rattle.json_text.specs.Outside.{SourceState, SinkState, Rose}
-use Rattle.json_text.specs.Transfer.{AppendsFront}
+use Rattle.json_text.specs.declared.error.Place.TheVariants.{None as nowhere}
+use Rattle.json_text.specs.Outside.{SourceState, SinkState}
 use Rattle.json_text.specs.FaultText.{text_of}
 use Rattle.json_model.specs.Edit.{Refusal}
 use Rattle.reshape.specs.Options.{Command, Asks, AsksMade, IsAsked}

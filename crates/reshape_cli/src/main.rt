@@ -1,5 +1,6 @@
-//! The program `reshape`: reads a JSON text from standard input, edits its value as the arguments ask, and writes the text of the
-//! edited tree to standard output. `run` of the library `reshape` does all of it; what is here hands it the arguments and the streams.
+//! The program `reshape`: reads a JSON text from standard input, edits its value as the arguments
+//! ask, and writes the text of the edited tree to standard output. `run` of the library `reshape`
+//! does all of it; what is here hands it the arguments and the streams.
 //!
 //!     printf '{"a": 1}' | reshape --pretty '[["set", ["a"], 2]]'
 #![tactic(auto)]

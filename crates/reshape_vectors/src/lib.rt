@@ -12,4 +12,6 @@ mod levels;
 #[cfg(test)]
 mod readme;
 #[cfg(test)]
+mod shared;
+#[cfg(test)]
 mod system;
