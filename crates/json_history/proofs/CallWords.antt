@@ -1,5 +1,5 @@
 -- The calls that a word spells.
-use Rattle.std.proofs.Common.{◌≡◌, ◌≢◌, ◌∙◌, ◌⊎◌, inl, inr, false, true, ℕ, suc, ◌<◌, ◌≤◌, ◌^◌, List, [], ◌∷◌, length, map, Option, Some, None, refl, sym, ap, subst, arith}
+use Rattle.std.proofs.Common.{◌≡◌, ◌≢◌, ◌∙◌, ◌⊎◌, inl, inr, false, true, ℕ, suc, ◌<◌, ◌≤◌, ◌^◌, List, [], ◌∷◌, length, map, Option, Some, None, Result, Ok, Err, IfErr, refl, sym, ap, subst, arith}
 use Rattle.std.specs.Prelude.{slice_get, option_map, option_and_then}
 use Rattle.json_grammar.specs.Tree.{Tree, null, boolean, num, text, list, pairs, Trees, no_trees, tree_and, trees_list}
 use Rattle.json_grammar.specs.Sizes.{nodes, trees_nodes}
@@ -56,6 +56,12 @@ bad_element_spells_none word t ts i e f = spells_none word t i (calls_in_element
 -- a word that is no valid input spells none
 pub invalid_spells_none : (word : List ℕ) → ¬ (IsValid usual_rules word) → (cs : List TreeCall) → ¬ (Spells word cs)
 invalid_spells_none word n cs s = n (record { tree = s.tree; input = s.input })
+
+-- a word that could not be read as an argument spells none, or memory ran out
+pub argument_fails : {A : Type 0} (r : Result A Error) (word : List ℕ) → IfErr r (λ e. (e ≡ no_memory) ⊎ ((e ≡ bad_words) × ¬ (IsValid usual_rules word))) → IfErr r (λ e. (e ≡ no_memory) ⊎ ((e ≡ bad_words) × ((cs : List TreeCall) → ¬ (Spells word cs))))
+argument_fails (Ok x) word h = tt
+argument_fails (Err e) word (inl lacks) = inl lacks
+argument_fails (Err e) word (inr bad) = inr (bad.0, invalid_spells_none word bad.1)
 
 -- ---- fewer calls than bytes
 

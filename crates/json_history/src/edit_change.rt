@@ -19,7 +19,12 @@ use json_value::{Edit, ObjectView, Pair, Path, PointerNode, Text, Value, View};
 use std::alloc::Global;
 
 // The change of an insertion; `None` if there is no object.
-fn change_of_insert(alloc: Global, target: View<'_>, path: &Path, key: &Text) -> Result<Option<Change>>
+fn change_of_insert(
+    alloc: Global,
+    target: View<'_>,
+    path: &Path,
+    key: &Text,
+) -> Result<Option<Change>>
     ensures told { IfOk result (λ o. option_map change_of o
         ≡ result_ok (insert_change_in (path_steps path.now) (text_bytes key.now)
         (seen target.entry))) }
@@ -57,7 +62,12 @@ fn change_of_push(alloc: Global, target: View<'_>, path: &Path) -> Result<Option
 }
 
 // The change of an element's removal; `None` if there is no such element.
-fn change_of_removed_element(alloc: Global, target: View<'_>, path: &Path, index: usize) -> Result<Option<Change>>
+fn change_of_removed_element(
+    alloc: Global,
+    target: View<'_>,
+    path: &Path,
+    index: usize,
+) -> Result<Option<Change>>
     ensures told { IfOk result (λ o. option_map change_of o
         ≡ result_ok (remove_change_in (path_steps path.now) (index_step index) (seen target.entry))) }
     ensures only { OnlyNoMemory result }
@@ -101,7 +111,12 @@ fn members_with_key(alloc: Global, object: ObjectView<'_>, key: &str) -> Result<
 }
 
 // The change of a key's removal; `None` if there is no object, or no member with the key.
-fn change_of_removed_members(alloc: Global, target: View<'_>, path: &Path, key: &Text) -> Result<Option<Change>>
+fn change_of_removed_members(
+    alloc: Global,
+    target: View<'_>,
+    path: &Path,
+    key: &Text,
+) -> Result<Option<Change>>
     ensures told { IfOk result (λ o. option_map change_of o
         ≡ result_ok (remove_change_in (path_steps path.now) (key_step (text_bytes key.now))
         (seen target.entry))) }

@@ -10,11 +10,11 @@ ghost use Rattle.json_history.specs.ChangeTrees.{change_of};
 ghost use Rattle.json_history.specs.History.{IsValidLog, log_edit, log_call, undo, redo, is_nonempty};
 ghost use Rattle.json_history.specs.Logs.{log_in};
 
-use crate::redo_edits::edit_to_redo;
 use crate::change::Change;
-use crate::redo::Redo;
-use crate::restore::restore;
 use crate::edit_change::change_of_edit;
+use crate::redo::Redo;
+use crate::redo_edits::edit_to_redo;
+use crate::restore::restore;
 use json_text::Result;
 use json_value::{Edit, Value};
 use std::alloc::Global;
@@ -107,12 +107,7 @@ pub(crate) fn undo_last(
 }
 
 // Applies the edit, and makes room for one more change.
-fn reapply(
-    alloc: Global,
-    value: &mut Value,
-    changes: &mut Vec<Change>,
-    edit: &Edit,
-) -> Result<()>
+fn reapply(alloc: Global, value: &mut Value, changes: &mut Vec<Change>, edit: &Edit) -> Result<()>
     requires { IsOk (edited_once (edit_of edit.now) (tree_of value.old)) }
     ensures ok { OnOk result
         (Makes (edited_once (edit_of edit.now) (tree_of value.old)) value.new) }

@@ -1,4 +1,4 @@
-use Rattle.std.proofs.Common.{◌≡◌, ◌⊎◌, inl, inr, List, Some, map, refl, sym, ap, subst, ◌∙◌}
+use Rattle.std.proofs.Common.{◌≡◌, ◌⊎◌, inl, inr, List, Some, map, refl, ap, ◌∙◌, rules}
 use Rattle.std.proofs.lemmas.Result.{IfOk-weaker, IfErr-weaker}
 use Rattle.json_text.specs.Errors.{no_memory, bad_words}
 use Rattle.json_doc.specs.Docs.{doc_root, doc_tree}
@@ -7,12 +7,11 @@ use Rattle.json_value.specs.Seen.{elements_seen, list_of}
 use Rattle.json_history.specs.Calls.{call_of}
 use Rattle.json_history.specs.History.{TreeCall}
 use Rattle.json_history.specs.Spelling.{call_in, Spells, Unspelled}
-use Rattle.json_history.proofs.CallWords.{word_spells, no_array_spells_none, bad_element_spells_none, invalid_spells_none}
+use Rattle.json_history.proofs.CallWords.{word_spells, no_array_spells_none, bad_element_spells_none, argument_fails}
 use Rattle.json_history.proofs.words.read_word.Goals as goal
 
 pub returns-in_err-doc-clause-err : goal.returns-in_err-doc-clause-err
-returns-in_err-doc-clause-err c =
-    elim c.in_err-doc.ensures.err [ inl m ↦ inl m | inr w ↦ inr (w.0, invalid_spells_none c.args.word.now w.1) ]
+returns-in_err-doc-clause-err c = argument_fails c.from_residual.result c.args.word.now (search rules)
 
 pub returns-in-Some-clause-ok : goal.returns-in-Some-clause-ok
 returns-in-Some-clause-ok c =
@@ -35,7 +34,7 @@ returns-in-Some-clause-err c =
     ])
     c.read_calls.ensures.err
 
-pub returns-in-None-clause-err : goal.returns-in-None-clause-err
-returns-in-None-clause-err c =
+pub returns-clause-err : goal.returns-clause-err
+returns-clause-err c =
     let d = c.in_ok-doc.doc.value in
     inr (refl, no_array_spells_none c.args.word.now (doc_tree d (doc_root d)) c.in_ok-doc.ensures.ok (c.in-None.ensures.trees ∙ ap list_of (c.packed.ensures.tree ∙ c.view.ensures.tree ∙ ap (λ e. doc_tree e (doc_root e)) c.deref.ensures)))
