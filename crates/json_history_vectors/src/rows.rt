@@ -32,9 +32,12 @@ const ROWS: &str = r#"# undo and redo
 
 #[test]
 fn the_rows_hold(rt: HostRuntime) -> Result<(), Fail> {
-    let differing = differing_rows(rt.alloc(), ROWS, 4_096, |alloc, words, source, sink, errs| {
-        run_history(alloc, words, source, sink, errs)
-    })?;
+    let differing = differing_rows(
+        rt.alloc(),
+        ROWS,
+        4_096,
+        |alloc, words, source, sink, errs| { run_history(alloc, words, source, sink, errs) },
+    )?;
     assert_eq!(rt; differing, 0);
     Ok(())
 }
