@@ -5,7 +5,7 @@ use Rattle.json_text.specs.declared.error.Error.{Error}
 use Rattle.json_text.specs.declared.error.ErrorCode.{ErrorCode}
 use Rattle.json_text.specs.declared.error.ErrorCode.TheVariants.{NoMemory, NotFound, TypeUnmatched}
 use Rattle.json_text.specs.declared.error.Place.{Place}
-use Rattle.json_text.specs.declared.error.Place.TheVariants.{None as nowhere, Edit as in_edit}
+use Rattle.json_text.specs.declared.error.Place.TheVariants.{None as nowhere}
 use Rattle.json_model.specs.Edit.{Edit, Changed, Refusal, not_found, type_unmatched, edited_once}
 use Rattle.json_value.specs.Edits.{RefusesChange}
 use Rattle.json_history.specs.Lookup.{and_then}

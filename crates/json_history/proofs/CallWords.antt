@@ -1,28 +1,22 @@
 -- The calls that a word spells.
-use Rattle.std.proofs.Common.{◌≡◌, ◌≢◌, ◌∙◌, ◌⊎◌, inl, inr, false, true, ℕ, suc, ◌<◌, ◌≤◌, ◌^◌, List, [], ◌∷◌, length, map, Option, Some, None, Result, Ok, Err, IfErr, refl, sym, ap, subst, arith}
-use Rattle.std.specs.Prelude.{slice_get, option_map, option_and_then}
+use Rattle.std.proofs.Common.{◌≡◌, ◌∙◌, ◌⊎◌, inl, inr, false, ℕ, suc, ◌<◌, ◌≤◌, ◌^◌, List, [], ◌∷◌, length, Option, Some, None, Result, Ok, Err, IfErr, refl, sym, ap, arith}
+use Rattle.std.specs.Prelude.{option_map, option_and_then}
 use Rattle.json_grammar.specs.Tree.{Tree, null, boolean, num, text, list, pairs, Trees, no_trees, tree_and, trees_list}
 use Rattle.json_grammar.specs.Sizes.{nodes, trees_nodes}
 use Rattle.json_grammar.proofs.Sizes.{text_fits, nodes_some}
 use Rattle.json_grammar.proofs.Values.{one_tree}
-use Rattle.json_doc.specs.Readings.{string_of}
 use Rattle.json_text.specs.Errors.{no_memory, bad_words}
 use Rattle.json_text.specs.Ruled.{usual_rules}
 use Rattle.json_text.specs.declared.error.Error.{Error}
-use Rattle.json_text.specs.declared.error.ErrorCode.{ErrorCode}
-use Rattle.json_text.specs.declared.error.ErrorCode.TheVariants.{NoMemory, TooLarge, InvalidUTF8, TypeUnmatched, NumberOutOfRange, ExpectedNumericKey}
-use Rattle.json_text.specs.declared.error.Place.{Place}
-use Rattle.json_text.specs.declared.error.Place.TheVariants.{None as nowhere}
 use Rattle.json_model.specs.Edit.{Edit}
 use Rattle.json_value.specs.EditTrees.{both, each_in, edit_in}
 use Rattle.json_value.specs.Seen.{list_of}
 use Rattle.json_command.specs.Input.{IsInput, IsValid}
-use Rattle.json_data.specs.Reading.{Reading, gives}
+use Rattle.json_data.specs.Reading.{gives}
 use Rattle.json_data.specs.ReadingValues.{edit_datum, spelled, read_edit}
-use Rattle.json_data.specs.ValueCalls.{TreeReadingFails}
 use Rattle.json_data.proofs.ValueData.{same_edit}
 use Rattle.json_history.specs.History.{TreeCall, edit}
-use Rattle.json_history.specs.Spelling.{call_named, single_call, or_else, call_in, calls_in, Spells, Asks, Unspelled}
+use Rattle.json_history.specs.Spelling.{call_in, calls_in, Spells}
 
 none_some : {A : Type 0} {x : A} → None ≡ Some x → ⊥
 none_some e = cc

@@ -1,13 +1,12 @@
 -- What an edit changes, from what is read at its place.
-use Rattle.std.proofs.Common.{◌≡◌, ℕ, suc, List, [], ◌∷◌, ◌++◌, map, Bool, true, false, cond, Option, Some, None, Result, Ok, Err, IfOk, refl, sym, ap, ◌∙◌, subst, bytes_eq, length, arith}
+use Rattle.std.proofs.Common.{◌≡◌, ℕ, suc, List, [], ◌∷◌, map, Bool, true, false, cond, Option, Some, None, Ok, Err, refl, sym, ap, ◌∙◌, bytes_eq, length, arith}
 use Rattle.std.proofs.lemmas.Bool.{eqb-true, eqb-false}
-use Rattle.std.specs.Prelude.{ok_or, option_map, ◌==◌}
+use Rattle.std.specs.Prelude.{option_map, ◌==◌}
 use Rattle.std.specs.Result.{result_ok}
 use Rattle.json_grammar.specs.Tree.{Tree, null, boolean, num, text, list, pairs, list_trees, trees_list, Pairs, no_pairs, pair_and, pairs_list, list_pairs}
-use Rattle.json_model.specs.Edit.{Step, key_step, index_step, Changed, Refusal, not_found, within, has_key}
+use Rattle.json_model.specs.Edit.{Step, key_step, index_step, Changed, not_found, within, has_key}
 use Rattle.json_model.specs.Same.{first_value}
-use Rattle.json_value.specs.Denotes.{text_bytes, tree_of}
-use Rattle.json_value.specs.Edits.{edit_of, path_of, path_steps, step_of}
+use Rattle.json_value.specs.Edits.{edit_of, path_of, path_steps}
 use Rattle.json_value.specs.Seen.{first_of, pairs_of, list_of}
 use Rattle.json_value.specs.Steps.{tree_at}
 use Rattle.json_value.specs.declared.path.Edit.{Edit}
@@ -15,13 +14,12 @@ use Rattle.json_value.specs.declared.pair.Keyed.{Keyed}
 use Rattle.json_value.specs.declared.value.Value.{Value}
 use Rattle.json_history.specs.ChangeTrees.{removed_member}
 use Rattle.json_value.specs.declared.path.Edit.TheVariants.{Set, Insert, Push, Remove}
-use Rattle.json_value.specs.declared.path.PointerNode.{PointerNode}
 use Rattle.json_value.specs.declared.path.PointerNode.TheVariants.{Key, Index}
-use Rattle.json_value.proofs.Trees.{pairs_back, pairs_again, list_again}
+use Rattle.json_value.proofs.Trees.{pairs_back, pairs_again}
 use Rattle.json_doc.proofs.Trees.{list_back}
 use Rattle.json_history.specs.Lookup.{and_then, lookup_step, lookup}
-use Rattle.json_history.specs.Change.{TreeChange, put, drop_last, put_pairs, insert_change, change, members_named, members_of, elements_of, put_back}
-use Rattle.json_history.specs.Target.{insert_change_in, push_change_in, remove_change_in, change_in}
+use Rattle.json_history.specs.Change.{TreeChange, put, put_pairs, insert_change, change, members_named, put_back}
+use Rattle.json_history.specs.Target.{insert_change_in, remove_change_in, change_in}
 use Rattle.json_history.proofs.LookupViews.{first_value_first_of, lookup_some, lookup_tree_at}
 use Rattle.json_history.proofs.LookupChanges.{lookup_append}
 

@@ -14,3 +14,4 @@ pub mod RunAnswers
 pub mod UndoLaws
 pub mod HistoryLaws
 pub mod LimitedHistories
+pub mod RestoredValues

@@ -3,7 +3,6 @@ use Rattle.std.proofs.Common.{◌≡◌, ℕ, zero, suc, List, [], ◌∷◌, �
 use Rattle.std.proofs.lemmas.List.{take-map, map-append, reverse-append, reverse-reverse}
 use Rattle.std.proofs.Math.Logic.{∥∥₁_map}
 use Rattle.json_grammar.specs.Tree.{Tree}
-use Rattle.json_model.specs.Edit.{Changed}
 use Rattle.json_value.specs.Denotes.{tree_of}
 use Rattle.json_value.specs.declared.value.Value.{Value}
 use Rattle.json_history.specs.Lookup.{and_then}

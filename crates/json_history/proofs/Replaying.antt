@@ -7,7 +7,6 @@ use Rattle.json_doc.specs.declared.doc.Doc.{Doc}
 use Rattle.json_doc.specs.Docs.{doc_tree, doc_root}
 use Rattle.json_value.specs.Denotes.{tree_of}
 use Rattle.json_value.specs.declared.value.Value.{Value}
-use Rattle.json_grammar.specs.Grammar.{is_text}
 use Rattle.json_grammar.specs.Proper.{IsProper}
 use Rattle.json_grammar.proofs.Values.{one_tree}
 use Rattle.json_model.proofs.Printing.{shown_text}
@@ -27,7 +26,7 @@ use Rattle.json_print.specs.Shown.{shown_as}
 use Rattle.json_print.specs.declared.style.Style.{Style}
 use Rattle.json_history.specs.Calls.{CallsFail}
 use Rattle.json_history.specs.History.{TreeHistory, TreeCall, run_calls, run_calls_from, new_history}
-use Rattle.json_history.specs.Replay.{compact, Replays, ReadsInapplicable, GainsPrefix, ReplayFails}
+use Rattle.json_history.specs.Replay.{compact, Replays, ReplayFails}
 
 -- the text was read, the calls made, and the text of the tree after them gained and flushed
 pub replay_ok : (cs : List TreeCall) (source source' : SourceState) (sink sink' : SinkState) (tree : Tree) (left : TreeHistory) (r : Result (Unit {0}) Error) → ReadsInput usual_rules source source' tree → IsProper left.now → run_calls tree cs ≡ Ok left

@@ -1,5 +1,5 @@
 -- The status and the text that a run comes to, where the bytes of the source are known.
-use Rattle.std.proofs.Common.{◌≡◌, ◌⊎◌, inl, inr, ℕ, List, [], ◌∷◌, Some, Option, Ok, Err, Result, refl, sym, subst, ap, ◌∙◌, false}
+use Rattle.std.proofs.Common.{◌≡◌, ◌⊎◌, inl, inr, ℕ, List, [], ◌∷◌, Some, Ok, Err, Result, refl, sym, subst, ap, ◌∙◌, false}
 use Rattle.json_grammar.specs.Tree.{Tree}
 use Rattle.json_grammar.proofs.Values.{one_tree}
 use Rattle.json_model.specs.Edit.{Refusal, not_found, type_unmatched}
@@ -21,7 +21,7 @@ use Rattle.json_command.proofs.KnownBytes.{large_known, fault_known, no_fault, s
 use Rattle.json_history.specs.Calls.{edit_error}
 use Rattle.json_history.specs.History.{TreeHistory, TreeCall, run_calls}
 use Rattle.json_history.specs.Replay.{Replays, ReadsInapplicable, GainsPrefix, ReplayFails}
-use Rattle.json_history.specs.Spelling.{Spells, Asks, calls_in}
+use Rattle.json_history.specs.Spelling.{Asks, calls_in}
 use Rattle.json_history.specs.Run.{WithCalls, RunFails, KnownApplicable, KnownInapplicable, IsApplicable, IsInapplicable, IsInvalid}
 
 -- ---- the calls that the words ask for

@@ -1,5 +1,5 @@
 -- Calls of a history as the code has them, and why they fail.
-use Rattle.std.specs.Prelude.{◌≡◌, ℕ, List, Ok, Err, ⊤}
+use Rattle.std.specs.Prelude.{◌≡◌, ℕ, List, Err, ⊤}
 use Rattle.json_model.specs.Edit.{Refusal, not_found, type_unmatched}
 use Rattle.json_text.specs.declared.error.Error.{Error}
 use Rattle.json_text.specs.declared.error.ErrorCode.{ErrorCode}

@@ -3,6 +3,7 @@ pub mod Change
 pub mod History
 pub mod ChangeTrees
 pub mod Target
+pub mod Restores
 pub mod Logs
 pub mod LogOfHistory
 pub mod Limits

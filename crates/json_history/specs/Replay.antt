@@ -1,6 +1,6 @@
 -- What is read of a source and written to a sink: a text, and the compact text of the tree after
 -- the calls.
-use Rattle.std.specs.Prelude.{◌≡◌, ◌⊎◌, ℕ, ◌+◌, ◌<◌, List, length, ⊤, IfSome, Option, None, false, Ok, Err}
+use Rattle.std.specs.Prelude.{◌≡◌, ◌⊎◌, ℕ, ◌+◌, ◌<◌, List, length, IfSome, None, false, Ok, Err}
 use Rattle.json_grammar.specs.Tree.{Tree}
 use Rattle.json_grammar.specs.Grammar.{is_text}
 use Rattle.json_model.specs.Edit.{Refusal, not_found, type_unmatched}

@@ -2,14 +2,13 @@
 use Rattle.std.specs.Prelude.{ℕ, ◌-◌, List, length, take, cond, Ok, Err}
 use Rattle.json_grammar.specs.Tree.{Tree}
 use Rattle.json_model.specs.Edit.{Step, key_step, index_step, Changed, not_found, within, on_pairs, on_list, has_key}
-use Rattle.json_model.specs.Edit as model
 use Rattle.json_model.specs.Same.{first_value}
 use Rattle.json_value.specs.Denotes.{tree_of, text_bytes}
 use Rattle.json_value.specs.Edits.{path_steps, step_of}
 use Rattle.json_value.specs.declared.path.Edit.{Edit}
 use Rattle.json_value.specs.declared.path.Edit.TheVariants.{Set, Insert, Push, Remove}
 use Rattle.json_history.specs.Lookup.{and_then, lookup_step}
-use Rattle.json_history.specs.Change.{TreeChange, put, drop_last, put_back, put_pairs, members_named, members_of, elements_of, insert_change, insert_element_at, insert_members, without_last, edit_of_last}
+use Rattle.json_history.specs.Change.{TreeChange, put, drop_last, put_back, put_pairs, members_named, members_of, elements_of, insert_change, insert_element_at, insert_members, without_last}
 use Rattle.json_history.specs.ChangeTrees.{removed_members}
 use Rattle.json_history.specs.declared.change.Change.{Change}
 use Rattle.json_history.specs.declared.change.Change.TheVariants.{Put, DropLast, PutBack, PutPairs}

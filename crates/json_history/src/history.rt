@@ -2,12 +2,14 @@
 ghost use Rattle.std.specs.Prelude.{◌≡◌, IfOk, Ok, OnOk, OnErr, [], length};
 ghost use Rattle.json_model.specs.Edit.{edited_once};
 ghost use Rattle.json_value.specs.Denotes.{tree_of};
-ghost use Rattle.json_value.specs.Edits.{edit_of, FailsAs};
+ghost use Rattle.json_value.specs.Edits.{edit_of, path_of, FailsAs};
 ghost use Rattle.json_value.specs.Failures.{OnlyNoMemory};
+ghost use Rattle.json_value.specs.Touched.{Touches, Keeps};
 ghost use Rattle.json_history.specs.History.{IsValidLog, new_log, log_edit, log_call, undo, redo, is_nonempty};
 ghost use Rattle.json_history.specs.History.{new_history, after_call, edit as edits, history_of};
 ghost use Rattle.json_history.specs.Limits.{limit_changes, limit_past, without_redos, without_future};
 ghost use Rattle.json_history.specs.Logs.{log_in, changes_of};
+ghost use Rattle.json_history.specs.Restores.{UndoTouches, UndoKeeps, RedoTouches, RedoKeeps};
 
 use crate::change::Change;
 use crate::redo::Redo;
@@ -43,7 +45,7 @@ pub struct History {
 }
 
 impl History {
-    ghost use Rattle.json_history.specs.LogOfHistory.{log_of};
+    ghost use Rattle.json_history.specs.LogOfHistory.{log_of, value_of, changes_in, redos_in};
 
     /// Creates a history of the value, with nothing to undo or redo. Takes no memory.
     pub fn new(alloc: Global, value: Value) -> History
@@ -96,6 +98,10 @@ impl History {
             ≡ after_call (history_of (log_of self.old)) (edits (edit_of edit))) }
         ensures kept { OnErr result (log_of self.new ≡ log_of self.old) }
         ensures refused { FailsAs (edited_once (edit_of edit) (log_of self.old).value) result }
+        ensures children { OnOk result
+            (Touches (path_of edit) edit (value_of self.old) (value_of self.new)) }
+        ensures kept_along { OnErr result
+            (Keeps (path_of edit) edit (value_of self.old) (value_of self.new)) }
     {
         apply_and_log(
             alloc,
@@ -115,6 +121,10 @@ impl History {
         ensures history { OnOk result (history_of (log_of self.new)
             ≡ after_call (history_of (log_of self.old)) undo) }
         ensures kept { OnErr result (log_of self.new ≡ log_of self.old) }
+        ensures children { OnOk result
+            (UndoTouches (changes_in self.old) (value_of self.old) (value_of self.new)) }
+        ensures kept_along { OnErr result
+            (UndoKeeps (changes_in self.old) (value_of self.old) (value_of self.new)) }
         ensures only { OnlyNoMemory result }
     {
         undo_last(alloc, &mut self.value, &mut self.changes, &mut self.redos)
@@ -129,6 +139,10 @@ impl History {
         ensures history { OnOk result (history_of (log_of self.new)
             ≡ after_call (history_of (log_of self.old)) redo) }
         ensures kept { OnErr result (log_of self.new ≡ log_of self.old) }
+        ensures children { OnOk result
+            (RedoTouches (redos_in self.old) (value_of self.old) (value_of self.new)) }
+        ensures kept_along { OnErr result
+            (RedoKeeps (redos_in self.old) (value_of self.old) (value_of self.new)) }
         ensures only { OnlyNoMemory result }
     {
         redo_next(alloc, &mut self.value, &mut self.changes, &mut self.redos)

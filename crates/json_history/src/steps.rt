@@ -3,12 +3,14 @@ ghost use Rattle.std.specs.Prelude.{◌≡◌, ◌<◌, IsOk, IfOk, Ok, OnOk, On
 ghost use Rattle.std.specs.Vec.{vec_len, vec_capacity};
 ghost use Rattle.json_model.specs.Edit.{edited_once};
 ghost use Rattle.json_value.specs.Denotes.{tree_of};
-ghost use Rattle.json_value.specs.Edits.{edit_of, FailsAs, Makes};
+ghost use Rattle.json_value.specs.Edits.{edit_of, path_of, FailsAs, Makes};
 ghost use Rattle.json_value.specs.Failures.{OnlyNoMemory};
+ghost use Rattle.json_value.specs.Touched.{Along, KeptAlong, Touches, Keeps};
 ghost use Rattle.json_history.specs.Change.{undone, redo_edit};
-ghost use Rattle.json_history.specs.ChangeTrees.{change_of};
+ghost use Rattle.json_history.specs.ChangeTrees.{change_of, change_path};
 ghost use Rattle.json_history.specs.History.{IsValidLog, log_edit, log_call, undo, redo, is_nonempty};
 ghost use Rattle.json_history.specs.Logs.{log_in};
+ghost use Rattle.json_history.specs.Restores.{RestoresAt, RestoreKeeps, UndoTouches, UndoKeeps, RedoTouches, RedoKeeps};
 
 use crate::change::Change;
 use crate::edit_change::change_of_edit;
@@ -32,6 +34,8 @@ pub(crate) fn apply_and_log(
     ensures kept { OnErr result (log_in value.new changes.new.items redos.new.items
         ≡ log_in value.old changes.old.items redos.old.items) }
     ensures refused { FailsAs (edited_once (edit_of edit.now) (tree_of value.old)) result }
+    ensures children { OnOk result (Touches (path_of edit.now) edit.now value.old value.new) }
+    ensures kept_along { OnErr result (Keeps (path_of edit.now) edit.now value.old value.new) }
 {
     match change_of_edit(alloc, value, edit)? {
         Some(change) => {
@@ -59,6 +63,10 @@ fn undo_change(
     ensures again { IfOk result (λ e. redo_edit (tree_of value.old) (change_of change.now)
         ≡ Ok (edit_of e)) }
     ensures kept { OnErr result (tree_of value.new ≡ tree_of value.old) }
+    ensures children { OnOk result (Along (change_path change.now) (RestoresAt change.now)
+        value.old value.new) }
+    ensures kept_along { OnErr result (KeptAlong (change_path change.now) RestoreKeeps
+        value.old value.new) }
     ensures redos { redos.new.items ≡ redos.old.items }
     ensures room { OnOk result (vec_len redos.new < vec_capacity redos.new) }
     ensures only { OnlyNoMemory result }
@@ -87,6 +95,8 @@ pub(crate) fn undo_last(
         ≡ is_nonempty (log_in value.old changes.old.items redos.old.items).changes) }
     ensures kept { OnErr result (log_in value.new changes.new.items redos.new.items
         ≡ log_in value.old changes.old.items redos.old.items) }
+    ensures children { OnOk result (UndoTouches changes.old.items value.old value.new) }
+    ensures kept_along { OnErr result (UndoKeeps changes.old.items value.old value.new) }
     ensures only { OnlyNoMemory result }
 {
     match changes.pop() {
@@ -112,6 +122,8 @@ fn reapply(alloc: Global, value: &mut Value, changes: &mut Vec<Change>, edit: &E
     ensures ok { OnOk result
         (Makes (edited_once (edit_of edit.now) (tree_of value.old)) value.new) }
     ensures kept { OnErr result (tree_of value.new ≡ tree_of value.old) }
+    ensures children { OnOk result (Touches (path_of edit.now) edit.now value.old value.new) }
+    ensures kept_along { OnErr result (Keeps (path_of edit.now) edit.now value.old value.new) }
     ensures changes { changes.new.items ≡ changes.old.items }
     ensures room { OnOk result (vec_len changes.new < vec_capacity changes.new) }
     ensures only { OnlyNoMemory result }
@@ -134,6 +146,8 @@ pub(crate) fn redo_next(
         ≡ is_nonempty (log_in value.old changes.old.items redos.old.items).redos) }
     ensures kept { OnErr result (log_in value.new changes.new.items redos.new.items
         ≡ log_in value.old changes.old.items redos.old.items) }
+    ensures children { OnOk result (RedoTouches redos.old.items value.old value.new) }
+    ensures kept_along { OnErr result (RedoKeeps redos.old.items value.old value.new) }
     ensures only { OnlyNoMemory result }
 {
     match redos.pop() {

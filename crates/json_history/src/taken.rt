@@ -3,6 +3,7 @@ ghost use Rattle.std.specs.Prelude.{◌≡◌, ◌<◌, length, Some, slice_get,
 ghost use Rattle.json_value.specs.Denotes.{pair_of};
 ghost use Rattle.json_value.specs.Failures.{OnlyNoMemory};
 ghost use Rattle.json_history.specs.ChangeTrees.{removed_members, removed_member};
+ghost use Rattle.json_history.specs.Restores.{member_origin, origins_of};
 
 use json_text::Result;
 use json_value::{Pair, Text};
@@ -50,6 +51,7 @@ impl Taken {
 // A copy of a member with its index.
 fn copy_member(alloc: Global, member: &(usize, Pair)) -> Result<(usize, Pair)>
     ensures member { IfOk result (λ e. removed_member e ≡ removed_member member.now) }
+    ensures origin { IfOk result (λ e. member_origin e ≡ member_origin member.now) }
     ensures only { OnlyNoMemory result }
 {
     let (index, pair) = member;
@@ -61,6 +63,7 @@ fn copy_member(alloc: Global, member: &(usize, Pair)) -> Result<(usize, Pair)>
 // Copies of the members with their indexes.
 pub(crate) fn copy_members(alloc: Global, taken: &Taken) -> Result<Vec<(usize, Pair)>>
     ensures members { IfOk result (λ v. map removed_member v.items ≡ removed_members taken.now) }
+    ensures origins { IfOk result (λ v. map member_origin v.items ≡ origins_of taken.now) }
     ensures only { OnlyNoMemory result }
 {
     let mut copies = Vec::with_capacity(alloc, taken.list.len())?;

@@ -1,4 +1,4 @@
-use Rattle.std.proofs.Common.{◌≡◌, ℕ, [], ◌∷◌, List, length, map, Some, sym, ap, ◌∙◌, subst}
+use Rattle.std.proofs.Common.{map, Some, sym, ap, ◌∙◌}
 use Rattle.json_grammar.specs.Tree.{list_pairs}
 use Rattle.json_value.specs.Denotes.{text_bytes}
 use Rattle.json_value.specs.Edits.{path_steps}

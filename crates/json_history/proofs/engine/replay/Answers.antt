@@ -1,4 +1,4 @@
-use Rattle.std.proofs.Common.{map, sym}
+use Rattle.std.proofs.Common.{map}
 use Rattle.json_text.specs.Ruled.{rules_of}
 use Rattle.json_value.specs.Denotes.{tree_of}
 use Rattle.json_value.proofs.ProperValues.{value_proper}

@@ -1,4 +1,4 @@
-use Rattle.std.proofs.Common.{Some, None, sym, ap, ◌∙◌}
+use Rattle.std.proofs.Common.{Some, None, ap, ◌∙◌}
 use Rattle.json_model.specs.Edit.{insert_at}
 use Rattle.json_value.specs.Denotes.{tree_of, text_bytes}
 use Rattle.json_value.specs.Edits.{path_steps}
