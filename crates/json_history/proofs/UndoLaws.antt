@@ -170,7 +170,8 @@ has_key_ok k ps qs h = by (has_key k ps) h
 
 -- ---- an edit
 
--- what an edit e of t that gives u changes: it is put at_path_back, and an edit does it at_path_again
+-- what an edit e of t that gives u changes: it is put at_path_back, and an edit does it
+-- at_path_again
 pub record UndoneBy (t u : Tree) (e : Edit) : Type 0 where
   pub told : TreeChange
   pub told_so : change t e ≡ Ok told
@@ -328,7 +329,8 @@ err_injective e r h = cc
 ok_not_err : {A : Type 0} (x : A) (r : Refusal) → ◌≡◌ {A = Changed A} (Ok x) (Err r) → ⊥
 ok_not_err x r e = cc
 
--- where a change at a path is refused, the path leads nowhere, or what lookup_changed there refuses it
+-- where a change at a path is refused, the path leads nowhere, or what lookup_changed there
+-- refuses it
 pub at_path_err : (p : List Step) (f : Tree → Changed Tree) (t : Tree) (r : Refusal) → at_path p f t ≡ Err r → (lookup p t ≡ Err r) ⊎ ((c : Tree) × (lookup p t ≡ Ok c) × (f c ≡ Err r))
 at_path_err p f t r h = by (lookup p t) (sym (at_path_lookup p f t) ∙ h)
   where

@@ -46,7 +46,8 @@ abbrev pub after_calls : TreeHistory → List TreeCall → TreeHistory
 after_calls h [] = h
 after_calls h (c ∷ cs) = after_calls (after_call h c) cs
 
--- after several calls, of which the first has the number n; or the number of the first edit that does not apply, and why
+-- after several calls, of which the first has the number n; or the number of the first edit that
+-- does not apply, and why
 abbrev pub run_calls_from : ℕ → TreeHistory → List TreeCall → Result TreeHistory (ℕ × Refusal)
 run_calls_from n h [] = Ok h
 run_calls_from n h (edit e ∷ cs) = elim (edited_once e h.now) [ Ok u ↦ run_calls_from (suc n) (after_edit h (Ok u)) cs | Err r ↦ Err (n, r) ]
@@ -69,7 +70,8 @@ run_calls t cs = run_calls_from 0 (new_history t) cs
 abbrev pub TreeRedo : Type 0
 TreeRedo = Edit × TreeChange
 
--- the current tree, the changes to undo with the latest first, and the edits to redo with the next first
+-- the current tree, the changes to undo with the latest first, and the edits to redo with the
+-- next first
 pub record ChangeLog : Type 0 where
   pub value : Tree
   pub changes : List TreeChange

@@ -32,7 +32,8 @@ UndoAfterEdit =
     → edited_once e h.now ≡ Ok u
     → after_calls h (edit e ∷ undo ∷ []) ≡ record { now = h.now; past = h.past; future = u ∷ [] }
 
--- where there is a past, an undo and a redo give the same history; where there is a future, a redo and an undo do
+-- where there is a past, an undo and a redo give the same history; where there is a future, a
+-- redo and an undo do
 abbrev pub RedoAfterUndo : Type 0
 RedoAfterUndo = (h : TreeHistory) (t : Tree) (ts : List Tree) → h.past ≡ t ∷ ts → after_calls h (undo ∷ redo ∷ []) ≡ h
 
@@ -63,7 +64,8 @@ EmptyPastOrFuture = (h : TreeHistory) → (h.past ≡ [] → after_call h undo �
 abbrev pub LogRepresentsHistory : Type 0
 LogRepresentsHistory = (t : Tree) (cs : List TreeCall) → IsValidLog (log_calls (new_log t) cs) × Represents (log_calls (new_log t) cs) (after_calls (new_history t) cs)
 
--- a valid log stands for a history, and after a call it is valid and stands for the history after that call
+-- a valid log stands for a history, and after a call it is valid and stands for the history
+-- after that call
 abbrev pub LogFollowsCall : Type 0
 LogFollowsCall =
     (k : ChangeLog) (c : TreeCall)

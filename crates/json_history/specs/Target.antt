@@ -13,7 +13,8 @@ use Rattle.json_history.specs.ChangeTrees.{removed_members}
 use Rattle.json_history.specs.declared.change.Change.{Change}
 use Rattle.json_history.specs.declared.change.Change.TheVariants.{Put, DropLast, PutBack, PutPairs}
 
--- what an insertion, a push, a removal and an edit change, where t is the value at the end of the path
+-- what an insertion, a push, a removal and an edit change, where t is the value at the end of
+-- the path
 abbrev pub insert_change_in : List Step → List ℕ → Tree → Changed TreeChange
 insert_change_in p k t = within (λ ps. insert_change p k (first_value k ps)) (members_of t)
 

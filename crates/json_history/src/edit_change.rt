@@ -69,7 +69,8 @@ fn change_of_removed_element(
     index: usize,
 ) -> Result<Option<Change>>
     ensures told { IfOk result (λ o. option_map change_of o
-        ≡ result_ok (remove_change_in (path_steps path.now) (index_step index) (seen target.entry))) }
+        ≡ result_ok (remove_change_in (path_steps path.now) (index_step index)
+        (seen target.entry))) }
     ensures only { OnlyNoMemory result }
 {
     match target.get(index) {

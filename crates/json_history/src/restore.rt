@@ -99,7 +99,8 @@ fn insert_into_array(array: &mut Array, alloc: Global, index: usize, old: &Value
 fn insert_element(value: &mut Value, alloc: Global, index: usize, old: &Value) -> Result<()>
     requires { IsOk (on_list (insert_element_at index (tree_of old.now)) (tree_of value.old)) }
     ensures ok { OnOk result
-        (Makes (on_list (insert_element_at index (tree_of old.now)) (tree_of value.old)) value.new) }
+        (Makes (on_list (insert_element_at index (tree_of old.now)) (tree_of value.old))
+        value.new) }
     ensures kept { OnErr result (tree_of value.new ≡ tree_of value.old) }
     ensures touched { OnOk result
         (ArrayTouched (InsertsAt index (origin_of old.now)) value.old value.new) }
@@ -144,9 +145,10 @@ fn insert_reserved_members(pairs: &mut Vec<Pair>, members: Vec<(usize, Pair)>)
 
 // Inserts copies of the members at their indexes, one after another.
 fn insert_into_object(object: &mut Object, alloc: Global, taken: &Taken) -> Result<()>
-    requires { IsOk (insert_members (removed_members taken.now) (list_pairs (pairs_in object.old))) }
-    ensures ok { OnOk result (insert_members (removed_members taken.now) (list_pairs (pairs_in object.old))
-        ≡ Ok (list_pairs (pairs_in object.new))) }
+    requires { IsOk (insert_members (removed_members taken.now)
+        (list_pairs (pairs_in object.old))) }
+    ensures ok { OnOk result (insert_members (removed_members taken.now)
+        (list_pairs (pairs_in object.old)) ≡ Ok (list_pairs (pairs_in object.new))) }
     ensures kept { OnErr result (pairs_in object.new ≡ pairs_in object.old) }
     ensures touched { OnOk result (MembersTouched
         (InsertsMembers (origins_of taken.now)) object.old object.new) }
@@ -165,7 +167,8 @@ fn insert_into_object(object: &mut Object, alloc: Global, taken: &Taken) -> Resu
 fn insert_members(value: &mut Value, alloc: Global, taken: &Taken) -> Result<()>
     requires { IsOk (on_pairs (insert_members (removed_members taken.now)) (tree_of value.old)) }
     ensures ok { OnOk result
-        (Makes (on_pairs (insert_members (removed_members taken.now)) (tree_of value.old)) value.new) }
+        (Makes (on_pairs (insert_members (removed_members taken.now)) (tree_of value.old))
+        value.new) }
     ensures kept { OnErr result (tree_of value.new ≡ tree_of value.old) }
     ensures touched { OnOk result
         (ObjectTouched (InsertsMembers (origins_of taken.now)) value.old value.new) }
