@@ -1,4 +1,4 @@
--- Calls in turn, one after another.
+-- Several calls, one after another.
 use Rattle.std.proofs.Common.{◌≡◌, ℕ, suc, List, [], ◌∷◌, Result, Ok, Err, refl, sym, ap, ◌∙◌}
 use Rattle.json_grammar.specs.Tree.{Tree}
 use Rattle.json_text.specs.declared.error.Error.{Error}
@@ -13,7 +13,7 @@ use Rattle.json_history.specs.Calls.{CallsFail, numbered_place}
 use Rattle.json_history.specs.Change.{change}
 use Rattle.json_history.specs.History.{TreeHistory, TreeCall, edit, undo, redo, after_edit, after_call, run_calls_from, run_call, ChangeLog, log_edit, history_of}
 
--- an edit that a history kept is one that applies
+-- an edit that a log took applies
 pub run_edit_ok : (k n : ChangeLog) (e : Edit) → log_edit k e ≡ Ok n → history_of n ≡ after_call (history_of k) (edit e) → run_call (history_of k) (edit e) ≡ Ok (history_of n)
 run_edit_ok k n e so tells = by (edited_once e k.value) so ∙ ap (λ h. Ok h) (sym tells)
   where
@@ -53,7 +53,7 @@ run_calls_err n h (edit e) cs d so = by (edited_once e h.now) so
 run_calls_err n h undo cs d so = absurd (cc)
 run_calls_err n h redo cs d so = absurd (cc)
 
--- the refusal of a call, with its number, is that of all
+-- the error of a call, with its number, is that of all calls
 pub numbered_call_fails : (n : ℕ) (h g : TreeHistory) (c : TreeCall) (cs all : List TreeCall) (e f : Error) → run_calls_from n h (c ∷ cs) ≡ run_calls_from 0 g all
     → RefusesChange (run_call h c) e.code e.place → f.code ≡ e.code → f.place ≡ numbered_place e.code e.place n → CallsFail g all f.code f.place
 numbered_call_fails n h g c cs all e f same refuses code place = by e.code e.place f.code f.place refuses code place

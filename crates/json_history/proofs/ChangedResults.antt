@@ -1,4 +1,4 @@
--- Changes one after another, taken apart.
+-- Two steps that may fail, taken apart.
 use Rattle.std.proofs.Common.{◌≡◌, Ok, Err, refl}
 use Rattle.json_model.specs.Edit.{Changed, Refusal, within}
 use Rattle.json_history.specs.Lookup.{and_then}
@@ -9,7 +9,7 @@ ok_injective x y e = cc
 pub err_not_ok : {A : Type 0} (x : A) (r : Refusal) → ◌≡◌ {A = Changed A} (Err r) (Ok x) → ⊥
 err_not_ok x r e = cc
 
--- what a change was made of
+-- the parts of a result that is Ok
 pub and_then_ok : {A B : Type 0} (r : Changed A) (f : A → Changed B) (y : B) → and_then r f ≡ Ok y → (x : A) × (r ≡ Ok x) × (f x ≡ Ok y)
 and_then_ok (Ok x) f y e = (x, refl, e)
 and_then_ok (Err e) f y h = absurd (err_not_ok y e h)
@@ -26,7 +26,7 @@ pub within_within : {A B C : Type 0} (g : B → C) (h : A → B) (r : Changed A)
 within_within g h (Ok x) = refl
 within_within g h (Err e) = refl
 
--- the outer part of a change within the inner
+-- `within` goes into the second step
 pub within_and_then : {A B C D : Type 0} (g : C → D) (h : B → C) (f : A → Changed B) (r : Changed A) → within g (and_then r (λ c. within h (f c))) ≡ and_then r (λ c. within (λ n. g (h n)) (f c))
 within_and_then g h f (Ok x) = within_within g h (f x)
 within_and_then g h f (Err e) = refl

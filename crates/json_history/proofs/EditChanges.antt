@@ -1,4 +1,4 @@
--- What an edit changes, from what is read at its place.
+-- The change of an edit, from the value at its path.
 use Rattle.std.proofs.Common.{◌≡◌, ℕ, suc, List, [], ◌∷◌, map, Bool, true, false, cond, Option, Some, None, Ok, Err, refl, sym, ap, ◌∙◌, bytes_eq, length, arith}
 use Rattle.std.proofs.lemmas.Bool.{eqb-true, eqb-false}
 use Rattle.std.specs.Prelude.{option_map, ◌==◌}
@@ -23,7 +23,7 @@ use Rattle.json_history.specs.Target.{insert_change_in, remove_change_in, change
 use Rattle.json_history.proofs.LookupViews.{first_value_first_of, lookup_some, lookup_tree_at}
 use Rattle.json_history.proofs.LookupChanges.{lookup_append}
 
--- the members of an object are the object, and its elements the array
+-- a tree with members is an object, and one with elements an array
 pub object_of : (t : Tree) (ms : List (List ℕ × Tree)) → pairs_of t ≡ Some ms → t ≡ pairs (list_pairs ms)
 object_of (pairs ps) ms e = let s : pairs_list ps ≡ ms = cc in ap pairs (sym (pairs_back ps) ∙ ap list_pairs s)
 object_of null ms e = absurd (cc)
@@ -44,13 +44,13 @@ array_of (pairs ps) ts e = absurd (cc)
 pub first_value_listed : (k : List ℕ) (ms : List (List ℕ × Tree)) → first_value k (list_pairs ms) ≡ option_map (λ (q : List ℕ × Tree). q.1) (first_of k ms)
 first_value_listed k ms = first_value_first_of k (list_pairs ms) ∙ ap (λ (ps : List (List ℕ × Tree)). option_map (λ (q : List ℕ × Tree). q.1) (first_of k ps)) (pairs_again ms)
 
--- an insert_change into an object
+-- an insertion into an object
 pub insert_change_found : (p : List Step) (k : List ℕ) (t : Tree) (ms : List (List ℕ × Tree)) (o : Option Tree)
     → pairs_of t ≡ Some ms → option_map (λ (q : List ℕ × Tree). q.1) (first_of k ms) ≡ o → Some (insert_change p k o) ≡ result_ok (insert_change_in p k t)
 insert_change_found p k t ms o e f =
     sym (ap (λ (u : Tree). result_ok (insert_change_in p k u)) (object_of t ms e) ∙ ap (λ (x : Option Tree). Some (insert_change p k x)) (first_value_listed k ms ∙ f))
 
--- some member is taken where one has the key
+-- a member is removed where one has the key
 pub members_named_none : (n : ℕ) (k : List ℕ) (ps : Pairs) → members_named n k ps ≡ [] → has_key k ps ≡ false
 members_named_none n k no_pairs e = refl
 members_named_none n k (pair_and m t ps) e = by (bytes_eq m k) e (members_named_none (suc n) k ps)
@@ -80,7 +80,7 @@ pub key_change_some : (p : List Step) (k : List ℕ) (t : Tree) (ms : List (List
 key_change_some p k t ms e f =
     sym (ap (λ (u : Tree). result_ok (remove_change_in p (key_step k) u)) (object_of t ms e) ∙ ap (key_change p k (list_pairs ms)) (members_named_some 0 k (list_pairs ms) f))
 
--- a change is what is changed at the place
+-- the change of an edit is that at the end of its path
 and_then_and_then : {A B C : Type 0} (r : Changed A) (f : A → Changed B) (g : B → Changed C) → and_then (and_then r f) g ≡ and_then r (λ x. and_then (f x) g)
 and_then_and_then (Ok x) f g = refl
 and_then_and_then (Err e) f g = refl
@@ -114,7 +114,7 @@ change_by_target (Remove p (Index i)) t =
     by (Ok c) = ap (within (λ old. put_back (path_steps p) i old)) (lookup_one_step (index_step i) c)
     by (Err e) = refl
 
--- what stands at the place of an edit tells what it changes
+-- the value at the end of an edit's path decides its change
 pub change_at_target : (e : Edit) (p : List Step) (t c : Tree) → p ≡ path_of e → tree_at p t ≡ Some c → change t (edit_of e) ≡ change_in e c
 change_at_target e p t c is here = change_by_target e t ∙ ap (λ (r : Changed Tree). and_then r (change_in e)) (ap (λ (q : List Step). lookup q t) (sym is) ∙ lookup_some p t c here)
 
@@ -126,7 +126,7 @@ pub change_missing : (e : Edit) (p : List Step) (t : Tree) → p ≡ path_of e �
 change_missing e p t is here =
     sym (ap result_ok (change_by_target e t) ∙ and_then_none (lookup (path_of e) t) (change_in e) (ap (λ (q : List Step). result_ok (lookup q t)) (sym is) ∙ lookup_tree_at p t ∙ here))
 
--- whether a list has members
+-- whether a list has entries
 pub removed_members_empty : (xs : List (ℕ × Keyed Value)) (n : ℕ) → n ≡ length xs → (n == 0) ≡ true → map removed_member xs ≡ []
 removed_members_empty [] n l e = refl
 removed_members_empty (x ∷ xs) n l e = absurd (omega (arith, l, eqb-true n 0 e))

@@ -1,4 +1,4 @@
--- Histories are equal where a test says so: so what is merely known tells their equality.
+-- A test decides whether two histories are equal, so a truncated fact proves that they are.
 use Rattle.std.proofs.Common.{◌≡◌, List, [], ◌∷◌, Bool, true, false, Result, Ok, Err, OnOk, OnErr, refl, sym, ap, ◌∙◌, subst, bytes_eq}
 use Rattle.std.specs.Prelude.{◌&&◌}
 use Rattle.std.specs.Bool.{beq}

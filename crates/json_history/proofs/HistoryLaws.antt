@@ -1,4 +1,4 @@
--- Undo and redo, and what is kept of a history.
+-- Laws of undo and redo, and of change logs.
 use Rattle.std.proofs.Common.{◌≡◌, ℕ, zero, suc, ◌≤◌, List, [], ◌∷◌, ◌++◌, length, map, replicate, Result, Ok, Err, IfOk, refl, sym, ap, ◌∙◌, subst, append_assoc, arith}
 use Rattle.json_grammar.specs.Tree.{Tree}
 use Rattle.json_model.specs.Edit.{Edit, Changed, Refusal, edited_once}
@@ -33,7 +33,7 @@ after_calls_append : (h : TreeHistory) (cs ds : List TreeCall) → after_calls h
 after_calls_append h [] ds = refl
 after_calls_append h (c ∷ cs) ds = after_calls_append (after_call h c) cs ds
 
--- as many calls, and one more
+-- n calls, and one more
 replicate_snoc : (n : ℕ) (c : TreeCall) → c ∷ replicate n c ≡ replicate n c ++ c ∷ []
 replicate_snoc zero c = refl
 replicate_snoc (suc n) c = ap (λ cs. c ∷ cs) (replicate_snoc n c)
@@ -58,18 +58,18 @@ redos_after_undos h (suc n) l =
     ∙ ap (λ g. after_call g redo) (redos_after_undos (after_call h undo) n (past_after_undo h n l))
     ∙ redo_after_undo h a.0 a.1 a.2
 
--- an undo of a history that another stands before
+-- an undo where there is a past
 after_undo_parts : (h : TreeHistory) (t : Tree) (ts : List Tree) → h.past ≡ t ∷ ts → ((after_call h undo).now ≡ t) × ((after_call h undo).past ≡ ts)
 after_undo_parts h t ts e = (ap (λ ps. (after_undo h ps).now) e, ap (λ ps. (after_undo h ps).past) e)
 
--- the tree and the past behind one edit
+-- the tree and the past after one edit
 after_edit_now : (h : TreeHistory) (e : Edit) (u : Tree) → edited_once e h.now ≡ Ok u → (after_call h (edit e)).now ≡ u
 after_edit_now h e u a = ap (λ r. (after_edit h r).now) a
 
 after_edit_past : (h : TreeHistory) (e : Edit) (u : Tree) → edited_once e h.now ≡ Ok u → (after_call h (edit e)).past ≡ h.now ∷ h.past
 after_edit_past h e u a = ap (λ r. (after_edit h r).past) a
 
--- the calls of edits and of as many undos
+-- edits and as many undos
 abbrev edits_then_undos : List Edit → List TreeCall
 edits_then_undos es = map edit es ++ replicate (length es) undo
 
@@ -94,7 +94,7 @@ pub undos_after_edits : UndosAfterEdits
 undos_after_edits h [] a = (refl, refl)
 undos_after_edits h (e ∷ es) a = undos_after_one_edit h e es a.0 a.1 (undos_after_edits (after_call h (edit e)) es (subst (AllApply es) (sym (after_edit_now h e a.0 a.1)) a.2))
 
--- the calls of a word
+-- calls that all apply
 run_calls_from_is_after_calls : (n : ℕ) (h : TreeHistory) (cs : List TreeCall) → IfOk (run_calls_from n h cs) (λ g. after_calls h cs ≡ g)
 run_calls_from_is_after_calls n h [] = refl
 run_calls_from_is_after_calls n h (edit e ∷ cs) = by (edited_once e h.now) (λ u. run_calls_from_is_after_calls (suc n) (after_edit h (Ok u)) cs)
@@ -109,13 +109,13 @@ run_calls_from_is_after_calls n h (redo ∷ cs) = run_calls_from_is_after_calls 
 pub run_calls_is_after_calls : RunCallsIsAfterCalls
 run_calls_is_after_calls t cs = run_calls_from_is_after_calls 0 (new_history t) cs
 
--- ---- what is kept
+-- ---- change logs
 
 pub record ValidAndRepresents (k : ChangeLog) (h : TreeHistory) : Type 0 where
   pub kept : IsValidLog k
   pub tells : Represents k h
 
--- what is kept, by its parts
+-- a log, by its parts
 abbrev log : Tree → List TreeChange → List TreeRedo → ChangeLog
 log v cs rs = record { value = v; changes = cs; redos = rs }
 
@@ -225,7 +225,7 @@ call_step k past future (edit e) b = edit_step k.value k.changes k.redos past fu
 call_step k past future undo b = undo_step k.value k.changes k.redos past future b
 call_step k past future redo b = redo_step k.value k.changes k.redos past future b
 
--- one call keeps what is kept and what it tells
+-- after one call the log is valid and represents the history after it
 pub after_each_call : (k : ChangeLog) (h : TreeHistory) (c : TreeCall) → ValidAndRepresents k h → ValidAndRepresents (log_call k c) (after_call h c)
 after_each_call k h c b = subst (λ v. ValidAndRepresents (log_call k c) (after_call (history v h.past h.future) c)) b.tells.now (call_step k h.past h.future c (subst (λ v. ValidAndRepresents k (history v h.past h.future)) (sym b.tells.now) b))
 
@@ -238,9 +238,9 @@ log_represents_history t cs =
     let b = after_all_calls (new_log t) (new_history t) cs (record { kept = (tt, tt); tells = record { now = refl; past = refl; future = refl } }) in
     (b.kept, b.tells)
 
--- ---- what is kept tells
+-- ---- what a valid log represents
 
--- a list that there is
+-- trees that there are
 ok_trees_or_empty : (r : Changed (List Tree)) (ts : List Tree) → r ≡ Ok ts → r ≡ Ok (trees_or_empty r)
 ok_trees_or_empty r ts e = e ∙ ap (λ r. Ok (trees_or_empty r)) (sym e)
 
@@ -263,7 +263,7 @@ future_of_valid v (r ∷ rs) l =
 represents_itself : (k : ChangeLog) → IsValidLog k → Represents k (history_of k)
 represents_itself k a = record { now = refl; past = past_of_valid k.value k.changes a.0; future = future_of_valid k.value k.redos a.1 }
 
--- one history alone is told
+-- a log represents one history alone
 represented_once : (k : ChangeLog) (h : TreeHistory) → Represents k h → history_of k ≡ h
 represented_once k h t = λ i. record { now = t.now i; past = ap trees_or_empty t.past i; future = ap trees_or_empty t.future i }
 

@@ -1,4 +1,4 @@
--- What the calls of a history leave, from what they did.
+-- The log after a call, from what the call did.
 use Rattle.std.proofs.Common.{◌≡◌, List, [], ◌∷◌, ◌++◌, map, reverse, Bool, true, false, Some, None, Ok, Err, IsOk, is_ok, refl, sym, ap, ◌∙◌}
 use Rattle.std.proofs.lemmas.List.{map-append, reverse-append}
 use Rattle.std.proofs.lemmas.Grind.{not_there}
@@ -26,14 +26,14 @@ use Rattle.json_history.specs.declared.redo.Redo.{Redo}
 use Rattle.json_history.proofs.HistoryLaws.{log_applies}
 use Rattle.json_history.proofs.UndoLaws.{edit_undone_by}
 
--- the last of a list is the first of what is kept
+-- the last of a list is the first of the log
 pub changes_of_push : (cs : List Change) (c : Change) → changes_of (cs ++ c ∷ []) ≡ change_of c ∷ changes_of cs
 changes_of_push cs c = ap reverse (map-append change_of cs (c ∷ [])) ∙ reverse-append (map change_of cs) (change_of c ∷ [])
 
 pub redos_of_push : (rs : List Redo) (r : Redo) → redos_of (rs ++ r ∷ []) ≡ redo_of r ∷ redos_of rs
 redos_of_push rs r = ap reverse (map-append redo_of rs (r ∷ [])) ∙ reverse-append (map redo_of rs) (redo_of r ∷ [])
 
--- what is kept, by its parts
+-- a log, by its parts
 abbrev pub log : Tree → List TreeChange → List TreeRedo → ChangeLog
 log v cs rs = record { value = v; changes = cs; redos = rs }
 
@@ -50,21 +50,21 @@ result_some : {A : Type 0} (r : Changed A) (x : A) → Some x ≡ result_ok r �
 result_some (Ok y) x e = let s : y ≡ x = cc in ap Ok s
 result_some (Err r) x e = absurd (cc)
 
--- the edit that a call told and applied, with its change behind the others
+-- an edit that was applied, with its change appended
 pub log_edit_of_value : (v w : Value) (e : Edit) (c : Change) (cs ds : List Change) (rs qs : List Redo) → Some (change_of c) ≡ result_ok (change (tree_of v) (edit_of e))
     → edited_once (edit_of e) (tree_of v) ≡ Ok (tree_of w) → ds ≡ cs ++ c ∷ [] → qs ≡ [] → log_edit (log_in v cs rs) (edit_of e) ≡ Ok (log_in w ds qs)
 log_edit_of_value v w e c cs ds rs qs told made more none =
     log_edit_ok (log_in v cs rs) (edit_of e) (tree_of w) (change_of c) made (result_some (change (tree_of v) (edit_of e)) (change_of c) told)
     ∙ ap (λ ts. Ok (log (tree_of w) ts [])) (sym (ap changes_of more ∙ changes_of_push cs c)) ∙ ap (λ xs. Ok (log (tree_of w) (changes_of ds) (redos_of xs))) (sym none)
 
--- an edit that nothing is told of does not apply
+-- an edit without a change does not apply
 pub no_change_no_edit : (t u : Tree) (e : model.Edit) → None ≡ result_ok (change t e) → edited_once e t ≡ Ok u → ⊥
 no_change_no_edit t u e none made = let a = edit_undone_by t u e made in no a.told a.told_so
   where
     no : (c : TreeChange) → change t e ≡ Ok c → ⊥
     no c so = let h = none ∙ ap result_ok so in cc
 
--- ---- what is kept applies
+-- ---- in a valid log changes and edits apply
 
 pub ok_is_ok : {A : Type 0} (r : Changed A) (x : A) → r ≡ Ok x → IsOk r
 ok_is_ok r x e = ap is_ok e
@@ -111,7 +111,7 @@ changes_of_nonempty cs c = sym (ap is_nonempty (changes_of_push cs c))
 pub redos_of_nonempty : (rs : List Redo) (r : Redo) → true ≡ is_nonempty (redos_of (rs ++ r ∷ []))
 redos_of_nonempty rs r = sym (ap is_nonempty (redos_of_push rs r))
 
--- what applies fails for want of memory alone
+-- what applies fails only for want of memory
 pub only_no_memory : (r : Changed Tree) (e : Error) → IsOk r → RefusesChange r e.code e.place → e ≡ no_memory
 only_no_memory r e h f = by e.code e.place f
   where

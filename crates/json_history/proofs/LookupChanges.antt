@@ -1,4 +1,4 @@
--- A change at the end of a path is a change of what lookup_changed at_path_ok, put in its place.
+-- A change at the end of a path: the value there is looked up, changed and put back.
 use Rattle.std.proofs.Common.{◌≡◌, ℕ, zero, suc, List, [], ◌∷◌, ◌++◌, Bool, true, false, cond, Option, Some, None, Ok, Err, refl, sym, ap, ◌∙◌, bytes_eq}
 use Rattle.std.specs.Prelude.{ok_or, slice_get}
 use Rattle.json_grammar.specs.Tree.{Tree, null, boolean, num, text, list, pairs, Trees, no_trees, tree_and, trees_list, Pairs, no_pairs, pair_and}
@@ -9,7 +9,7 @@ use Rattle.json_history.proofs.ChangedResults.{ok_injective, err_not_ok, and_the
 
 -- ---- one step
 
--- n in place of the first value of the key
+-- the members with n as the value of the key's first one
 abbrev pub key_replaced : List ℕ → Tree → Pairs → Pairs
 key_replaced k n no_pairs = no_pairs
 key_replaced k n (pair_and m t ps) = cond (bytes_eq m k) (pair_and m n ps) (pair_and m t (key_replaced k n ps))
@@ -149,7 +149,7 @@ step_replaced_twice (index_step i) m n (pairs ps) = refl
 
 -- ---- a path
 
--- n in place of what lookup_changed at the end of a path
+-- the tree with n at the end of a path
 abbrev pub replaced : List Step → Tree → Tree → Tree
 replaced [] n t = n
 replaced (s ∷ p) n t = elim (lookup_step s t) as (λ _. Tree) [ Ok c ↦ step_replaced s (replaced p n c) t | Err e ↦ t ]
@@ -189,9 +189,9 @@ replaced_twice (s ∷ p) c m n t h =
     ∙ ap (λ x. step_replaced s x t) (replaced_twice p c m n a.0 a.2)
     ∙ sym (replaced_step s p m t a.0 a.1)
 
--- ---- what a change at the end of a path made
+-- ---- what a change at the end of a path makes
 
--- a change at the end of a path: what stood at_path_ok, and what it made of it
+-- a change at the end of a path: the old value there, and the new one
 pub record PathChange (p : List Step) (f : Tree → Changed Tree) (t u : Tree) : Type 0 where
   pub old : Tree
   pub new : Tree
@@ -205,24 +205,24 @@ path_change p f t u h =
     let b = within_ok_parts (f a.0) (λ n. replaced p n t) u a.2 in
     record { old = a.0; new = b.0; stood = a.1; made = b.1; whole = b.2 }
 
--- what lookup_changed at_path_ok behind it
+-- the value at the path after the change
 pub lookup_changed : (p : List Step) (f : Tree → Changed Tree) (t u : Tree) (s : PathChange p f t u) → lookup p u ≡ Ok s.new
 lookup_changed p f t u s = ap (lookup p) (sym s.whole) ∙ replaced_lookup p s.old s.new t s.stood
 
--- a change of what lookup_changed at_path_ok is a change at the path
+-- a change of the value at the path is a change at the path
 pub at_path_ok : (p : List Step) (f : Tree → Changed Tree) (t old new : Tree) → lookup p t ≡ Ok old → f old ≡ Ok new → at_path p f t ≡ Ok (replaced p new t)
 at_path_ok p f t old new h g = at_path_lookup p f t ∙ ap (λ r. and_then r (λ c. within (λ n. replaced p n t) (f c))) h ∙ ap (within (λ n. replaced p n t)) g
 
--- what makes the new tree at_path_ok at_path_again makes the whole
+-- another change to the new value makes the same whole
 pub at_path_again : (p : List Step) (f g : Tree → Changed Tree) (t u : Tree) (s : PathChange p f t u) → g s.old ≡ Ok s.new → at_path p g t ≡ Ok u
 at_path_again p f g t u s h = at_path_ok p g t s.old s.new s.stood h ∙ ap Ok s.whole
 
--- what makes the old tree of the new one makes the old whole
+-- a change back to the old value makes the old whole
 pub at_path_back : (p : List Step) (f g : Tree → Changed Tree) (t u : Tree) (s : PathChange p f t u) → g s.new ≡ Ok s.old → at_path p g u ≡ Ok t
 at_path_back p f g t u s h =
     at_path_ok p g u s.new s.old (lookup_changed p f t u s) h ∙ ap (λ x. Ok (replaced p s.old x)) (sym s.whole) ∙ ap Ok (replaced_twice p s.old s.old s.new t s.stood ∙ replaced_same p s.old t s.stood)
 
--- ---- paths one behind the other
+-- ---- paths one after the other
 
 pub lookup_append : (p q : List Step) (t : Tree) → lookup (p ++ q) t ≡ and_then (lookup p t) (lookup q)
 lookup_append [] q t = refl

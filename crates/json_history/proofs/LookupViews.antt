@@ -1,4 +1,4 @@
--- What stands where steps lead, said of values and of trees.
+-- The value at a path, looked up and viewed.
 use Rattle.std.proofs.Common.{◌≡◌, ℕ, List, [], ◌∷◌, Bool, true, false, cond, Option, Some, None, Ok, Err, refl, ap, ◌∙◌, bytes_eq}
 use Rattle.std.specs.Prelude.{ok_or, option_map, slice_get}
 use Rattle.std.specs.Result.{result_ok}
@@ -48,6 +48,6 @@ result_some : {A : Type 0} (r : Changed A) (x : A) → result_ok r ≡ Some x �
 result_some (Ok y) x e = let s : y ≡ x = cc in ap Ok s
 result_some (Err r) x e = absurd (cc)
 
--- what stands where steps lead
+-- the value at a path
 pub lookup_some : (p : List Step) (t c : Tree) → tree_at p t ≡ Some c → lookup p t ≡ Ok c
 lookup_some p t c e = result_some (lookup p t) c (lookup_tree_at p t ∙ e)

@@ -1,4 +1,4 @@
--- The edit that does again what a change puts back, from what is read at its place.
+-- The edit that redoes what a change undoes, from the value at its path.
 use Rattle.std.proofs.Common.{◌≡◌, ℕ, suc, ◌-◌, List, [], ◌∷◌, length, Option, Some, None, Ok, Err, refl, sym, ap, ◌∙◌, arith}
 use Rattle.std.specs.Prelude.{option_map, slice_get}
 use Rattle.std.specs.Result.{result_ok}

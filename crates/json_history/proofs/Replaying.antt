@@ -69,7 +69,7 @@ printing_fails cs source source' sink sink' tree left NoMemory nowhere r a (inr 
 printing_fails cs source source' sink sink' tree left Io Writing r a h = (h.0, record { tree = tree; reads = r; left = left; made = a; gains = h.1 })
 printing_fails cs source source' sink sink' tree left code place r a h = absurd h
 
--- ---- of values
+-- ---- from documents and values
 
 -- the calls of the value at the root are those of the document's tree
 pub calls_of_document : (cs : List TreeCall) (d d' : Doc) (v : Value) (at : ℕ) (h left : TreeHistory) → h ≡ new_history (tree_of v) → tree_of v ≡ doc_tree d at → at ≡ doc_root d' → d' ≡ d → run_calls_from 0 h cs ≡ Ok left → run_calls (doc_tree d (doc_root d)) cs ≡ Ok left

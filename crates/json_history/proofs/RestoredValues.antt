@@ -63,11 +63,11 @@ same_along [] Kept v h = h
 same_along (key_step k ∷ p) Kept v h = inl refl
 same_along (index_step i ∷ p) Kept v h = inl refl
 
--- an undo that did not begin keeps the value
+-- an undo that failed before its first write keeps the value
 pub undo_same : (p : List Step) (v w : Value) → w ≡ v → KeptAlong p RestoreKeeps v w
 undo_same p v w e = subst (λ u. KeptAlong p RestoreKeeps v u) (sym e) (same_along p RestoreKeeps v (inl (inl refl)))
 
--- an edit that was not tried keeps the value
+-- an edit that was not applied keeps the value
 pub edit_same : (d : Edit) (v w : Value) → w ≡ v → Keeps (path_of d) d v w
 edit_same d v w e = subst (λ u. Keeps (path_of d) d v u) (sym e) (same_along (path_of d) _ v (change_as_was d v v refl))
 

@@ -1,4 +1,4 @@
--- What is put back into lists.
+-- What an undo makes of lists, of values and of trees.
 use Rattle.std.proofs.Common.{◌≡◌, ℕ, zero, suc, ◌-◌, ◌≤◌, List, [], ◌∷◌, length, map, take, Some, Ok, Err, IsOk, refl, sym, ap, ◌∙◌, subst, arith}
 use Rattle.std.specs.Prelude.{insert}
 use Rattle.std.proofs.lemmas.List.{take-map, length-map}
@@ -36,7 +36,7 @@ map_insert f (y ∷ ys) (suc i) x = ap (λ zs. f y ∷ zs) (map_insert f ys i x)
 pub map_all_but_last : {A B : Type 0} (f : A → B) (xs : List A) (n : ℕ) → n ≡ length xs → map f (take (n - 1) xs) ≡ all_but_last (map f xs)
 map_all_but_last f xs n e = sym (ap (λ m. take (m - 1) (map f xs)) (length-map xs f ∙ sym e) ∙ take-map f (n - 1) xs)
 
--- ---- what applied
+-- ---- results that are Ok
 
 err_not_is_ok : {A : Type 0} (r : Changed A) (e : Refusal) → r ≡ Err e → IsOk r → ⊥
 err_not_is_ok (Ok x) e h i = cc
@@ -152,13 +152,13 @@ and_then_is_ok : {A B : Type 0} (r : Changed A) (f : A → Changed B) → IsOk (
 and_then_is_ok (Ok x) f h = refl
 and_then_is_ok (Err e) f h = absurd (cc)
 
--- the first of the members that are put back has a place
+-- the index of the first member to insert is in range
 pub first_member_in_range : (e : ℕ × Keyed Value) (es : List (ℕ × Keyed Value)) (ps : List (Keyed Value)) → IsOk (insert_members (map removed_member (e ∷ es)) (list_pairs (map pair_of ps))) → e.0 ≤ length ps
 first_member_in_range e es ps h =
     let l : e.0 ≤ length (map pair_of ps) = insert_member_in_range e.0 (pair_of e.1).0 (pair_of e.1).1 (map pair_of ps) (and_then_is_ok (insert_member_at e.0 (pair_of e.1).0 (pair_of e.1).1 (list_pairs (map pair_of ps))) (insert_members (map removed_member es)) h) in
     omega (arith, length-map ps pair_of)
 
--- what is put back behind it
+-- the members inserted after it
 pub first_member_inserted : (e : ℕ × Keyed Value) (es : List (ℕ × Keyed Value)) (ps qs : List (Keyed Value)) → e.0 ≤ length ps → qs ≡ insert ps e.0 e.1
     → insert_members (map removed_member (e ∷ es)) (list_pairs (map pair_of ps)) ≡ insert_members (map removed_member es) (list_pairs (map pair_of qs))
 first_member_inserted e es ps qs l is =
@@ -166,7 +166,7 @@ first_member_inserted e es ps qs l is =
     (insert_member_listed e.0 (pair_of e.1).0 (pair_of e.1).1 (map pair_of ps) (omega (arith, length-map ps pair_of))
     ∙ ap (λ zs. Ok (list_pairs zs)) (sym (ap (map pair_of) is ∙ map_insert pair_of ps e.0 e.1)))
 
--- ---- a change at its place
+-- ---- a change at its path
 
 at_path_some : (p : List Step) (f : Tree → Changed Tree) (t x : Tree) → tree_at p t ≡ Some x → at_path p f t ≡ within (λ n. replaced p n t) (f x)
 at_path_some p f t x here = at_path_lookup p f t ∙ ap (λ (r : Changed Tree). and_then r (λ c. within (λ n. replaced p n t) (f c))) (lookup_some p t x here)
@@ -181,11 +181,11 @@ module _ (c : Change) (p : List Step) (is : p ≡ change_path c) where
   by_target : (t : Tree) → undone t (change_of c) ≡ at_path p (undone_in c) t
   by_target t = undone_by_target c t ∙ ap (λ q. at_path q (undone_in c) t) (sym is)
 
-  -- the change that applies does so at its place
+  -- a change that applies does so at the value at its path
   pub undone_in_is_ok : (t x : Tree) → tree_at p t ≡ Some x → IsOk (undone t (change_of c)) → IsOk (undone_in c x)
   undone_in_is_ok t x here h = within_is_ok (λ n. replaced p n t) (undone_in c x) (subst IsOk (by_target t ∙ at_path_some p (undone_in c) t x here) h)
 
-  -- a place is refused for want of memory alone
+  -- the path leads somewhere, so the call fails only for want of memory
   pub target_exists : (t : Tree) (e : Error) → IsOk (undone t (change_of c)) → RefusesChange (at_path p (undone_in c) t) e.code e.place → e ≡ no_memory
   target_exists t e h r = by e.code e.place r
     where

@@ -1,4 +1,4 @@
--- What an edit changed is put at_path_back, and done at_path_again.
+-- The change of an edit undoes it, and has an edit that redoes it.
 use Rattle.std.proofs.Common.{◌≡◌, ℕ, zero, suc, List, [], ◌∷◌, ◌++◌, Bool, true, false, cond, Option, Some, None, Result, Ok, Err, refl, sym, ap, ◌∙◌, bytes_eq, ◌⊎◌, inl, inr}
 use Rattle.std.specs.Prelude.{ok_or, slice_get}
 use Rattle.std.proofs.lemmas.Slice.Eq.{bytes_eq-Decides}
@@ -29,7 +29,7 @@ on_list_ok f (num l) u h = absurd (err_not_ok u type_unmatched h)
 on_list_ok f (text s) u h = absurd (err_not_ok u type_unmatched h)
 on_list_ok f (pairs ps) u h = absurd (err_not_ok u type_unmatched h)
 
--- ---- an insert_change at the end
+-- ---- an insertion of a new key
 
 some_none : (x : Tree) → Some x ≡ None → ⊥
 some_none x e = cc
@@ -60,7 +60,7 @@ last_member_inserted k u (pair_and m t ps) h = by (bytes_eq m k) h (last_member_
     by true h i = absurd (some_none t h)
     by false h i = last_member_cons m t (inserted k u ps) (k, u) (i h)
 
--- ---- an insert_change at a key that is there
+-- ---- an insertion of a key that is there
 
 none_some : (x : Tree) → None ≡ Some x → ⊥
 none_some x e = cc
@@ -122,7 +122,7 @@ element_put_back (suc i) (tree_and t ts) us h =
     let b = element_put_back i ts a.0 a.1 in
     (b.0, b.1, ap (insert_element_at (suc i) b.0) (sym a.2) ∙ ap (within (λ vs. tree_and t vs)) b.2)
 
--- members that stand behind another
+-- members after another one
 abbrev InsertsBelow : ℕ → List ℕ → Pairs → List ℕ → Tree → Type 0
 InsertsBelow n k ps m t = (x : Pairs) → insert_members (members_named (suc n) k ps) (pair_and m t x) ≡ within (λ rs. pair_and m t rs) (insert_members (members_named n k ps) x)
 
@@ -148,7 +148,7 @@ members_put_back k (pair_and a u ps) = by (bytes_eq a k) (inserts_below 0 k ps a
     by true h = h
     by false h = h
 
--- the members that were taken out have the key
+-- the members that were removed have the key
 false_not_true : false ≡ true → ⊥
 false_not_true e = cc
 
@@ -170,8 +170,7 @@ has_key_ok k ps qs h = by (has_key k ps) h
 
 -- ---- an edit
 
--- what an edit e of t that gives u changes: it is put at_path_back, and an edit does it
--- at_path_again
+-- the change of an edit e that makes u of t: it undoes the edit, and an edit redoes it
 pub record UndoneBy (t u : Tree) (e : Edit) : Type 0 where
   pub told : TreeChange
   pub told_so : change t e ≡ Ok told
@@ -317,9 +316,9 @@ undone_of_change t u e c h g =
     let a = edit_undone_by t u e h in
     ap (undone u) (ok_injective c a.told (sym g ∙ a.told_so)) ∙ a.puts_back
 
--- ---- refusals
+-- ---- edits that do not apply
 
--- a change that has a value where another has none has its reason
+-- a step that fails for a reason fails the two steps for it
 and_then_err : {A B : Type 0} (r : Changed A) (f : A → Changed B) (e : Refusal) → r ≡ Err e → and_then r f ≡ Err e
 and_then_err r f e h = ap (λ r. and_then r f) h
 
@@ -329,8 +328,7 @@ err_injective e r h = cc
 ok_not_err : {A : Type 0} (x : A) (r : Refusal) → ◌≡◌ {A = Changed A} (Ok x) (Err r) → ⊥
 ok_not_err x r e = cc
 
--- where a change at a path is refused, the path leads nowhere, or what lookup_changed there
--- refuses it
+-- where a change at a path fails, the path leads nowhere, or the value there fails it
 pub at_path_err : (p : List Step) (f : Tree → Changed Tree) (t : Tree) (r : Refusal) → at_path p f t ≡ Err r → (lookup p t ≡ Err r) ⊎ ((c : Tree) × (lookup p t ≡ Ok c) × (f c ≡ Err r))
 at_path_err p f t r h = by (lookup p t) (sym (at_path_lookup p f t) ∙ h)
   where
