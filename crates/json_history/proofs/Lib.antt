@@ -1,0 +1,17 @@
+pub mod ChangedResults
+pub mod LookupChanges
+pub mod LookupViews
+pub mod EditChanges
+pub mod RepeatedEdits
+pub mod Restoring
+pub mod LogSteps
+pub mod HistoryEquality
+pub mod CallSequences
+pub mod Replaying
+pub mod CallWords
+pub mod RunOutcomes
+pub mod RunAnswers
+pub mod UndoLaws
+pub mod HistoryLaws
+pub mod LimitedHistories
+pub mod RestoredValues

@@ -1,0 +1,16 @@
+pub mod Lookup
+pub mod Change
+pub mod History
+pub mod ChangeTrees
+pub mod Target
+pub mod Restores
+pub mod Logs
+pub mod LogOfHistory
+pub mod Limits
+pub mod Calls
+pub mod Replay
+pub mod Spelling
+pub mod Run
+pub mod Laws
+pub mod ExampleTrees
+pub mod HistoryExamples

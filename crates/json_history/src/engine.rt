@@ -1,0 +1,59 @@
+// From the bytes of a source to the bytes of a sink.
+ghost use Rattle.std.specs.Prelude.{◌≡◌, ◌+◌, ◌<◌, ◌^◌, length, map, OnOk, IfErr, None, false};
+ghost use Rattle.json_print.specs.Styles.{indent_of, is_sorted};
+ghost use Rattle.json_text.specs.Transfer.{TakesAtMost};
+ghost use Rattle.json_command.specs.Input.{max_bytes};
+ghost use Rattle.json_command.specs.Printing.{ReturnsWriteError};
+ghost use Rattle.json_command.specs.Reading.{ReturnsReadError};
+ghost use Rattle.json_history.specs.Calls.{call_of};
+ghost use Rattle.json_history.specs.Replay.{Replays, ReplayFails};
+
+use crate::call::Call;
+use crate::calls::make_calls;
+use crate::history::History;
+use json_command::{print_value, read_document_from};
+use json_print::Style;
+use json_text::{Result, Rules, Sink, Source};
+use json_value::Value;
+use std::alloc::Global;
+
+// No whitespace between tokens, and the members in their order.
+fn compact_style() -> Style<'static>
+    ensures indent { indent_of result ≡ None }
+    ensures sorted { is_sorted result ≡ false }
+{
+    match Style::new(None, false) {
+        Some(style) => style,
+        None => unreachable!(),
+    }
+}
+
+/// Reads the JSON text of a source, makes the calls of a history of its value in turn, and writes
+/// the compact text of the current value to the sink, flushed.
+///
+/// Fails with each error of the reader at its place in the input; with `NotFound` or
+/// `TypeUnmatched` at the first edit that does not apply, with its number among all calls; with
+/// `Io` where the source or the sink failed; and with `NoMemory` where memory runs out. Nothing is
+/// written until all calls are made. Asks its caller for fewer than 2^32 calls.
+pub fn replay<S: Source, K: Sink>(
+    alloc: Global,
+    source: &mut S,
+    sink: &mut K,
+    calls: Vec<Call>,
+) -> Result<()>
+    requires few { length calls.items < 2 ^ 32 }
+    ensures done { OnOk result (Replays (map call_of calls.items)
+        (S.state source.old) (S.state source.new) (K.state sink.old) (K.state sink.new)) }
+    ensures failed { IfErr result (λ e. ReplayFails (map call_of calls.items)
+        (S.state source.old) (S.state source.new) (K.state sink.old) (K.state sink.new)
+        e.code e.place) }
+    ensures taken { TakesAtMost (max_bytes + 1) (S.state source.old) (S.state source.new) }
+    ensures read_told { ReturnsReadError (S.state source.old) (S.state source.new) result }
+    ensures write_told { ReturnsWriteError (K.state sink.old) (K.state sink.new) result }
+{
+    let doc = read_document_from(alloc, source, Rules::usual())?;
+    let value = Value::from_place(alloc, &doc, doc.root())?;
+    let mut history = History::new(alloc, value);
+    make_calls(alloc, &mut history, calls)?;
+    print_value(alloc, history.value(), compact_style(), sink)
+}

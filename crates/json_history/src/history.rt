@@ -1,0 +1,170 @@
+// A value with the changes that undo its edits, and the edits that redo what was undone.
+ghost use Rattle.std.specs.Prelude.{◌≡◌, IfOk, Ok, OnOk, OnErr, [], length};
+ghost use Rattle.json_model.specs.Edit.{edited_once};
+ghost use Rattle.json_value.specs.Denotes.{tree_of};
+ghost use Rattle.json_value.specs.Edits.{edit_of, path_of, FailsAs};
+ghost use Rattle.json_value.specs.Failures.{OnlyNoMemory};
+ghost use Rattle.json_value.specs.Touched.{Touches, Keeps};
+ghost use Rattle.json_history.specs.History.{IsValidLog, new_log, log_edit, log_call, undo, redo, is_nonempty};
+ghost use Rattle.json_history.specs.History.{new_history, after_call, edit as edits, history_of};
+ghost use Rattle.json_history.specs.Limits.{limit_changes, limit_past, without_redos, without_future};
+ghost use Rattle.json_history.specs.Logs.{log_in, changes_of};
+ghost use Rattle.json_history.specs.Restores.{UndoTouches, UndoKeeps, RedoTouches, RedoKeeps};
+
+use crate::change::Change;
+use crate::redo::Redo;
+use crate::steps::{apply_and_log, keep_last, redo_next, undo_last};
+use json_text::Result;
+use json_value::{Edit, Value};
+use std::alloc::Global;
+
+/// A value whose edits can be undone and redone.
+///
+/// It keeps the current value, for each edit the change that undoes it, and for each undone edit an
+/// edit that redoes it. No whole value is copied: what a change keeps shares the packed parts of
+/// the value.
+///
+/// ```
+/// use json_data::from_str;
+/// use json_history::History;
+/// use json_value::{Edit, Value};
+/// let mut history = History::new(alloc, from_str::<Value>(alloc, "{\"a\":1,\"a\":2}")?);
+/// history.apply(alloc, from_str::<Edit>(alloc, "[\"remove\",[],\"a\"]")?)?;
+/// assert_eq!(rt; history.value().to_string(alloc)?.as_str(), "{}");
+/// assert!(rt; history.undo(alloc)?);
+/// assert_eq!(rt; history.value().to_string(alloc)?.as_str(), "{\"a\":1,\"a\":2}");
+/// assert!(rt; history.redo(alloc)?);
+/// assert_eq!(rt; (history.undo_count(), history.redo_count()), (1, 0));
+/// ```
+#[derive(Drop)]
+pub struct History {
+    pub(crate) value: Value,
+    pub(crate) changes: Vec<Change>,
+    pub(crate) redos: Vec<Redo>,
+    ghost valid: { ∥ IsValidLog (log_in value changes.items redos.items) ∥₁ },
+}
+
+impl History {
+    ghost use Rattle.json_history.specs.LogOfHistory.{log_of, value_of, changes_in, redos_in};
+
+    /// Creates a history of the value, with nothing to undo or redo. Takes no memory.
+    pub fn new(alloc: Global, value: Value) -> History
+        ensures log { log_of result ≡ new_log (tree_of value) }
+        ensures history { history_of (log_of result) ≡ new_history (tree_of value) }
+    {
+        History {
+            value,
+            changes: Vec::new(alloc),
+            redos: Vec::new(alloc),
+        }
+    }
+
+    /// Returns the current value.
+    pub fn value(&self) -> &Value
+        ensures { tree_of result.now ≡ (log_of self.now).value }
+    {
+        &self.value
+    }
+
+    /// Returns the changes that undo the edits, the oldest first.
+    pub fn changes(&self) -> &[Change]
+        ensures { changes_of result.now ≡ (log_of self.now).changes }
+    {
+        self.changes.as_slice()
+    }
+
+    /// Returns the number of edits that can be undone.
+    pub fn undo_count(&self) -> usize
+        ensures { result ≡ length (log_of self.now).changes }
+    {
+        self.changes.len()
+    }
+
+    /// Returns the number of edits that can be redone.
+    pub fn redo_count(&self) -> usize
+        ensures { result ≡ length (log_of self.now).redos }
+    {
+        self.redos.len()
+    }
+
+    /// Applies the edit, after which nothing can be redone.
+    ///
+    /// Fails as `Value::apply` does: with `NotFound` or `TypeUnmatched` where the edit does not
+    /// apply, and with `NoMemory` where memory runs out. After an error nothing has changed.
+    pub fn apply(&mut self, alloc: Global, edit: Edit) -> Result<()>
+        ensures ok { OnOk result
+            (log_edit (log_of self.old) (edit_of edit) ≡ Ok (log_of self.new)) }
+        ensures history { OnOk result (history_of (log_of self.new)
+            ≡ after_call (history_of (log_of self.old)) (edits (edit_of edit))) }
+        ensures kept { OnErr result (log_of self.new ≡ log_of self.old) }
+        ensures refused { FailsAs (edited_once (edit_of edit) (log_of self.old).value) result }
+        ensures children { OnOk result
+            (Touches (path_of edit) edit (value_of self.old) (value_of self.new)) }
+        ensures kept_along { OnErr result
+            (Keeps (path_of edit) edit (value_of self.old) (value_of self.new)) }
+    {
+        apply_and_log(
+            alloc,
+            &mut self.value,
+            &mut self.changes,
+            &mut self.redos,
+            &edit,
+        )
+    }
+
+    /// Undoes the latest edit that is not undone. Returns `false` if there is none.
+    ///
+    /// Fails with `NoMemory` where memory runs out, and then nothing has changed.
+    pub fn undo(&mut self, alloc: Global) -> Result<bool>
+        ensures ok { OnOk result (log_of self.new ≡ log_call (log_of self.old) undo) }
+        ensures answer { IfOk result (λ b. b ≡ is_nonempty (log_of self.old).changes) }
+        ensures history { OnOk result (history_of (log_of self.new)
+            ≡ after_call (history_of (log_of self.old)) undo) }
+        ensures kept { OnErr result (log_of self.new ≡ log_of self.old) }
+        ensures children { OnOk result
+            (UndoTouches (changes_in self.old) (value_of self.old) (value_of self.new)) }
+        ensures kept_along { OnErr result
+            (UndoKeeps (changes_in self.old) (value_of self.old) (value_of self.new)) }
+        ensures only { OnlyNoMemory result }
+    {
+        undo_last(alloc, &mut self.value, &mut self.changes, &mut self.redos)
+    }
+
+    /// Redoes the edit that was undone last. Returns `false` if there is none.
+    ///
+    /// Fails with `NoMemory` where memory runs out, and then nothing has changed.
+    pub fn redo(&mut self, alloc: Global) -> Result<bool>
+        ensures ok { OnOk result (log_of self.new ≡ log_call (log_of self.old) redo) }
+        ensures answer { IfOk result (λ b. b ≡ is_nonempty (log_of self.old).redos) }
+        ensures history { OnOk result (history_of (log_of self.new)
+            ≡ after_call (history_of (log_of self.old)) redo) }
+        ensures kept { OnErr result (log_of self.new ≡ log_of self.old) }
+        ensures children { OnOk result
+            (RedoTouches (redos_in self.old) (value_of self.old) (value_of self.new)) }
+        ensures kept_along { OnErr result
+            (RedoKeeps (redos_in self.old) (value_of self.old) (value_of self.new)) }
+        ensures only { OnlyNoMemory result }
+    {
+        redo_next(alloc, &mut self.value, &mut self.changes, &mut self.redos)
+    }
+
+    /// Drops the oldest changes until at most `max` are left. Takes no memory.
+    ///
+    /// The limit holds for this call alone: a later `apply` adds a change again.
+    pub fn limit(&mut self, max: usize)
+        ensures log { log_of self.new ≡ limit_changes max (log_of self.old) }
+        ensures history { history_of (log_of self.new)
+            ≡ limit_past max (history_of (log_of self.old)) }
+    {
+        keep_last(&mut self.changes, max);
+    }
+
+    /// Drops the edits to redo. Takes no memory.
+    pub fn clear_redo(&mut self)
+        ensures log { log_of self.new ≡ without_redos (log_of self.old) }
+        ensures history { history_of (log_of self.new)
+            ≡ without_future (history_of (log_of self.old)) }
+    {
+        self.redos.clear();
+    }
+}

@@ -1,0 +1,91 @@
+// The top call.
+ghost use Rattle.std.specs.Prelude.{ℕ, List, ◌+◌, ◌≡◌, ◌≢◌, ◌⊎◌, ◌<◌, OnOk, IfErr};
+ghost use Rattle.json_text.specs.Transfer.{TakesAtMost};
+ghost use Rattle.json_text.specs.declared.error.ErrorCode.{ErrorCode};
+ghost use Rattle.json_text.specs.declared.error.Place.{Place};
+ghost use Rattle.json_model.specs.Edit.{Refusal};
+ghost use Rattle.json_command.specs.Input.{max_bytes};
+ghost use Rattle.json_command.specs.Printing.{ReturnsWriteError};
+ghost use Rattle.json_command.specs.Reading.{ReturnsReadError};
+ghost use Rattle.json_command.specs.Reporting.{StatusReports};
+ghost use Rattle.json_history.specs.Calls.{edit_error};
+ghost use Rattle.json_history.specs.History.{TreeCall};
+ghost use Rattle.json_history.specs.Spelling.{Asks};
+ghost use Rattle.json_history.specs.Replay.{Replays};
+ghost use Rattle.json_history.specs.Run.{WithCalls, RunFails, RunSucceeds, RunReports, IsApplicable, IsInapplicable, IsInvalid};
+
+use crate::engine::replay;
+use crate::words::asked;
+use json_command::{Status, report};
+use json_text::{Result, Sink, Source, Words};
+use std::alloc::Global;
+
+// Reads, makes the calls that the words ask for, and writes.
+fn execute<S: Source, K: Sink>(
+    alloc: Global,
+    words: &Words,
+    source: &mut S,
+    sink: &mut K,
+) -> Result<()>
+    ensures done { OnOk result (WithCalls words.now (λ cs. Replays cs
+        (S.state source.old) (S.state source.new) (K.state sink.old) (K.state sink.new))) }
+    ensures failed { IfErr result (λ e. RunFails words.now
+        (S.state source.old) (S.state source.new)
+        (K.state sink.old) (K.state sink.new) e.code e.place) }
+    ensures taken { TakesAtMost (max_bytes + 1) (S.state source.old) (S.state source.new) }
+    ensures read_told { ReturnsReadError (S.state source.old) (S.state source.new) result }
+    ensures write_told { ReturnsWriteError (K.state sink.old) (K.state sink.new) result }
+{
+    let calls = asked(alloc, words)?;
+    replay(alloc, source, sink, calls)
+}
+
+/// Reads a JSON text, makes the calls that the words ask for in turn, and writes the compact text
+/// of the value after them.
+///
+/// There is one word: an array of edits, of `["undo"]` and of `["redo"]`. An undo or a redo with
+/// nothing to undo or redo changes nothing. Returns the exit status:
+///
+/// - 0: done.
+/// - 1: the input is not a JSON text of at most 254 levels.
+/// - 2: the words have another form.
+/// - 3: an edit does not apply; its number counts all elements of the word.
+/// - 4: reading failed.
+/// - 5: writing failed.
+/// - 6: memory ran out.
+///
+/// On 1 to 6 the text of the error goes to `errs`.
+pub fn run_history<S: Source, K: Sink, E: Sink>(
+    alloc: Global,
+    words: &Words,
+    source: &mut S,
+    sink: &mut K,
+    errs: &mut E,
+) -> u8
+    ensures done { result ≡ 0 → RunSucceeds words.now (S.state source.old) (S.state source.new)
+        (K.state sink.old) (K.state sink.new) (E.state errs.old) (E.state errs.new) }
+    ensures failed { result ≢ 0 → RunReports result words.now
+        (S.state source.old) (S.state source.new)
+        (K.state sink.old) (K.state sink.new) (E.state errs.old) (E.state errs.new) }
+    ensures taken { TakesAtMost (max_bytes + 1) (S.state source.old) (S.state source.new) }
+    ensures read_told { (S.state source.old).faults < (S.state source.new).faults → result ≡ 4 }
+    ensures write_told { (K.state sink.old).faults < (K.state sink.new).faults → result ≡ 5 }
+    ensures complete { IsApplicable words.now (S.state source.old) (S.state source.new)
+        (K.state sink.old) (K.state sink.new) → (result ≡ 0) ⊎ (result ≡ 6) }
+    ensures inapplicable { (number : ℕ) (why : Refusal)
+        → IsInapplicable words.now (S.state source.old) (S.state source.new) number why
+        → StatusReports 3 (edit_error number why) (E.state errs.old) (E.state errs.new) result }
+    ensures exact { (code : ErrorCode) (place : Place)
+        → IsInvalid words.now (S.state source.old) (S.state source.new) code place
+        → StatusReports 1 (record { code = code; place = place })
+        (E.state errs.old) (E.state errs.new) result }
+    ensures words { ((cs : List TreeCall) → ¬ (Asks words.now cs)) → (result ≡ 2) ⊎ (result ≡ 6) }
+{
+    match execute(alloc, words, source, sink) {
+        Ok(()) => Status::Success.number(),
+        Err(error) => {
+            report(errs, &error);
+            Status::of_error(&error).number()
+        }
+    }
+}

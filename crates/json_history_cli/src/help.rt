@@ -1,0 +1,51 @@
+// What the program says of itself.
+
+use json_command::About;
+
+/// What `--help` alone prints.
+const HELP: &str = "\
+mezdruk history reads a JSON text from standard input, makes edits, undos and
+redos in turn, and writes the value after them to standard output, compact.
+
+Usage: mezdruk history CALLS
+
+CALLS is a JSON array of edits, of [\"undo\"] and of [\"redo\"]:
+  [\"set\", path, value]           put the value where the path leads
+  [\"insert\", path, key, value]   put a member into the object there
+  [\"push\", path, value]          append an element to the array there
+  [\"remove\", path, step]         remove the members of a key, or an element
+  [\"undo\"]                       undo the latest edit that is not undone
+  [\"redo\"]                       redo the edit that was undone last
+      mezdruk history '[[\"push\", [], 1], [\"undo\"], [\"redo\"]]'
+
+An edit leaves nothing to redo. An undo with nothing to undo changes nothing,
+and so does a redo with nothing to redo.
+
+A path is an array of steps, from the root on: a key, or an index from 0.
+The path [] is the root.
+
+Options:
+  --help        print this text; stands alone
+  --version     print the version; stands alone
+
+Status:
+  0  done
+  1  the input is not valid: too large, not UTF-8, no JSON text, or more than
+     254 levels
+  2  the arguments are not valid
+  3  an edit does not apply; its number counts all elements of CALLS, from 0
+  4  reading failed
+  5  writing failed
+  6  memory ran out
+  8  the arguments could not be read, for example because one is not UTF-8
+";
+
+/// What `--version` alone prints.
+const VERSION: &str = "mezdruk history 0.1.0\n";
+
+/// What the program says of itself.
+pub const ABOUT: About = About {
+    help: HELP,
+    version: VERSION,
+    hint: "Run `mezdruk history --help` for usage.\n",
+};

@@ -1,0 +1,25 @@
+//! The program `mezdruk history`: reads a JSON text from standard input, makes the edits, undos and
+//! redos that its argument asks for, and writes the text of the value after them to standard output.
+//! `run_history` of the library `json_history` does all of it; what is here hands it the arguments and
+//! the streams.
+//!
+//!     printf '[0]' | mezdruk history '[["push", [], 1], ["undo"], ["redo"]]'
+#![tactic(auto)]
+
+mod help;
+
+use crate::help::ABOUT;
+use json_command::Console;
+use json_history::run_history;
+use std::process::ExitCode;
+
+fn main(rt: HostRuntime) -> ExitCode {
+    let mut console = match Console::open(&rt, &ABOUT) {
+        Ok(console) => console,
+        Err(status) => return ExitCode::from(status.number()),
+    };
+    let (source, sink, errs) = (&mut console.source, &mut console.sink, &mut console.errs);
+    let status = run_history(rt.alloc(), &console.arguments, source, sink, errs);
+    ABOUT.add_hint(status, &mut console.errs);
+    ExitCode::from(status)
+}

@@ -1,0 +1,43 @@
+// Inputs and words with what `run_history` comes to.
+use json_command::rows::differing_rows;
+use json_history::run_history;
+use std::test::Fail;
+
+// As `json_command::rows` reads them: the input, the status, the output, the error, and the words,
+// each closed by `|`.
+const ROWS: &str = r#"# undo and redo
+{"a":1,"b":2,"a":3}|0|{"a":1,"b":2,"a":3}||[["remove",[],"a"],["undo"]]|
+[0]|0|[0,2]||[["push",[],1],["undo"],["push",[],2],["redo"]]|
+[0]|0|[0,1]||[["push",[],1],["undo"],["redo"]]|
+[0]|0|[0]||[["undo"],["redo"],["undo"]]|
+ [ 0 ] |0|[0]||[]|
+{"a":1}|0|{"a":1}||[["insert",[],"a",2],["insert",[],"b",3],["undo"],["undo"]]|
+{"a":[1,2]}|0|{"a":[1,2]}||[["remove",["a"],0],["set",["a",0],{}],["undo"],["undo"],["undo"]]|
+# an edit that does not apply
+[0]|3||TypeUnmatched in edit 1|[["undo"],["push",["k"],1]]|
+[0]|3||NotFound in edit 3|[["push",[],1],["undo"],["redo"],["remove",[],2],["undo"]]|
+# words of another form
+[0]|2||BadWords|[["undo",1]]|
+[0]|2||BadWords|[["Undo"]]|
+[0]|2||BadWords|["undo"]|
+[0]|2||BadWords|{}|
+[0]|2||BadWords|[|
+[0]|2||BadWords|
+[0]|2||BadWords|[]|[]|
+# an input that is not valid
+[0,]|1||InvalidJsonValue at offset 3, line 1 column 4|[]|
+|1||EofWhileParsing at offset 0, line 1 column 1|[["undo"]]|
+%FF|1||InvalidUTF8 at offset 0, line 1 column 1|[["push",["k"],1]]|
+"#;
+
+#[test]
+fn the_rows_hold(rt: HostRuntime) -> Result<(), Fail> {
+    let differing = differing_rows(
+        rt.alloc(),
+        ROWS,
+        4_096,
+        |alloc, words, source, sink, errs| { run_history(alloc, words, source, sink, errs) },
+    )?;
+    assert_eq!(rt; differing, 0);
+    Ok(())
+}
