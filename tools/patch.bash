@@ -1,4 +1,4 @@
-# Completion of the arguments of `mezdruk patch` for bash.
+# Completion of the arguments of `mezdruk patch` for bash; `tools/mezdruk.bash` sources it.
 _patch() {
     local word=${COMP_WORDS[COMP_CWORD]} arguments="--patch= --merge= --help --version"
     COMPREPLY=()
@@ -8,3 +8,4 @@ _patch() {
         compopt -o nospace
     fi
 }
+complete -F _patch mezdruk-patch

@@ -1,7 +1,7 @@
-# Completion of the arguments of `rpc` for bash; `tools/mezdruk.bash` sources it too.
+# Completion of the arguments of `mezdruk rpc` for bash; `tools/mezdruk.bash` sources it.
 _rpc() {
     COMPREPLY=()
     ((COMP_CWORD == 1)) || return
     mapfile -t COMPREPLY < <(compgen -W "--help --version" -- "${COMP_WORDS[COMP_CWORD]}")
 }
-complete -F _rpc rpc
+complete -F _rpc mezdruk-rpc

@@ -1,5 +1,4 @@
 // What the program says of itself.
-
 use json_command::About;
 
 /// What `--help` alone prints.

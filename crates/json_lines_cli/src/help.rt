@@ -1,10 +1,9 @@
 // What the program says of itself.
-
 use json_command::About;
 
 /// What `--help` alone prints.
 const HELP: &str = "\
-json_lines reads JSON Lines from standard input, one JSON text a line, and
+mezdruk lines reads JSON Lines from standard input, one JSON text a line, and
 writes a row of cells for each line to standard output.
 
 Usage: mezdruk lines [--has=PATH] COLUMNS
@@ -43,7 +42,7 @@ Status:
 ";
 
 /// What `--version` alone prints.
-const VERSION: &str = "json_lines 0.1.0\n";
+const VERSION: &str = "mezdruk lines 0.1.0\n";
 
 /// What the program says of itself.
 pub const ABOUT: About = About {

@@ -1,4 +1,4 @@
-//! The program `json_lines`: filters JSON Lines from standard input to rows of cells on standard
+//! The program `mezdruk lines`: filters JSON Lines from standard input to rows of cells on standard
 //! output. `run_lines` of the library `json_lines` does all of it; what is here hands it the
 //! arguments and the streams.
 //!

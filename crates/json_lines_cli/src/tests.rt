@@ -7,8 +7,8 @@ use std::test::Fail;
 fn help_and_version_stand_alone(rt: HostRuntime) -> Result<(), Fail> {
     let alloc = rt.alloc();
     for (given, begins) in [
-        ("--help", Some("json_lines reads JSON Lines")),
-        ("--version", Some("json_lines 0.1.0\n")),
+        ("--help", Some("mezdruk lines reads JSON Lines")),
+        ("--version", Some("mezdruk lines 0.1.0\n")),
         ("--has=[]", None),
         ("-help", None),
     ] {

@@ -1,4 +1,4 @@
-//! The program `patch`: reads a JSON text from standard input, changes it by a patch, and writes it
+//! The program `mezdruk patch`: reads a JSON text from standard input, changes it by a patch, and writes it
 //! to standard output. `run_patch` of the library `json_patch` does all of it; what is here hands it
 //! the arguments and the streams.
 //!

@@ -1,14 +1,13 @@
 // What the program says of itself.
-
 use json_command::About;
 
 /// What `--help` alone prints.
 const HELP: &str = "\
-rpc serves JSON-RPC 2.0 over one JSON document, which begins as null. It reads
-requests from standard input, one line each, and writes each reply as a line to
-standard output before it reads the next line.
+mezdruk rpc serves JSON-RPC 2.0 over one JSON document, which begins as null.
+It reads requests from standard input, one line each, and writes each reply as
+a line to standard output before it reads the next line.
 
-Usage: rpc [OPTION]
+Usage: mezdruk rpc [OPTION]
 
 Options, at most one:
   --help        print this text
@@ -47,11 +46,11 @@ Status:
 ";
 
 /// What `--version` alone prints.
-const VERSION: &str = "rpc 0.1.0\n";
+const VERSION: &str = "mezdruk rpc 0.1.0\n";
 
 /// What the program says of itself.
 pub const ABOUT: About = About {
     help: HELP,
     version: VERSION,
-    hint: "Run `rpc --help` for usage.\n",
+    hint: "Run `mezdruk rpc --help` for usage.\n",
 };

@@ -1,8 +1,8 @@
-//! The program `rpc`: serves JSON-RPC 2.0 over one JSON document, from standard input to standard
+//! The program `mezdruk rpc`: serves JSON-RPC 2.0 over one JSON document, from standard input to standard
 //! output, a line each. `run_rpc` of the library `json_rpc` does all of it; what is here hands it
 //! the arguments and the streams.
 //!
-//!     printf '{"jsonrpc":"2.0","method":"get","params":[[]],"id":1}' | rpc
+//!     printf '{"jsonrpc":"2.0","method":"get","params":[[]],"id":1}' | mezdruk rpc
 #![tactic(auto)]
 
 mod help;
