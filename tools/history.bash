@@ -1,0 +1,7 @@
+# Completion of the arguments of `mezdruk history` for bash.
+_history() {
+    local word=${COMP_WORDS[COMP_CWORD]} words=""
+    COMPREPLY=()
+    ((COMP_CWORD == 1)) && words="--help --version"
+    mapfile -t COMPREPLY < <(compgen -W "$words" -- "$word")
+}
