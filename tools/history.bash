@@ -1,0 +1,8 @@
+# Completion of the arguments of `mezdruk history` for bash; `tools/mezdruk.bash` sources it.
+_history() {
+    local word=${COMP_WORDS[COMP_CWORD]} words=""
+    COMPREPLY=()
+    ((COMP_CWORD == 1)) && words="--help --version"
+    mapfile -t COMPREPLY < <(compgen -W "$words" -- "$word")
+}
+complete -F _history mezdruk-history
