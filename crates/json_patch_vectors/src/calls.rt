@@ -14,259 +14,89 @@ const DOCUMENT: &str =
     r#"{"foo": ["bar", "baz"], "": 0, "a/b": 1, "c%d": 2, "e^f": 3, "g|h": 4, "i\\j": 5, "k\"l": 6, " ": 7, "m~n": 8}"#;
 
 // RFC 6901, section 5: pointers, and what they reference.
-const POINTERS: [(&str, &str); 12] = [
-    (
-        "",
-        r#"{"foo":["bar","baz"],"":0,"a/b":1,"c%d":2,"e^f":3,"g|h":4,"i\\j":5,"k\"l":6," ":7,"m~n":8}"#,
-    ),
-    ("/foo", r#"["bar","baz"]"#),
-    ("/foo/0", r#""bar""#),
-    ("/", "0"),
-    ("/a~1b", "1"),
-    ("/c%d", "2"),
-    ("/e^f", "3"),
-    ("/g|h", "4"),
-    ("/i\\j", "5"),
-    ("/k\"l", "6"),
-    ("/ ", "7"),
-    ("/m~0n", "8"),
-];
+const POINTERS: &str =
+    r#" → {"foo":["bar","baz"],"":0,"a/b":1,"c%d":2,"e^f":3,"g|h":4,"i\\j":5,"k\"l":6," ":7,"m~n":8}
+/foo → ["bar","baz"]
+/foo/0 → "bar"
+/ → 0
+/a~1b → 1
+/c%d → 2
+/e^f → 3
+/g|h → 4
+/i\j → 5
+/k"l → 6
+/  → 7
+/m~0n → 8"#;
 
 // Documents, patches, and what the patches make: RFC 6902, appendix A, and more.
-const PATCHES: [(&str, &str, &str); 20] = [
-    (
-        r#"{"foo": "bar"}"#,
-        r#"[{"op": "add", "path": "/baz", "value": "qux"}]"#,
-        r#"{"foo":"bar","baz":"qux"}"#,
-    ),
-    (
-        r#"{"foo": ["bar", "baz"]}"#,
-        r#"[{"op": "add", "path": "/foo/1", "value": "qux"}]"#,
-        r#"{"foo":["bar","qux","baz"]}"#,
-    ),
-    (
-        r#"{"baz": "qux", "foo": "bar"}"#,
-        r#"[{"op": "remove", "path": "/baz"}]"#,
-        r#"{"foo":"bar"}"#,
-    ),
-    (
-        r#"{"foo": ["bar", "qux", "baz"]}"#,
-        r#"[{"op": "remove", "path": "/foo/1"}]"#,
-        r#"{"foo":["bar","baz"]}"#,
-    ),
-    (
-        r#"{"baz": "qux", "foo": "bar"}"#,
-        r#"[{"op": "replace", "path": "/baz", "value": "boo"}]"#,
-        r#"{"baz":"boo","foo":"bar"}"#,
-    ),
-    (
-        r#"{"foo": {"bar": "baz", "waldo": "fred"}, "qux": {"corge": "grault"}}"#,
-        r#"[{"op": "move", "from": "/foo/waldo", "path": "/qux/thud"}]"#,
-        r#"{"foo":{"bar":"baz"},"qux":{"corge":"grault","thud":"fred"}}"#,
-    ),
-    (
-        r#"{"foo": ["all", "grass", "cows", "eat"]}"#,
-        r#"[{"op": "move", "from": "/foo/1", "path": "/foo/3"}]"#,
-        r#"{"foo":["all","cows","eat","grass"]}"#,
-    ),
-    (
-        r#"{"baz": "qux", "foo": ["a", 2, "c"]}"#,
-        r#"[{"op": "test", "path": "/baz", "value": "qux"}, {"op": "test", "path": "/foo/1", "value": 2}]"#,
-        r#"{"baz":"qux","foo":["a",2,"c"]}"#,
-    ),
-    (
-        r#"{"foo": "bar"}"#,
-        r#"[{"op": "add", "path": "/child", "value": {"grandchild": {}}}]"#,
-        r#"{"foo":"bar","child":{"grandchild":{}}}"#,
-    ),
-    (
-        r#"{"foo": "bar"}"#,
-        r#"[{"op": "add", "path": "/baz", "value": "qux", "xyz": 123}]"#,
-        r#"{"foo":"bar","baz":"qux"}"#,
-    ),
-    (
-        r#"{"/": 9, "~1": 10}"#,
-        r#"[{"op": "test", "path": "/~01", "value": 10}]"#,
-        r#"{"/":9,"~1":10}"#,
-    ),
-    (
-        r#"{"foo": ["bar"]}"#,
-        r#"[{"op": "add", "path": "/foo/-", "value": ["abc", "def"]}]"#,
-        r#"{"foo":["bar",["abc","def"]]}"#,
-    ),
-    ("1", r#"[]"#, "1"),
-    ("1", r#"[{"op": "add", "path": "", "value": [2]}]"#, "[2]"),
-    (
-        "[1]",
-        r#"[{"op": "move", "from": "/0", "path": "/0"}]"#,
-        "[1]",
-    ),
-    ("[1]", r#"[{"op": "move", "from": "/0", "path": ""}]"#, "1"),
-    (
-        "[1]",
-        r#"[{"op": "copy", "from": "", "path": "/0"}]"#,
-        "[[1],1]",
-    ),
-    (
-        r#"{"a": 1, "b": 2, "a": 3}"#,
-        r#"[{"op": "replace", "path": "/a", "value": 4}, {"op": "copy", "from": "/a", "path": "/c"}]"#,
-        r#"{"a":4,"b":2,"a":3,"c":4}"#,
-    ),
-    (
-        r#"{"a": 1, "b": 2, "a": 3}"#,
-        r#"[{"op": "remove", "path": "/a"}]"#,
-        r#"{"b":2}"#,
-    ),
-    (
-        r#"{"a": {"b": {"c": {}}}}"#,
-        r#"[{"op": "move", "from": "/a/b/c", "path": "/a/b"}, {"op": "add", "path": "/a/b/d", "value": -0}]"#,
-        r#"{"a":{"b":{"d":-0}}}"#,
-    ),
-];
+const PATCHES: &str =
+    r#"{"foo": "bar"} → [{"op": "add", "path": "/baz", "value": "qux"}] → {"foo":"bar","baz":"qux"}
+{"foo": ["bar", "baz"]} → [{"op": "add", "path": "/foo/1", "value": "qux"}] → {"foo":["bar","qux","baz"]}
+{"baz": "qux", "foo": "bar"} → [{"op": "remove", "path": "/baz"}] → {"foo":"bar"}
+{"foo": ["bar", "qux", "baz"]} → [{"op": "remove", "path": "/foo/1"}] → {"foo":["bar","baz"]}
+{"baz": "qux", "foo": "bar"} → [{"op": "replace", "path": "/baz", "value": "boo"}] → {"baz":"boo","foo":"bar"}
+{"foo": {"bar": "baz", "waldo": "fred"}, "qux": {"corge": "grault"}} → [{"op": "move", "from": "/foo/waldo", "path": "/qux/thud"}] → {"foo":{"bar":"baz"},"qux":{"corge":"grault","thud":"fred"}}
+{"foo": ["all", "grass", "cows", "eat"]} → [{"op": "move", "from": "/foo/1", "path": "/foo/3"}] → {"foo":["all","cows","eat","grass"]}
+{"baz": "qux", "foo": ["a", 2, "c"]} → [{"op": "test", "path": "/baz", "value": "qux"}, {"op": "test", "path": "/foo/1", "value": 2}] → {"baz":"qux","foo":["a",2,"c"]}
+{"foo": "bar"} → [{"op": "add", "path": "/child", "value": {"grandchild": {}}}] → {"foo":"bar","child":{"grandchild":{}}}
+{"foo": "bar"} → [{"op": "add", "path": "/baz", "value": "qux", "xyz": 123}] → {"foo":"bar","baz":"qux"}
+{"/": 9, "~1": 10} → [{"op": "test", "path": "/~01", "value": 10}] → {"/":9,"~1":10}
+{"foo": ["bar"]} → [{"op": "add", "path": "/foo/-", "value": ["abc", "def"]}] → {"foo":["bar",["abc","def"]]}
+1 → [] → 1
+1 → [{"op": "add", "path": "", "value": [2]}] → [2]
+[1] → [{"op": "move", "from": "/0", "path": "/0"}] → [1]
+[1] → [{"op": "move", "from": "/0", "path": ""}] → 1
+[1] → [{"op": "copy", "from": "", "path": "/0"}] → [[1],1]
+{"a": 1, "b": 2, "a": 3} → [{"op": "replace", "path": "/a", "value": 4}, {"op": "copy", "from": "/a", "path": "/c"}] → {"a":4,"b":2,"a":3,"c":4}
+{"a": 1, "b": 2, "a": 3} → [{"op": "remove", "path": "/a"}] → {"b":2}
+{"a": {"b": {"c": {}}}} → [{"op": "move", "from": "/a/b/c", "path": "/a/b"}, {"op": "add", "path": "/a/b/d", "value": -0}] → {"a":{"b":{"d":-0}}}"#;
 
-// Documents, patches that fail, the code and the operation: RFC 6902, appendix A, and more.
-const FAILING: [(&str, &str, PatchCode, Option<u32>); 18] = [
-    (
-        r#"{"baz": "qux"}"#,
-        r#"[{"op": "test", "path": "/baz", "value": "bar"}]"#,
-        PatchCode::TestFailed,
-        Some(0),
-    ),
-    (
-        r#"{"foo": "bar"}"#,
-        r#"[{"op": "add", "path": "/baz/bat", "value": "qux"}]"#,
-        PatchCode::NotFound,
-        Some(0),
-    ),
-    (
-        r#"{"foo": "bar"}"#,
-        r#"[{"op": "add", "path": "/baz", "value": "qux", "op": "remove"}]"#,
-        PatchCode::BadPatch,
-        Some(0),
-    ),
-    (
-        r#"{"/": 9, "~1": 10}"#,
-        r#"[{"op": "test", "path": "/~01", "value": "10"}]"#,
-        PatchCode::TestFailed,
-        Some(0),
-    ),
-    (
-        r#"{"baz": "qux"}"#,
-        r#"[{"op": "add", "path": "/a", "value": 1}, {"op": "test", "path": "/baz", "value": "bar"}]"#,
-        PatchCode::TestFailed,
-        Some(1),
-    ),
-    ("1", "{}", PatchCode::BadPatch, None),
-    ("1", "[1]", PatchCode::BadPatch, Some(0)),
-    (
-        "1",
-        r#"[{"op": "remove", "path": "/a"}, {"op": "add", "path": "/a"}]"#,
-        PatchCode::BadPatch,
-        Some(1),
-    ),
-    (
-        "1",
-        r#"[{"op": "remove", "path": "a"}]"#,
-        PatchCode::BadPatch,
-        Some(0),
-    ),
-    (
-        "1",
-        r#"[{"op": "drop", "path": ""}]"#,
-        PatchCode::BadPatch,
-        Some(0),
-    ),
-    (
-        r#"{"a": {"b": 1}}"#,
-        r#"[{"op": "move", "from": "/a", "path": "/a/b"}]"#,
-        PatchCode::BadPatch,
-        Some(0),
-    ),
-    (
-        "1",
-        r#"[{"op": "remove", "path": ""}]"#,
-        PatchCode::TypeUnmatched,
-        Some(0),
-    ),
-    (
-        "1",
-        r#"[{"op": "remove", "path": "/a"}]"#,
-        PatchCode::TypeUnmatched,
-        Some(0),
-    ),
-    (
-        "[1]",
-        r#"[{"op": "remove", "path": "/-"}]"#,
-        PatchCode::NotFound,
-        Some(0),
-    ),
-    (
-        "[1]",
-        r#"[{"op": "replace", "path": "/00", "value": 1}]"#,
-        PatchCode::NotFound,
-        Some(0),
-    ),
-    (
-        "[1]",
-        r#"[{"op": "add", "path": "/2", "value": 1}]"#,
-        PatchCode::NotFound,
-        Some(0),
-    ),
-    (
-        "[1]",
-        r#"[{"op": "test", "path": "/0", "value": 1.0}]"#,
-        PatchCode::TestFailed,
-        Some(0),
-    ),
-    (
-        "[1]",
-        r#"[{"op": "test", "path": "/18446744073709551616", "value": 1}]"#,
-        PatchCode::NotFound,
-        Some(0),
-    ),
-];
+// Documents, patches that fail, the number of the code, and the operation: RFC 6902, appendix A, and more.
+const FAILING: &str = r#"{"baz": "qux"} → [{"op": "test", "path": "/baz", "value": "bar"}] → 31 0
+{"foo": "bar"} → [{"op": "add", "path": "/baz/bat", "value": "qux"}] → 19 0
+{"foo": "bar"} → [{"op": "add", "path": "/baz", "value": "qux", "op": "remove"}] → 30 0
+{"/": 9, "~1": 10} → [{"op": "test", "path": "/~01", "value": "10"}] → 31 0
+{"baz": "qux"} → [{"op": "add", "path": "/a", "value": 1}, {"op": "test", "path": "/baz", "value": "bar"}] → 31 1
+1 → {} → 30 none
+1 → [1] → 30 0
+1 → [{"op": "remove", "path": "/a"}, {"op": "add", "path": "/a"}] → 30 1
+1 → [{"op": "remove", "path": "a"}] → 30 0
+1 → [{"op": "drop", "path": ""}] → 30 0
+{"a": {"b": 1}} → [{"op": "move", "from": "/a", "path": "/a/b"}] → 30 0
+1 → [{"op": "remove", "path": ""}] → 20 0
+1 → [{"op": "remove", "path": "/a"}] → 20 0
+[1] → [{"op": "remove", "path": "/-"}] → 19 0
+[1] → [{"op": "replace", "path": "/00", "value": 1}] → 19 0
+[1] → [{"op": "add", "path": "/2", "value": 1}] → 19 0
+[1] → [{"op": "test", "path": "/0", "value": 1.0}] → 31 0
+[1] → [{"op": "test", "path": "/18446744073709551616", "value": 1}] → 19 0"#;
 
 // Documents, merge patches, and what they make: RFC 7396, appendix A and section 3, and more.
-const MERGES: [(&str, &str, &str); 18] = [
-    (r#"{"a": "b"}"#, r#"{"a": "c"}"#, r#"{"a":"c"}"#),
-    (r#"{"a": "b"}"#, r#"{"b": "c"}"#, r#"{"a":"b","b":"c"}"#),
-    (r#"{"a": "b"}"#, r#"{"a": null}"#, "{}"),
-    (r#"{"a": "b", "b": "c"}"#, r#"{"a": null}"#, r#"{"b":"c"}"#),
-    (r#"{"a": ["b"]}"#, r#"{"a": "c"}"#, r#"{"a":"c"}"#),
-    (r#"{"a": "c"}"#, r#"{"a": ["b"]}"#, r#"{"a":["b"]}"#),
-    (
-        r#"{"a": {"b": "c"}}"#,
-        r#"{"a": {"b": "d", "c": null}}"#,
-        r#"{"a":{"b":"d"}}"#,
-    ),
-    (r#"{"a": [{"b": "c"}]}"#, r#"{"a": [1]}"#, r#"{"a":[1]}"#),
-    (r#"["a", "b"]"#, r#"["c", "d"]"#, r#"["c","d"]"#),
-    (r#"{"a": "b"}"#, r#"["c"]"#, r#"["c"]"#),
-    (r#"{"a": "foo"}"#, "null", "null"),
-    (r#"{"a": "foo"}"#, r#""bar""#, r#""bar""#),
-    (r#"{"e": null}"#, r#"{"a": 1}"#, r#"{"e":null,"a":1}"#),
-    ("[1, 2]", r#"{"a": "b", "c": null}"#, r#"{"a":"b"}"#),
-    (
-        "{}",
-        r#"{"a": {"bb": {"ccc": null}}}"#,
-        r#"{"a":{"bb":{}}}"#,
-    ),
-    (
-        r#"{"title": "Goodbye!", "author": {"givenName": "John", "familyName": "Doe"}, "tags": ["example", "sample"], "content": "This will be unchanged"}"#,
-        r#"{"title": "Hello!", "phoneNumber": "+01-123-456-7890", "author": {"familyName": null}, "tags": ["example"]}"#,
-        r#"{"title":"Hello!","author":{"givenName":"John"},"tags":["example"],"content":"This will be unchanged","phoneNumber":"+01-123-456-7890"}"#,
-    ),
-    (
-        r#"{"a": 1, "b": 2, "a": 3}"#,
-        r#"{"a": null}"#,
-        r#"{"b":2}"#,
-    ),
-    (
-        r#"{"a": 1, "b": 2, "a": 3}"#,
-        r#"{"a": 4}"#,
-        r#"{"a":4,"b":2,"a":3}"#,
-    ),
-];
+const MERGES: &str = r#"{"a": "b"} → {"a": "c"} → {"a":"c"}
+{"a": "b"} → {"b": "c"} → {"a":"b","b":"c"}
+{"a": "b"} → {"a": null} → {}
+{"a": "b", "b": "c"} → {"a": null} → {"b":"c"}
+{"a": ["b"]} → {"a": "c"} → {"a":"c"}
+{"a": "c"} → {"a": ["b"]} → {"a":["b"]}
+{"a": {"b": "c"}} → {"a": {"b": "d", "c": null}} → {"a":{"b":"d"}}
+{"a": [{"b": "c"}]} → {"a": [1]} → {"a":[1]}
+["a", "b"] → ["c", "d"] → ["c","d"]
+{"a": "b"} → ["c"] → ["c"]
+{"a": "foo"} → null → null
+{"a": "foo"} → "bar" → "bar"
+{"e": null} → {"a": 1} → {"e":null,"a":1}
+[1, 2] → {"a": "b", "c": null} → {"a":"b"}
+{} → {"a": {"bb": {"ccc": null}}} → {"a":{"bb":{}}}
+{"title": "Goodbye!", "author": {"givenName": "John", "familyName": "Doe"}, "tags": ["example", "sample"], "content": "This will be unchanged"} → {"title": "Hello!", "phoneNumber": "+01-123-456-7890", "author": {"familyName": null}, "tags": ["example"]} → {"title":"Hello!","author":{"givenName":"John"},"tags":["example"],"content":"This will be unchanged","phoneNumber":"+01-123-456-7890"}
+{"a": 1, "b": 2, "a": 3} → {"a": null} → {"b":2}
+{"a": 1, "b": 2, "a": 3} → {"a": 4} → {"a":4,"b":2,"a":3}"#;
+
+// Returns the three fields of a row.
+fn fields(row: &str) -> (&str, &str, &str) {
+    let (document, rest) = row.split_once(" → ").unwrap_or((row, ""));
+    let (patch, want) = rest.split_once(" → ").unwrap_or((rest, ""));
+    (document, patch, want)
+}
 
 // Applies a patch that has few enough operations.
 fn apply(alloc: Global, value: &mut Value, patch: View<'_>) -> Result<(), PatchError> {
@@ -288,7 +118,8 @@ fn apply(alloc: Global, value: &mut Value, patch: View<'_>) -> Result<(), PatchE
 fn pointers_reference_values(rt: HostRuntime) -> Result<(), Fail> {
     let alloc = rt.alloc();
     let document = read_document(alloc, DOCUMENT)?;
-    for (text, want) in POINTERS {
+    for row in POINTERS.lines() {
+        let (text, want) = row.split_once(" → ").unwrap_or((row, ""));
         let pointer = Pointer::parse(alloc, text)?;
         assert_eq!(rt; pointer.to_text(alloc)?.as_str(), text);
         match pointer.find(View::packed(document.view())) {
@@ -336,7 +167,8 @@ fn texts_that_are_no_pointers(rt: HostRuntime) {
 #[test]
 fn patches_that_apply(rt: HostRuntime) -> Result<(), Fail> {
     let alloc = rt.alloc();
-    for (document, patch, want) in PATCHES {
+    for row in PATCHES.lines() {
+        let (document, patch, want) = fields(row);
         let document = read_document(alloc, document)?;
         let parsed = read_document(alloc, patch)?;
         let mut value = Value::from_place(alloc, &document, document.root())?;
@@ -349,15 +181,17 @@ fn patches_that_apply(rt: HostRuntime) -> Result<(), Fail> {
 #[test]
 fn patches_that_fail_keep_the_value(rt: HostRuntime) -> Result<(), Fail> {
     let alloc = rt.alloc();
-    for (document, patch, code, op) in FAILING {
+    for row in FAILING.lines() {
+        let (document, patch, want) = fields(row);
+        let (number, op) = want.split_once(' ').unwrap_or((want, ""));
         let document = read_document(alloc, document)?;
         let parsed = read_document(alloc, patch)?;
         let mut value = Value::from_place(alloc, &document, document.root())?;
         match apply(alloc, &mut value, View::packed(parsed.view())) {
             Ok(()) => assert!(rt; false, "{patch}"),
             Err(error) => {
-                assert_eq!(rt; error.code, code, "{patch}");
-                assert_eq!(rt; error.op, op, "{patch}");
+                assert_eq!(rt; Some(error.code.number()), number.parse().ok(), "{patch}");
+                assert_eq!(rt; error.op, op.parse().ok(), "{patch}");
             }
         }
         let kept = Value::from_place(alloc, &document, document.root())?;
@@ -369,7 +203,8 @@ fn patches_that_fail_keep_the_value(rt: HostRuntime) -> Result<(), Fail> {
 #[test]
 fn merge_patches(rt: HostRuntime) -> Result<(), Fail> {
     let alloc = rt.alloc();
-    for (document, patch, want) in MERGES {
+    for row in MERGES.lines() {
+        let (document, patch, want) = fields(row);
         let document = read_document(alloc, document)?;
         let parsed = read_document(alloc, patch)?;
         let mut value = Value::from_place(alloc, &document, document.root())?;
