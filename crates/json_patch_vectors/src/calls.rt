@@ -3,8 +3,10 @@ ghost use Rattle.std.specs.Prelude.{◌≡◌, ◌<◌, ◌^◌, length};
 ghost use Rattle.json_doc.specs.Readings.{elements};
 ghost use Rattle.json_value.specs.Seen.{seen};
 
-use json_doc::read_document;
+use json_doc::Doc;
+use json_fixtures::{read, shows, whole};
 use json_patch::{PatchCode, PatchError, Pointer, apply_merge, apply_patch};
+use json_text::Result as TextResult;
 use json_value::{Value, View};
 use std::alloc::Global;
 use std::test::Fail;
@@ -114,102 +116,107 @@ fn apply(alloc: Global, value: &mut Value, patch: View<'_>) -> Result<(), PatchE
     }
 }
 
-#[test]
-fn pointers_reference_values(rt: HostRuntime) -> Result<(), Fail> {
-    let alloc = rt.alloc();
-    let document = read_document(alloc, DOCUMENT)?;
-    for row in POINTERS.lines() {
-        let (text, want) = row.split_once(" → ").unwrap_or((row, ""));
-        let pointer = Pointer::parse(alloc, text)?;
-        assert_eq!(rt; pointer.to_text(alloc)?.as_str(), text);
-        match pointer.find(View::packed(document.view())) {
-            Some(found) => {
-                let value = found.to_value(alloc)?;
-                assert_eq!(rt; value.to_string(alloc)?.as_str(), want, "{text}");
-            }
-            None => assert!(rt; false, "{text}"),
+// Whether the pointer of this text references a value with this compact text, and is spelled so again.
+fn references(alloc: Global, document: &Doc, text: &str, want: &str) -> TextResult<bool> {
+    let Ok(pointer) = Pointer::parse(alloc, text) else {
+        return Ok(false);
+    };
+    let spelled = pointer.to_text(alloc)?;
+    match pointer.find(View::packed(document.view())) {
+        Some(found) => {
+            let value = found.to_value(alloc)?;
+            Ok(spelled.as_str() == text && shows(alloc, &value, want)?)
         }
+        None => Ok(false),
     }
-    Ok(())
+}
+
+// Whether the pointer of this text references nothing.
+fn references_nothing(alloc: Global, document: &Doc, text: &str) -> bool {
+    match Pointer::parse(alloc, text) {
+        Ok(pointer) => pointer.find(View::packed(document.view())).is_none(),
+        Err(_) => false,
+    }
+}
+
+// Whether this text is refused as no pointer.
+fn is_no_pointer(alloc: Global, text: &str) -> bool {
+    match Pointer::parse(alloc, text) {
+        Ok(_) => false,
+        Err(error) => error.code.number() == 29 && error.op.is_none(),
+    }
+}
+
+// Whether the patch makes a value with this compact text of the document.
+fn makes(alloc: Global, document: &str, patch: &str, want: &str) -> TextResult<bool> {
+    let (document, patch) = (read(alloc, document)?, read(alloc, patch)?);
+    let mut value = whole(alloc, &document)?;
+    let applied = apply(alloc, &mut value, View::packed(patch.view()));
+    Ok(applied.is_ok() && shows(alloc, &value, want)?)
+}
+
+// The same of a merge patch.
+fn merges(alloc: Global, document: &str, patch: &str, want: &str) -> TextResult<bool> {
+    let (document, patch) = (read(alloc, document)?, read(alloc, patch)?);
+    let mut value = whole(alloc, &document)?;
+    let applied = apply_merge(alloc, &mut value, View::packed(patch.view()));
+    Ok(applied.is_ok() && shows(alloc, &value, want)?)
+}
+
+// Whether the patch fails with the code and the operation that are wanted, and keeps the value.
+fn fails(alloc: Global, document: &str, patch: &str, want: &str) -> TextResult<bool> {
+    let (number, op) = want.split_once(' ').unwrap_or((want, ""));
+    let (document, patch) = (read(alloc, document)?, read(alloc, patch)?);
+    let mut value = whole(alloc, &document)?;
+    let failed = match apply(alloc, &mut value, View::packed(patch.view())) {
+        Ok(()) => false,
+        Err(error) => {
+            Some(error.code.number()) == number.parse().ok() && error.op == op.parse().ok()
+        }
+    };
+    let kept = whole(alloc, &document)?;
+    Ok(failed && value == kept)
 }
 
 #[test]
-fn pointers_to_nothing(rt: HostRuntime) -> Result<(), Fail> {
+fn pointers_reference_values_or_nothing(rt: HostRuntime) -> Result<(), Fail> {
     let alloc = rt.alloc();
-    let document = read_document(alloc, DOCUMENT)?;
+    let document = read(alloc, DOCUMENT)?;
+    for row in POINTERS.lines() {
+        let (text, want) = row.split_once(" → ").unwrap_or((row, ""));
+        assert!(rt; references(alloc, &document, text, want)?, "{text}");
+    }
     for text in [
         "/bar", "/foo/2", "/foo/-", "/foo/00", "/foo/0/0", "/foo/", "/foo/1e0", "/foo/+1",
     ] {
-        let pointer = Pointer::parse(alloc, text)?;
-        assert!(rt;
-            pointer.find(View::packed(document.view())).is_none(),
-            "{text}"
-        );
+        assert!(rt; references_nothing(alloc, &document, text), "{text}");
+    }
+    for text in ["a", "/~2", "/~", "~0", "#/a", " /a"] {
+        assert!(rt; is_no_pointer(alloc, text), "{text}");
     }
     Ok(())
 }
 
 #[test]
-fn texts_that_are_no_pointers(rt: HostRuntime) {
-    let alloc = rt.alloc();
-    for text in ["a", "/~2", "/~", "~0", "#/a", " /a"] {
-        match Pointer::parse(alloc, text) {
-            Ok(_) => assert!(rt; false, "{text}"),
-            Err(error) => {
-                assert_eq!(rt; error.code, PatchCode::BadPointer, "{text}");
-                assert_eq!(rt; error.code.number(), 29);
-                assert_eq!(rt; error.op, None);
-            }
-        }
-    }
-}
-
-#[test]
-fn patches_that_apply(rt: HostRuntime) -> Result<(), Fail> {
+fn patches_apply_or_keep_the_value(rt: HostRuntime) -> Result<(), Fail> {
     let alloc = rt.alloc();
     for row in PATCHES.lines() {
         let (document, patch, want) = fields(row);
-        let document = read_document(alloc, document)?;
-        let parsed = read_document(alloc, patch)?;
-        let mut value = Value::from_place(alloc, &document, document.root())?;
-        apply(alloc, &mut value, View::packed(parsed.view()))?;
-        assert_eq!(rt; value.to_string(alloc)?.as_str(), want, "{patch}");
+        assert!(rt; makes(alloc, document, patch, want)?, "{row}");
     }
-    Ok(())
-}
-
-#[test]
-fn patches_that_fail_keep_the_value(rt: HostRuntime) -> Result<(), Fail> {
-    let alloc = rt.alloc();
     for row in FAILING.lines() {
         let (document, patch, want) = fields(row);
-        let (number, op) = want.split_once(' ').unwrap_or((want, ""));
-        let document = read_document(alloc, document)?;
-        let parsed = read_document(alloc, patch)?;
-        let mut value = Value::from_place(alloc, &document, document.root())?;
-        match apply(alloc, &mut value, View::packed(parsed.view())) {
-            Ok(()) => assert!(rt; false, "{patch}"),
-            Err(error) => {
-                assert_eq!(rt; Some(error.code.number()), number.parse().ok(), "{patch}");
-                assert_eq!(rt; error.op, op.parse().ok(), "{patch}");
-            }
-        }
-        let kept = Value::from_place(alloc, &document, document.root())?;
-        assert!(rt; value == kept, "{patch}");
+        assert!(rt; fails(alloc, document, patch, want)?, "{row}");
     }
     Ok(())
 }
 
 #[test]
-fn merge_patches(rt: HostRuntime) -> Result<(), Fail> {
+fn merge_patches_apply(rt: HostRuntime) -> Result<(), Fail> {
     let alloc = rt.alloc();
     for row in MERGES.lines() {
         let (document, patch, want) = fields(row);
-        let document = read_document(alloc, document)?;
-        let parsed = read_document(alloc, patch)?;
-        let mut value = Value::from_place(alloc, &document, document.root())?;
-        apply_merge(alloc, &mut value, View::packed(parsed.view()))?;
-        assert_eq!(rt; value.to_string(alloc)?.as_str(), want, "{patch}");
+        assert!(rt; merges(alloc, document, patch, want)?, "{row}");
     }
     Ok(())
 }
