@@ -1,19 +1,23 @@
 // Words, with what they ask for.
-use json_text::Words;
+use json_text::{Result, Words};
 use json_value::{Edit, Path, PointerNode, Value};
 use reshape::{Asked, Edits, asked};
 use std::alloc::Global;
-use std::test::Fail;
 
-// The edits that these words ask for.
-fn read(alloc: Global, words: &[&str]) -> Result<Edits, Fail> {
+fn list_of(alloc: Global, words: &[&str]) -> Result<Words> {
     let mut list = Words::new(alloc);
     for word in words {
         list.push(word)?;
     }
+    Ok(list)
+}
+
+// The edits that these words ask for.
+fn read(alloc: Global, words: &[&str]) -> Result<Option<Edits>> {
+    let list = list_of(alloc, words)?;
     match asked(alloc, &list)? {
-        Asked::Reshape(edits, _) => Ok(edits),
-        Asked::Made(_) => Err("made input".into()),
+        Asked::Reshape(edits, _) => Ok(Some(edits)),
+        Asked::Made(_) => Ok(None),
     }
 }
 
@@ -63,16 +67,28 @@ fn are_all_forms(edits: &[Edit]) -> bool {
     }
 }
 
-#[test]
-fn words_ask_for_their_edits(rt: HostRuntime) -> Result<(), Fail> {
-    let alloc = rt.alloc();
-    assert!(rt; read(alloc, &[])?.as_slice().is_empty());
-    assert!(rt; read(alloc, &["[ ]"])?.as_slice().is_empty());
-    let one = read(alloc, &[r#"[["set", ["a", 1], true]]"#])?;
-    assert!(rt; is_one_set(one.as_slice()));
-    let forms = r#"[["\u0073et",[],null],["insert",["\u0062",0],"k\u0041",[1]],
+fn are_none(edits: &[Edit]) -> bool {
+    edits.is_empty()
+}
+
+// Whether these words ask for edits, and those are as they should be.
+fn asks_for<F: FnOnce(&[Edit]) -> bool>(read: Result<Option<Edits>>, is_right: F) -> bool
+    requires { F.IsAlwaysCallable is_right }
+{
+    match read {
+        Ok(Some(edits)) => is_right(edits.as_slice()),
+        _ => false,
+    }
+}
+
+const ALL_FORMS: &str = r#"[["\u0073et",[],null],["insert",["\u0062",0],"k\u0041",[1]],
         ["push",["\ud83d\ude04",4294967295],{}],["remove",[],""],["remove",[""],4294967295]]"#;
-    let all = read(alloc, &[forms])?;
-    assert!(rt; are_all_forms(all.as_slice()));
-    Ok(())
+
+#[test]
+fn words_ask_for_their_edits(rt: HostRuntime) {
+    let alloc = rt.alloc();
+    assert!(rt; asks_for(read(alloc, &[]), are_none));
+    assert!(rt; asks_for(read(alloc, &["[ ]"]), are_none));
+    assert!(rt; asks_for(read(alloc, &[r#"[["set", ["a", 1], true]]"#]), is_one_set));
+    assert!(rt; asks_for(read(alloc, &[ALL_FORMS]), are_all_forms));
 }

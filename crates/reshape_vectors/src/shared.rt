@@ -3,11 +3,12 @@ use json_command::{
     BAD_WORDS, Status, option_number, print_value, read_argument, read_document_from, report,
     report_text, write_text,
 };
+use json_doc::Doc;
 use json_print::Style;
 use json_text::{Error, ErrorCode, FakeSink, FakeSource, Place, Result, Rules, Sink, VecSink};
 use json_value::Value;
 use std::alloc::Global;
-use std::test::Fail;
+use std::rc::Rc;
 
 const FAILED_READ: Error = Error {
     code: ErrorCode::Io,
@@ -19,17 +20,22 @@ const FAILED_WRITE: Error = Error {
     place: Place::Writing,
 };
 
+// Prints the value of a whole document, compact.
+fn print<K: Sink>(alloc: Global, doc: &Rc<Doc>, sink: &mut K) -> Result<()> {
+    let value = Value::from_place(alloc, doc, doc.root())?;
+    match Style::new(None, false) {
+        Some(style) => print_value(alloc, &value, style, sink),
+        None => Err(BAD_WORDS),
+    }
+}
+
 // Reads an input by the usual rules, two bytes a call, and prints its value compact. The read of
 // this number fails.
 fn copy<K: Sink>(alloc: Global, input: &[u8], failing: u64, sink: &mut K) -> Result<()> {
     let fail = [failing];
     let mut source = FakeSource::new(input, 2, &fail);
     let doc = read_document_from(alloc, &mut source, Rules::usual())?;
-    let value = Value::from_place(alloc, &doc, doc.root())?;
-    match Style::new(None, false) {
-        Some(style) => print_value(alloc, &value, style, sink),
-        None => Err(BAD_WORDS),
-    }
+    print(alloc, &doc, sink)
 }
 
 #[test]

@@ -1,8 +1,8 @@
 // What failures of a reader and a writer of the system come to.
-use json_text::{SliceSource, StdSink, StdSource, VecSink, Words};
-use reshape::run;
+use crate::hostile::status_of;
+use json_text::{SliceSource, StdSink, StdSource, VecSink};
+use std::alloc::Global;
 use std::io::{self, ErrorKind, Read, Write};
-use std::test::Fail;
 
 /// A reader that gives one byte, and then fails.
 #[derive(Drop)]
@@ -38,26 +38,28 @@ impl Write for Unsent {
     }
 }
 
-#[test]
-fn a_failed_read_gives_4(rt: HostRuntime) -> Result<(), Fail> {
-    let alloc = rt.alloc();
-    let words = Words::new(alloc);
+// Whether a run ends with 4 where the reader fails, with no output and with a report.
+fn ends_at_a_failed_read(alloc: Global) -> bool {
     let mut source = StdSource::new(Broken { gave: false });
-    let mut sink = VecSink::new(alloc);
-    let mut errs = VecSink::new(alloc);
-    assert_eq!(rt; run(alloc, &words, &mut source, &mut sink, &mut errs), 4);
-    assert!(rt; sink.as_slice().is_empty() && !errs.as_slice().is_empty());
-    Ok(())
+    let (mut sink, mut errs) = (VecSink::new(alloc), VecSink::new(alloc));
+    let status = status_of(alloc, &mut source, &mut sink, &mut errs);
+    status == 4 && sink.as_slice().is_empty() && !errs.as_slice().is_empty()
 }
 
 #[test]
-fn a_failed_flush_gives_5(rt: HostRuntime) -> Result<(), Fail> {
-    let alloc = rt.alloc();
-    let words = Words::new(alloc);
+fn a_failed_read_gives_4(rt: HostRuntime) {
+    assert!(rt; ends_at_a_failed_read(rt.alloc()));
+}
+
+// Whether a run ends with 5 where the writer cannot send its bytes on, with a report.
+fn ends_at_a_failed_flush(alloc: Global) -> bool {
     let mut source = SliceSource::new(b"[1]");
-    let mut sink = StdSink::new(Unsent);
-    let mut errs = VecSink::new(alloc);
-    assert_eq!(rt; run(alloc, &words, &mut source, &mut sink, &mut errs), 5);
-    assert!(rt; !errs.as_slice().is_empty());
-    Ok(())
+    let (mut sink, mut errs) = (StdSink::new(Unsent), VecSink::new(alloc));
+    let status = status_of(alloc, &mut source, &mut sink, &mut errs);
+    status == 5 && !errs.as_slice().is_empty()
+}
+
+#[test]
+fn a_failed_flush_gives_5(rt: HostRuntime) {
+    assert!(rt; ends_at_a_failed_flush(rt.alloc()));
 }
