@@ -7,7 +7,7 @@ use json_print::{
     Buffer, BufferedWriter, CompactFormatter, Events, Formatter, PrettyFormatter, Serializer, Style,
 };
 use json_text::{ErrorCode, FakeSink, LentSink, Result, Sink, VecSink, flush_all, put_all};
-use std::test::Fail;
+use std::alloc::Global;
 
 // `"b": [-25, 340282366920938463463374607431768211455, true]`
 fn list_member<E: Events>(out: &mut E) -> Result<()>
@@ -61,65 +61,6 @@ fn tree<E: Events>(out: &mut E) -> Result<()>
     empty_members(out)
 }
 
-#[test]
-fn compact_text_through_a_buffer(rt: HostRuntime) -> std::result::Result<(), Fail> {
-    let alloc = rt.alloc();
-    let mut out = Serializer::new(alloc, BufferedWriter::new(alloc, VecSink::new(alloc))?);
-    tree(&mut out)?;
-    let mut writer = out.into_inner();
-    assert_eq!(rt; writer.flush(), Ok(()));
-    let text = writer.into_inner().into_vec();
-    assert_eq!(rt;
-        text.as_slice(),
-        "{\"b\":[-25,340282366920938463463374607431768211455,true],\"a\":{\"d\":null,\"c\":\"\\\"\\\\\\n\\u001fé\"},\"a\":{},\"\":[]}".as_bytes()
-    );
-    Ok(())
-}
-
-#[test]
-fn a_lent_sink_behind_a_buffer(rt: HostRuntime) -> std::result::Result<(), Fail> {
-    let alloc = rt.alloc();
-    let mut sink = VecSink::new(alloc);
-    let lent = LentSink::new(&mut sink);
-    let mut writer = BufferedWriter::with_buffer(Buffer::new(alloc)?, lent);
-    put_all(&mut writer, b"[]")?;
-    flush_all(&mut writer)?;
-    let _sink = writer.into_inner().into_inner();
-    assert_eq!(rt; sink.as_slice(), b"[]".as_slice());
-    Ok(())
-}
-
-#[test]
-fn pretty_text(rt: HostRuntime) -> std::result::Result<(), Fail> {
-    let alloc = rt.alloc();
-    let mut out = Serializer::pretty(alloc, VecSink::new(alloc));
-    tree(&mut out)?;
-    let text = out.into_inner().into_vec();
-    assert_eq!(rt;
-        text.as_slice(),
-        "{\n  \"b\": [\n    -25,\n    340282366920938463463374607431768211455,\n    true\n  ],\n  \"a\": {\n    \"d\": null,\n    \"c\": \"\\\"\\\\\\n\\u001fé\"\n  },\n  \"a\": {},\n  \"\": []\n}".as_bytes()
-    );
-    Ok(())
-}
-
-#[test]
-fn sorted_text_with_tabs(rt: HostRuntime) -> std::result::Result<(), Fail> {
-    let alloc = rt.alloc();
-    let out = Serializer::with_formatter(
-        alloc,
-        VecSink::new(alloc),
-        PrettyFormatter::with_indent(b"\t"),
-    );
-    let mut out = out.sort_map_keys();
-    tree(&mut out)?;
-    let text = out.into_inner().into_vec();
-    assert_eq!(rt;
-        text.as_slice(),
-        "{\n\t\"\": [],\n\t\"a\": {\n\t\t\"c\": \"\\\"\\\\\\n\\u001fé\",\n\t\t\"d\": null\n\t},\n\t\"a\": {},\n\t\"b\": [\n\t\t-25,\n\t\t340282366920938463463374607431768211455,\n\t\ttrue\n\t]\n}".as_bytes()
-    );
-    Ok(())
-}
-
 // `{"b": 1, "a": 2, "c": 3}`
 fn three_members<E: Events>(out: &mut E) -> Result<()>
     requires { E.stand (E.state out.old) ≡ record { turn = at_value; opened = [] } }
@@ -132,26 +73,6 @@ fn three_members<E: Events>(out: &mut E) -> Result<()>
     out.key("c")?;
     out.uint(3)?;
     out.end_object()
-}
-
-#[test]
-fn members_as_they_came(rt: HostRuntime) -> std::result::Result<(), Fail> {
-    let alloc = rt.alloc();
-    let mut out = Serializer::new(alloc, VecSink::new(alloc));
-    three_members(&mut out)?;
-    let text = out.into_inner().into_vec();
-    assert_eq!(rt; text.as_slice(), b"{\"b\":1,\"a\":2,\"c\":3}".as_slice());
-    Ok(())
-}
-
-#[test]
-fn members_in_the_order_of_their_keys(rt: HostRuntime) -> std::result::Result<(), Fail> {
-    let alloc = rt.alloc();
-    let mut out = Serializer::new(alloc, VecSink::new(alloc)).sort_map_keys();
-    three_members(&mut out)?;
-    let text = out.into_inner().into_vec();
-    assert_eq!(rt; text.as_slice(), b"{\"a\":2,\"b\":1,\"c\":3}".as_slice());
-    Ok(())
 }
 
 // `{"a": [null, null]}`, with what is told of the lengths
@@ -167,68 +88,181 @@ fn two_elements<E: Events>(out: &mut E, told: Option<usize>) -> Result<()>
     out.end_object()
 }
 
+// What is written.
+#[derive(Clone, Copy)]
+enum Piece {
+    Tree,
+    ThreeMembers,
+    TwoElements(Option<usize>),
+}
+
+fn write<E: Events>(out: &mut E, piece: Piece) -> Result<()>
+    requires { E.stand (E.state out.old) ≡ record { turn = at_value; opened = [] } }
+{
+    match piece {
+        Piece::Tree => tree(out),
+        Piece::ThreeMembers => three_members(out),
+        Piece::TwoElements(told) => two_elements(out, told),
+    }
+}
+
+fn compact(alloc: Global, piece: Piece) -> Result<Vec<u8>> {
+    let mut out = Serializer::new(alloc, VecSink::new(alloc));
+    write(&mut out, piece)?;
+    Ok(out.into_inner().into_vec())
+}
+
+fn buffered(alloc: Global, piece: Piece) -> Result<Vec<u8>> {
+    let writer = BufferedWriter::new(alloc, VecSink::new(alloc))?;
+    let mut out = Serializer::new(alloc, writer);
+    write(&mut out, piece)?;
+    let mut writer = out.into_inner();
+    flush_all(&mut writer)?;
+    Ok(writer.into_inner().into_vec())
+}
+
+fn sorted(alloc: Global, piece: Piece) -> Result<Vec<u8>> {
+    let mut out = Serializer::new(alloc, VecSink::new(alloc)).sort_map_keys();
+    write(&mut out, piece)?;
+    Ok(out.into_inner().into_vec())
+}
+
+fn pretty(alloc: Global, piece: Piece) -> Result<Vec<u8>> {
+    let mut out = Serializer::pretty(alloc, VecSink::new(alloc));
+    write(&mut out, piece)?;
+    Ok(out.into_inner().into_vec())
+}
+
+fn sorted_with_tabs(alloc: Global, piece: Piece) -> Result<Vec<u8>> {
+    let tabs = PrettyFormatter::with_indent(b"\t");
+    let out = Serializer::with_formatter(alloc, VecSink::new(alloc), tabs);
+    let mut out = out.sort_map_keys();
+    write(&mut out, piece)?;
+    Ok(out.into_inner().into_vec())
+}
+
+// Whether this text was written.
+fn is_text(written: Result<Vec<u8>>, text: &str) -> bool {
+    match written {
+        Ok(bytes) => bytes.as_slice() == text.as_bytes(),
+        Err(_) => false,
+    }
+}
+
 #[test]
-fn false_lengths_change_nothing(rt: HostRuntime) -> std::result::Result<(), Fail> {
+fn compact_text_through_a_buffer(rt: HostRuntime) {
+    let text =
+        "{\"b\":[-25,340282366920938463463374607431768211455,true],\"a\":{\"d\":null,\"c\":\"\\\"\\\\\\n\\u001fé\"},\"a\":{},\"\":[]}";
+    assert!(rt; is_text(buffered(rt.alloc(), Piece::Tree), text));
+}
+
+// Writes `[]` into a sink that is lent, behind a buffer, and answers whether that was done.
+fn write_lent(alloc: Global, sink: &mut VecSink) -> Result<bool> {
+    let mut writer = BufferedWriter::with_buffer(Buffer::new(alloc)?, LentSink::new(sink));
+    let done = put_all(&mut writer, b"[]").is_ok() && flush_all(&mut writer).is_ok();
+    let _sink = writer.into_inner().into_inner();
+    Ok(done)
+}
+
+fn lent_is_written(alloc: Global) -> Result<bool> {
+    let mut sink = VecSink::new(alloc);
+    let done = write_lent(alloc, &mut sink)?;
+    Ok(done && sink.as_slice() == b"[]".as_slice())
+}
+
+#[test]
+fn a_lent_sink_behind_a_buffer(rt: HostRuntime) {
+    assert!(rt; matches!(lent_is_written(rt.alloc()), Ok(true)));
+}
+
+#[test]
+fn pretty_text(rt: HostRuntime) {
+    let text =
+        "{\n  \"b\": [\n    -25,\n    340282366920938463463374607431768211455,\n    true\n  ],\n  \"a\": {\n    \"d\": null,\n    \"c\": \"\\\"\\\\\\n\\u001fé\"\n  },\n  \"a\": {},\n  \"\": []\n}";
+    assert!(rt; is_text(pretty(rt.alloc(), Piece::Tree), text));
+}
+
+#[test]
+fn sorted_text_with_tabs(rt: HostRuntime) {
+    let text =
+        "{\n\t\"\": [],\n\t\"a\": {\n\t\t\"c\": \"\\\"\\\\\\n\\u001fé\",\n\t\t\"d\": null\n\t},\n\t\"a\": {},\n\t\"b\": [\n\t\t-25,\n\t\t340282366920938463463374607431768211455,\n\t\ttrue\n\t]\n}";
+    assert!(rt; is_text(sorted_with_tabs(rt.alloc(), Piece::Tree), text));
+}
+
+#[test]
+fn members_as_they_came(rt: HostRuntime) {
+    let text = "{\"b\":1,\"a\":2,\"c\":3}";
+    assert!(rt; is_text(compact(rt.alloc(), Piece::ThreeMembers), text));
+}
+
+#[test]
+fn members_in_the_order_of_their_keys(rt: HostRuntime) {
+    let text = "{\"a\":2,\"b\":1,\"c\":3}";
+    assert!(rt; is_text(sorted(rt.alloc(), Piece::ThreeMembers), text));
+}
+
+#[test]
+fn false_lengths_change_nothing(rt: HostRuntime) {
     let alloc = rt.alloc();
+    let (short, long) = (
+        "{\"a\":[null,null]}",
+        "{\n  \"a\": [\n    null,\n    null\n  ]\n}",
+    );
     for told in [Some(0), Some(1), Some(3), Some(usize::MAX)] {
-        let mut compact = Serializer::new(alloc, VecSink::new(alloc));
-        two_elements(&mut compact, told)?;
-        let text = compact.into_inner().into_vec();
-        assert_eq!(rt; text.as_slice(), b"{\"a\":[null,null]}".as_slice());
-        let mut pretty = Serializer::pretty(alloc, VecSink::new(alloc));
-        two_elements(&mut pretty, told)?;
-        let text = pretty.into_inner().into_vec();
-        assert_eq!(rt;
-            text.as_slice(),
-            b"{\n  \"a\": [\n    null,\n    null\n  ]\n}".as_slice()
-        );
+        let piece = Piece::TwoElements(told);
+        assert!(rt; is_text(compact(alloc, piece), short));
+        assert!(rt; is_text(pretty(alloc, piece), long));
     }
-    Ok(())
 }
 
 #[test]
-fn lengths_of_sorted_objects_change_nothing(rt: HostRuntime) -> std::result::Result<(), Fail> {
-    let alloc = rt.alloc();
+fn lengths_of_sorted_objects_change_nothing(rt: HostRuntime) {
+    let text = "{\"a\":[null,null]}";
     for told in [Some(0), Some(usize::MAX)] {
-        let mut sorted = Serializer::new(alloc, VecSink::new(alloc)).sort_map_keys();
-        two_elements(&mut sorted, told)?;
-        let text = sorted.into_inner().into_vec();
-        assert_eq!(rt; text.as_slice(), b"{\"a\":[null,null]}".as_slice());
+        assert!(rt; is_text(sorted(rt.alloc(), Piece::TwoElements(told)), text));
     }
-    Ok(())
 }
 
-#[test]
-fn an_error_stays(rt: HostRuntime) -> std::result::Result<(), Fail> {
-    let alloc = rt.alloc();
+fn is_failed_write(answer: Result<()>) -> bool {
+    match answer {
+        Ok(()) => false,
+        Err(error) => error.error_code() == ErrorCode::Io,
+    }
+}
+
+// Whether the error of a sink that fails once comes again, and no more is written.
+fn error_comes_again(alloc: Global) -> Result<bool> {
     let mut out = Serializer::new(alloc, FakeSink::new(alloc, 2, &[1]));
     out.begin_array(None)?;
-    match out.boolean(true) {
-        Ok(()) => assert!(rt; false, "the sink failed"),
-        Err(error) => {
-            assert_eq!(rt; error.error_code(), ErrorCode::Io);
-            assert_eq!(rt; out.null(), Err(error));
-        }
-    }
-    assert_eq!(rt; out.into_inner().as_slice(), b"[".as_slice());
-    Ok(())
+    let first = out.boolean(true);
+    let same = out.null() == first && is_failed_write(first);
+    Ok(same && out.into_inner().as_slice() == b"[".as_slice())
 }
 
 #[test]
-fn single_pieces(rt: HostRuntime) -> std::result::Result<(), Fail> {
-    let alloc = rt.alloc();
-    let mut writer = VecSink::new(alloc);
+fn an_error_stays(rt: HostRuntime) {
+    assert!(rt; matches!(error_comes_again(rt.alloc()), Ok(true)));
+}
+
+fn write_pieces<W: Sink>(writer: &mut W) -> Result<()> {
     let mut formatter = CompactFormatter;
-    formatter.write_i8(&mut writer, -128)?;
-    formatter.write_u64(&mut writer, u64::MAX)?;
-    formatter.write_byte_array(&mut writer, b"\x00\xff")?;
-    formatter.write_string_fast(&mut writer, "\t\u{7f}", false)?;
-    formatter.write_raw_value(&mut writer, " ")?;
-    assert_eq!(rt;
-        writer.as_slice(),
-        b"-12818446744073709551615[0,255]\\t\x7f ".as_slice()
-    );
-    Ok(())
+    formatter.write_i8(writer, -128)?;
+    formatter.write_u64(writer, u64::MAX)?;
+    formatter.write_byte_array(writer, b"\x00\xff")?;
+    formatter.write_string_fast(writer, "\t\u{7f}", false)?;
+    formatter.write_raw_value(writer, " ")
+}
+
+fn pieces(alloc: Global) -> Result<Vec<u8>> {
+    let mut writer = VecSink::new(alloc);
+    write_pieces(&mut writer)?;
+    Ok(writer.into_vec())
+}
+
+#[test]
+fn single_pieces(rt: HostRuntime) {
+    let text = "-12818446744073709551615[0,255]\\t\x7f ";
+    assert!(rt; is_text(pieces(rt.alloc()), text));
 }
 
 #[test]

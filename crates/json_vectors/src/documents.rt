@@ -1,13 +1,10 @@
 // Documents and kinds.
+use crate::looks::is_document;
 use json_doc::JsonType;
-use json_fixtures::read;
-use std::test::Fail;
 
 #[test]
-fn one_cell_for_an_empty_array(rt: HostRuntime) -> Result<(), Fail> {
-    let doc = read(rt.alloc(), "[]")?;
-    assert_eq!(rt; doc.cells().len(), 1);
-    Ok(())
+fn one_cell_for_an_empty_array(rt: HostRuntime) {
+    assert!(rt; is_document(rt.alloc(), "[]", |doc| doc.cells().len() == 1));
 }
 
 #[test]

@@ -1,19 +1,19 @@
 // Values that are the same, places of documents and values of their own.
+use crate::looks::is_value;
 use json_fixtures::value_of;
+use json_text::Result;
 use json_value::{Array, Value};
 use std::alloc::Global;
-use std::test::Fail;
 
 // Whether the values of two texts are the same.
-fn are_same(alloc: Global, first: &str, second: &str) -> json_text::Result<bool> {
+fn are_same(alloc: Global, first: &str, second: &str) -> Result<bool> {
     let value = value_of(alloc, first)?;
     let other = value_of(alloc, second)?;
     Ok(value == other)
 }
 
-#[test]
-fn values_are_compared_from_both_sides(rt: HostRuntime) -> Result<(), Fail> {
-    let alloc = rt.alloc();
+// The first text whose value is compared otherwise with that of the other, from either side.
+fn wrong_pair(alloc: Global) -> Result<Option<&'static str>> {
     let cases = [
         ("{\"a\":1,\"b\":2}", "{\"b\":2,\"a\":1}", true),
         ("{\"a\":1,\"a\":1}", "{\"a\":1,\"b\":2}", false),
@@ -26,10 +26,17 @@ fn values_are_compared_from_both_sides(rt: HostRuntime) -> Result<(), Fail> {
         ("{\"a\":true,\"a\":1}", "{\"a\":true}", false),
     ];
     for (first, second, same) in cases {
-        assert!(rt; are_same(alloc, first, second)? == same, "{first} {second}");
-        assert!(rt; are_same(alloc, second, first)? == same, "{second} {first}");
+        if are_same(alloc, first, second)? != same || are_same(alloc, second, first)? != same {
+            return Ok(Some(first));
+        }
     }
-    Ok(())
+    Ok(None)
+}
+
+#[test]
+fn values_are_compared_from_both_sides(rt: HostRuntime) {
+    let wrong = wrong_pair(rt.alloc());
+    assert!(rt; matches!(wrong, Ok(None)), "{wrong:?}");
 }
 
 fn is_boolean(value: &Value, boolean: bool) -> bool {
@@ -57,7 +64,7 @@ fn scalars_are_compared(rt: HostRuntime) {
 }
 
 // The integers from 1 on, so many.
-fn integers(alloc: Global, count: u64) -> json_text::Result<Vec<Value>> {
+fn integers(alloc: Global, count: u64) -> Result<Vec<Value>> {
     let mut items = Vec::new(alloc);
     for before in 0..count {
         items.push(Value::new_u64(before + 1))?;
@@ -70,17 +77,34 @@ fn is_array(value: &Value, items: Vec<Value>) -> bool {
     value.eq_slice(items.as_slice()) && *value == Value::from_vec(items)
 }
 
+// Whether a value is the array of these elements, which were made.
+fn is_array_of(value: &Value, items: Result<Vec<Value>>) -> bool {
+    match items {
+        Ok(items) => is_array(value, items),
+        Err(_) => false,
+    }
+}
+
+// Whether its elements are others than these.
+fn has_others(value: &Value, items: Result<Vec<Value>>) -> bool {
+    match items {
+        Ok(items) => !value.eq_slice(items.as_slice()),
+        Err(_) => false,
+    }
+}
+
+fn has_three(value: &Value, alloc: Global) -> bool {
+    has_others(value, integers(alloc, 2)) && is_array_of(value, integers(alloc, 3))
+}
+
 #[test]
-fn elements_are_compared(rt: HostRuntime) -> Result<(), Fail> {
+fn elements_are_compared(rt: HostRuntime) {
     let alloc = rt.alloc();
-    let value = value_of(alloc, "[1,2,3]")?;
-    assert!(rt; !value.eq_slice(integers(alloc, 2)?.as_slice()));
-    assert!(rt; is_array(&value, integers(alloc, 3)?));
-    Ok(())
+    assert!(rt; is_value(alloc, "[1,2,3]", |value| has_three(value, alloc)));
 }
 
 // `[true,"x",[]]`, made by hand.
-fn made(alloc: Global) -> json_text::Result<Vec<Value>> {
+fn made(alloc: Global) -> Result<Vec<Value>> {
     let mut items = Vec::new(alloc);
     items.push(Value::new_bool(true))?;
     items.push(Value::from_static_str("x"))?;
@@ -89,9 +113,8 @@ fn made(alloc: Global) -> json_text::Result<Vec<Value>> {
 }
 
 #[test]
-fn places_and_values_of_their_own_are_compared(rt: HostRuntime) -> Result<(), Fail> {
+fn places_and_values_of_their_own_are_compared(rt: HostRuntime) {
     let alloc = rt.alloc();
-    let value = value_of(alloc, "[true,\"x\",[]]")?;
-    assert!(rt; is_array(&value, made(alloc)?));
-    Ok(())
+    let json = "[true,\"x\",[]]";
+    assert!(rt; is_value(alloc, json, |value| is_array_of(value, made(alloc))));
 }

@@ -13,6 +13,8 @@ mod documents;
 #[cfg(test)]
 mod equality;
 #[cfg(test)]
+mod looks;
+#[cfg(test)]
 mod numbers;
 #[cfg(test)]
 mod paths;

@@ -1,14 +1,18 @@
 // Numbers by their literals.
 use json_number::RawNumber;
-use json_text::ErrorCode;
-use std::test::Fail;
+use json_text::{ErrorCode, Result};
+use std::alloc::Global;
+
+// Whether a literal and its copy are these characters.
+fn is_copied(alloc: Global, literal: &str) -> Result<bool> {
+    let raw = RawNumber::new(alloc, literal)?;
+    let copy = raw.clone(alloc)?;
+    Ok(copy.as_str() == literal && raw.as_str() == literal)
+}
 
 #[test]
-fn literals_are_copied(rt: HostRuntime) -> Result<(), Fail> {
-    let raw = RawNumber::new(rt.alloc(), "1e5")?;
-    let copy = raw.clone(rt.alloc())?;
-    assert_eq!(rt; (copy.as_str(), raw.as_str()), ("1e5", "1e5"));
-    Ok(())
+fn literals_are_copied(rt: HostRuntime) {
+    assert!(rt; matches!(is_copied(rt.alloc(), "1e5"), Ok(true)));
 }
 
 #[test]

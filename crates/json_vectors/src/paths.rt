@@ -1,9 +1,12 @@
 // What steps and paths lead to.
+use crate::looks::is_value;
 use json_doc::JsonType;
 use json_fixtures::{key, shows, value_of};
+use json_text::Result;
 use json_value::{Index, Path, PointerNode, Value};
 use std::alloc::Global;
-use std::test::Fail;
+
+const MEMBERS: &str = "{\"a\":[1.5,true],\"a\":2}";
 
 const NESTED: &str = "{\"x\":{\"y\":[\"z\",\"zz\"]}}";
 
@@ -32,13 +35,13 @@ fn elements_at(value: &Value, name: &str) -> Option<(usize, bool)> {
     Some((elements.len(), list.get(name).is_none()))
 }
 
+fn has_children(value: &Value) -> bool {
+    truth_at(value, "a", 1) == Some(true) && elements_at(value, "a") == Some((2, true))
+}
+
 #[test]
-fn steps_lead_to_children(rt: HostRuntime) -> Result<(), Fail> {
-    let alloc = rt.alloc();
-    let value = value_of(alloc, "{\"a\":[1.5,true],\"a\":2}")?;
-    assert!(rt; truth_at(&value, "a", 1) == Some(true));
-    assert!(rt; elements_at(&value, "a") == Some((2, true)));
-    Ok(())
+fn steps_lead_to_children(rt: HostRuntime) {
+    assert!(rt; is_value(rt.alloc(), MEMBERS, has_children));
 }
 
 // Whether each member has this key.
@@ -50,15 +53,14 @@ fn all_are_called(value: &Value, name: &str) -> bool {
 }
 
 #[test]
-fn members_are_gone_through(rt: HostRuntime) -> Result<(), Fail> {
-    let value = value_of(rt.alloc(), "{\"a\":[1.5,true],\"a\":2}")?;
-    assert!(rt; all_are_called(&value, "a"));
-    assert!(rt; !all_are_called(&value, "b"));
-    Ok(())
+fn members_are_gone_through(rt: HostRuntime) {
+    let alloc = rt.alloc();
+    assert!(rt; is_value(alloc, MEMBERS, |value| all_are_called(value, "a")));
+    assert!(rt; is_value(alloc, MEMBERS, |value| !all_are_called(value, "b")));
 }
 
 // The path of two steps.
-fn path_of(alloc: Global, first: PointerNode, second: PointerNode) -> json_text::Result<Path> {
+fn path_of(alloc: Global, first: PointerNode, second: PointerNode) -> Result<Path> {
     let mut path = Path::new(alloc);
     path.push(first)?;
     path.push(second)?;
@@ -73,14 +75,15 @@ fn is_spelled(value: &Value, path: &[PointerNode], literal: &str) -> bool {
     }
 }
 
+fn leads_to_place(alloc: Global, path: &Path) -> bool {
+    let steps = path.steps();
+    steps.len() == 2 && is_value(alloc, MEMBERS, |value| is_spelled(value, steps, "1.5"))
+}
+
 #[test]
-fn a_path_leads_to_a_place(rt: HostRuntime) -> Result<(), Fail> {
-    let alloc = rt.alloc();
-    let path = path_of(alloc, key("a"), PointerNode::Index(0))?;
-    assert!(rt; path.steps().len() == 2);
-    let value = value_of(alloc, "{\"a\":[1.5,true],\"a\":2}")?;
-    assert!(rt; is_spelled(&value, path.steps(), "1.5"));
-    Ok(())
+fn a_path_leads_to_a_place(rt: HostRuntime) {
+    let path = path_of(rt.alloc(), key("a"), PointerNode::Index(0));
+    assert!(rt; path.is_ok_and(|path| leads_to_place(rt.alloc(), &path)));
 }
 
 // Whether this text stands where the steps lead, from a value and from its view.
@@ -91,31 +94,42 @@ fn is_said(value: &Value, path: &[PointerNode], text: &str) -> bool {
     }
 }
 
+fn leads_there(value: &Value) -> bool {
+    is_said(value, &[key("x"), key("y"), PointerNode::Index(1)], "zz")
+}
+
+fn leads_nowhere(value: &Value) -> bool {
+    value.pointer(&[key("a"), key("b")]).is_none()
+}
+
 #[test]
-fn paths_lead_to_places_or_nowhere(rt: HostRuntime) -> Result<(), Fail> {
-    let value = value_of(rt.alloc(), NESTED)?;
-    let there = [key("x"), key("y"), PointerNode::Index(1)];
-    assert!(rt; is_said(&value, &there, "zz"));
-    let nowhere = [key("a"), key("b")];
-    assert!(rt; value.pointer(&nowhere).is_none());
-    Ok(())
+fn paths_lead_to_places_or_nowhere(rt: HostRuntime) {
+    assert!(rt; is_value(rt.alloc(), NESTED, leads_there));
+    assert!(rt; is_value(rt.alloc(), NESTED, leads_nowhere));
 }
 
 // A copy of what stands where the steps lead; null where they lead nowhere.
-fn copied(value: &Value, alloc: Global, path: &[PointerNode]) -> json_text::Result<Value> {
+fn copied(value: &Value, alloc: Global, path: &[PointerNode]) -> Result<Value> {
     match value.pointer(path) {
         Some(found) => found.to_value(alloc),
         None => Ok(Value::new_null()),
     }
 }
 
+// Whether such a copy has this compact text.
+fn copy_shows(value: &Value, alloc: Global, path: &[PointerNode], json: &str) -> Result<bool> {
+    let copy = copied(value, alloc, path)?;
+    shows(alloc, &copy, json)
+}
+
+fn whole_is_copied(value: &Value, alloc: Global) -> bool {
+    matches!(copy_shows(value, alloc, &[], NESTED), Ok(true))
+}
+
 #[test]
-fn no_step_leads_to_the_whole(rt: HostRuntime) -> Result<(), Fail> {
+fn no_step_leads_to_the_whole(rt: HostRuntime) {
     let alloc = rt.alloc();
-    let value = value_of(alloc, NESTED)?;
-    let copy = copied(&value, alloc, &[])?;
-    assert!(rt; shows(alloc, &copy, NESTED)?);
-    Ok(())
+    assert!(rt; is_value(alloc, NESTED, |value| whole_is_copied(value, alloc)));
 }
 
 fn kind_at(value: &Value, first: &str, second: &str) -> JsonType {
@@ -127,15 +141,26 @@ fn text_at<'a>(value: &'a Value, first: &str, second: &str, index: usize) -> Opt
 }
 
 #[test]
-fn steps_to_nowhere_are_null(rt: HostRuntime) -> Result<(), Fail> {
-    let value = value_of(rt.alloc(), NESTED)?;
-    assert!(rt; kind_at(&value, "a", "b") == JsonType::Null);
-    assert!(rt; text_at(&value, "x", "y", 1) == Some("zz"));
-    Ok(())
+fn steps_to_nowhere_are_null(rt: HostRuntime) {
+    let alloc = rt.alloc();
+    assert!(rt;
+        is_value(
+            alloc,
+            NESTED,
+            |value| kind_at(value, "a", "b") == JsonType::Null
+        )
+    );
+    assert!(rt;
+        is_value(
+            alloc,
+            NESTED,
+            |value| text_at(value, "x", "y", 1) == Some("zz")
+        )
+    );
 }
 
 // Writes 1 at the first element of the first member of the first member.
-fn write(value: &mut Value, alloc: Global) -> json_text::Result<bool> {
+fn write(value: &mut Value, alloc: Global) -> Result<bool> {
     let first = [key("x"), key("y"), PointerNode::Index(0)];
     match value.reach(alloc, &first)? {
         Some(place) => {
@@ -146,12 +171,17 @@ fn write(value: &mut Value, alloc: Global) -> json_text::Result<bool> {
     }
 }
 
-#[test]
-fn a_written_value_is_copied(rt: HostRuntime) -> Result<(), Fail> {
-    let alloc = rt.alloc();
+fn write_and_copy(value: &mut Value, alloc: Global) -> Result<bool> {
+    let then = "{\"y\":[1,\"zz\"]}";
+    Ok(write(value, alloc)? && copy_shows(value, alloc, &[key("x")], then)?)
+}
+
+fn written_is_copied(alloc: Global) -> Result<bool> {
     let mut value = value_of(alloc, NESTED)?;
-    assert!(rt; write(&mut value, alloc)?);
-    let copy = copied(&value, alloc, &[key("x")])?;
-    assert!(rt; shows(alloc, &copy, "{\"y\":[1,\"zz\"]}")?);
-    Ok(())
+    write_and_copy(&mut value, alloc)
+}
+
+#[test]
+fn a_written_value_is_copied(rt: HostRuntime) {
+    assert!(rt; matches!(written_is_copied(rt.alloc()), Ok(true)));
 }

@@ -6,7 +6,6 @@ use json_number::{JsonNumberTrait, Number};
 use json_text::Error;
 use json_value::{Value, View};
 use std::alloc::Global;
-use std::test::Fail;
 
 // The kind, where the question for just this kind is answered by yes.
 fn kind<V: JsonValueTrait>(value: &V) -> Option<JsonType> {
@@ -35,9 +34,8 @@ fn are_of_kind(alloc: Global, json: &str, want: JsonType) -> json_text::Result<b
     Ok(seen && lent && kind(&answer) == Some(want))
 }
 
-#[test]
-fn kinds_are_read(rt: HostRuntime) -> Result<(), Fail> {
-    let alloc = rt.alloc();
+// The first text whose value is of another kind.
+fn wrong_kind(alloc: Global) -> json_text::Result<Option<&'static str>> {
     let cases = [
         ("null", JsonType::Null),
         ("true", JsonType::Boolean),
@@ -48,9 +46,17 @@ fn kinds_are_read(rt: HostRuntime) -> Result<(), Fail> {
         ("{\"k\":1}", JsonType::Object),
     ];
     for (json, want) in cases {
-        assert!(rt; are_of_kind(alloc, json, want)?, "{json}");
+        if !are_of_kind(alloc, json, want)? {
+            return Ok(Some(json));
+        }
     }
-    Ok(())
+    Ok(None)
+}
+
+#[test]
+fn kinds_are_read(rt: HostRuntime) {
+    let wrong = wrong_kind(rt.alloc());
+    assert!(rt; matches!(wrong, Ok(None)), "{wrong:?}");
 }
 
 // Whether it is the one boolean and not the other.
@@ -62,13 +68,16 @@ fn is_no_boolean<V: JsonValueTrait>(value: &V) -> bool {
     !value.is_true() && !value.is_false()
 }
 
+// Whether it is so of a value, of its view, and of what may be missing but is this value.
+fn are_boolean(value: Value, boolean: bool) -> bool {
+    let seen = is_boolean(&value, boolean) && is_boolean(&value.view(), boolean);
+    is_boolean(&Some(value), boolean) && seen
+}
+
 #[test]
 fn booleans_are_read(rt: HostRuntime) {
-    let value = Value::new_bool(true);
-    assert!(rt; is_boolean(&value, true));
-    assert!(rt; is_boolean(&value.view(), true));
-    assert!(rt; is_boolean(&Some(value), true));
-    assert!(rt; is_boolean(&Value::new_bool(false), false));
+    assert!(rt; are_boolean(Value::new_bool(true), true));
+    assert!(rt; are_boolean(Value::new_bool(false), false));
     assert!(rt; is_no_boolean(&Value::new_null()));
 }
 
@@ -76,18 +85,30 @@ fn is_missing<V: JsonContainerTrait>(value: &V) -> bool {
     value.is_null() && value.as_array().is_none() && value.as_object().is_none()
 }
 
+fn no_value_is_null() -> bool {
+    let none: Option<Value> = None;
+    is_missing(&none)
+}
+
+fn no_view_is_null() -> bool {
+    let none: Option<View<'static>> = None;
+    kind(&none) == Some(JsonType::Null)
+}
+
 #[test]
 fn what_is_missing_is_null(rt: HostRuntime) {
-    let none: Option<Value> = None;
-    assert!(rt; is_missing(&none));
-    let no_view: Option<View<'static>> = None;
-    assert!(rt; kind(&no_view) == Some(JsonType::Null));
+    assert!(rt; no_value_is_null());
+    assert!(rt; no_view_is_null());
+}
+
+fn error_is_null() -> bool {
+    let refused: Result<Value, Error> = Err(REFUSED);
+    is_missing(&refused)
 }
 
 #[test]
 fn what_was_refused_is_null(rt: HostRuntime) {
-    let refused: Result<Value, Error> = Err(REFUSED);
-    assert!(rt; is_missing(&refused));
+    assert!(rt; error_is_null());
 }
 
 // Whether it is this text, and no other scalar.
@@ -104,11 +125,13 @@ fn is_seven<V: JsonValueTrait>(value: &V) -> bool {
     value.as_number() == seven && value.as_bool().is_none() && value.as_str().is_none()
 }
 
+fn text_is_seen(text: Value) -> bool {
+    is_text(&text, "a") && is_text(&text.view(), "a")
+}
+
 #[test]
 fn scalars_are_read(rt: HostRuntime) {
-    let text = Value::from_static_str("a");
-    assert!(rt; is_text(&text, "a"));
-    assert!(rt; is_text(&text.view(), "a"));
+    assert!(rt; text_is_seen(Value::from_static_str("a")));
     assert!(rt; is_truth(&Value::new_bool(true)));
     assert!(rt; is_seven(&Some(Value::new_u64(7))));
 }
@@ -141,13 +164,17 @@ const REFUSED: Error = Error {
     place: json_text::Place::None,
 };
 
+fn error_is_no_scalar() -> bool {
+    let refused: Result<Value, Error> = Err(REFUSED);
+    is_no_scalar(&refused)
+}
+
 #[test]
 fn scalars_that_are_lent_or_answered_are_read(rt: HostRuntime) {
     assert!(rt; text_is_read(Value::from_static_str("a")));
     assert!(rt; truth_is_read(Value::new_bool(true)));
     assert!(rt; seven_is_read(Value::new_u64(7)));
-    let refused: Result<Value, Error> = Err(REFUSED);
-    assert!(rt; is_no_scalar(&refused));
+    assert!(rt; error_is_no_scalar());
 }
 
 // Whether these are its integers.
@@ -160,11 +187,13 @@ fn fits<V: JsonValueTrait>(value: &V, unsigned: bool, signed: bool) -> bool {
     value.is_u64() == unsigned && value.is_i64() == signed
 }
 
+fn is_greatest<V: JsonValueTrait>(value: &V) -> bool {
+    fits(value, true, false) && is_integer(value, Some(18446744073709551615), None)
+}
+
 #[test]
 fn integers_are_read(rt: HostRuntime) {
-    let big = Some(Value::new_u64(18446744073709551615));
-    assert!(rt; fits(&big, true, false));
-    assert!(rt; is_integer(&big, Some(18446744073709551615), None));
+    assert!(rt; is_greatest(&Some(Value::new_u64(18446744073709551615))));
     assert!(rt; is_integer(&Value::new_i64(-7), None, Some(-7)));
     assert!(rt; is_integer(&Value::new_null(), None, None));
 }
@@ -195,17 +224,36 @@ fn are_spelled(alloc: Global, literal: &str) -> json_text::Result<bool> {
     Ok(spelled && seen_are_spelled(alloc, &answer?, literal)?)
 }
 
-#[test]
-fn literals_are_read(rt: HostRuntime) -> Result<(), Fail> {
-    let alloc = rt.alloc();
+// The first literal that is read as another.
+fn wrong_literal(alloc: Global) -> json_text::Result<Option<&'static str>> {
     for literal in ["12", "-7", "18446744073709551615", "1.50e3", "-0"] {
-        assert!(rt; are_spelled(alloc, literal)?, "{literal}");
+        if !are_spelled(alloc, literal)? {
+            return Ok(Some(literal));
+        }
     }
+    Ok(None)
+}
+
+fn has_no_literal<V: JsonValueTrait>(alloc: Global, value: &V) -> bool {
+    matches!(value.as_raw_number(alloc), Ok(None))
+}
+
+fn no_value_has_no_literal(alloc: Global) -> bool {
     let none: Option<Value> = None;
-    assert!(rt; none.as_raw_number(alloc)?.is_none());
+    has_no_literal(alloc, &none)
+}
+
+fn error_has_no_literal(alloc: Global) -> bool {
     let refused: Result<Value, Error> = Err(REFUSED);
-    assert!(rt; refused.as_raw_number(alloc)?.is_none());
-    Ok(())
+    has_no_literal(alloc, &refused)
+}
+
+#[test]
+fn literals_are_read(rt: HostRuntime) {
+    let wrong = wrong_literal(rt.alloc());
+    assert!(rt; matches!(wrong, Ok(None)), "{wrong:?}");
+    assert!(rt; no_value_has_no_literal(rt.alloc()));
+    assert!(rt; error_has_no_literal(rt.alloc()));
 }
 
 // How many elements there are, and how many members.
@@ -233,16 +281,23 @@ fn are_sized(
     Ok(lent && sizes(&answer) == want)
 }
 
-#[test]
-fn containers_are_read(rt: HostRuntime) -> Result<(), Fail> {
-    let alloc = rt.alloc();
+// The first text whose value has more or fewer.
+fn wrong_size(alloc: Global) -> json_text::Result<Option<&'static str>> {
     let cases = [
         ("[1,2]", (Some(2), None)),
         ("{\"k\":1}", (None, Some(1))),
         ("null", (None, None)),
     ];
     for (json, want) in cases {
-        assert!(rt; are_sized(alloc, json, want)?, "{json}");
+        if !are_sized(alloc, json, want)? {
+            return Ok(Some(json));
+        }
     }
-    Ok(())
+    Ok(None)
+}
+
+#[test]
+fn containers_are_read(rt: HostRuntime) {
+    let wrong = wrong_size(rt.alloc());
+    assert!(rt; matches!(wrong, Ok(None)), "{wrong:?}");
 }

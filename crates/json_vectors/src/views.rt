@@ -1,10 +1,12 @@
 // What views show.
+use crate::looks::{is_document, is_made, is_value};
 use json_doc::{Doc, JsonType};
-use json_fixtures::{read, shows, value_of, whole};
+use json_fixtures::{shows, whole};
 use json_number::Number;
+use json_text::Result;
 use json_value::{ObjectView, Pair, Text, Value, View};
+use std::alloc::Global;
 use std::rc::Rc;
-use std::test::Fail;
 
 // The literal of the member of a key.
 fn literal_of<'a>(object: ObjectView<'a>, name: &str) -> Option<&'a str> {
@@ -30,15 +32,23 @@ fn members_of(doc: &Doc) -> Option<ObjectView<'_>> {
     View::packed(doc.view()).as_object()
 }
 
+// Whether these are the members of `{"a":[7,"\n"],"b":-2.50e3}`.
+fn are_both(object: ObjectView<'_>) -> bool {
+    let counted = object.len() == 2 && !object.is_empty();
+    let literal = literal_of(object, "b") == Some("-2.50e3");
+    let number = element_of(object, "a", 0).is_some_and(is_seven);
+    let text = element_of(object, "a", 1).is_some_and(|text| is_text(text, "\n"));
+    counted && literal && number && text
+}
+
+fn has_both(doc: &Rc<Doc>) -> bool {
+    members_of(doc).is_some_and(are_both)
+}
+
 #[test]
-fn views_show(rt: HostRuntime) -> Result<(), Fail> {
-    let doc = read(rt.alloc(), "{\"a\":[7,\"\\n\"],\"b\":-2.50e3}")?;
-    let object = members_of(&doc).ok_or("no object")?;
-    assert!(rt; object.len() == 2 && !object.is_empty());
-    assert!(rt; literal_of(object, "b") == Some("-2.50e3"));
-    assert!(rt; element_of(object, "a", 0).is_some_and(is_seven));
-    assert!(rt; element_of(object, "a", 1).is_some_and(|text| is_text(text, "\n")));
-    Ok(())
+fn views_show(rt: HostRuntime) {
+    let json = "{\"a\":[7,\"\\n\"],\"b\":-2.50e3}";
+    assert!(rt; is_document(rt.alloc(), json, has_both));
 }
 
 // How many elements an array has, where it has some.
@@ -52,10 +62,8 @@ fn elements(value: &Value) -> Option<usize> {
 }
 
 #[test]
-fn elements_are_counted(rt: HostRuntime) -> Result<(), Fail> {
-    let value = value_of(rt.alloc(), "[1,null]")?;
-    assert!(rt; elements(&value) == Some(2));
-    Ok(())
+fn elements_are_counted(rt: HostRuntime) {
+    assert!(rt; is_value(rt.alloc(), "[1,null]", |value| elements(value) == Some(2)));
 }
 
 // Whether the first member has this key and is true, and there is no second.
@@ -77,10 +85,8 @@ fn has_only(value: &Value, name: &str) -> bool {
 }
 
 #[test]
-fn members_are_counted(rt: HostRuntime) -> Result<(), Fail> {
-    let value = value_of(rt.alloc(), "{\"k\":true}")?;
-    assert!(rt; has_only(&value, "k"));
-    Ok(())
+fn members_are_counted(rt: HostRuntime) {
+    assert!(rt; is_value(rt.alloc(), "{\"k\":true}", |value| has_only(value, "k")));
 }
 
 // Writes true at a member.
@@ -92,11 +98,15 @@ fn is_true(member: &Pair, key: &str) -> bool {
     member.key() == key && member.value().eq_bool(true)
 }
 
-#[test]
-fn members_are_seen(rt: HostRuntime) {
+fn is_written_and_seen() -> bool {
     let mut member = Pair::new(Text::from_static("k"), Value::new_null());
     write_true(&mut member);
-    assert!(rt; is_true(&member, "k"));
+    is_true(&member, "k")
+}
+
+#[test]
+fn members_are_seen(rt: HostRuntime) {
+    assert!(rt; is_written_and_seen());
 }
 
 // Whether a value stands where what is seen does.
@@ -107,26 +117,38 @@ fn stands_where(value: &Value, seen: View<'_>) -> bool {
     }
 }
 
-#[test]
-fn a_packed_part_of_a_value_is_shared(rt: HostRuntime) -> Result<(), Fail> {
-    let alloc = rt.alloc();
-    let doc = read(alloc, "[0.5,{\"k\":[\"x\",2.50]}]")?;
-    let value = whole(alloc, &doc)?;
+// Whether the second element of the member `k` of the second element is made a value of the same document, one more that holds it.
+fn part_is_shared(value: &Value, alloc: Global, doc: &Rc<Doc>) -> bool {
     let part = value.at(1_usize).at("k").at(1_usize);
-    let before = Rc::strong_count(&doc);
-    let shared = part.to_value(alloc)?;
-    assert!(rt; stands_where(&shared, part));
-    assert_eq!(rt; (before, Rc::strong_count(&doc)), (2, 3));
-    Ok(())
+    let before = Rc::strong_count(doc);
+    let shares = |shared: &Value| stands_where(shared, part) && Rc::strong_count(doc) == 3;
+    is_made(part.to_value(alloc), shares) && before == 2
+}
+
+fn parts_are_shared(alloc: Global, doc: &Rc<Doc>) -> bool {
+    is_made(whole(alloc, doc), |value| part_is_shared(value, alloc, doc))
 }
 
 #[test]
-fn a_part_of_a_document_alone_is_copied(rt: HostRuntime) -> Result<(), Fail> {
+fn a_packed_part_of_a_value_is_shared(rt: HostRuntime) {
     let alloc = rt.alloc();
-    let doc = read(alloc, "[[2.50,\"x\"]]")?;
+    let json = "[0.5,{\"k\":[\"x\",2.50]}]";
+    assert!(rt; is_document(alloc, json, |doc| parts_are_shared(alloc, doc)));
+}
+
+// Whether the copy of the first element stands at no place, has this compact text, and holds no document.
+fn part_is_copied(alloc: Global, doc: &Rc<Doc>, json: &str) -> Result<bool> {
     let copy = View::packed(doc.view()).at(0_usize).to_value(alloc)?;
-    assert!(rt; copy.place().is_none());
-    assert!(rt; shows(alloc, &copy, "[2.50,\"x\"]")?);
-    assert_eq!(rt; Rc::strong_count(&doc), 1);
-    Ok(())
+    let alone = copy.place().is_none() && Rc::strong_count(doc) == 1;
+    Ok(shows(alloc, &copy, json)? && alone)
+}
+
+fn parts_are_copied(alloc: Global, doc: &Rc<Doc>) -> bool {
+    matches!(part_is_copied(alloc, doc, "[2.50,\"x\"]"), Ok(true))
+}
+
+#[test]
+fn a_part_of_a_document_alone_is_copied(rt: HostRuntime) {
+    let alloc = rt.alloc();
+    assert!(rt; is_document(alloc, "[[2.50,\"x\"]]", |doc| parts_are_copied(alloc, doc)));
 }
