@@ -19,7 +19,7 @@ use Rattle.json_value.specs.declared.value.Value.{Value}
 use Rattle.json_value.specs.Denotes.{tree_of}
 use Rattle.json_command.specs.Input.{max_bytes, IsInput, IsValid, InputFault, not_utf8, no_text}
 use Rattle.json_command.proofs.Inputs.{valid_no_fault}
-use Rattle.json_command.specs.Reading.{ReadsInput, ReadingFails}
+use Rattle.json_command.specs.Reading.{ReadsInput, InputFails}
 
 -- the tree at the root of a document of a tree is that tree
 pub root_is : (d : Doc) (t : Tree) → IsDocOf d t → doc_tree d (doc_root d) ≡ t
@@ -27,13 +27,13 @@ root_is d t h = spelled (doc_cells d) (doc_text d) d.in_place (doc_root d) (leng
 
 module _ (rules : Rules) where
   -- bytes that are not UTF-8
-  pub utf8_fails : (source source' : SourceState) (bytes seen : List ℕ) (code : ErrorCode) (place : Place) → ReadsWithin max_bytes source source' bytes → seen ≡ bytes → Utf8Cause seen code place → ReadingFails rules source source' code place
+  pub utf8_fails : (source source' : SourceState) (bytes seen : List ℕ) (code : ErrorCode) (place : Place) → ReadsWithin max_bytes source source' bytes → seen ≡ bytes → Utf8Cause seen code place → InputFails rules source source' code place
   utf8_fails source source' bytes seen InvalidUTF8 place read same h =
       record { bytes = bytes; all = read; fault = not_utf8 read.within (subst (λ b. Utf8Cause b InvalidUTF8 place) same h) }
   utf8_fails source source' bytes seen code place read same h = absurd h
 
   -- a text with a fault
-  pub text_fails : (source source' : SourceState) (bytes seen : List ℕ) (code : ErrorCode) (place : Place) → ReadsWithin max_bytes source source' bytes → seen ≡ bytes → IsUtf8 seen → ReadingFailsWith rules seen code place → ReadingFails rules source source' code place
+  pub text_fails : (source source' : SourceState) (bytes seen : List ℕ) (code : ErrorCode) (place : Place) → ReadsWithin max_bytes source source' bytes → seen ≡ bytes → IsUtf8 seen → ReadingFailsWith rules seen code place → InputFails rules source source' code place
   text_fails source source' bytes seen NoMemory nowhere read same u h = tt
   text_fails source source' bytes seen Io Reading read same u h = absurd h.2
   text_fails source source' bytes seen TooLarge nowhere read same u h = absurd h.2

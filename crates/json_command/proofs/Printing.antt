@@ -90,7 +90,7 @@ text_stopped old new text e g = record { ok = tt; flushed = tt; prefix = g.prefi
 -- ---- what the borrowed sink has gained
 
 -- nothing waits where all was flushed
-none_held : (held : List ℕ) (b : Bool) → holds_any held || b ≡ false → (held ≡ []) × (b ≡ false)
+pub none_held : (held : List ℕ) (b : Bool) → holds_any held || b ≡ false → (held ≡ []) × (b ≡ false)
 none_held [] b e = (refl, e)
 none_held (x ∷ held) b e = absurd (cc)
 

@@ -27,11 +27,11 @@ pub record ReadsFault (rules : Rules) (source source' : SourceState) (code : Err
   pub fault : InputFault rules bytes code place
 
 -- why no document was read: one row for each error
-abbrev pub ReadingFails : Rules → SourceState → SourceState → ErrorCode → Place → Type 0
-ReadingFails rules source source' NoMemory nowhere = ⊤
-ReadingFails rules source source' Io Reading = Rose source.faults source'.faults
-ReadingFails rules source source' TooLarge nowhere = RoseBy (max_bytes + 1) source.given source'.given × IfSome source.left (λ b. max_bytes < length b)
-ReadingFails rules source source' code place = ReadsFault rules source source' code place
+abbrev pub InputFails : Rules → SourceState → SourceState → ErrorCode → Place → Type 0
+InputFails rules source source' NoMemory nowhere = ⊤
+InputFails rules source source' Io Reading = Rose source.faults source'.faults
+InputFails rules source source' TooLarge nowhere = RoseBy (max_bytes + 1) source.given source'.given × IfSome source.left (λ b. max_bytes < length b)
+InputFails rules source source' code place = ReadsFault rules source source' code place
 
 -- a read that failed is returned as that error
 abbrev pub ReturnsReadError : {A : Type 0} → SourceState → SourceState → Result A Error → Type 0

@@ -25,7 +25,8 @@ pub const BAD_WORDS: Error = Error {
 /// Returns the error of an argument that could not be read as it has to be: `NoMemory` where memory
 /// ran out, and else `BadWords`.
 pub fn arguments_error(code: ErrorCode) -> Error
-    ensures { (result ≡ no_memory) ⊎ ((result ≡ bad_words) × (code ≢ NoMemory)) }
+    ensures either { (result ≡ no_memory) ⊎ ((result ≡ bad_words) × (code ≢ NoMemory)) }
+    ensures other { code ≢ NoMemory → result ≡ bad_words }
 {
     match code {
         ErrorCode::NoMemory => Error {
@@ -42,8 +43,9 @@ pub fn arguments_error(code: ErrorCode) -> Error
 ///
 /// ```
 /// use json_command::{BAD_WORDS, read_argument};
+/// use json_value::View;
 /// let doc = read_argument(alloc, "[\"a\", 0]")?;
-/// assert!(rt; doc.root_view().as_array().is_some());
+/// assert!(rt; View::packed(doc.view()).as_array().is_some());
 /// assert_eq!(rt; read_argument(alloc, "[").err(), Some(BAD_WORDS));
 /// ```
 pub fn read_argument(alloc: Global, argument: &str) -> json_text::Result<Rc<Doc>>
@@ -62,6 +64,13 @@ pub fn read_argument(alloc: Global, argument: &str) -> json_text::Result<Rc<Doc>
 }
 
 /// The arguments of the command line and the standard streams.
+///
+/// ```
+/// use json_command::{About, Console};
+/// let about = About { help: "Usage: tool\n", version: "tool 1.0.0\n", hint: "" };
+/// let console = Console::open(&rt, &about).map_err(|_| "no console")?;
+/// assert!(rt; about.text_asked(&console.arguments).is_none());
+/// ```
 #[derive(Drop)]
 pub struct Console {
     /// The arguments, without the program's name.

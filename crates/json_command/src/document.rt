@@ -4,7 +4,7 @@ ghost use Rattle.json_text.specs.Ruled.{rules_of};
 ghost use Rattle.json_text.specs.Transfer.{TakesAtMost};
 ghost use Rattle.json_doc.specs.Docs.{doc_root, doc_tree};
 ghost use Rattle.json_command.specs.Input.{max_bytes};
-ghost use Rattle.json_command.specs.Reading.{ReadsInput, ReadingFails, ReturnsReadError};
+ghost use Rattle.json_command.specs.Reading.{ReadsInput, InputFails, ReturnsReadError};
 
 use json_doc::{Doc, read_document_with};
 use json_text::{Result, Rules, Source, check_utf8, read_all};
@@ -21,7 +21,7 @@ pub(crate) const MAX_BYTES: usize = 4_294_967_295;
 pub fn read_document_from<S: Source>(alloc: Global, source: &mut S, rules: Rules) -> Result<Rc<Doc>>
     ensures read { IfOk result (λ d. ReadsInput (rules_of rules)
         (S.state source.old) (S.state source.new) (doc_tree d.value (doc_root d.value))) }
-    ensures failed { IfErr result (λ e. ReadingFails (rules_of rules)
+    ensures failed { IfErr result (λ e. InputFails (rules_of rules)
         (S.state source.old) (S.state source.new) e.code e.place) }
     ensures taken { TakesAtMost (max_bytes + 1) (S.state source.old) (S.state source.new) }
     ensures told { ReturnsReadError (S.state source.old) (S.state source.new) result }

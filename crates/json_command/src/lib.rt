@@ -11,7 +11,8 @@
 //! let doc = read_document_from(alloc, &mut source, Rules::usual())?;
 //! let value = Value::from_place(alloc, &doc, doc.root())?;
 //! let mut sink = VecSink::new(alloc);
-//! print_value(alloc, &value, Style::compact(), &mut sink)?;
+//! let style = Style::new(None, false).ok_or("no style")?;
+//! print_value(alloc, &value, style, &mut sink)?;
 //! assert_eq!(rt; sink.as_slice(), b"[1,2.50]".as_slice());
 //! ```
 #![tactic(auto)]

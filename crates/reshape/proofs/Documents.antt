@@ -21,7 +21,7 @@ use Rattle.json_doc.specs.Docs.{doc_tree, doc_root}
 use Rattle.json_value.specs.declared.value.Value.{Value}
 use Rattle.json_value.specs.Denotes.{tree_of}
 use Rattle.json_command.proofs.Inputs.{no_io, no_not_found, no_type_unmatched}
-use Rattle.json_command.specs.Reading.{ReadsInput, ReadingFails}
+use Rattle.json_command.specs.Reading.{ReadsInput, InputFails}
 use Rattle.json_command.specs.Printing.{PrintingFails}
 use Rattle.reshape.specs.Reshape.{Layout, laid_out, ordered, EditingRefuses, Reshapes, Refuses}
 
@@ -55,7 +55,7 @@ module _ (rules : Rules) where
   reshaped es l source source' sink sink' tree changed (Err e) reads indent proper applied gains flushed = tt
 
   -- reading was refused, and nothing was written
-  pub reading_refused : (es : List Edit) (l : Layout) (source source' : SourceState) (sink : SinkState) (code : ErrorCode) (place : Place) → ReadingFails rules source source' code place → Refuses rules es l source source' sink sink code place
+  pub reading_refused : (es : List Edit) (l : Layout) (source source' : SourceState) (sink : SinkState) (code : ErrorCode) (place : Place) → InputFails rules source source' code place → Refuses rules es l source source' sink sink code place
   reading_refused es l source source' sink NoMemory nowhere h = inl refl
   reading_refused es l source source' sink Io Reading h = (h, refl)
   reading_refused es l source source' sink TooLarge nowhere h = (h.0, h.1, refl)

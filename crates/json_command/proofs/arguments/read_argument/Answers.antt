@@ -12,7 +12,7 @@ returns-in-Ok-clause-ok c =
 pub returns-in-Err-clause-err : goal.returns-in-Err-clause-err
 returns-in-Err-clause-err c =
     let short : length c.args.argument.now ≤ max_bytes = omega (arith, c.if-argument-gt-MAX_BYTES.false) in
-    elim c.arguments_error.ensures [
+    elim c.arguments_error.ensures.either [
       | inl m ↦ inl m
       | inr w ↦ inr (w.0, no_input (rules_of c.usual.result) c.args.argument.now c.in-Err.error.code c.in-Err.error.place c.usual.ensures short c.utf8.argument w.1 c.in-Err.ensures.err)
     ]
