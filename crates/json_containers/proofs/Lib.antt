@@ -8,3 +8,5 @@ pub mod FoundBehind
 pub mod Turns
 pub mod Kept
 pub mod Found
+pub mod Stays
+pub mod LentSlices

@@ -1,7 +1,5 @@
 -- What calls leave of an array and of an object: the members after the first write, changed in one way.
-use denote.RattleType.{RattleType}
-use denote.Array.{Array}
-use Rattle.std.specs.Prelude.{◌≡◌, ℕ, ◌+◌, ◌≤◌, Bool, List, ◌++◌, length, map, Vec}
+use Rattle.std.specs.Prelude.{◌≡◌, ℕ, ◌+◌, ◌≤◌, Bool, List, ◌++◌, ◌⊎◌, length, map, Vec}
 use Rattle.std.specs.List.{items_where_true}
 use Rattle.std.specs.declared.alloc.Global.{Global}
 use Rattle.json_value.specs.Denotes.{tree_of, pair_of, list_in, pairs_in}
@@ -39,6 +37,14 @@ ArrayBecame f = ArrayChanged (λ items now. now ≡ f items)
 abbrev pub ObjectBecame : (List (Keyed Value) → List (Keyed Value)) → (old new : Container (Keyed Value)) → Type 0
 ObjectBecame f = ObjectChanged (λ items now. now ≡ f items)
 
+-- nothing changed: the elements stay, and so does the array, but for its first write
+abbrev pub ArrayStays : (old new : Container Value) → Type 0
+ArrayStays old new = (list_in new ≡ list_in old) × ((new ≡ old) ⊎ ArrayBecame (λ items. items) old new)
+
+-- so of the members of an object
+abbrev pub ObjectStays : (old new : Container (Keyed Value)) → Type 0
+ObjectStays old new = (pairs_in new ≡ pairs_in old) × ((new ≡ old) ⊎ ObjectBecame (λ items. items) old new)
+
 -- one answer for each, and those are left of which the answer was true
 abbrev pub Keeps : {A : Type 0} → (old new : List A) → Type 0
 Keeps old new = (answers : List Bool) × (length answers ≡ length old) × (new ≡ items_where_true answers old)
@@ -54,10 +60,6 @@ KeepsRoom n old new = (IsPlace old → ⊥) → spare_in new ≡ n + spare_in ol
 -- copies of these came behind the others: they stand where these do, and so do their parts
 abbrev pub AppendsCopies : List Value → (items now : List Value) → Type 0
 AppendsCopies copied items now = (more : List Value) × (map origin_of more ≡ map origin_of copied) × (now ≡ items ++ more)
-
--- a slice of these, lent
-abbrev pub slice_row : RattleType → RattleType
-slice_row T = Array T 0
 
 -- the elements of an owned list
 abbrev pub own_elements : Container Value → List Value

@@ -6,3 +6,4 @@ pub mod Entry
 pub mod IntoIter
 pub mod Laws
 pub mod Found
+pub mod Slices

@@ -1,5 +1,5 @@
 -- The members of an object with an owned list, and what a write at one of them, or behind them, leaves.
-use Rattle.std.specs.Prelude.{◌≡◌, ◌+◌, ◌-◌, ◌<◌, ℕ, Bool, List, [], ◌∷◌, ◌++◌, Option, Some, None, slice_get, Vec, option_map}
+use Rattle.std.specs.Prelude.{◌≡◌, ◌+◌, ◌-◌, ◌<◌, ℕ, Bool, List, [], ◌∷◌, ◌++◌, Option, Some, None, slice_get, Vec, option_map, cond}
 use denote.Ref.{Bor, MutBor}
 use denote.Param.Members.{Mut}
 use Rattle.std.specs.Fn.{Called}
@@ -65,3 +65,8 @@ pub record CalledAtMember {F : Type 0} (g : Mut F (Bor (List ℕ) × (MutBor Val
   pub shows : (key.now ≡ text_bytes m.key) × (value.now ≡ value_in m)
   pub called : Called g f (key, (value, tt)) (r, (left, tt)) f'
   pub leaves : m' ≡ with_value m left.now
+
+-- R went over the elements in turn, from s to t, and ys has those of which it said `true`, as it left them
+abbrev pub RetainsTo : {S X : Type 0} → (S → X → Bool → S → X → Type 0) → S → List X → List X → S → Type 0
+RetainsTo R s [] ys t = (ys ≡ []) × (t ≡ s)
+RetainsTo {S} {X} R s (x ∷ xs) ys t = (b : Bool) × (u : S) × (y : X) × R s x b u y × (zs : List X) × RetainsTo R u xs zs t × (ys ≡ cond b (y ∷ zs) zs)

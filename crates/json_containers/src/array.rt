@@ -4,6 +4,7 @@ ghost use Rattle.std.specs.Prelude.{IfOk, IfErr, OnOk, OnErr, IsOk, IsNone, IsTr
 ghost use Rattle.std.specs.Prelude.{take, drop, replicate, slice_get, slice_range, option_map};
 ghost use Rattle.std.specs.Option.{option_to_list};
 ghost use Rattle.std.specs.Vec.{vec_len, vec_capacity};
+ghost use Rattle.std.specs.Borrow.{LendsSoOk, sem};
 ghost use Rattle.std.specs.Fn.{CalledAt, CalledAtMut};
 ghost use Rattle.std.specs.List.{insert, remove, remove_range, swap_remove, AppendsResults};
 ghost use Rattle.std.specs.List.Retain.{IsFiltered, RetainsInTurn};
@@ -15,11 +16,14 @@ ghost use Rattle.json_value.specs.Spots.{IsPlace};
 ghost use Rattle.json_value.specs.Written.{FirstElements};
 ghost use Rattle.json_value.specs.declared.container.Container.{Container};
 ghost use Rattle.json_value.specs.declared.value.Value.{Value};
-ghost use Rattle.json_containers.specs.IntoIter.{values_left, values_shown};
-ghost use Rattle.json_containers.specs.Changed.{ArrayChanged, ArrayBecame, own_elements, Keeps};
+ghost use Rattle.json_containers.specs.IntoIter.{values_left, values_shown, slice_row};
+ghost use Rattle.json_containers.specs.Changed.{ArrayChanged, ArrayBecame, ArrayStays};
+ghost use Rattle.json_containers.specs.Changed.{own_elements, Keeps};
 ghost use Rattle.json_containers.specs.Changed.{TakesOne, KeepsRoom, AppendsCopies};
+ghost use Rattle.json_containers.specs.Slices.{written_over};
 
 use crate::into_iter::IntoIter;
+use crate::slices::{elements_of, slice_of};
 use json_text::Result;
 use json_value::{Array, Value};
 use std::alloc::Global;
@@ -117,7 +121,7 @@ pub trait ArrayCalls {
     /// Room for at least as many more.
     fn reserve(&mut self, alloc: Global, additional: usize) -> Result<()>
         ensures room { OnOk result (additional ≤ spare_in (held self.new)) }
-        ensures same { list_in (held self.new) ≡ list_in (held self.old) }
+        ensures same { ArrayStays (held self.old) (held self.new) }
         ensures free { additional ≤ spare_in (held self.old)
             → IsOk result × (held self.new ≡ held self.old) }
         ensures only { IfErr result (λ e. e ≡ no_memory) };
@@ -129,7 +133,7 @@ pub trait ArrayCalls {
             ≡ insert (list_in (held self.old)) index (tree_of element)) }
         ensures children { OnOk result (ArrayBecame (λ items. insert items index element)
             (held self.old) (held self.new)) }
-        ensures kept { OnErr result (list_in (held self.new) ≡ list_in (held self.old)) }
+        ensures kept { OnErr result (ArrayStays (held self.old) (held self.new)) }
         ensures only { IfErr result (λ e. e ≡ no_memory) };
 
     /// Appends the element.
@@ -138,7 +142,7 @@ pub trait ArrayCalls {
             ≡ list_in (held self.old) ++ tree_of element ∷ []) }
         ensures children { OnOk result (ArrayBecame (λ items. items ++ element ∷ [])
             (held self.old) (held self.new)) }
-        ensures kept { OnErr result (list_in (held self.new) ≡ list_in (held self.old)) }
+        ensures kept { OnErr result (ArrayStays (held self.old) (held self.new)) }
         ensures free { 0 < spare_in (held self.old) → IsOk result }
         ensures room { TakesOne (held self.old) (held self.new) }
         ensures only { IfErr result (λ e. e ≡ no_memory) };
@@ -151,13 +155,14 @@ pub trait ArrayCalls {
         ensures children { IfOk result (λ v. ArrayChanged
             (λ items now. (now ≡ remove items index) × (slice_get items index ≡ Some v))
             (held self.old) (held self.new)) }
-        ensures kept { OnErr result (list_in (held self.new) ≡ list_in (held self.old)) }
+        ensures kept { OnErr result (held self.new ≡ held self.old) }
         ensures free { (IsPlace (held self.old) → ⊥) → IsOk result }
         ensures only { IfErr result (λ e. e ≡ no_memory) };
 
     /// The array without elements, with room for so many.
     fn with_capacity(alloc: Global, capacity: usize) -> Result<Array>
         ensures list { IfOk result (λ a. list_in a ≡ []) }
+        ensures no_place { IfOk result (λ a. IsPlace a → ⊥) }
         ensures room { IfOk result (λ a. capacity ≤ spare_in a) }
         ensures free { capacity ≡ 0 → IsOk result }
         ensures only { IfErr result (λ e. e ≡ no_memory) };
@@ -170,7 +175,7 @@ pub trait ArrayCalls {
         ensures children { IfOk result (λ v. ArrayChanged
             (λ items now. (now ≡ swap_remove items index v) × (slice_get items index ≡ Some v))
             (held self.old) (held self.new)) }
-        ensures kept { OnErr result (list_in (held self.new) ≡ list_in (held self.old)) }
+        ensures kept { OnErr result (held self.new ≡ held self.old) }
         ensures free { (IsPlace (held self.old) → ⊥) → IsOk result }
         ensures only { IfErr result (λ e. e ≡ no_memory) };
 
@@ -178,7 +183,7 @@ pub trait ArrayCalls {
     fn truncate(&mut self, alloc: Global, len: usize) -> Result<()>
         ensures ok { OnOk result (list_in (held self.new) ≡ take len (list_in (held self.old))) }
         ensures children { OnOk result (ArrayBecame (take len) (held self.old) (held self.new)) }
-        ensures kept { OnErr result (list_in (held self.new) ≡ list_in (held self.old)) }
+        ensures kept { OnErr result (held self.new ≡ held self.old) }
         ensures free { (IsPlace (held self.old) → ⊥) → IsOk result }
         ensures only { IfErr result (λ e. e ≡ no_memory) };
 
@@ -190,13 +195,14 @@ pub trait ArrayCalls {
         ensures children { IfOk result (λ o. ArrayChanged
             (λ items now. items ≡ now ++ option_to_list o)
             (held self.old) (held self.new)) }
-        ensures kept { OnErr result (list_in (held self.new) ≡ list_in (held self.old)) }
+        ensures kept { OnErr result (held self.new ≡ held self.old) }
         ensures free { (IsPlace (held self.old) → ⊥) → IsOk result }
         ensures only { IfErr result (λ e. e ≡ no_memory) };
 
     /// No elements. An owned list keeps its room. Takes no memory.
     fn clear(&mut self)
         ensures empty { list_in (held self.new) ≡ [] }
+        ensures no_place { IsPlace (held self.new) → ⊥ }
         ensures room { KeepsRoom (length (list_in (held self.old)))
             (held self.old) (held self.new) };
 
@@ -205,10 +211,11 @@ pub trait ArrayCalls {
         requires { at ≤ length (list_in (held self.old)) }
         ensures ok { OnOk result (list_in (held self.new) ≡ take at (list_in (held self.old))) }
         ensures rest { IfOk result (λ a. list_in a ≡ drop at (list_in (held self.old))) }
+        ensures no_place { IfOk result (λ a. IsPlace a → ⊥) }
         ensures children { IfOk result (λ a. ArrayChanged
             (λ items now. (now ≡ take at items) × (own_elements a ≡ drop at items))
             (held self.old) (held self.new)) }
-        ensures kept { OnErr result (list_in (held self.new) ≡ list_in (held self.old)) }
+        ensures kept { OnErr result (ArrayStays (held self.old) (held self.new)) }
         ensures only { IfErr result (λ e. e ≡ no_memory) };
 
     /// The elements of the range, taken out.
@@ -219,10 +226,11 @@ pub trait ArrayCalls {
             ≡ remove_range (list_in (held self.old)) from to) }
         ensures taken { IfOk result (λ a. list_in a
             ≡ slice_range (list_in (held self.old)) from to) }
+        ensures no_place { IfOk result (λ a. IsPlace a → ⊥) }
         ensures children { IfOk result (λ a. ArrayChanged (λ items now.
             (now ≡ remove_range items from to) × (own_elements a ≡ slice_range items from to))
             (held self.old) (held self.new)) }
-        ensures kept { OnErr result (list_in (held self.new) ≡ list_in (held self.old)) }
+        ensures kept { OnErr result (ArrayStays (held self.old) (held self.new)) }
         ensures only { IfErr result (λ e. e ≡ no_memory) };
 
     /// The other's elements, appended; the other has none then.
@@ -233,8 +241,9 @@ pub trait ArrayCalls {
             (more : List Value) × FirstElements other.old more × (now ≡ items ++ more))
             (held self.old) (held self.new)) }
         ensures emptied { OnOk result (list_in other.new ≡ []) }
-        ensures kept { OnErr result ((list_in (held self.new) ≡ list_in (held self.old))
-            × (list_in other.new ≡ list_in other.old)) }
+        ensures no_place { OnOk result (IsPlace other.new → ⊥) }
+        ensures kept { OnErr result (ArrayStays (held self.old) (held self.new)
+            × ArrayStays other.old other.new) }
         ensures only { IfErr result (λ e. e ≡ no_memory) };
 
     /// Appends copies of these.
@@ -243,7 +252,7 @@ pub trait ArrayCalls {
             ≡ list_in (held self.old) ++ map tree_of items.now) }
         ensures children { OnOk result (ArrayChanged (AppendsCopies items.now)
             (held self.old) (held self.new)) }
-        ensures kept { OnErr result (list_in (held self.new) ≡ list_in (held self.old)) }
+        ensures kept { OnErr result (ArrayStays (held self.old) (held self.new)) }
         ensures only { IfErr result (λ e. e ≡ no_memory) };
 
     /// Copies of that range, appended.
@@ -255,7 +264,7 @@ pub trait ArrayCalls {
         ensures children { OnOk result (ArrayChanged
             (λ items now. AppendsCopies (slice_range items from to) items now)
             (held self.old) (held self.new)) }
-        ensures kept { OnErr result (list_in (held self.new) ≡ list_in (held self.old)) }
+        ensures kept { OnErr result (ArrayStays (held self.old) (held self.new)) }
         ensures only { IfErr result (λ e. e ≡ no_memory) };
 
     /// Cut to this length, or filled up with copies of the value.
@@ -266,7 +275,7 @@ pub trait ArrayCalls {
         ensures children { OnOk result (ArrayChanged (λ items now.
             AppendsCopies (replicate (new_len - length items) value.now) (take new_len items) now)
             (held self.old) (held self.new)) }
-        ensures kept { OnErr result (list_in (held self.new) ≡ list_in (held self.old)) }
+        ensures kept { OnErr result (ArrayStays (held self.old) (held self.new)) }
         ensures only { IfErr result (λ e. e ≡ no_memory) };
 
     /// Keeps the elements for which `f` is true, in order.
@@ -275,7 +284,8 @@ pub trait ArrayCalls {
         ensures ok { OnOk result (Keeps (list_in (held self.old)) (list_in (held self.new))) }
         ensures children { OnOk result (ArrayChanged (IsFiltered (CalledAt F.FnMut) f)
             (held self.old) (held self.new)) }
-        ensures kept { OnErr result (list_in (held self.new) ≡ list_in (held self.old)) }
+        ensures kept { OnErr result (held self.new ≡ held self.old) }
+        ensures free { (IsPlace (held self.old) → ⊥) → IsOk result }
         ensures only { IfErr result (λ e. e ≡ no_memory) };
 
     /// The same, with what `f` writes.
@@ -283,7 +293,8 @@ pub trait ArrayCalls {
         requires { F.IsAlwaysCallable f }
         ensures children { OnOk result (ArrayChanged (RetainsInTurn (CalledAtMut F.FnMut) f)
             (held self.old) (held self.new)) }
-        ensures kept { OnErr result (list_in (held self.new) ≡ list_in (held self.old)) }
+        ensures kept { OnErr result (held self.new ≡ held self.old) }
+        ensures free { (IsPlace (held self.old) → ⊥) → IsOk result }
         ensures only { IfErr result (λ e. e ≡ no_memory) };
 
     /// Cut to this length, or filled up with what `f` answers, in order.
@@ -298,20 +309,24 @@ pub trait ArrayCalls {
         ensures children { OnOk result (ArrayChanged
             (λ items now. AppendsResults F.step (take new_len items) now f)
             (held self.old) (held self.new)) }
-        ensures kept { OnErr result (list_in (held self.new) ≡ list_in (held self.old)) }
+        ensures kept { OnErr result (ArrayStays (held self.old) (held self.new)) }
         ensures only { IfErr result (λ e. e ≡ no_memory) };
 
     /// An iterator over all elements. After a refusal the array is gone.
     fn into_iter(self, alloc: Global) -> Result<IntoIter>
         ensures left { IfOk result (λ it. map tree_of (values_left it) ≡ list_in (held self)) }
-        ensures shown { IfOk result (λ it. map tree_of (values_shown it) ≡ list_in (held self)) }
+        ensures children { IfOk result (λ it. FirstElements (held self) (values_left it)) }
+        ensures shown { IfOk result (λ it. values_shown it ≡ values_left it) }
         ensures free { (IsPlace (held self) → ⊥) → IsOk result }
         ensures only { IfErr result (λ e. e ≡ no_memory) };
 
-    /// All elements, to be changed. No clause says what the array becomes: a caller that has to
-    /// know it takes `array.list_mut(alloc)?.as_mut_slice()`, which says it.
+    /// All elements, to be changed. What is written through the slice is what the array has.
     fn as_mut_slice(&mut self, alloc: Global) -> Result<&mut [Value]>
+        ensures* writes_back { sem 𝓛 (LendsSoOk Self.row slice_row self.entry result
+            (λ n w. ArrayBecame (λ items. written_over items w) (held self.old) (held n))
+            (λ n. held n ≡ held self.old)) }
         ensures list { IfOk result (λ s. map tree_of s.now ≡ list_in (held self.old)) }
+        ensures children { IfOk result (λ s. FirstElements (held self.old) s.now) }
         ensures free { (IsPlace (held self.old) → ⊥) → IsOk result }
         ensures only { IfErr result (λ e. e ≡ no_memory) };
 }
@@ -458,8 +473,9 @@ impl ArrayCalls for Array {
     }
 
     fn as_mut_slice(&mut self, alloc: Global) -> Result<&mut [Value]> {
-        let list = self.list_mut(alloc)?;
-        let slice = list.as_mut_slice();
-        Ok(slice)
+        match elements_of(self, alloc) {
+            Ok(list) => Ok(slice_of(list)),
+            Err(error) => Err(error),
+        }
     }
 }

@@ -113,7 +113,6 @@ impl<'a> OccupiedEntry<'a> {
     ghost use Rattle.json_containers.specs.Entry.{Occupied, entry_key, entry_object, entry_value};
     ghost use Rattle.json_containers.specs.Entry.{entry_lends, occupied_lends, with_entry_value};
     ghost use Rattle.json_containers.specs.Entry.{IsWritten};
-    ghost use Rattle.json_value.specs.Denotes.{tree_of};
     ghost use Rattle.json_value.specs.declared.value.Value.{Value};
     ghost use Rattle.json_value.specs.Rows.{OwnsList};
 
@@ -157,7 +156,7 @@ impl<'a> OccupiedEntry<'a> {
 
     /// The value.
     pub fn get(&self) -> &Value
-        ensures { option_map tree_of (entry_value (Occupied self.now)) ≡ Some (tree_of result.now) }
+        ensures { entry_value (Occupied self.now) ≡ Some result.now }
     {
         match self.object.pairs() {
             Some(pairs) => pairs[self.at].value(),

@@ -24,12 +24,13 @@ ghost use Rattle.json_value.specs.Written.{FirstMembers};
 ghost use Rattle.json_value.specs.declared.container.Container.{Container};
 ghost use Rattle.json_value.specs.declared.pair.Keyed.{Keyed};
 ghost use Rattle.json_value.specs.declared.value.Value.{Value};
-ghost use Rattle.json_containers.specs.Changed.{ObjectChanged, ObjectBecame, KeepsRoom};
+ghost use Rattle.json_containers.specs.Changed.{ObjectChanged, ObjectBecame, ObjectStays};
+ghost use Rattle.json_containers.specs.Changed.{KeepsRoom};
 ghost use Rattle.json_containers.specs.Entry.{entry_ref, entry_object, entry_key};
 ghost use Rattle.json_containers.specs.Entry.{entry_value, entry_with};
 ghost use Rattle.json_containers.specs.Found.{Finds};
 ghost use Rattle.json_value.specs.Touched.{AtMember};
-ghost use Rattle.json_containers.specs.Members.{own_members, found, CalledAtMember};
+ghost use Rattle.json_containers.specs.Members.{own_members, found, CalledAtMember, RetainsTo};
 ghost use Rattle.json_containers.specs.Put.{PutsValue, TakesOut, AreCopies};
 ghost use Rattle.json_containers.specs.Put.{copied_member, stood_member};
 
@@ -43,6 +44,7 @@ use std::mem::replace;
 fn seek(object: &mut Object, alloc: Global, key: &str) -> Result<Option<usize>>
     ensures same { pairs_in object.new ≡ pairs_in object.old }
     ensures owned { OnOk result (OwnsList object.new) }
+    ensures kept { OnErr result (object.new ≡ object.old) }
     ensures children { OnOk result (FirstMembers object.old (own_members object.new)) }
     ensures first { IfOk result (λ o. IfSome o
         (λ i. IsFirstOf key.now (map pair_of (own_members object.new)) i)) }
@@ -73,7 +75,7 @@ fn make_room(object: &mut Object) -> Result<()>
 fn value_of<'o>(object: &'o mut Object, alloc: Global, key: &str) -> Result<&'o mut Value>
     ensures* writes_back { sem 𝓛 (LendsSoOk object_row value_row object.entry result
         (λ n w. ObjectChanged (AtMember key.now (λ before after. after ≡ w)) object.old n)
-        (λ n. pairs_in n ≡ pairs_in object.old)) }
+        (λ n. ObjectStays object.old n)) }
     ensures stands { Finds ((IsPlace object.old → ⊥) → ⊥)
         (found key.now (pairs_in object.old)) result }
 {
@@ -159,16 +161,17 @@ fn keeps_member<F: FnMut(&str, &mut Value) -> bool>(f: &mut F, pair: &mut Pair) 
     keeps
 }
 
-// Keeps the members for which `f` is true, in order, with what it writes.
-fn keep_members<F: FnMut(&str, &mut Value) -> bool>(pairs: &mut Vec<Pair>, mut f: F)
-    requires { F.IsAlwaysCallable f }
-    ensures { RetainsInTurn (CalledAtMember F.FnMut) f pairs.old.items pairs.new.items }
+// Keeps the members for which `f` is true, in order, with what it writes. It is called once for
+// each, and no more.
+fn keep_members<F: FnMut(&str, &mut Value) -> bool>(pairs: &mut Vec<Pair>, f: &mut F)
+    requires { F.IsAlwaysCallable f.old }
+    ensures { RetainsTo (CalledAtMember F.FnMut) f.old pairs.old.items pairs.new.items f.new }
 {
     let len = pairs.len();
     let mut kept = 0;
     let mut at = 0;
     while at < len {
-        if keeps_member(&mut f, &mut pairs[at]) {
+        if keeps_member(f, &mut pairs[at]) {
             pairs.swap(kept, at);
             kept += 1;
         }
@@ -235,7 +238,7 @@ pub trait ObjectCalls {
         ensures* writes_back { sem 𝓛 (LendsPart Self.row value_row self.entry result
             (λ n w. ObjectChanged (AtMember key.now (λ before after. after ≡ w))
             (held self.old) (held n))
-            (λ n. pairs_in (held n) ≡ pairs_in (held self.old))) }
+            (λ n. ObjectStays (held self.old) (held n))) }
         ensures found { IfOk result (λ o. option_map (λ x. tree_of x.now) o
             ≡ found key.now (pairs_in (held self.old))) }
         ensures free { (IsPlace (held self.old) → ⊥) → IsOk result }
@@ -246,7 +249,7 @@ pub trait ObjectCalls {
         requires { i < length (pairs_in (held self.old)) }
         ensures* writes_back { sem 𝓛 (LendsSoOk Self.row pair_row self.entry result
             (λ n w. ObjectBecame (λ items. set items i w) (held self.old) (held n))
-            (λ n. pairs_in (held n) ≡ pairs_in (held self.old))) }
+            (λ n. held n ≡ held self.old)) }
         ensures pair { IfOk result (λ p. slice_get (pairs_in (held self.old)) i
             ≡ Some (pair_of p.now)) }
         ensures free { (IsPlace (held self.old) → ⊥) → IsOk result }
@@ -261,7 +264,7 @@ pub trait ObjectCalls {
             ≡ found key.now (pairs_in (held self.old))) }
         ensures children { IfOk result (λ o. ObjectChanged (PutsValue key.now value o)
             (held self.old) (held self.new)) }
-        ensures kept { OnErr result (pairs_in (held self.new) ≡ pairs_in (held self.old)) }
+        ensures kept { OnErr result (ObjectStays (held self.old) (held self.new)) }
         ensures only { IfErr result (λ e. e ≡ no_memory) };
 
     /// Keeps the members for which `f` is true, in order, with what it writes.
@@ -269,19 +272,21 @@ pub trait ObjectCalls {
         requires { F.IsAlwaysCallable f }
         ensures children { OnOk result (ObjectChanged (RetainsInTurn (CalledAtMember F.FnMut) f)
             (held self.old) (held self.new)) }
-        ensures kept { OnErr result (pairs_in (held self.new) ≡ pairs_in (held self.old)) }
+        ensures kept { OnErr result (held self.new ≡ held self.old) }
+        ensures free { (IsPlace (held self.old) → ⊥) → IsOk result }
         ensures only { IfErr result (λ e. e ≡ no_memory) };
 
     /// The object without members, with room for so many.
     fn with_capacity(alloc: Global, capacity: usize) -> Result<Object>
         ensures pairs { IfOk result (λ o. pairs_in o ≡ []) }
+        ensures no_place { IfOk result (λ o. IsPlace o → ⊥) }
         ensures room { IfOk result (λ o. capacity ≤ spare_in o) }
         ensures only { IfErr result (λ e. e ≡ no_memory) };
 
     /// Room for at least as many more.
     fn reserve(&mut self, alloc: Global, additional: usize) -> Result<()>
         ensures room { OnOk result (additional ≤ spare_in (held self.new)) }
-        ensures same { pairs_in (held self.new) ≡ pairs_in (held self.old) }
+        ensures same { ObjectStays (held self.old) (held self.new) }
         ensures free { additional ≤ spare_in (held self.old)
             → IsOk result × (held self.new ≡ held self.old) }
         ensures only { IfErr result (λ e. e ≡ no_memory) };
@@ -289,6 +294,7 @@ pub trait ObjectCalls {
     /// No members. An owned list keeps its room. Takes no memory.
     fn clear(&mut self)
         ensures empty { pairs_in (held self.new) ≡ [] }
+        ensures no_place { IsPlace (held self.new) → ⊥ }
         ensures room { KeepsRoom (length (pairs_in (held self.old)))
             (held self.old) (held self.new) };
 
@@ -301,7 +307,7 @@ pub trait ObjectCalls {
         ensures children { IfOk result (λ o. ObjectChanged
             (TakesOut key.now (option_map (λ p. p.1) o)) (held self.old) (held self.new)) }
         ensures key { IfOk result (λ o. IfSome o (λ p. p.0.now ≡ key.now)) }
-        ensures kept { OnErr result (pairs_in (held self.new) ≡ pairs_in (held self.old)) }
+        ensures kept { OnErr result (held self.new ≡ held self.old) }
         ensures free { (IsPlace (held self.old) → ⊥) → IsOk result }
         ensures only { IfErr result (λ e. e ≡ no_memory) };
 
@@ -312,7 +318,7 @@ pub trait ObjectCalls {
         ensures children { OnOk result (ObjectChanged (λ items now. (more : List (Keyed Value))
             × AreCopies pairs.now more × (now ≡ with_members more items))
             (held self.old) (held self.new)) }
-        ensures kept { OnErr result (pairs_in (held self.new) ≡ pairs_in (held self.old)) }
+        ensures kept { OnErr result (ObjectStays (held self.old) (held self.new)) }
         ensures only { IfErr result (λ e. e ≡ no_memory) };
 
     /// The other's members, inserted in turn; the other has none then.
@@ -323,8 +329,9 @@ pub trait ObjectCalls {
             × FirstMembers other.old more × (now ≡ with_members more items))
             (held self.old) (held self.new)) }
         ensures emptied { OnOk result (pairs_in other.new ≡ []) }
-        ensures kept { OnErr result ((pairs_in (held self.new) ≡ pairs_in (held self.old))
-            × (pairs_in other.new ≡ pairs_in other.old)) }
+        ensures no_place { OnOk result (IsPlace other.new → ⊥) }
+        ensures kept { OnErr result (ObjectStays (held self.old) (held self.new)
+            × ObjectStays other.old other.new) }
         ensures only { IfErr result (λ e. e ≡ no_memory) };
 
     /// Takes out all members of the key. The value of the first.
@@ -335,7 +342,7 @@ pub trait ObjectCalls {
             ≡ found key.now (pairs_in (held self.old))) }
         ensures children { IfOk result (λ o. ObjectChanged (TakesOut key.now o)
             (held self.old) (held self.new)) }
-        ensures kept { OnErr result (pairs_in (held self.new) ≡ pairs_in (held self.old)) }
+        ensures kept { OnErr result (held self.new ≡ held self.old) }
         ensures free { (IsPlace (held self.old) → ⊥) → IsOk result }
         ensures only { IfErr result (λ e. e ≡ no_memory) };
 
@@ -343,7 +350,7 @@ pub trait ObjectCalls {
     fn entry(&mut self, alloc: Global, key: &str) -> Result<Entry<'_>>
         ensures* rests { sem 𝓛 (RestsIfErr Self.row self.entry
             (λ e. (entry_ref e).ghost_name) result
-            (λ n. pairs_in (held n) ≡ pairs_in (held self.old))) }
+            (λ n. ObjectStays (held self.old) (held n))) }
         ensures same_object { IfOk result (λ e. (entry_ref e).ghost_name ≡ self.entry.ghost_name) }
         ensures unchanged { IfOk result (λ e. pairs_in (entry_object e)
             ≡ pairs_in (held self.old)) }
@@ -412,9 +419,13 @@ impl ObjectCalls for Object {
         }
     }
 
-    fn retain<F: FnMut(&str, &mut Value) -> bool>(&mut self, alloc: Global, f: F) -> Result<()> {
+    fn retain<F: FnMut(&str, &mut Value) -> bool>(
+        &mut self,
+        alloc: Global,
+        mut f: F,
+    ) -> Result<()> {
         let pairs = self.pairs_mut(alloc)?;
-        keep_members(pairs, f);
+        keep_members(pairs, &mut f);
         Ok(())
     }
 

@@ -19,7 +19,7 @@ use Rattle.json_value.specs.Denotes.{pairs_in}
 use Rattle.json_value.specs.Rows.{object_row}
 use Rattle.json_value.specs.Spots.{IsPlace}
 use Rattle.std.specs.Borrow.{LendsSoOk, follows_so}
-use Rattle.json_containers.specs.Changed.{ObjectChanged}
+use Rattle.json_containers.specs.Changed.{ObjectChanged, ObjectStays}
 use Rattle.json_value.specs.Touched.{AtMember}
 use Rattle.json_containers.specs.Members.{found}
 use Rattle.json_value.specs.Lending.{missing_as_none, name_of, name_of_ok, IsLent, UnlessLent}
@@ -66,7 +66,7 @@ get_mut_spec 𝓤 𝓛 𝓜 𝓡 wired =
     sets ! (addr ! (through ! refl (stop !))) refl (tt, tt) $
     calls_at ! (framed 𝓤 𝓛.H 𝓜 (tables 𝓤 𝓛.H 𝓜 𝓡 𝓡.env)) G (first-met.met 𝓤 𝓛 𝓜 𝓡 (code.calls-json_containers::object::value_of 𝓡.env wired)) z
     (and_then ! (get ! refl) (and_then ! (get ! refl) (and_then ! (get ! refl) (no_more !)))) (λ u.
-    use1 𝓛 (later (some (λ (r : R.Denot). ((‵ (flft κs.0 qs.0) ⊛ ‵ (flft κs.1.0 qs.1.0) ⊛ ‵ ftrue) ⊛ ‵ (R.own_val r (u ∷ []))) ⊛ some (λ (ws : Lasts g.ended κs a). ‵ (lasts g.ended κs a ws) ⊛ (‵ (LendsSoOk object_row value v r (λ n w. ObjectChanged (AtMember path.now (λ before after. after ≡ w)) v.now n) (λ n. pairs_in n ≡ pairs_in v.now)) ⊛ raw (fact 𝓤 (Finds ((IsPlace v.now → ⊥) → ⊥) (found path.now (pairs_in v.now)) r))))))) (id⊢ 𝓤 _) $
+    use1 𝓛 (later (some (λ (r : R.Denot). ((‵ (flft κs.0 qs.0) ⊛ ‵ (flft κs.1.0 qs.1.0) ⊛ ‵ ftrue) ⊛ ‵ (R.own_val r (u ∷ []))) ⊛ some (λ (ws : Lasts g.ended κs a). ‵ (lasts g.ended κs a ws) ⊛ (‵ (LendsSoOk object_row value v r (λ n w. ObjectChanged (AtMember path.now (λ before after. after ≡ w)) v.now n) (λ n. ObjectStays v.now n)) ⊛ raw (fact 𝓤 (Finds ((IsPlace v.now → ⊥) → ⊥) (found path.now (pairs_in v.now)) r))))))) (id⊢ 𝓤 _) $
     await ! tt $ pick ! (λ r. split ! $ split ! $ split ! $ move ! (2 ∷ []) $ peeks ! R _ (shows 𝓛 R) r (u ∷ []) (λ is.
     lands_as ! refl refl ((((result_laws F.row refusal ref-laws refusal_laws).lawful 𝓛).typed r (u ∷ []) is).0) $
     let G2 = triple_of 𝓛 h.signature (h.spec 𝓛 𝓜.mem 𝓡.returns) in
@@ -83,7 +83,7 @@ get_mut_spec 𝓤 𝓛 𝓜 𝓡 wired =
     -- [the result; the first token; nothing; what none_if_missing says; the second token and nothing; what was lent]
     move ! (3 ∷ []) $ pick ! (λ ws2. split ! $ drop ! $ heard ! _ (λ same.
     move ! (4 ∷ []) $ pick ! (λ ws. split ! $ drop ! $ split ! $ move ! (1 ∷ []) $ heard ! _ (λ seen. keep ! (0 ∷ 1 ∷ 2 ∷ 4 ∷ []) $
-    let Named = λ (m : maybe.Option GName). follows_so object_row value v.ghost_name m (λ w n. IsLent m → ObjectChanged (AtMember path.now (λ before after. after ≡ w)) v.now n) (λ n. UnlessLent m (pairs_in n ≡ pairs_in v.now)) in
+    let Named = λ (m : maybe.Option GName). follows_so object_row value v.ghost_name m (λ w n. IsLent m → ObjectChanged (AtMember path.now (λ before after. after ≡ w)) v.now n) (λ n. UnlessLent m (ObjectStays v.now n)) in
     use1 𝓛 (‵ (Named (name_of_ok r))) (so_weaken 𝓛 object_row value v.ghost_name (name_of_ok r) _ _ _ _ (λ w n p at. p (place_ok r at)) (λ n p. on_no_place r _ p)) $
     rewrite ! 0 (λ (m : maybe.Option GName). ‵ (Named m)) (sym (ap name_of same ∙ missing_name r)) refl $
     suffices ! _ (ends_at 𝓛 f.ended stayed c z o s (tt, (tt, (tt, tt))) (tt, (tt, (tt, tt)))) $

@@ -7,10 +7,11 @@ use Rattle.json_model.specs.Edit.{inserted}
 use Rattle.json_value.specs.Denotes.{tree_of, pair_of}
 use Rattle.json_value.specs.Rows.{owned, keyed_so}
 use Rattle.json_value.specs.Written.{with_value}
-use Rattle.json_value.proofs.AppliedTrees.{first_moved, none_moved, insert_over, insert_beside}
+use Rattle.json_value.proofs.AppliedTrees.{anyway, first_moved, none_moved, insert_over, insert_beside}
 use Rattle.json_containers.specs.Members.{found}
 use Rattle.json_containers.proofs.Keys.{value_read, none_found, first_within}
 use Rattle.json_containers.proofs.Put.{value_got, no_value}
+use Rattle.json_containers.proofs.Stays.{object_as_it_was, object_unpacked}
 use Rattle.json_containers.proofs.object.ObjectObjectCalls.insert.Goals as goal
 
 pub returns-in-Some-clause-ok : goal.returns-in-Some-clause-ok
@@ -77,3 +78,12 @@ returns-in_ok-push-in-None-clause-children c =
         inr (record { member = keyed_so c.in_ok-key-in-None.key c.args.value; none = none; more = c.in_ok-push-in-None.ensures.items ∙ ap (λ m. ms ++ m ∷ []) c.new.ensures.member; is = (c.in_ok-key-in-None.ensures.spot, refl) }),
       );
     }
+
+pub returns-in_err-pairs-clause-kept : goal.returns-in_err-pairs-clause-kept
+returns-in_err-pairs-clause-kept c = anyway c.from_residual.result (object_as_it_was c.args.self.now)
+
+pub returns-in_err-key-in-None-clause-kept : goal.returns-in_err-key-in-None-clause-kept
+returns-in_err-key-in-None-clause-kept c = anyway c.from_residual-in_err-key-in-None.result (object_unpacked c.args.self.now c.in_ok-pairs.pairs.now c.in_ok-pairs.pairs.now c.in_ok-pairs.ensures.pairs c.in_ok-pairs.ensures.children refl)
+
+pub returns-in_err-push-in-None-clause-kept : goal.returns-in_err-push-in-None-clause-kept
+returns-in_err-push-in-None-clause-kept c = anyway c.from_residual-in_err-push-in-None.result (object_unpacked c.args.self.now c.in_ok-pairs.pairs.now c.push.new.self c.in_ok-pairs.ensures.pairs c.in_ok-pairs.ensures.children c.in_err-push-in-None.ensures.items)
