@@ -15,3 +15,4 @@ pub mod UndoLaws
 pub mod HistoryLaws
 pub mod LimitedHistories
 pub mod RestoredValues
+pub mod SharedSights

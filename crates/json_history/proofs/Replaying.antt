@@ -20,7 +20,7 @@ use Rattle.json_text.specs.declared.error.Place.TheVariants.{None as nowhere, Re
 use Rattle.json_text.specs.Outside.{SourceState, SinkState}
 use Rattle.json_command.proofs.Inputs.{no_io, no_not_found, no_type_unmatched}
 use Rattle.json_command.specs.Printing.{PrintingFails, Prints}
-use Rattle.json_command.specs.Reading.{ReadsInput, ReadingFails}
+use Rattle.json_command.specs.Reading.{ReadsInput, InputFails}
 use Rattle.json_print.specs.Styles.{indent_of, is_sorted, printed}
 use Rattle.json_print.specs.Shown.{shown_as}
 use Rattle.json_print.specs.declared.style.Style.{Style}
@@ -45,7 +45,7 @@ replay_ok cs source source' sink sink' tree left (Ok u) reads proper made gains 
 replay_ok cs source source' sink sink' tree left (Err e) reads proper made gains flushed = tt
 
 -- reading failed, and nothing was written
-pub reading_fails : (cs : List TreeCall) (source source' : SourceState) (sink : SinkState) (code : ErrorCode) (place : Place) → ReadingFails usual_rules source source' code place → ReplayFails cs source source' sink sink code place
+pub reading_fails : (cs : List TreeCall) (source source' : SourceState) (sink : SinkState) (code : ErrorCode) (place : Place) → InputFails usual_rules source source' code place → ReplayFails cs source source' sink sink code place
 reading_fails cs source source' sink NoMemory nowhere h = inl refl
 reading_fails cs source source' sink Io Reading h = (h, refl)
 reading_fails cs source source' sink TooLarge nowhere h = (h.0, h.1, refl)

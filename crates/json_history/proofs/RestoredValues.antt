@@ -1,12 +1,16 @@
 -- What an undo leaves of a value, from what it leaves at the end of the path.
 use Rattle.std.proofs.Common.{◌≡◌, ◌⊎◌, inl, inr, List, [], ◌∷◌, refl, sym, ap, subst, ◌∙◌}
-use Rattle.json_model.specs.Edit.{Step, key_step, index_step}
-use Rattle.json_value.specs.Edits.{path_of}
+use Rattle.json_model.specs.Edit.{Step, key_step, index_step, set_at}
+use Rattle.json_value.specs.Denotes.{tree_of}
+use Rattle.json_value.specs.Edits.{edit_of, path_of, path_steps}
 use Rattle.json_value.specs.Lending.{Puts}
-use Rattle.json_value.specs.Touched.{ArrayTouched, ObjectTouched, ArrayKept, ObjectKept, Same, Along, ReplacedBy, KeptAlong, Keeps}
+use Rattle.json_value.specs.Places.{origin_of}
+use Rattle.json_value.specs.Touched.{ArrayTouched, ObjectTouched, ArrayKept, ObjectKept, Same, Along, ReplacedBy, KeptAlong, Keeps, Touches, ChangeTouches, ChangeKeeps}
 use Rattle.json_value.specs.declared.container.Container.{Container}
 use Rattle.json_value.specs.declared.pair.Keyed.{Keyed}
 use Rattle.json_value.specs.declared.path.Edit.{Edit}
+use Rattle.json_value.specs.declared.path.Edit.TheVariants.{Set}
+use Rattle.json_value.specs.declared.path.Path.{Path}
 use Rattle.json_value.specs.declared.value.Value.{Value, Array, Object}
 use Rattle.json_value.proofs.EditedValues.{object_as, array_as, member_as, element_as, became, along_as}
 use Rattle.json_value.proofs.RefusedCalls.{change_as_was, member_kept_as, element_kept_as}
@@ -70,6 +74,22 @@ undo_same p v w e = subst (λ u. KeptAlong p RestoreKeeps v u) (sym e) (same_alo
 -- an edit that was not applied keeps the value
 pub edit_same : (d : Edit) (v w : Value) → w ≡ v → Keeps (path_of d) d v w
 edit_same d v w e = subst (λ u. Keeps (path_of d) d v u) (sym e) (same_along (path_of d) _ v (change_as_was d v v refl))
+
+-- ---- a value that was put at the end of a path, and an edit that sets it
+
+module _ (d : Edit) (p : Path) (v : Value) (is : d ≡ Set p v) (q : List Step) (same : q ≡ path_steps p) where
+  pub set_edit : edit_of d ≡ set_at q (tree_of v)
+  set_edit = ap edit_of is ∙ ap (λ r. set_at r (tree_of v)) (sym same)
+
+  pub set_touches : (old new : Value) → Along q (λ before after. after ≡ v) old new → Touches (path_of d) d old new
+  set_touches old new t =
+      subst (λ e. Touches (path_of e) e old new) (sym is)
+      (subst (λ r. Along r (ChangeTouches (Set p v)) old new) same (along_as q (λ before after. after ≡ v) (ChangeTouches (Set p v)) (λ before after e. ap origin_of e) old new t))
+
+  pub set_keeps : (old new : Value) → KeptAlong q Same old new → Keeps (path_of d) d old new
+  set_keeps old new t = subst (λ e. Keeps (path_of e) e old new) (sym is) (subst (λ r. KeptAlong r (ChangeKeeps (Set p v)) old new) same t)
+
+-- ---- through a lent place
 
 module _ (c : Change) (p : List Step) (is : p ≡ change_path c) (old new : Value) where
   module _ (x y : Value) (puts : Puts p x y old new) where

@@ -5,6 +5,7 @@ pub mod ChangeTrees
 pub mod Target
 pub mod Restores
 pub mod Logs
+pub mod SharedParts
 pub mod LogOfHistory
 pub mod Limits
 pub mod Calls

@@ -1,14 +1,19 @@
 // The change of an edit, made before the edit is applied.
-ghost use Rattle.std.specs.Prelude.{◌≡◌, IfOk, map, option_map};
+ghost use Rattle.std.specs.Prelude.{◌≡◌, IfOk, IfSome, map, option_map};
+ghost use Rattle.std.specs.List.{All};
 ghost use Rattle.std.specs.Result.{result_ok};
 ghost use Rattle.json_grammar.specs.Tree.{list_pairs};
 ghost use Rattle.json_model.specs.Edit.{index_step, key_step};
 ghost use Rattle.json_value.specs.Denotes.{tree_of, text_bytes};
-ghost use Rattle.json_value.specs.Edits.{edit_of, path_steps};
+ghost use Rattle.json_value.specs.Edits.{edit_of, path_of, path_steps};
 ghost use Rattle.json_value.specs.Failures.{OnlyNoMemory};
 ghost use Rattle.json_value.specs.Seen.{seen, members_seen};
+ghost use Rattle.json_value.specs.SightParts.{members_sights};
+ghost use Rattle.json_value.specs.Sights.{sight_of, whole_value};
+ghost use Rattle.json_value.specs.Written.{value_in};
 ghost use Rattle.json_history.specs.Change.{change, members_named};
 ghost use Rattle.json_history.specs.ChangeTrees.{change_of, removed_member};
+ghost use Rattle.json_history.specs.SharedParts.{SharesWith, MemberShares, SharesParts, ChangeShares};
 ghost use Rattle.json_history.specs.Target.{change_in, insert_change_in, push_change_in, remove_change_in};
 
 use crate::change::Change;
@@ -28,6 +33,7 @@ fn change_of_insert(
     ensures told { IfOk result (λ o. option_map change_of o
         ≡ result_ok (insert_change_in (path_steps path.now) (text_bytes key.now)
         (seen target.entry))) }
+    ensures shares { ChangeShares (path_steps path.now) (sight_of target.entry) result }
     ensures only { OnlyNoMemory result }
 {
     let Some(object) = target.as_object() else {
@@ -50,6 +56,7 @@ fn change_of_insert(
 fn change_of_push(alloc: Global, target: View<'_>, path: &Path) -> Result<Option<Change>>
     ensures told { IfOk result (λ o. option_map change_of o
         ≡ result_ok (push_change_in (path_steps path.now) (seen target.entry))) }
+    ensures shares { ChangeShares (path_steps path.now) (sight_of target.entry) result }
     ensures only { OnlyNoMemory result }
 {
     match target.as_array() {
@@ -71,6 +78,7 @@ fn change_of_removed_element(
     ensures told { IfOk result (λ o. option_map change_of o
         ≡ result_ok (remove_change_in (path_steps path.now) (index_step index)
         (seen target.entry))) }
+    ensures shares { ChangeShares (path_steps path.now) (sight_of target.entry) result }
     ensures only { OnlyNoMemory result }
 {
     match target.get(index) {
@@ -86,6 +94,8 @@ fn change_of_removed_element(
 // A copy of a member, with its index.
 fn copy_member_at(alloc: Global, index: usize, key: &str, value: View<'_>) -> Result<(usize, Pair)>
     ensures member { IfOk result (λ e. removed_member e ≡ (index, key.now, seen value.entry)) }
+    ensures index { IfOk result (λ e. e.0 ≡ index) }
+    ensures shares { IfOk result (λ e. SharesWith (sight_of value.entry) (value_in e.1)) }
     ensures only { OnlyNoMemory result }
 {
     let key = Text::copy(alloc, key)?;
@@ -97,6 +107,8 @@ fn copy_member_at(alloc: Global, index: usize, key: &str, value: View<'_>) -> Re
 fn members_with_key(alloc: Global, object: ObjectView<'_>, key: &str) -> Result<Vec<(usize, Pair)>>
     ensures members { IfOk result (λ v. map removed_member v.items
         ≡ members_named 0 key.now (list_pairs (members_seen object.entry))) }
+    ensures shares { IfOk result (λ v.
+        All (MemberShares (members_sights object.entry)) v.items) }
     ensures only { OnlyNoMemory result }
 {
     let mut list = Vec::new(alloc);
@@ -121,6 +133,7 @@ fn change_of_removed_members(
     ensures told { IfOk result (λ o. option_map change_of o
         ≡ result_ok (remove_change_in (path_steps path.now) (key_step (text_bytes key.now))
         (seen target.entry))) }
+    ensures shares { ChangeShares (path_steps path.now) (sight_of target.entry) result }
     ensures only { OnlyNoMemory result }
 {
     let Some(object) = target.as_object() else {
@@ -141,6 +154,7 @@ fn change_of_removed_members(
 fn change_at(alloc: Global, target: View<'_>, edit: &Edit) -> Result<Option<Change>>
     ensures told { IfOk result (λ o. option_map change_of o
         ≡ result_ok (change_in edit.now (seen target.entry))) }
+    ensures shares { ChangeShares (path_of edit.now) (sight_of target.entry) result }
     ensures only { OnlyNoMemory result }
 {
     match edit {
@@ -162,6 +176,7 @@ fn change_at(alloc: Global, target: View<'_>, edit: &Edit) -> Result<Option<Chan
 pub(crate) fn change_of_edit(alloc: Global, value: &Value, edit: &Edit) -> Result<Option<Change>>
     ensures told { IfOk result (λ o. option_map change_of o
         ≡ result_ok (change (tree_of value.now) (edit_of edit.now))) }
+    ensures shares { IfOk result (λ o. IfSome o (SharesParts (whole_value value.now))) }
     ensures only { OnlyNoMemory result }
 {
     match value.pointer(edit.path().steps()) {

@@ -10,6 +10,7 @@ ghost use Rattle.json_history.specs.History.{new_history, after_call, edit as ed
 ghost use Rattle.json_history.specs.Limits.{limit_changes, limit_past, without_redos, without_future};
 ghost use Rattle.json_history.specs.Logs.{log_in, changes_of};
 ghost use Rattle.json_history.specs.Restores.{UndoTouches, UndoKeeps, RedoTouches, RedoKeeps};
+ghost use Rattle.json_history.specs.SharedParts.{AppendsChange, MovesToRedos, MovesToChanges};
 
 use crate::change::Change;
 use crate::redo::Redo;
@@ -61,14 +62,16 @@ impl History {
 
     /// Returns the current value.
     pub fn value(&self) -> &Value
-        ensures { tree_of result.now ≡ (log_of self.now).value }
+        ensures tree { tree_of result.now ≡ (log_of self.now).value }
+        ensures value { result.now ≡ value_of self.now }
     {
         &self.value
     }
 
     /// Returns the changes that undo the edits, the oldest first.
     pub fn changes(&self) -> &[Change]
-        ensures { changes_of result.now ≡ (log_of self.now).changes }
+        ensures log { changes_of result.now ≡ (log_of self.now).changes }
+        ensures list { result.now ≡ changes_in self.now }
     {
         self.changes.as_slice()
     }
@@ -102,13 +105,15 @@ impl History {
             (Touches (path_of edit) edit (value_of self.old) (value_of self.new)) }
         ensures kept_along { OnErr result
             (Keeps (path_of edit) edit (value_of self.old) (value_of self.new)) }
+        ensures shares { OnOk result
+            (AppendsChange (value_of self.old) (changes_in self.old) (changes_in self.new)) }
     {
         apply_and_log(
             alloc,
             &mut self.value,
             &mut self.changes,
             &mut self.redos,
-            &edit,
+            edit,
         )
     }
 
@@ -123,6 +128,8 @@ impl History {
         ensures kept { OnErr result (log_of self.new ≡ log_of self.old) }
         ensures children { OnOk result
             (UndoTouches (changes_in self.old) (value_of self.old) (value_of self.new)) }
+        ensures moves { OnOk result (MovesToRedos (value_of self.old)
+            (changes_in self.old) (changes_in self.new) (redos_in self.old) (redos_in self.new)) }
         ensures kept_along { OnErr result
             (UndoKeeps (changes_in self.old) (value_of self.old) (value_of self.new)) }
         ensures only { OnlyNoMemory result }
@@ -141,6 +148,8 @@ impl History {
         ensures kept { OnErr result (log_of self.new ≡ log_of self.old) }
         ensures children { OnOk result
             (RedoTouches (redos_in self.old) (value_of self.old) (value_of self.new)) }
+        ensures moves { OnOk result (MovesToChanges
+            (changes_in self.old) (changes_in self.new) (redos_in self.old) (redos_in self.new)) }
         ensures kept_along { OnErr result
             (RedoKeeps (redos_in self.old) (value_of self.old) (value_of self.new)) }
         ensures only { OnlyNoMemory result }

@@ -1,5 +1,5 @@
 // The edits that redo what changes undo.
-ghost use Rattle.std.specs.Prelude.{◌≡◌, IfOk, Some, option_map};
+ghost use Rattle.std.specs.Prelude.{◌≡◌, IfOk, IfSome, Some, option_map};
 ghost use Rattle.std.specs.Result.{result_ok};
 ghost use Rattle.json_model.specs.Edit.{within, set_at, insert_at, push_at};
 ghost use Rattle.json_grammar.specs.Tree.{list_pairs, list_trees};
@@ -7,8 +7,11 @@ ghost use Rattle.json_value.specs.Denotes.{tree_of};
 ghost use Rattle.json_value.specs.Edits.{edit_of, path_steps};
 ghost use Rattle.json_value.specs.Failures.{OnlyNoMemory};
 ghost use Rattle.json_value.specs.Seen.{seen, members_seen, elements_seen};
+ghost use Rattle.json_value.specs.SightParts.{elements_sights, members_sights};
+ghost use Rattle.json_value.specs.Sights.{Sight, sight_of, whole_value};
 ghost use Rattle.json_history.specs.Change.{redo_edit, edit_of_last, last_member, last_element, edit_of_removal};
 ghost use Rattle.json_history.specs.ChangeTrees.{change_of, removed_members};
+ghost use Rattle.json_history.specs.SharedParts.{EditShares, EditSharesParts, EditSharesElement, EditSharesMember};
 
 use crate::change::Change;
 use crate::path_copy::copy_path;
@@ -22,6 +25,7 @@ fn last_insert_edit(alloc: Global, object: ObjectView<'_>, path: &Path) -> Resul
     ensures edit { IfOk result (λ o. option_map edit_of o
         ≡ result_ok (within (λ e. insert_at (path_steps path.now) e.0 e.1)
         (last_member (list_pairs (members_seen object.entry))))) }
+    ensures shares { EditSharesMember (path_steps path.now) (members_sights object.entry) result }
     ensures only { OnlyNoMemory result }
 {
     let len = object.len();
@@ -44,6 +48,7 @@ fn last_push_edit(alloc: Global, array: ArrayView<'_>, path: &Path) -> Result<Op
     ensures edit { IfOk result (λ o. option_map edit_of o
         ≡ result_ok (within (λ u. push_at (path_steps path.now) u)
         (last_element (list_trees (elements_seen array.entry))))) }
+    ensures shares { EditSharesElement (path_steps path.now) (elements_sights array.entry) result }
     ensures only { OnlyNoMemory result }
 {
     let len = array.len();
@@ -64,6 +69,7 @@ fn last_push_edit(alloc: Global, array: ArrayView<'_>, path: &Path) -> Result<Op
 fn last_edit(alloc: Global, target: View<'_>, path: &Path) -> Result<Option<Edit>>
     ensures edit { IfOk result (λ o. option_map edit_of o
         ≡ result_ok (edit_of_last (path_steps path.now) (seen target.entry))) }
+    ensures shares { EditShares (path_steps path.now) (sight_of target.entry) result }
     ensures only { OnlyNoMemory result }
 {
     if let Some(object) = target.as_object() {
@@ -79,6 +85,7 @@ fn last_edit(alloc: Global, target: View<'_>, path: &Path) -> Result<Option<Edit
 fn set_edit(alloc: Global, target: View<'_>, path: &Path) -> Result<Option<Edit>>
     ensures edit { IfOk result (λ o. option_map edit_of o
         ≡ Some (set_at (path_steps path.now) (seen target.entry))) }
+    ensures shares { EditShares (path_steps path.now) (sight_of target.entry) result }
     ensures only { OnlyNoMemory result }
 {
     let value = target.to_value(alloc)?;
@@ -90,6 +97,7 @@ fn set_edit(alloc: Global, target: View<'_>, path: &Path) -> Result<Option<Edit>
 fn removal_edit(alloc: Global, taken: &Taken, path: &Path) -> Result<Option<Edit>>
     ensures edit { IfOk result (λ o. option_map edit_of o
         ≡ result_ok (edit_of_removal (path_steps path.now) (removed_members taken.now))) }
+    ensures shares { (root : Sight) → IfOk result (λ o. IfSome o (EditSharesParts root)) }
     ensures only { OnlyNoMemory result }
 {
     if taken.len() == 0 {
@@ -109,6 +117,7 @@ fn removal_edit(alloc: Global, taken: &Taken, path: &Path) -> Result<Option<Edit
 pub(crate) fn edit_to_redo(alloc: Global, value: &Value, change: &Change) -> Result<Option<Edit>>
     ensures edit { IfOk result (λ o. option_map edit_of o
         ≡ result_ok (redo_edit (tree_of value.now) (change_of change.now))) }
+    ensures shares { IfOk result (λ o. IfSome o (EditSharesParts (whole_value value.now))) }
     ensures only { OnlyNoMemory result }
 {
     match change {

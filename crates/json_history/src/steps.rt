@@ -5,11 +5,13 @@ ghost use Rattle.json_model.specs.Edit.{edited_once};
 ghost use Rattle.json_value.specs.Denotes.{tree_of};
 ghost use Rattle.json_value.specs.Edits.{edit_of, path_of, FailsAs, Makes};
 ghost use Rattle.json_value.specs.Failures.{OnlyNoMemory};
+ghost use Rattle.json_value.specs.Sights.{whole_value};
 ghost use Rattle.json_value.specs.Touched.{Along, KeptAlong, Touches, Keeps};
 ghost use Rattle.json_history.specs.Change.{undone, redo_edit};
 ghost use Rattle.json_history.specs.ChangeTrees.{change_of, change_path};
 ghost use Rattle.json_history.specs.History.{IsValidLog, log_edit, log_call, undo, redo, is_nonempty};
 ghost use Rattle.json_history.specs.Logs.{log_in};
+ghost use Rattle.json_history.specs.SharedParts.{AppendsChange, EditSharesParts, MovesToRedos, MovesToChanges};
 ghost use Rattle.json_history.specs.Restores.{RestoresAt, RestoreKeeps, UndoTouches, UndoKeeps, RedoTouches, RedoKeeps};
 
 use crate::change::Change;
@@ -18,8 +20,24 @@ use crate::redo::Redo;
 use crate::redo_edits::edit_to_redo;
 use crate::restore::restore;
 use json_text::Result;
-use json_value::{Edit, Value};
+use json_value::{Edit, Value, put};
 use std::alloc::Global;
+
+// Applies the edit. A value that is set is moved to its place; one that is inserted or pushed is
+// copied.
+fn apply_edit(alloc: Global, value: &mut Value, edit: Edit) -> Result<()>
+    ensures ok { OnOk result
+        (Makes (edited_once (edit_of edit) (tree_of value.old)) value.new) }
+    ensures kept { OnErr result (tree_of value.new ≡ tree_of value.old) }
+    ensures refused { FailsAs (edited_once (edit_of edit) (tree_of value.old)) result }
+    ensures children { OnOk result (Touches (path_of edit) edit value.old value.new) }
+    ensures kept_along { OnErr result (Keeps (path_of edit) edit value.old value.new) }
+{
+    match edit {
+        Edit::Set { path, value: new } => put(value, alloc, path.steps(), new),
+        edit => value.apply(alloc, &edit),
+    }
+}
 
 // Applies the edit, appends its change, and clears the edits to redo.
 pub(crate) fn apply_and_log(
@@ -27,26 +45,27 @@ pub(crate) fn apply_and_log(
     value: &mut Value,
     changes: &mut Vec<Change>,
     redos: &mut Vec<Redo>,
-    edit: &Edit,
+    edit: Edit,
 ) -> Result<()>
     ensures ok { OnOk result (log_edit (log_in value.old changes.old.items redos.old.items)
-        (edit_of edit.now) ≡ Ok (log_in value.new changes.new.items redos.new.items)) }
+        (edit_of edit) ≡ Ok (log_in value.new changes.new.items redos.new.items)) }
     ensures kept { OnErr result (log_in value.new changes.new.items redos.new.items
         ≡ log_in value.old changes.old.items redos.old.items) }
-    ensures refused { FailsAs (edited_once (edit_of edit.now) (tree_of value.old)) result }
-    ensures children { OnOk result (Touches (path_of edit.now) edit.now value.old value.new) }
-    ensures kept_along { OnErr result (Keeps (path_of edit.now) edit.now value.old value.new) }
+    ensures refused { FailsAs (edited_once (edit_of edit) (tree_of value.old)) result }
+    ensures children { OnOk result (Touches (path_of edit) edit value.old value.new) }
+    ensures kept_along { OnErr result (Keeps (path_of edit) edit value.old value.new) }
+    ensures shares { OnOk result (AppendsChange value.old changes.old.items changes.new.items) }
 {
-    match change_of_edit(alloc, value, edit)? {
+    match change_of_edit(alloc, value, &edit)? {
         Some(change) => {
             changes.reserve(1)?;
-            value.apply(alloc, edit)?;
+            apply_edit(alloc, value, edit)?;
             // There is room.
             changes.push(change)?;
             redos.clear();
             Ok(())
         }
-        None => value.apply(alloc, edit),
+        None => apply_edit(alloc, value, edit),
     }
 }
 
@@ -62,6 +81,7 @@ fn undo_change(
     ensures ok { OnOk result (Makes (undone (tree_of value.old) (change_of change.now)) value.new) }
     ensures again { IfOk result (λ e. redo_edit (tree_of value.old) (change_of change.now)
         ≡ Ok (edit_of e)) }
+    ensures shares { IfOk result (EditSharesParts (whole_value value.old)) }
     ensures kept { OnErr result (tree_of value.new ≡ tree_of value.old) }
     ensures children { OnOk result (Along (change_path change.now) (RestoresAt change.now)
         value.old value.new) }
@@ -96,6 +116,8 @@ pub(crate) fn undo_last(
     ensures kept { OnErr result (log_in value.new changes.new.items redos.new.items
         ≡ log_in value.old changes.old.items redos.old.items) }
     ensures children { OnOk result (UndoTouches changes.old.items value.old value.new) }
+    ensures moves { OnOk result (MovesToRedos value.old
+        changes.old.items changes.new.items redos.old.items redos.new.items) }
     ensures kept_along { OnErr result (UndoKeeps changes.old.items value.old value.new) }
     ensures only { OnlyNoMemory result }
 {
@@ -147,6 +169,8 @@ pub(crate) fn redo_next(
     ensures kept { OnErr result (log_in value.new changes.new.items redos.new.items
         ≡ log_in value.old changes.old.items redos.old.items) }
     ensures children { OnOk result (RedoTouches redos.old.items value.old value.new) }
+    ensures moves { OnOk result (MovesToChanges
+        changes.old.items changes.new.items redos.old.items redos.new.items) }
     ensures kept_along { OnErr result (RedoKeeps redos.old.items value.old value.new) }
     ensures only { OnlyNoMemory result }
 {

@@ -61,6 +61,26 @@ fn a_new_history_has_nothing_to_undo(rt: HostRuntime) -> std::result::Result<(),
 }
 
 #[test]
+fn changes_come_oldest_first(rt: HostRuntime) -> std::result::Result<(), Fail> {
+    let alloc = rt.alloc();
+    let history = history_after(alloc, TEXT, EDITS)?;
+    assert!(rt;
+        matches!(
+            history.changes(),
+            [
+                Change::Put { .. },
+                Change::Put { .. },
+                Change::DropLast { .. },
+                Change::DropLast { .. },
+                Change::PutBack { .. },
+                Change::PutPairs { .. }
+            ]
+        )
+    );
+    Ok(())
+}
+
+#[test]
 fn removed_members_keep_their_indexes(rt: HostRuntime) -> std::result::Result<(), Fail> {
     let alloc = rt.alloc();
     let word = r#"[["remove",[],"a"]]"#;

@@ -5,6 +5,8 @@ use Rattle.std.specs.Result.{result_ok}
 use Rattle.json_value.specs.Denotes.{tree_of}
 use Rattle.json_value.specs.Edits.{edit_of}
 use Rattle.json_value.specs.Seen.{seen}
+use Rattle.json_value.specs.SightParts.{sight_along}
+use Rattle.json_value.specs.Sights.{whole_value}
 use Rattle.json_history.specs.Change.{change}
 use Rattle.json_history.specs.ChangeTrees.{change_of}
 use Rattle.json_history.specs.Target.{change_in}
@@ -19,3 +21,8 @@ returns-in-Some-clause-told c =
 
 pub returns-in-None-clause-told : goal.returns-in-None-clause-told
 returns-in-None-clause-told c = change_missing c.args.edit.now _ (tree_of c.args.value.now) (c.steps.ensures ∙ c.path.ensures.steps) (sym c.in-None.ensures.tree)
+
+pub returns-in-Some-clause-shares : goal.returns-in-Some-clause-shares
+returns-in-Some-clause-shares c =
+    let root = whole_value c.args.value.now in
+    c.change_at.ensures.shares root (ap (λ p. sight_along p root) (sym (c.steps.ensures ∙ c.path.ensures.steps)) ∙ sym c.in-Some.ensures.sight)

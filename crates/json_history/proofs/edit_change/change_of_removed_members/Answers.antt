@@ -3,6 +3,8 @@ use Rattle.json_grammar.specs.Tree.{list_pairs}
 use Rattle.json_value.specs.Denotes.{text_bytes}
 use Rattle.json_value.specs.Edits.{path_steps}
 use Rattle.json_value.specs.Seen.{seen, members_seen}
+use Rattle.json_value.specs.SightParts.{members_sights, sight_along}
+use Rattle.json_value.specs.Sights.{sight_of}
 use Rattle.json_history.specs.Change.{put_pairs, members_named}
 use Rattle.json_history.specs.ChangeTrees.{removed_member}
 use Rattle.json_history.proofs.EditChanges.{key_change_none, key_change_some, removed_members_empty, removed_members_nonempty}
@@ -25,3 +27,13 @@ returns-clause-told c =
     ∙ ap (λ es. Some (put_pairs p es)) same
     ∙ key_change_some p k (seen c.args.target) (members_seen c.in-Some.object) (sym c.in-Some.ensures.trees)
     (λ e. removed_members_nonempty c.in_ok-list.list.items _ c.in_ok-list.list.ok.0 (sym c.is_empty.ensures ∙ c.if-is_empty.false) (same ∙ e))
+
+pub returns-clause-shares : goal.returns-clause-shares
+returns-clause-shares c root there =
+    record {
+      target = sight_of c.args.target;
+      members = members_sights c.in-Some.object;
+      there = ap (λ q. sight_along q root) c.in_ok-path.ensures.path ∙ there;
+      object = sym c.in-Some.ensures.sights;
+      shared = c.in_ok-list.ensures.shares;
+    }

@@ -1,4 +1,4 @@
-use Rattle.std.proofs.Common.{◌≡◌, Some, sym, ◌∙◌}
+use Rattle.std.proofs.Common.{◌≡◌, Some, sym, ap, ◌∙◌}
 use Rattle.std.proofs.lemmas.Result.{IfOk-weaker}
 use Rattle.std.specs.Prelude.{option_map}
 use Rattle.std.specs.Result.{result_ok}
@@ -6,6 +6,8 @@ use Rattle.json_model.specs.Edit.{set_at}
 use Rattle.json_value.specs.Denotes.{tree_of}
 use Rattle.json_value.specs.Edits.{edit_of, path_steps}
 use Rattle.json_value.specs.Seen.{seen}
+use Rattle.json_value.specs.SightParts.{sight_along}
+use Rattle.json_value.specs.Sights.{whole_value}
 use Rattle.json_history.specs.Change.{redo_edit, edit_of_last}
 use Rattle.json_history.specs.ChangeTrees.{change_of}
 use Rattle.json_history.proofs.RepeatedEdits.{put_redo_found, put_redo_missing, drop_redo_found, drop_redo_missing}
@@ -32,3 +34,13 @@ returns-in-Some-pointer-clause-edit c =
 
 pub returns-in-None-pointer-clause-edit : goal.returns-in-None-pointer-clause-edit
 returns-in-None-pointer-clause-edit c = drop_redo_missing c.args.change.now c.in-DropLast.path _ (tree_of c.args.value.now) c.steps-in-DropLast.ensures c.in-DropLast.is (sym c.in-None-pointer.ensures.tree)
+
+pub returns-in-Some-clause-shares : goal.returns-in-Some-clause-shares
+returns-in-Some-clause-shares c =
+    let root = whole_value c.args.value.now in
+    c.set_edit.ensures.shares root (ap (λ p. sight_along p root) (sym c.steps.ensures) ∙ sym c.in-Some.ensures.sight)
+
+pub returns-in-Some-pointer-clause-shares : goal.returns-in-Some-pointer-clause-shares
+returns-in-Some-pointer-clause-shares c =
+    let root = whole_value c.args.value.now in
+    c.last_edit.ensures.shares root (ap (λ p. sight_along p root) (sym c.steps-in-DropLast.ensures) ∙ sym c.in-Some-pointer.ensures.sight)

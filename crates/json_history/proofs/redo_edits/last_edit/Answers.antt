@@ -6,6 +6,7 @@ use Rattle.json_grammar.specs.Tree.{list_pairs, list_trees}
 use Rattle.json_model.specs.Edit.{within, push_at}
 use Rattle.json_value.specs.Edits.{edit_of, path_steps}
 use Rattle.json_value.specs.Seen.{seen, members_seen, elements_seen}
+use Rattle.json_value.specs.Sights.{sight_of}
 use Rattle.json_history.specs.Change.{edit_of_last, last_member, last_element}
 use Rattle.json_history.proofs.RepeatedEdits.{insert_edit_of, object_last_edit, array_last_edit}
 use Rattle.json_history.proofs.redo_edits.last_edit.Goals as goal
@@ -25,3 +26,9 @@ returns-in-Some-as_array-clause-edit c =
     IfOk-weaker c.last_push_edit.result (λ o. option_map edit_of o ≡ result_ok (within (push_at p) (last_element (list_trees ts)))) (λ o. option_map edit_of o ≡ result_ok (edit_of_last p (seen c.args.target)))
     (λ o e. e ∙ array_last_edit p (seen c.args.target) ts (sym c.in-Some-as_array.ensures.trees))
     c.last_push_edit.ensures.edit
+
+pub returns-in-Some-clause-shares : goal.returns-in-Some-clause-shares
+returns-in-Some-clause-shares c = c.last_insert_edit.ensures.shares (sight_of c.args.target) (sym c.in-Some.ensures.sights)
+
+pub returns-in-Some-as_array-clause-shares : goal.returns-in-Some-as_array-clause-shares
+returns-in-Some-as_array-clause-shares c = c.last_push_edit.ensures.shares (sight_of c.args.target) (sym c.in-Some-as_array.ensures.sights)

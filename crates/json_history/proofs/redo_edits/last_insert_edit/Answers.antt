@@ -1,9 +1,12 @@
-use Rattle.std.proofs.Common.{Some, None, ap, ◌∙◌}
+use Rattle.std.proofs.Common.{ℕ, List, Some, None, sym, ap, ◌∙◌}
 use Rattle.json_model.specs.Edit.{insert_at}
 use Rattle.json_value.specs.Denotes.{tree_of, text_bytes}
 use Rattle.json_value.specs.Edits.{path_steps}
 use Rattle.json_value.specs.Seen.{seen, members_seen}
+use Rattle.json_value.specs.SightParts.{members_sights, sight_along}
+use Rattle.json_value.specs.Sights.{Sight, sight_of}
 use Rattle.json_history.proofs.RepeatedEdits.{last_insert_edit}
+use Rattle.json_history.proofs.SharedSights.{last_member_sight}
 use Rattle.json_history.proofs.redo_edits.last_insert_edit.Goals as goal
 
 pub returns-in_ok-path-in-Some-clause-edit : goal.returns-in_ok-path-in-Some-clause-edit
@@ -18,3 +21,16 @@ returns-in_ok-path-in-Some-clause-edit c =
 
 pub returns-in-None-clause-edit : goal.returns-in-None-clause-edit
 returns-in-None-clause-edit c = last_insert_edit (path_steps c.args.path.now) (members_seen c.args.object) c.len-len.result None c.len-len.ensures c.in-None.ensures.tree
+
+pub returns-in_ok-path-in-Some-clause-shares : goal.returns-in_ok-path-in-Some-clause-shares
+returns-in_ok-path-in-Some-clause-shares c target object root there =
+    let member : List ℕ × Sight = (c.in-Some.key.now, sight_of c.in-Some.value) in
+    record {
+      target = target;
+      members = members_sights c.args.object;
+      member = member;
+      there = ap (λ q. sight_along q root) c.in_ok-path-in-Some.ensures.path ∙ there;
+      object = object;
+      last = last_member_sight c.args.object c.len-len.result member c.len-len.ensures (sym c.in-Some.ensures.sight);
+      shared = (c.in_ok-value-in-Some.ensures.spot, c.in_ok-value-in-Some.ensures.places);
+    }

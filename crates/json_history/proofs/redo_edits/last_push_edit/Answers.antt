@@ -1,9 +1,12 @@
-use Rattle.std.proofs.Common.{Some, None, ap, ◌∙◌}
+use Rattle.std.proofs.Common.{Some, None, sym, ap, ◌∙◌}
 use Rattle.json_model.specs.Edit.{push_at}
 use Rattle.json_value.specs.Denotes.{tree_of}
 use Rattle.json_value.specs.Edits.{path_steps}
 use Rattle.json_value.specs.Seen.{seen, elements_seen}
+use Rattle.json_value.specs.SightParts.{elements_sights, sight_along}
+use Rattle.json_value.specs.Sights.{sight_of}
 use Rattle.json_history.proofs.RepeatedEdits.{last_push_edit}
+use Rattle.json_history.proofs.SharedSights.{last_element_sight}
 use Rattle.json_history.proofs.redo_edits.last_push_edit.Goals as goal
 
 pub returns-in_ok-path-in-Some-clause-edit : goal.returns-in_ok-path-in-Some-clause-edit
@@ -15,3 +18,16 @@ returns-in_ok-path-in-Some-clause-edit c =
 
 pub returns-in-None-clause-edit : goal.returns-in-None-clause-edit
 returns-in-None-clause-edit c = last_push_edit (path_steps c.args.path.now) (elements_seen c.args.array) c.len-len.result None c.len-len.ensures c.in-None.ensures.tree
+
+pub returns-in_ok-path-in-Some-clause-shares : goal.returns-in_ok-path-in-Some-clause-shares
+returns-in_ok-path-in-Some-clause-shares c target array root there =
+    let element = sight_of c.in-Some.value in
+    record {
+      target = target;
+      elements = elements_sights c.args.array;
+      element = element;
+      there = ap (λ q. sight_along q root) c.in_ok-path-in-Some.ensures.path ∙ there;
+      array = array;
+      last = last_element_sight c.args.array c.len-len.result element c.len-len.ensures (sym c.in-Some.ensures.sight);
+      shared = (c.in_ok-value-in-Some.ensures.spot, c.in_ok-value-in-Some.ensures.places);
+    }

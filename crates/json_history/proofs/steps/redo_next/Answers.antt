@@ -1,4 +1,4 @@
-use Rattle.std.proofs.Common.{subst}
+use Rattle.std.proofs.Common.{[], ◌∷◌, ◌++◌, subst, ap, ◌∙◌}
 use Rattle.json_history.specs.History.{IsValidLog}
 use Rattle.json_history.specs.Logs.{log_in}
 use Rattle.json_history.proofs.LogSteps.{next_redo_applies}
@@ -12,3 +12,8 @@ reapply-requires c =
 
 pub returns-in_ok-push-in-Ok-clause-children : goal.returns-in_ok-push-in-Ok-clause-children
 returns-in_ok-push-in-Ok-clause-children c = inr (c.pop.new.self.items, c.in-Some.redo, c.in-Some.ensures.items, c.in-Ok.ensures.children)
+
+pub returns-in_ok-push-in-Ok-clause-moves : goal.returns-in_ok-push-in-Ok-clause-moves
+returns-in_ok-push-in-Ok-clause-moves c =
+    let r = c.in-Some.redo in
+    inr (r, c.in-Some.ensures.items, c.in_ok-push-in-Ok.ensures.items ∙ ap (λ cs. cs ++ r.change ∷ []) c.in-Ok.ensures.changes)

@@ -1,6 +1,7 @@
-use Rattle.std.proofs.Common.{subst}
+use Rattle.std.proofs.Common.{[], ◌∷◌, ◌++◌, subst, ap, ◌∙◌}
 use Rattle.json_history.specs.History.{IsValidLog}
 use Rattle.json_history.specs.Logs.{log_in}
+use Rattle.json_history.specs.declared.redo.Redo.{Redo}
 use Rattle.json_history.proofs.LogSteps.{last_change_undone, last_change_redo_edit}
 use Rattle.std.proofs.Common.{inr}
 use Rattle.json_history.proofs.steps.undo_last.Goals as goal
@@ -17,3 +18,8 @@ undo_change-requires-clause-again c =
 
 pub returns-in_ok-push-in-Ok-clause-children : goal.returns-in_ok-push-in-Ok-clause-children
 returns-in_ok-push-in-Ok-clause-children c = inr (c.pop.new.self.items, c.in-Some.change, c.in-Some.ensures.items, c.in-Ok.ensures.children)
+
+pub returns-in_ok-push-in-Ok-clause-moves : goal.returns-in_ok-push-in-Ok-clause-moves
+returns-in_ok-push-in-Ok-clause-moves c =
+    let r : Redo = record { edit = c.in-Ok.edit; change = c.in-Some.change } in
+    inr (r, c.in-Some.ensures.items, c.in_ok-push-in-Ok.ensures.items ∙ ap (λ rs. rs ++ r ∷ []) c.in-Ok.ensures.redos, c.in-Ok.ensures.shares)
