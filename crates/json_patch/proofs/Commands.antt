@@ -19,7 +19,7 @@ use Rattle.json_text.specs.declared.error.Place.{Place}
 use Rattle.json_text.specs.declared.error.Place.TheVariants.{None as nowhere, Reading, Writing}
 use Rattle.json_command.specs.Input.{InputFault}
 use Rattle.json_command.specs.Printing.{PrintingFails}
-use Rattle.json_command.specs.Reading.{ReadsInput, ReadingFails, KnownFault}
+use Rattle.json_command.specs.Reading.{ReadsInput, InputFails, KnownFault}
 use Rattle.json_command.specs.Reporting.{Reports, StatusReports}
 use Rattle.json_command.specs.Statuses.{status_of}
 use Rattle.json_command.proofs.Inputs.{no_want, no_io, no_words, no_not_found, no_type_unmatched}
@@ -40,7 +40,7 @@ error code place = record { code = code; place = place }
 
 module _ (r : Request) (source source' : SourceState) where
   -- reading failed, and nothing was written
-  pub reading_fails : (sink : SinkState) (code : ErrorCode) (place : Place) → ReadingFails usual_rules source source' code place → TransferFails r source source' sink sink code place
+  pub reading_fails : (sink : SinkState) (code : ErrorCode) (place : Place) → InputFails usual_rules source source' code place → TransferFails r source source' sink sink code place
   reading_fails sink NoMemory nowhere h = inl refl
   reading_fails sink Io Reading h = (h, refl)
   reading_fails sink TooLarge nowhere h = (h.0, h.1, refl)

@@ -17,3 +17,11 @@ mod OperationLists
 mod MergedMembers
 mod Touched
 mod Commands
+mod UniqueKeys
+mod MergeDiff
+mod MergeDiffViews
+mod DiffSteps
+mod DiffMembers
+mod DiffElements
+mod Diff
+mod DiffDocument

@@ -171,7 +171,7 @@ none_some : {A : Type 0} (x : A) → None ≡ Some x → ⊥
 none_some x e = cc
 
 -- an index is not `-`
-no_dash : (k : Token) (i : ℕ) → index_of k ≡ Some i → bytes_eq k (codes "-") ≡ false
+pub no_dash : (k : Token) (i : ℕ) → index_of k ≡ Some i → bytes_eq k (codes "-") ≡ false
 no_dash k i h = by (bytes_eq k (codes "-")) refl
   where
     by : (b : Bool) → bytes_eq k (codes "-") ≡ b → b ≡ false

@@ -152,7 +152,7 @@ parsed_text_is_pointer_text (x ∷ s) p h = by (x == slash) refl h
 -- ---- what tokens reference
 
 -- a tree of the same kind, with the same step
-step_stays : (k : Token) (s : Step) (n t : Tree) → step_of_token k t ≡ Ok s → step_of_token k (replaced_at_step s n t) ≡ Ok s
+pub step_stays : (k : Token) (s : Step) (n t : Tree) → step_of_token k t ≡ Ok s → step_of_token k (replaced_at_step s n t) ≡ Ok s
 step_stays k (key_step m) n (pairs ps) h = h
 step_stays k (index_step i) n (list ts) h = h
 step_stays k (key_step m) n (list ts) h = h

@@ -40,7 +40,7 @@ at_index-replaced zero f (tree_and t ts) = refl
 at_index-replaced (suc i) f (tree_and t ts) =
     ap (within (λ us. tree_and t us)) (at_index-replaced i f ts) ∙ within_then (λ us. tree_and t us) (λ n. replaced_at_index i n ts) f (ok_or (slice_get (trees_list ts) i) not_found)
 
-at_path-step : (s : Step) (p : List Step) (f : Tree → Changed Tree) (t : Tree) → at_path (s ∷ p) f t ≡ and_then (value_at_step s t) (λ c. within (λ n. replaced_at_step s n t) (at_path p f c))
+pub at_path-step : (s : Step) (p : List Step) (f : Tree → Changed Tree) (t : Tree) → at_path (s ∷ p) f t ≡ and_then (value_at_step s t) (λ c. within (λ n. replaced_at_step s n t) (at_path p f c))
 at_path-step (key_step k) p f (pairs ps) = ap (within pairs) (at_key-replaced k (at_path p f) ps) ∙ within_then pairs (λ n. replaced_at_key k n ps) (at_path p f) (ok_or (first_value k ps) not_found)
 at_path-step (key_step k) p f null = refl
 at_path-step (key_step k) p f (boolean b) = refl
@@ -90,7 +90,7 @@ key_twice k m n (pair_and a t ps) = by (bytes_eq a k) refl (key_twice k m n ps)
     by true e i = ap (λ b. cond b (pair_and a m ps) (pair_and a n (replaced_at_key k m ps))) e
     by false e i = ap (λ b. cond b (pair_and a m (replaced_at_key k n ps)) (pair_and a t (replaced_at_key k m (replaced_at_key k n ps)))) e ∙ ap (λ qs. pair_and a t qs) i
 
-index_same : (i : ℕ) (c : Tree) (ts : Trees) → slice_get (trees_list ts) i ≡ Some c → replaced_at_index i c ts ≡ ts
+pub index_same : (i : ℕ) (c : Tree) (ts : Trees) → slice_get (trees_list ts) i ≡ Some c → replaced_at_index i c ts ≡ ts
 index_same i c no_trees h = refl
 index_same zero c (tree_and t ts) h = ap (λ x. tree_and x ts) (sym (some_same t c h))
 index_same (suc i) c (tree_and t ts) h = ap (λ us. tree_and t us) (index_same i c ts h)
@@ -105,7 +105,7 @@ index_twice i m n no_trees = refl
 index_twice zero m n (tree_and t ts) = refl
 index_twice (suc i) m n (tree_and t ts) = ap (λ us. tree_and t us) (index_twice i m n ts)
 
-child_same : (s : Step) (c t : Tree) → value_at_step s t ≡ Ok c → replaced_at_step s c t ≡ t
+pub child_same : (s : Step) (c t : Tree) → value_at_step s t ≡ Ok c → replaced_at_step s c t ≡ t
 child_same (key_step k) c (pairs ps) h = ap pairs (key_same k c ps (ok_parts (first_value k ps) not_found c h))
 child_same (key_step k) c null h = refl
 child_same (key_step k) c (boolean b) h = refl
@@ -133,7 +133,7 @@ child_now (index_step i) c n (num l) h = absurd (no_ok c type_unmatched h)
 child_now (index_step i) c n (text s) h = absurd (no_ok c type_unmatched h)
 child_now (index_step i) c n (pairs ps) h = absurd (no_ok c type_unmatched h)
 
-child_twice : (s : Step) (m n t : Tree) → replaced_at_step s m (replaced_at_step s n t) ≡ replaced_at_step s m t
+pub child_twice : (s : Step) (m n t : Tree) → replaced_at_step s m (replaced_at_step s n t) ≡ replaced_at_step s m t
 child_twice (key_step k) m n (pairs ps) = ap pairs (key_twice k m n ps)
 child_twice (key_step k) m n null = refl
 child_twice (key_step k) m n (boolean b) = refl

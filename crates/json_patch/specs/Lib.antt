@@ -12,3 +12,9 @@ pub mod Operations
 pub mod Errors
 pub mod Touched
 pub mod Commands
+pub mod MergeDiff
+pub mod MergeDiffViews
+pub mod MergeDiffExamples
+pub mod Diff
+pub mod DiffDocument
+pub mod DiffExamples

@@ -15,11 +15,14 @@
 
 mod change;
 mod command;
+pub mod diff_examples;
+pub mod diff_laws;
 mod error;
 pub mod examples;
 pub mod laws;
 mod lookup;
 mod merge;
+mod merge_between;
 mod operation;
 mod patch;
 mod path;
@@ -28,6 +31,7 @@ mod run;
 
 pub use error::{PatchCode, PatchError};
 pub use merge::apply_merge;
+pub use merge_between::merge_diff;
 pub use patch::apply_patch;
 pub use pointer::Pointer;
 pub use run::run_patch;

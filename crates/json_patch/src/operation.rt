@@ -26,8 +26,8 @@ pub enum Operation {
     Test { path: Pointer, value: Value },
 }
 
-// Returns the value of the key if exactly one member has it.
-fn single_member<'a>(object: ObjectView<'a>, key: &str) -> Option<View<'a>>
+/// Returns the value of the key if exactly one member has it.
+pub fn single_member<'a>(object: ObjectView<'a>, key: &str) -> Option<View<'a>>
     ensures { option_map seen result
         ≡ single_value key.now (list_pairs (members_seen object.entry)) }
 {

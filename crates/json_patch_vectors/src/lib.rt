@@ -7,4 +7,6 @@ mod calls;
 #[cfg(test)]
 mod failing;
 #[cfg(test)]
+mod merge_between;
+#[cfg(test)]
 mod rows;
