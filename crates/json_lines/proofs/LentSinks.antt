@@ -11,18 +11,15 @@ use Rattle.json_text.proofs.Putting.{Puts-nil}
 use Rattle.json_lines.specs.LineHandling.{ReportsUnlessMuted}
 use Rattle.json_print.specs.Buffered.{held_behind}
 use Rattle.json_print.specs.Calls.{holds_any}
-use Rattle.json_print.proofs.TextWriting.{front_gained, same_name, grown, sent_back}
+use Rattle.json_print.proofs.TextWriting.{front_gained}
+use Rattle.json_command.proofs.Printing.{none_held}
 use Rattle.json_lines.specs.Lines.{lines}
 use Rattle.json_lines.specs.Rows.{Outcome, rows_of}
 use Rattle.json_lines.specs.Running.{StopsEarly}
 use Rattle.json_lines.specs.TopCall.{streams, GainsRows, WritesAllRows, WritesFewerRows, WritesPartOfTable, WritesPrefixes}
 use Rattle.json_lines.specs.declared.run.Tally.{Tally}
 use Rattle.json_lines.proofs.HandledLines.{IfSome-map}
-
--- nothing waits where all was flushed
-none_held : (held : List ℕ) (b : Bool) → holds_any held || b ≡ false → (held ≡ []) × (b ≡ false)
-none_held [] b e = (refl, e)
-none_held (x ∷ held) b e = absurd (cc)
+use Rattle.json_lines.proofs.SinkEnds.{came_back, sink_grew}
 
 module _ (has : List ℕ → Outcome → Type 0) (s u : SourceState) (old now errs errs' : SinkState) (name : GName) (held : List ℕ) (t : Tally) where
   gained_now : (b : Bool) → holds_any held || b ≡ false → (done : List (List ℕ)) → GainsRows has done (lent_as old name old.gained) (held_behind (lent_as now name old.gained) held) errs errs' t → GainsRows has done old now errs errs' t
@@ -74,14 +71,8 @@ module _ (has : List ℕ → Outcome → Type 0) (s u : SourceState) (old now er
       }
 
   module _ (began sent lent : SinkState) (name' : GName) (r : Result (Unit {0}) Error) (b : began ≡ lent_as old name old.gained) (loan : sent.loan ≡ began.loan) (is : sent ≡ held_behind lent held) (back : ComesBack lent now name') where
-    lent_loan : lent.loan ≡ began.loan
-    lent_loan = ap (λ (x : SinkState). x.loan) (sym is) ∙ loan
-
-    pub written_name : name' ≡ name
-    written_name = same_name old now lent began name name' b lent_loan back
-
     here : sent ≡ held_behind (lent_as now name old.gained) held
-    here = is ∙ ap (λ x. held_behind x held) (sent_back old now lent began name name' b lent_loan back)
+    here = came_back old now sent lent began name name' held b loan is back
 
     pub written_ok : OnOk r (WritesAllRows has (streams s began errs) (streams u sent errs') t) → OnOk r (WritesAllRows has (streams s old errs) (streams u now errs') t)
     written_ok h = by r h
@@ -96,7 +87,7 @@ module _ (has : List ℕ → Outcome → Type 0) (s u : SourceState) (old now er
         by : (r : Result (Unit {0}) Error) → IfErr r (λ e. WritesFewerRows has (streams s began errs) (streams u sent errs') t e) → IfErr r (λ e. WritesPartOfTable has (streams s old errs) (streams u now errs') t e)
         by (Ok v) h = tt
         by (Err e) h =
-            lent_short (grown old now lent began name name' b lent_loan back) e
+            lent_short (sink_grew old now sent lent began name name' held b loan is back) e
             (subst (λ x. WritesFewerRows has (streams s x errs) (streams u (held_behind (lent_as now name old.gained) held) errs') t e) b (subst (λ x. WritesFewerRows has (streams s began errs) (streams u x errs') t e) here h))
 
 -- memory ran out for the buffer

@@ -6,6 +6,8 @@ pub mod NextLineCalls
 pub mod LinesDone
 pub mod Totals
 pub mod HandledLines
+pub mod Statuses
+pub mod SinkEnds
 pub mod RunStatus
 pub mod OneOutcome
 pub mod CellWriting

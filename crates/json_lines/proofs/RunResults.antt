@@ -27,6 +27,7 @@ use Rattle.json_lines.specs.declared.run.Tally.{Tally}
 use Rattle.json_lines.proofs.HandledLines.{IfSome-map}
 use Rattle.json_lines.proofs.OneOutcome.{some_outcomes, all_within}
 use Rattle.json_lines.proofs.RunStatus.{Reports-from, Reports-last}
+use Rattle.json_lines.proofs.Statuses.{status_above, reading_rose, writing_rose, too_many, memory_alone}
 use Rattle.json_lines.proofs.Totals.{rows_of-append, AllHave-append}
 
 abbrev within : Command → List ℕ → Outcome → Type 0
@@ -149,44 +150,13 @@ unasked-from words s sink errs errs' e n reports status (inr (is, unasked)) =
 
 -- ---- which of the three it is
 
-failure_above : (code : ErrorCode) (place : Place) (bytes : List ℕ) (a c : Streams) → RunErrorCause bytes a c code place → 2 < run_status code place
-failure_above NoMemory nowhere bytes a c h = omega arith
-failure_above Io Reading bytes a c h = omega arith
-failure_above Io Writing bytes a c h = omega arith
-failure_above TooLarge nowhere bytes a c h = omega arith
-failure_above code place bytes a c h = absurd h
-
-status_known : (code : ErrorCode) (place : Place) (bytes : List ℕ) (a c : Streams) → RunErrorCause bytes a c code place → (run_status code place ≤ 7) × (run_status code place ≡ 3 → ⊥)
-status_known NoMemory nowhere bytes a c h = (omega arith, λ e. omega (arith, e))
-status_known Io Reading bytes a c h = (omega arith, λ e. omega (arith, e))
-status_known Io Writing bytes a c h = (omega arith, λ e. omega (arith, e))
-status_known TooLarge nowhere bytes a c h = (omega arith, λ e. omega (arith, e))
-status_known code place bytes a c h = absurd h
-
-reading_rose : (code : ErrorCode) (place : Place) (bytes : List ℕ) (a c : Streams) → RunErrorCause bytes a c code place → run_status code place ≡ 4 → Rose a.source.faults c.source.faults
-reading_rose NoMemory nowhere bytes a c h e = absurd (omega (arith, e))
-reading_rose Io Reading bytes a c h e = h
-reading_rose Io Writing bytes a c h e = absurd (omega (arith, e))
-reading_rose TooLarge nowhere bytes a c h e = absurd (omega (arith, e))
-reading_rose code place bytes a c h e = absurd h
-
-writing_rose : (code : ErrorCode) (place : Place) (bytes : List ℕ) (a c : Streams) → RunErrorCause bytes a c code place → run_status code place ≡ 5 → Rose a.sink.faults c.sink.faults
-writing_rose NoMemory nowhere bytes a c h e = absurd (omega (arith, e))
-writing_rose Io Reading bytes a c h e = absurd (omega (arith, e))
-writing_rose Io Writing bytes a c h e = h
-writing_rose TooLarge nowhere bytes a c h e = absurd (omega (arith, e))
-writing_rose code place bytes a c h e = absurd h
-
-too_many : (code : ErrorCode) (place : Place) (bytes : List ℕ) (a c : Streams) → RunErrorCause bytes a c code place → run_status code place ≡ 7 → max_bytes < length bytes
-too_many NoMemory nowhere bytes a c h e = absurd (omega (arith, e))
-too_many Io Reading bytes a c h e = absurd (omega (arith, e))
-too_many Io Writing bytes a c h e = absurd (omega (arith, e))
-too_many TooLarge nowhere bytes a c h e = h
-too_many code place bytes a c h e = absurd h
+-- the cause of the error
+cause_above : (code : ErrorCode) (place : Place) (bytes : List ℕ) (a c : Streams) → RunErrorCause bytes a c code place → (3 < run_status code place) × (run_status code place ≤ 7)
+cause_above code place bytes a c h = status_above bytes a.source c.source a.sink c.sink code place h
 
 module _ (words : List (List ℕ)) (old new : Streams) (n : ℕ) where
   above : FailsRun words old new n → 2 < n
-  above b = omega (arith, b.status_is, failure_above b.error.code b.error.place b.bytes old new b.cause)
+  above b = omega (arith, b.status_is, cause_above b.error.code b.error.place b.bytes old new b.cause)
 
   below : Completes words old new n → n < 2
   below d = elim d.known [ inl h ↦ omega (arith, h) | inr h ↦ omega (arith, h) ]
@@ -209,16 +179,16 @@ module _ (words : List (List ℕ)) (old new : Streams) (n : ℕ) where
   pub is-known : RunResult words old new n → (n ≤ 7) × (n ≢ 3)
   is-known (inl d) = (omega (arith, below d), λ e. omega (arith, e, below d))
   is-known (inr (inl (e, r))) = (omega (arith, e), λ f. omega (arith, e, f))
-  is-known (inr (inr b)) = let k = status_known b.error.code b.error.place b.bytes old new b.cause in (omega (arith, b.status_is, k.0), λ e. k.1 (sym b.status_is ∙ e))
+  is-known (inr (inr b)) = let k = cause_above b.error.code b.error.place b.bytes old new b.cause in (omega (arith, b.status_is, k), λ e. omega (arith, b.status_is, k, e))
 
   pub is-read-fault : RunResult words old new n → n ≡ 4 → Rose old.source.faults new.source.faults
-  is-read-fault h e = let b = is-failed h (omega (arith, e)) in reading_rose b.error.code b.error.place b.bytes old new b.cause (sym b.status_is ∙ e)
+  is-read-fault h e = let b = is-failed h (omega (arith, e)) in reading_rose b.bytes old.source new.source old.sink new.sink b.error.code b.error.place b.cause (sym b.status_is ∙ e)
 
   pub is-write-fault : RunResult words old new n → n ≡ 5 → Rose old.sink.faults new.sink.faults
-  is-write-fault h e = let b = is-failed h (omega (arith, e)) in writing_rose b.error.code b.error.place b.bytes old new b.cause (sym b.status_is ∙ e)
+  is-write-fault h e = let b = is-failed h (omega (arith, e)) in writing_rose b.bytes old.source new.source old.sink new.sink b.error.code b.error.place b.cause (sym b.status_is ∙ e)
 
   pub is-large : RunResult words old new n → n ≡ 7 → (bytes : List ℕ) × Consumes old.source.left new.source.left bytes × (max_bytes < length bytes)
-  is-large h e = let b = is-failed h (omega (arith, e)) in (b.bytes, b.consumed, too_many b.error.code b.error.place b.bytes old new b.cause (sym b.status_is ∙ e))
+  is-large h e = let b = is-failed h (omega (arith, e)) in (b.bytes, b.consumed, too_many b.bytes old.source new.source old.sink new.sink b.error.code b.error.place b.cause (sym b.status_is ∙ e))
 
   pub read-told : RunResult words old new n → old.source.faults < new.source.faults → n ≡ 4
   read-told (inl d) l = absurd (omega (arith, l, d.all.read))
@@ -239,18 +209,7 @@ module _ (words : List (List ℕ)) (old new : Streams) (n : ℕ) where
   is-unasked (inr (inl (e, r))) none = inl e
   is-unasked (inr (inr b)) none = inr (unasked_fails none b b.did)
 
-  few_bytes : (left : Option (List ℕ)) (bytes all : List ℕ) → prepend_known bytes left ≡ Some all → length bytes ≤ length all
-  few_bytes None bytes all h = absurd (cc)
-  few_bytes (Some rest) bytes all h = let e : bytes ++ rest ≡ all = cc in omega (arith, length-append bytes rest, ap length e)
-
-  nothing_fails : (code : ErrorCode) (place : Place) (bytes : List ℕ) → NothingFails words old new → Consumes old.source.left new.source.left bytes → RunErrorCause bytes old new code place → run_status code place ≡ 6
-  nothing_fails NoMemory nowhere bytes good consumed h = refl
-  nothing_fails Io Reading bytes good consumed h = absurd (good.read h)
-  nothing_fails Io Writing bytes good consumed h = absurd (good.written h)
-  nothing_fails TooLarge nowhere bytes good consumed h = absurd (omega (arith, h, good.few, few_bytes new.source.left bytes good.bytes (sym consumed ∙ good.known)))
-  nothing_fails code place bytes good consumed h = absurd h
-
   pub is-complete : RunResult words old new n → NothingFails words old new → (n < 2) ⊎ (n ≡ 6)
   is-complete (inl d) good = inl (below d)
   is-complete (inr (inl (e, r))) good = absurd (r.unasked good.asked)
-  is-complete (inr (inr b)) good = inr (b.status_is ∙ nothing_fails b.error.code b.error.place b.bytes good b.consumed b.cause)
+  is-complete (inr (inr b)) good = inr (b.status_is ∙ memory_alone b.bytes old.source new.source old.sink new.sink good.bytes good.known good.few good.read good.written b.consumed b.error.code b.error.place b.cause)

@@ -23,27 +23,19 @@ use Rattle.json_lines.specs.Running.{IsFreshRun, HandlesLines, FinishesLines, Fa
 use Rattle.json_lines.specs.TopCall.{Streams, RunErrorCause, GainsRows, WritesAllRows, WritesFewerRows}
 use Rattle.json_lines.proofs.TextWriting.{Begins-part}
 use Rattle.json_lines.proofs.HandledLines.{IfSome-map}
+use Rattle.json_lines.proofs.SinkEnds.{same_faults, ok_no_error, err_same}
+use Rattle.json_lines.proofs.Statuses.{cause-line, cause-flush}
 
 abbrev pub streams_of : RunState → Streams
 streams_of s = record { source = s.source; sink = s.sink; errs = s.errs }
-
-cause-line : (code : ErrorCode) (place : Place) (bytes : List ℕ) (a c : Streams) (reader : ReaderState) → reader.received ≡ length bytes → NextLineCause reader a.source c.source code place → RunErrorCause bytes a c code place
-cause-line Io Reading bytes a c reader received h = h.0
-cause-line TooLarge nowhere bytes a c reader received h = omega (arith, received, h.1)
-cause-line code place bytes a c reader received h = absurd h
 
 cause-row : (code : ErrorCode) (place : Place) (bytes : List ℕ) (a c : Streams) → RowErrorCause a.sink c.sink code place → RunErrorCause bytes a c code place
 cause-row NoMemory nowhere bytes a c h = tt
 cause-row Io Writing bytes a c h = h
 cause-row code place bytes a c h = absurd h
 
-cause-flush : (code : ErrorCode) (place : Place) (bytes : List ℕ) (a c : Streams) (mid : SinkState) → mid.faults ≡ a.sink.faults → WritingCause mid c.sink code place → RunErrorCause bytes a c code place
-cause-flush NoMemory nowhere bytes a c mid same h = tt
-cause-flush Io Writing bytes a c mid same h = subst (λ n. Rose n c.sink.faults) same h
-cause-flush code place bytes a c mid same h = absurd h
-
 causes : (a c : RunState) (e : Error) (bytes : List ℕ) (P Q : Type 0) → c.reader.received ≡ length bytes → NextLineCause c.reader a.source c.source e.code e.place ⊎ (RowErrorCause a.sink c.sink e.code e.place × P × Q) → RunErrorCause bytes (streams_of a) (streams_of c) e.code e.place
-causes a c e bytes P Q received (inl h) = cause-line e.code e.place bytes (streams_of a) (streams_of c) c.reader received h
+causes a c e bytes P Q received (inl h) = cause-line bytes a.source c.source a.sink c.sink e.code e.place c.reader received h
 causes a c e bytes P Q received (inr h) = cause-row e.code e.place bytes (streams_of a) (streams_of c) h.0
 
 pub WritesFewerRows-run : (has : List ℕ → Outcome → Type 0) (a c : RunState) (e : Error) → IsFreshRun a → FailsEarly has a c e → WritesFewerRows has (streams_of a) (streams_of c) c.tally e
@@ -91,18 +83,6 @@ WritesFewerRows-none has a t unmuted =
 abbrev pub with_sink : RunState → SinkState → Streams
 with_sink s sink = record { source = s.source; sink = sink; errs = s.errs }
 
-same_faults : (a b : ℕ) → a ≤ b → (a < b → ⊥) → b ≡ a
-same_faults a b le none = elim (cases_lt a b) [ inl l ↦ absurd (none l) | inr l ↦ omega (arith, l, le) ]
-
-ok_no_error : (u : Unit {0}) (e : Error) → Ok u ≡ Err e → ⊥
-ok_no_error u e h = cc
-
-abbrev failed : Error → Result (Unit {0}) Error
-failed e = Err e
-
-err_same : (e f : Error) → failed e ≡ failed f → e ≡ f
-err_same e f h = cc
-
 gains_flushed : (has : List ℕ → Outcome → Type 0) (done : List (List ℕ)) (a c sink errs errs' : SinkState) (t : Tally) → Keeps c.gained sink.gained → HandlesLines has done a c errs errs' t → GainsRows has done a sink errs errs' t
 gains_flushed has done a c sink errs errs' t keeps h =
     record { outcomes = h.outcomes; have = h.have; rows = Appends-kept a.gained c.gained sink.gained (rows_of h.outcomes) h.rows.ok keeps; reports = h.reports; bad = h.bad }
@@ -143,7 +123,7 @@ WritesFewerRows-flush has a c sink e run flush =
       bytes = run.bytes;
       consumed = run.reads.consumed;
       stops = flush_stops has a.source.left run.bytes a.sink c.sink sink a.errs c.errs c.tally run.all run.handled flush.keeps;
-      cause = cause-flush e.code e.place run.bytes (streams_of a) (with_sink c sink) c.sink run.no_sink_fault flush.cause;
+      cause = cause-flush run.bytes a.source c.source a.sink sink e.code e.place c.sink run.no_sink_fault flush.cause;
       reading_told = λ l. absurd (omega (arith, l, run.no_fault));
       writing_told = λ l. err_same e writing_failed (flush.told (omega (arith, l, run.no_sink_fault)));
     }

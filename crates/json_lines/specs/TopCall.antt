@@ -27,13 +27,16 @@ pub record Streams : Type 0 where
 abbrev pub streams : SourceState → SinkState → SinkState → Streams
 streams source sink errs = record { source = source; sink = sink; errs = errs }
 
--- why a run failed that had read these bytes
+-- why a run over a source and a sink failed that had read these bytes
+abbrev pub ErrorCause : List ℕ → SourceState → SourceState → SinkState → SinkState → ErrorCode → Place → Type 0
+ErrorCause bytes source source' sink sink' NoMemory nowhere = ⊤
+ErrorCause bytes source source' sink sink' Io Reading = Rose source.faults source'.faults
+ErrorCause bytes source source' sink sink' Io Writing = Rose sink.faults sink'.faults
+ErrorCause bytes source source' sink sink' TooLarge nowhere = max_bytes < length bytes
+ErrorCause bytes source source' sink sink' code place = ⊥
+
 abbrev pub RunErrorCause : List ℕ → Streams → Streams → ErrorCode → Place → Type 0
-RunErrorCause bytes old new NoMemory nowhere = ⊤
-RunErrorCause bytes old new Io Reading = Rose old.source.faults new.source.faults
-RunErrorCause bytes old new Io Writing = Rose old.sink.faults new.sink.faults
-RunErrorCause bytes old new TooLarge nowhere = max_bytes < length bytes
-RunErrorCause bytes old new code place = ⊥
+RunErrorCause bytes old new code place = ErrorCause bytes old.source new.source old.sink new.sink code place
 
 -- the sink gained exactly the rows of these lines, and their errors were reported
 pub record GainsRows (has : List ℕ → Outcome → Type 0) (done : List (List ℕ)) (sink sink' errs errs' : SinkState) (tally : Tally) : Type 0 where

@@ -161,10 +161,7 @@ fn columns_of_word(alloc: Global, word: &[u8]) -> Result<Vec<Column>>
     ensures err { IfErr result (λ e. (e ≡ no_memory)
         ⊎ ((e ≡ bad_words) × WordSpellsNothing columns_in word.now)) }
 {
-    let value = match read_value(alloc, word) {
-        Ok(value) => value,
-        Err(error) => return Err(error),
-    };
+    let value = read_value(alloc, word)?;
     match read_columns(alloc, &value) {
         Ok(columns) => Ok(columns),
         Err(error) => Err(arguments_error(error.code)),
@@ -177,10 +174,7 @@ fn path_of_word(alloc: Global, word: &[u8]) -> Result<Path>
     ensures err { IfErr result (λ e. (e ≡ no_memory)
         ⊎ ((e ≡ bad_words) × WordSpellsNothing path_in word.now)) }
 {
-    let value = match read_value(alloc, word) {
-        Ok(value) => value,
-        Err(error) => return Err(error),
-    };
+    let value = read_value(alloc, word)?;
     match read_path(alloc, &value) {
         Ok(path) => Ok(path),
         Err(error) => Err(arguments_error(error.code)),
@@ -207,10 +201,7 @@ fn limited_columns(alloc: Global, word: &[u8]) -> Result<Vec<Column>>
     ensures err { IfErr result (λ e. (e ≡ no_memory)
         ⊎ ((e ≡ bad_words) × NoColumns word.now)) }
 {
-    let columns = match columns_of_word(alloc, word) {
-        Ok(columns) => columns,
-        Err(error) => return Err(error),
-    };
+    let columns = columns_of_word(alloc, word)?;
     let count = columns.len();
     if count < 1 {
         return Err(BAD_WORDS);
@@ -229,10 +220,7 @@ fn read_table(alloc: Global, columns: &[u8], has: Option<&[u8]>) -> Result<Table
         ⊎ ((e ≡ bad_words)
         × ((k : Command) → ¬ (SpellsCommand columns.now (option_map (λ s. s.now) has.entry) k)))) }
 {
-    let columns = match limited_columns(alloc, columns) {
-        Ok(columns) => columns,
-        Err(error) => return Err(error),
-    };
+    let columns = limited_columns(alloc, columns)?;
     match read_has(alloc, has) {
         Ok(has) => Ok(Table { columns, has }),
         Err(error) => Err(error),

@@ -219,10 +219,7 @@ pub(crate) fn write_all_rows<R: RowWriter<K>, S: Source, K: Sink, E: Sink>(
         tally.new e) }
     ensures loan { (K.state sink.new).loan ≡ (K.state sink.old).loan }
 {
-    let mut reader = match LineReader::new(alloc, MAX_LINE) {
-        Ok(reader) => reader,
-        Err(error) => return Err(error),
-    };
+    let mut reader = LineReader::new(alloc, MAX_LINE)?;
     match write_rows(alloc, rows, &mut reader, source, sink, errs, tally) {
         Ok(()) => flush_all(sink),
         Err(error) => Err(error),

@@ -40,10 +40,7 @@ fn write_table<S: Source, K: Sink, E: Sink>(
         (streams (S.state source.old) (K.state sink.old) (E.state errs.old))
         (streams (S.state source.new) (K.state sink.new) (E.state errs.new)) tally.new e) }
 {
-    let buffer = match Buffer::new(alloc) {
-        Ok(buffer) => buffer,
-        Err(error) => return Err(error),
-    };
+    let buffer = Buffer::new(alloc)?;
     let mut writer = BufferedWriter::with_buffer(buffer, LentSink::new(sink));
     let outcome = write_all_rows(alloc, table, source, &mut writer, errs, tally);
     let _sink = writer.into_inner().into_inner();

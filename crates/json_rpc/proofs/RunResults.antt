@@ -17,10 +17,13 @@ use Rattle.json_text.proofs.Known.{known-nil, known-append, Consumes-nil}
 use Rattle.json_print.specs.Buffered.{held_behind}
 use Rattle.json_print.specs.Calls.{holds_any}
 use Rattle.json_print.specs.Printer.{Begins as BeginsWith, StopCause}
-use Rattle.json_print.proofs.TextWriting.{front_gained, same_name, grown, sent_back}
+use Rattle.json_print.proofs.TextWriting.{front_gained}
+use Rattle.json_command.proofs.Printing.{none_held}
 use Rattle.json_command.specs.Input.{max_bytes}
 use Rattle.json_lines.specs.Lines.{lines}
 use Rattle.json_lines.specs.Reading.{ReaderState, ReadsBytes, NextLineCause, fresh_reader}
+use Rattle.json_lines.proofs.SinkEnds.{same_faults, ok_no_error, err_same, came_back, sink_grew}
+use Rattle.json_lines.proofs.Statuses.{cause-line, cause-flush}
 use Rattle.json_rpc.specs.Serving.{Message, max_line_bytes}
 use Rattle.json_rpc.specs.Sessions.{AreMessages, replies}
 use Rattle.json_rpc.specs.Steps.{RunState, IsFreshRun, FinishesLines, StopsEarly}
@@ -30,18 +33,6 @@ pub fresh_run : (s : RunState) → s.reader ≡ fresh_reader max_line_bytes → 
 fresh_run s e = record { limit = ap (λ r. r.limit) e; held = ap (λ r. r.held) e; received = ap (λ r. r.received) e; going = ap (λ r. r.stopped) e }
 
 -- ---- the last flush
-
-ok_err : (u : Unit {0}) (e : Error) → Ok u ≡ Err e → ⊥
-ok_err u e h = cc
-
-same_faults : (a b : ℕ) → a ≤ b → (a < b → ⊥) → b ≡ a
-same_faults a b le none = elim (cases_lt a b) [ inl l ↦ absurd (none l) | inr l ↦ omega (arith, l, le) ]
-
-abbrev failed : Error → Result (Unit {0}) Error
-failed e = Err e
-
-err_is : (e f : Error) → failed e ≡ failed f → e ≡ f
-err_is e f h = cc
 
 gives_bytes : (a c : RunState) (bytes : List ℕ) → ReadsBytes a.reader c.reader a.source c.source bytes → GivesBytes a.source c.source bytes
 gives_bytes a c bytes h = record { consumed = h.consumed; given_so = h.given_so }
@@ -65,15 +56,10 @@ serves_all a c out u fresh begins all flush =
         gained = subst (λ t. Appends a.out.gained out.gained (replies t all.messages)) begins (flush.keeps ∙ all.writes.ok);
       };
       writes = record {
-        written = same_faults c.out.faults out.faults flush.later.faults (λ l. ok_err u writing_failed (flush.told l)) ∙ all.writes.calm;
+        written = same_faults c.out.faults out.faults flush.later.faults (λ l. ok_no_error u writing_failed (flush.told l)) ∙ all.writes.calm;
         flushed = flush.ok;
       };
     }
-
-flush_cause : (bytes : List ℕ) (s s' : SourceState) (a b c : SinkState) (code : ErrorCode) (place : Place) → b.faults ≡ a.faults → WritingCause b c code place → RunErrorCause bytes (streams s a) (streams s' c) code place
-flush_cause bytes s s' a b c NoMemory nowhere e h = tt
-flush_cause bytes s s' a b c Io Writing e h = subst (λ n. Rose n c.faults) e h
-flush_cause bytes s s' a b c code place e h = absurd h
 
 both_some : (o : Option (List ℕ)) (bytes : List ℕ) (ms : List Message) → IfSome o (λ b. b ≡ bytes) → IfSome o (λ b. AreMessages (lines b) ms) → IfSome o (λ _. AreMessages (lines bytes) ms)
 both_some None bytes ms e h = tt
@@ -89,9 +75,9 @@ flush_stops a c out e begins all flush =
       prefix = subst (λ t. BeginsWith out.gained (append_known a.out.gained (replies t all.messages))) begins
           (record { back = []; whole = sym (known-nil out.gained ∙ flush.keeps ∙ all.writes.ok) });
       same_loan = flush.later.same_loan ∙ all.writes.same_loan;
-      cause = flush_cause all.bytes a.source c.source a.out c.out out e.code e.place all.writes.calm flush.cause;
+      cause = cause-flush all.bytes a.source c.source a.out out e.code e.place c.out all.writes.calm flush.cause;
       reading_told = λ l. absurd (omega (arith, l, all.no_fault));
-      writing_told = λ l. err_is e writing_failed (flush.told (omega (arith, l, all.writes.calm)));
+      writing_told = λ l. err_same e writing_failed (flush.told (omega (arith, l, all.writes.calm)));
     }
 
 pub flushed_ok : (a c : RunState) (out : SinkState) (r : Result (Unit {0}) Error) → IsFreshRun a → a.document ≡ null → FinishesLines a c → FlushesAll c.out out r → OnOk r (ServesAll (streams a.source a.out) (streams c.source out))
@@ -103,11 +89,6 @@ flushed_err a c out (Ok u) begins all flush = tt
 flushed_err a c out (Err e) begins all flush = flush_stops a c out e begins all flush
 
 -- ---- the loop failed
-
-reading_cause : (bytes : List ℕ) (new : ReaderState) (s s' : SourceState) (a c : SinkState) (code : ErrorCode) (place : Place) → new.received ≡ length bytes → NextLineCause new s s' code place → RunErrorCause bytes (streams s a) (streams s' c) code place
-reading_cause bytes new s s' a c Io Reading e h = h.0
-reading_cause bytes new s s' a c TooLarge nowhere e h = omega (arith, e, h.1)
-reading_cause bytes new s s' a c code place e h = absurd h
 
 writing_cause : (bytes : List ℕ) (s s' : SourceState) (a c : SinkState) (code : ErrorCode) (place : Place) → StopCause a.faults c.faults code place → RunErrorCause bytes (streams s a) (streams s' c) code place
 writing_cause bytes s s' a c NoMemory nowhere h = tt
@@ -125,7 +106,7 @@ loop_stops a c e fresh begins stop =
       prefix = subst (λ t. BeginsWith c.out.gained (append_known a.out.gained (replies t stop.messages))) begins stop.prefix;
       same_loan = stop.same_loan;
       cause = elim stop.cause [
-        | inl h ↦ reading_cause stop.bytes c.reader a.source c.source a.out c.out e.code e.place received h
+        | inl h ↦ cause-line stop.bytes a.source c.source a.out c.out e.code e.place c.reader received h
         | inr h ↦ writing_cause stop.bytes a.source c.source a.out c.out e.code e.place h.0
       ];
       reading_told = stop.reading_told;
@@ -133,10 +114,6 @@ loop_stops a c e fresh begins stop =
     }
 
 -- ---- a sink that was lent
-
-none_held : (held : List ℕ) (b : Bool) → holds_any held || b ≡ false → (held ≡ []) × (b ≡ false)
-none_held [] b e = (refl, e)
-none_held (x ∷ held) b e = absurd (cc)
 
 abbrev Lent : SinkState → GName → SinkState
 Lent old name = lent_as old name old.gained
@@ -157,14 +134,6 @@ lent_serves s s' old new name held h =
       writes = record { written = h.writes.written; flushed = none.1 };
     }
 
-lent_cause : (bytes : List ℕ) (s s' : SourceState) (old new : SinkState) (name : GName) (held : List ℕ) (code : ErrorCode) (place : Place) → RunErrorCause bytes (streams s (Lent old name)) (streams s' (Back old new name held)) code place
-    → RunErrorCause bytes (streams s old) (streams s' new) code place
-lent_cause bytes s s' old new name held NoMemory nowhere h = tt
-lent_cause bytes s s' old new name held Io Reading h = h
-lent_cause bytes s s' old new name held Io Writing h = h
-lent_cause bytes s s' old new name held TooLarge nowhere h = h
-lent_cause bytes s s' old new name held code place h = absurd h
-
 lent_stops : (s s' : SourceState) (old new : SinkState) (name : GName) (held : List ℕ) (e : Error) → Grows old.gained new.gained → StopsBuffered (streams s (Lent old name)) (streams s' (Back old new name held)) e → StopsRun (streams s old) (streams s' new) e
 lent_stops s s' old new name held e g h =
     record {
@@ -175,20 +144,14 @@ lent_stops s s' old new name held e g h =
         are = h.are;
         gained = front_gained old.gained new.gained (replies null h.messages) _ (h.prefix.whole ∙ known-append new.gained held h.prefix.back) g;
       };
-      cause = lent_cause h.bytes s s' old new name held e.code e.place h.cause;
+      cause = h.cause;
       reading_told = h.reading_told;
       writing_told = h.writing_told;
     }
 
 module _ (old now sent lent began : SinkState) (name name' : GName) (held : List ℕ) (b : began ≡ lent_as old name old.gained) (loan_kept : sent.loan ≡ began.loan) (s : sent ≡ held_behind lent held) (back : ComesBack lent now name') where
-  loan : lent.loan ≡ began.loan
-  loan = ap (λ (x : SinkState). x.loan) (sym s) ∙ loan_kept
-
   is : sent ≡ Back old now name held
-  is = s ∙ ap (λ x. held_behind x held) (sent_back old now lent began name name' b loan back)
-
-  pub same_sink : name' ≡ name
-  same_sink = same_name old now lent began name name' b loan back
+  is = came_back old now sent lent began name name' held b loan_kept s back
 
   pub served_through : (u u' : SourceState) (r : Result (Unit {0}) Error) → OnOk r (ServesAll (streams u began) (streams u' sent)) → OnOk r (ServesAll (streams u old) (streams u' now))
   served_through u u' (Ok v) h = lent_serves u u' old now name held (subst (λ (x : SinkState). ServesAll (streams u (Lent old name)) (streams u' x)) is (subst (λ (x : SinkState). ServesAll (streams u x) (streams u' sent)) b h))
@@ -197,7 +160,7 @@ module _ (old now sent lent began : SinkState) (name name' : GName) (held : List
   pub stopped_through : (u u' : SourceState) (r : Result (Unit {0}) Error) → IfErr r (λ e. StopsBuffered (streams u began) (streams u' sent) e) → IfErr r (λ e. StopsRun (streams u old) (streams u' now) e)
   stopped_through u u' (Ok v) h = tt
   stopped_through u u' (Err e) h =
-      lent_stops u u' old now name held e (grown old now lent began name name' b loan back)
+      lent_stops u u' old now name held e (sink_grew old now sent lent began name name' held b loan_kept s back)
       (subst (λ (x : SinkState). StopsBuffered (streams u (Lent old name)) (streams u' x) e) is (subst (λ (x : SinkState). StopsBuffered (streams u x) (streams u' sent) e) b h))
 
 -- ---- memory ran out before anything was read

@@ -12,52 +12,18 @@ use Rattle.json_text.specs.Known.{Consumes, prepend_known}
 use Rattle.json_text.specs.Outside.{SourceState, SinkState, Rose}
 use Rattle.json_command.specs.Input.{max_bytes}
 use Rattle.json_command.specs.Reporting.{Reports}
-use Rattle.json_rpc.specs.RunResults.{Streams, ServesAll, RunErrorCause, StopsRun, RunFails, run_status, RefusesWords, FailsRun, ReportsFailure, Completes, RunResult, IsRunStatus, NothingFails}
+use Rattle.json_lines.specs.TopCall.{run_status}
+use Rattle.json_lines.proofs.Statuses.{status_above, reading_rose, writing_rose, too_many, memory_alone}
+use Rattle.json_rpc.specs.RunResults.{Streams, ServesAll, RunErrorCause, StopsRun, RunFails, RefusesWords, FailsRun, ReportsFailure, Completes, RunResult, IsRunStatus, NothingFails}
 
 -- ---- the status of a cause
 
 above : (code : ErrorCode) (place : Place) (bytes : List ℕ) (a c : Streams) → RunErrorCause bytes a c code place → (3 < run_status code place) × (run_status code place ≤ 7)
-above NoMemory nowhere bytes a c h = (omega arith, omega arith)
-above Io Reading bytes a c h = (omega arith, omega arith)
-above Io Writing bytes a c h = (omega arith, omega arith)
-above TooLarge nowhere bytes a c h = (omega arith, omega arith)
-above code place bytes a c h = absurd h
-
-reading_rose : (code : ErrorCode) (place : Place) (bytes : List ℕ) (a c : Streams) → RunErrorCause bytes a c code place → run_status code place ≡ 4 → Rose a.source.faults c.source.faults
-reading_rose NoMemory nowhere bytes a c h e = absurd (omega (arith, e))
-reading_rose Io Reading bytes a c h e = h
-reading_rose Io Writing bytes a c h e = absurd (omega (arith, e))
-reading_rose TooLarge nowhere bytes a c h e = absurd (omega (arith, e))
-reading_rose code place bytes a c h e = absurd h
-
-writing_rose : (code : ErrorCode) (place : Place) (bytes : List ℕ) (a c : Streams) → RunErrorCause bytes a c code place → run_status code place ≡ 5 → Rose a.sink.faults c.sink.faults
-writing_rose NoMemory nowhere bytes a c h e = absurd (omega (arith, e))
-writing_rose Io Reading bytes a c h e = absurd (omega (arith, e))
-writing_rose Io Writing bytes a c h e = h
-writing_rose TooLarge nowhere bytes a c h e = absurd (omega (arith, e))
-writing_rose code place bytes a c h e = absurd h
-
-too_many : (code : ErrorCode) (place : Place) (bytes : List ℕ) (a c : Streams) → RunErrorCause bytes a c code place → run_status code place ≡ 7 → max_bytes < length bytes
-too_many NoMemory nowhere bytes a c h e = absurd (omega (arith, e))
-too_many Io Reading bytes a c h e = absurd (omega (arith, e))
-too_many Io Writing bytes a c h e = absurd (omega (arith, e))
-too_many TooLarge nowhere bytes a c h e = h
-too_many code place bytes a c h e = absurd h
-
-few_bytes : (left : Option (List ℕ)) (bytes all : List ℕ) → prepend_known bytes left ≡ Some all → length bytes ≤ length all
-few_bytes None bytes all h = absurd (cc)
-few_bytes (Some rest) bytes all h = let e : bytes ++ rest ≡ all = cc in omega (arith, length-append bytes rest, ap length e)
+above code place bytes a c h = status_above bytes a.source c.source a.sink c.sink code place h
 
 -- ---- of a run
 
 module _ (words : List (List ℕ)) (old new : Streams) (errs errs' : SinkState) (n : ℕ) where
-  no_memory_alone : (code : ErrorCode) (place : Place) (bytes : List ℕ) → NothingFails words old new → Consumes old.source.left new.source.left bytes → RunErrorCause bytes old new code place → run_status code place ≡ 6
-  no_memory_alone NoMemory nowhere bytes good consumed h = refl
-  no_memory_alone Io Reading bytes good consumed h = absurd (good.read h)
-  no_memory_alone Io Writing bytes good consumed h = absurd (good.written h)
-  no_memory_alone TooLarge nowhere bytes good consumed h = absurd (omega (arith, h, good.few, few_bytes new.source.left bytes good.bytes (sym consumed ∙ good.known)))
-  no_memory_alone code place bytes good consumed h = absurd h
-
   refused_two : (e : Error) → RefusesWords words old new e → run_status e.code e.place ≡ 2
   refused_two e r = ap (λ (x : Error). run_status x.code x.place) r.told
 
@@ -111,13 +77,13 @@ module _ (words : List (List ℕ)) (old new : Streams) (errs errs' : SinkState) 
   is-known (inr f) = known_error f.error f.status_is f.fails
 
   pub is-read-fault : RunResult words old new errs errs' n → n ≡ 4 → Rose old.source.faults new.source.faults
-  is-read-fault h e = let s = is-stopped h (omega (arith, e)) in reading_rose s.0.code s.0.place s.2.stops.bytes old new s.2.stops.cause (sym s.1 ∙ e)
+  is-read-fault h e = let s = is-stopped h (omega (arith, e)) in reading_rose s.2.stops.bytes old.source new.source old.sink new.sink s.0.code s.0.place s.2.stops.cause (sym s.1 ∙ e)
 
   pub is-write-fault : RunResult words old new errs errs' n → n ≡ 5 → Rose old.sink.faults new.sink.faults
-  is-write-fault h e = let s = is-stopped h (omega (arith, e)) in writing_rose s.0.code s.0.place s.2.stops.bytes old new s.2.stops.cause (sym s.1 ∙ e)
+  is-write-fault h e = let s = is-stopped h (omega (arith, e)) in writing_rose s.2.stops.bytes old.source new.source old.sink new.sink s.0.code s.0.place s.2.stops.cause (sym s.1 ∙ e)
 
   pub is-large : RunResult words old new errs errs' n → n ≡ 7 → (bytes : List ℕ) × Consumes old.source.left new.source.left bytes × (max_bytes < length bytes)
-  is-large h e = let s = is-stopped h (omega (arith, e)) in (s.2.stops.bytes, s.2.stops.gives.consumed, too_many s.0.code s.0.place s.2.stops.bytes old new s.2.stops.cause (sym s.1 ∙ e))
+  is-large h e = let s = is-stopped h (omega (arith, e)) in (s.2.stops.bytes, s.2.stops.gives.consumed, too_many s.2.stops.bytes old.source new.source old.sink new.sink s.0.code s.0.place s.2.stops.cause (sym s.1 ∙ e))
 
   read_error : (e : Error) → RunFails words old new e → old.source.faults < new.source.faults → run_status e.code e.place ≡ 4
   read_error e (inl r) l = absurd (omega (arith, l, ap (λ (s : SourceState). s.faults) r.unread))
@@ -137,7 +103,7 @@ module _ (words : List (List ℕ)) (old new : Streams) (errs errs' : SinkState) 
 
   good_error : (e : Error) → RunFails words old new e → NothingFails words old new → run_status e.code e.place ≡ 6
   good_error e (inl r) good = absurd (r.some good.no_words)
-  good_error e (inr f) good = no_memory_alone e.code e.place f.stops.bytes good f.stops.gives.consumed f.stops.cause
+  good_error e (inr f) good = memory_alone f.stops.bytes old.source new.source old.sink new.sink good.bytes good.known good.few good.read good.written f.stops.gives.consumed e.code e.place f.stops.cause
 
   pub nothing-fails : RunResult words old new errs errs' n → NothingFails words old new → (n ≡ 0) ⊎ (n ≡ 6)
   nothing-fails (inl c) good = inl c.is

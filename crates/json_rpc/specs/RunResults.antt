@@ -1,11 +1,9 @@
 -- What a run does, for each status.
-use Rattle.std.specs.Prelude.{◌≡◌, ◌≢◌, ◌⊎◌, ℕ, ◌<◌, ◌≤◌, List, [], length, false, Some, IfSome, ⊤}
+use Rattle.std.specs.Prelude.{◌≡◌, ◌≢◌, ◌⊎◌, ℕ, ◌<◌, ◌≤◌, List, [], length, false, Some, IfSome}
 use Rattle.json_grammar.specs.Tree.{null}
 use Rattle.json_text.specs.declared.error.Error.{Error}
 use Rattle.json_text.specs.declared.error.ErrorCode.{ErrorCode}
-use Rattle.json_text.specs.declared.error.ErrorCode.TheVariants.{NoMemory, Io, TooLarge}
 use Rattle.json_text.specs.declared.error.Place.{Place}
-use Rattle.json_text.specs.declared.error.Place.TheVariants.{None as nowhere, Reading, Writing}
 use Rattle.json_text.specs.Errors.{reading_failed, writing_failed, bad_words}
 use Rattle.json_text.specs.FaultText.{text_of}
 use Rattle.json_text.specs.Known.{Appends, Consumes, append_known, told_as}
@@ -14,9 +12,8 @@ use Rattle.json_text.specs.Transfer.{AppendsFront}
 use Rattle.json_print.specs.Printer.{Begins as BeginsWith}
 use Rattle.json_command.specs.Input.{max_bytes}
 use Rattle.json_command.specs.Reporting.{Reports}
-use Rattle.json_command.specs.Statuses.{status_number, status_of}
-use Rattle.json_command.specs.declared.status.Status.TheVariants.{TooMuchInput}
 use Rattle.json_lines.specs.Lines.{lines}
+use Rattle.json_lines.specs.TopCall.{ErrorCause, run_status}
 use Rattle.json_rpc.specs.Serving.{Message}
 use Rattle.json_rpc.specs.Sessions.{AreMessages, replies}
 
@@ -63,11 +60,7 @@ pub record ServesAll (old new : Streams) : Type 0 where
 
 -- why a run failed to which the source gave these bytes
 abbrev pub RunErrorCause : List ℕ → Streams → Streams → ErrorCode → Place → Type 0
-RunErrorCause bytes old new NoMemory nowhere = ⊤
-RunErrorCause bytes old new Io Reading = Rose old.source.faults new.source.faults
-RunErrorCause bytes old new Io Writing = Rose old.sink.faults new.sink.faults
-RunErrorCause bytes old new TooLarge nowhere = max_bytes < length bytes
-RunErrorCause bytes old new code place = ⊥
+RunErrorCause bytes old new code place = ErrorCause bytes old.source new.source old.sink new.sink code place
 
 -- the sink gained a prefix of the replies to the lines of these bytes
 pub record AppendsRepliesPrefix (bytes : List ℕ) (old new : Streams) : Type 0 where
@@ -97,11 +90,6 @@ pub record StopsBuffered (old new : Streams) (error : Error) : Type 0 where
   pub writing_told : old.sink.faults < new.sink.faults → error ≡ writing_failed
 
 -- ---- all of it
-
--- the status of an error
-abbrev pub run_status : ErrorCode → Place → ℕ
-run_status TooLarge nowhere = status_number TooMuchInput
-run_status code place = status_of code place
 
 -- there are words, which are looked at first: nothing was read or written
 pub record RefusesWords (words : List (List ℕ)) (old new : Streams) (error : Error) : Type 0 where

@@ -2,7 +2,8 @@
 ghost use Rattle.std.specs.Prelude.{◌≡◌, ◌≢◌, ◌⊎◌, ◌<◌, List, ℕ, [], length, OnOk, IfErr};
 ghost use Rattle.json_command.specs.Input.{max_bytes};
 ghost use Rattle.json_lines.specs.Reading.{line_reader_state, fresh_reader};
-ghost use Rattle.json_rpc.specs.RunResults.{streams, ReadsAll, AppendsReplies, WritesAll, ServesAll, StopsRun, StopsBuffered, RunFails, RefusesWords, ReportsFailure, RunResult, IsRunStatus, NothingFails, run_status as spec_run_status};
+ghost use Rattle.json_lines.specs.TopCall.{run_status as spec_run_status};
+ghost use Rattle.json_rpc.specs.RunResults.{streams, ReadsAll, AppendsReplies, WritesAll, ServesAll, StopsRun, StopsBuffered, RunFails, RefusesWords, ReportsFailure, RunResult, IsRunStatus, NothingFails};
 ghost use Rattle.json_text.specs.Errors.{bad_words};
 ghost use Rattle.json_text.specs.Known.{Consumes};
 ghost use Rattle.json_text.specs.Outside.{Rose};

@@ -2,7 +2,7 @@
 use crate::run::has_replies;
 
 // What a session shows, the lines that are sent to a document that is null, and the replies.
-const SESSIONS: [(&str, &str, &str); 17] = [
+const SESSIONS: [(&str, &str, &str); 18] = [
     (
         "a set, a notification that does not apply, a batch and a line that is no text",
         "{\"jsonrpc\":\"2.0\",\"method\":\"set\",\"params\":[[],{\"a\":1}],\"id\":1}\n{\"jsonrpc\":\"2.0\",\"method\":\"push\",\"params\":[[\"a\"],2]}\n[{\"jsonrpc\":\"2.0\",\"method\":\"get\",\"params\":[[\"a\"]],\"id\":\"x\"},1]\n{\n",
@@ -74,6 +74,11 @@ const SESSIONS: [(&str, &str, &str); 17] = [
         "the members of an object in their order, with one of a repeated key removed",
         "{\"jsonrpc\":\"2.0\",\"method\":\"set\",\"params\":[[],{\"b\":1,\"a\":2,\"b\":3}]}\n{\"jsonrpc\":\"2.0\",\"method\":\"get\",\"params\":[[\"b\"]],\"id\":1}\n{\"jsonrpc\":\"2.0\",\"method\":\"remove\",\"params\":[[],\"b\"],\"id\":2}\n{\"jsonrpc\":\"2.0\",\"method\":\"get\",\"params\":[[]],\"id\":3}",
         "{\"jsonrpc\":\"2.0\",\"result\":1,\"id\":1}\n{\"jsonrpc\":\"2.0\",\"result\":null,\"id\":2}\n{\"jsonrpc\":\"2.0\",\"result\":{\"a\":2},\"id\":3}\n",
+    ),
+    (
+        "a batch that only reads",
+        "{\"jsonrpc\":\"2.0\",\"method\":\"set\",\"params\":[[],{\"a\":[1,2]}]}\n[{\"jsonrpc\":\"2.0\",\"method\":\"get\",\"params\":[[\"a\",1]],\"id\":1},{\"jsonrpc\":\"2.0\",\"method\":\"clear\",\"id\":2},5,{\"jsonrpc\":\"2.0\",\"method\":\"get\",\"params\":[[\"b\"]],\"id\":\"x\"},{\"jsonrpc\":\"2.0\",\"method\":\"get\",\"params\":[[]]}]\n{\"jsonrpc\":\"2.0\",\"method\":\"get\",\"params\":[[]],\"id\":3}",
+        "[{\"jsonrpc\":\"2.0\",\"result\":2,\"id\":1},{\"jsonrpc\":\"2.0\",\"error\":{\"code\":-32601,\"message\":\"Method not found\"},\"id\":2},{\"jsonrpc\":\"2.0\",\"error\":{\"code\":-32600,\"message\":\"Invalid Request\"},\"id\":null},{\"jsonrpc\":\"2.0\",\"error\":{\"code\":-32000,\"message\":\"Not found\"},\"id\":\"x\"}]\n{\"jsonrpc\":\"2.0\",\"result\":{\"a\":[1,2]},\"id\":3}\n",
     ),
     (
         "an error that leaves the document",

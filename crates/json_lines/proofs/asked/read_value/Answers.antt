@@ -8,4 +8,4 @@ returns-in-Ok-clause-ok c = value_input c.args.word.now (tree_of c.in-Ok.value) 
 
 pub returns-in-Err-clause-err : goal.returns-in-Err-clause-err
 returns-in-Err-clause-err c =
-    elim c.arguments_error.ensures [ inl m ↦ inl m | inr w ↦ inr (w.0, no_input c.args.word.now c.in-Err.error.code c.in-Err.error.place w.1 c.in-Err.ensures.err) ]
+    elim c.arguments_error.ensures.either [ inl m ↦ inl m | inr w ↦ inr (w.0, no_input c.args.word.now c.in-Err.error.code c.in-Err.error.place w.1 c.in-Err.ensures.err) ]

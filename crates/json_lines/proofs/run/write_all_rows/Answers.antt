@@ -1,4 +1,5 @@
 use Rattle.std.proofs.Common.{ℕ, List, Ok, Err, OnOk, IfErr, Result, sym, ap, subst}
+use Rattle.std.proofs.lemmas.Result.{err_from_is_err_and}
 use Rattle.json_text.specs.Outside.{SinkState}
 use Rattle.json_text.specs.Transfer.{FlushesAll}
 use Rattle.json_text.specs.declared.error.Error.{Error}
@@ -17,24 +18,25 @@ unflushed : (has : List ℕ → Outcome → Type 0) (a c : RunState) (sink : Sin
 unflushed has a c sink (Ok u) run flush = tt
 unflushed has a c sink (Err e) run flush = WritesFewerRows-flush has a c sink e run flush
 
-pub returns-in-Err-clause-err : goal.returns-in-Err-clause-err
-returns-in-Err-clause-err g c =
-    subst (WritesFewerRows _ _ _ _) (sym c.in-Err.ensures.only) (WritesFewerRows-none _ _ c.args.tally.now c.requires.unmuted)
+pub returns-in_err-reader-clause-err : goal.returns-in_err-reader-clause-err
+returns-in_err-reader-clause-err g c =
+    let p = err_from_is_err_and c.from_residual.result c.from_residual.ensures.1 in
+    rw (p.1, p.2) (subst (WritesFewerRows _ _ _ _) (sym c.in_err-reader.ensures.only) (WritesFewerRows-none _ _ c.args.tally.now c.requires.unmuted))
 
-pub returns-in-Ok-write_rows-clause-ok : goal.returns-in-Ok-write_rows-clause-ok
-returns-in-Ok-write_rows-clause-ok g c =
+pub returns-in-Ok-clause-ok : goal.returns-in-Ok-clause-ok
+returns-in-Ok-clause-ok g c =
     let has = g.R.RowWriter.has_outcome c.args.rows.now in
-    let limit = ap (λ s. s.limit) c.in-Ok.ensures.ok in
-    let a = run_state c.in-Ok.reader (g.S.Source.state c.args.source.now) (g.K.Sink.state c.args.sink.now) (g.E.Sink.state c.args.errs.now) c.args.tally.now in
+    let limit = ap (λ s. s.limit) c.in_ok-reader.ensures.ok in
+    let a = run_state c.in_ok-reader.reader (g.S.Source.state c.args.source.now) (g.K.Sink.state c.args.sink.now) (g.E.Sink.state c.args.errs.now) c.args.tally.now in
     let n = run_state c.write_rows.new.reader (g.S.Source.state c.write_rows.new.source) (g.K.Sink.state c.write_rows.new.sink) (g.E.Sink.state c.write_rows.new.errs) c.write_rows.new.tally in
     flushed (HasWithin 1048576 has) a n (g.K.Sink.state c.flush_all.new.sink) c.flush_all.result
-    (subst (λ m. FinishesLines (HasWithin m has) a n) limit c.in-Ok-write_rows.ensures.ok) c.flush_all.ensures
+    (subst (λ m. FinishesLines (HasWithin m has) a n) limit c.in-Ok.ensures.ok) c.flush_all.ensures
 
-pub returns-in-Ok-write_rows-clause-err : goal.returns-in-Ok-write_rows-clause-err
-returns-in-Ok-write_rows-clause-err g c =
+pub returns-in-Ok-clause-err : goal.returns-in-Ok-clause-err
+returns-in-Ok-clause-err g c =
     let has = g.R.RowWriter.has_outcome c.args.rows.now in
-    let limit = ap (λ s. s.limit) c.in-Ok.ensures.ok in
-    let a = run_state c.in-Ok.reader (g.S.Source.state c.args.source.now) (g.K.Sink.state c.args.sink.now) (g.E.Sink.state c.args.errs.now) c.args.tally.now in
+    let limit = ap (λ s. s.limit) c.in_ok-reader.ensures.ok in
+    let a = run_state c.in_ok-reader.reader (g.S.Source.state c.args.source.now) (g.K.Sink.state c.args.sink.now) (g.E.Sink.state c.args.errs.now) c.args.tally.now in
     let n = run_state c.write_rows.new.reader (g.S.Source.state c.write_rows.new.source) (g.K.Sink.state c.write_rows.new.sink) (g.E.Sink.state c.write_rows.new.errs) c.write_rows.new.tally in
     unflushed (HasWithin 1048576 has) a n (g.K.Sink.state c.flush_all.new.sink) c.flush_all.result
-    (subst (λ m. FinishesLines (HasWithin m has) a n) limit c.in-Ok-write_rows.ensures.ok) c.flush_all.ensures
+    (subst (λ m. FinishesLines (HasWithin m has) a n) limit c.in-Ok.ensures.ok) c.flush_all.ensures

@@ -1,13 +1,17 @@
 use Rattle.std.proofs.Common.{◌∙◌, rules}
+use Rattle.std.proofs.lemmas.Result.{err_from_is_err_and}
 use Rattle.json_text.specs.Outside.{SinkState}
 use Rattle.json_lines.specs.Outcomes.{HasOutcome}
 use Rattle.json_lines.specs.Rows.{HasWithin}
 use Rattle.json_lines.specs.Tables.{table_command}
-use Rattle.json_lines.proofs.LentSinks.{written_name, written_err, short_none}
+use Rattle.json_lines.proofs.LentSinks.{written_err, short_none}
+use Rattle.json_lines.proofs.SinkEnds.{same_sink}
 use Rattle.json_lines.proofs.top.write_table.Goals as goal
 
-pub returns-in-Err-clause-err : goal.returns-in-Err-clause-err
-returns-in-Err-clause-err g c = short_none (HasWithin 1048576 (HasOutcome (table_command c.args.table.now))) _ _ _ c.args.tally.now c.in-Err.error c.in-Err.ensures.only c.requires.unmuted
+pub returns-in_err-buffer-clause-err : goal.returns-in_err-buffer-clause-err
+returns-in_err-buffer-clause-err g c =
+    let p = err_from_is_err_and c.from_residual.result c.from_residual.ensures.1 in
+    rw (p.1, p.2) (short_none (HasWithin 1048576 (HasOutcome (table_command c.args.table.now))) _ _ _ c.args.tally.now _ c.in_err-buffer.ensures.only c.requires.unmuted)
 
 -- the sink that comes back is the one that was lent
 pub returns-clause-err : goal.returns-clause-err
@@ -21,7 +25,7 @@ returns-clause-err g c =
     let errs' = g.E.Sink.state c.write_all_rows-outcome.new.errs in
     let t = c.write_all_rows-outcome.new.tally in
     let began = c.with_buffer-writer.ensures.starts ∙ c.new-2.ensures.lent in
-    let name = written_name has s u old now errs errs' _ c.into_inner.ensures.0 t _ _ _ c.into_inner-sink.result.ghost_name c.write_all_rows-outcome.result began c.write_all_rows-outcome.ensures.loan c.into_inner.ensures.1 c.into_inner-sink.ensures.back in
+    let name = same_sink old now _ _ _ _ c.into_inner-sink.result.ghost_name c.into_inner.ensures.0 began c.write_all_rows-outcome.ensures.loan c.into_inner.ensures.1 c.into_inner-sink.ensures.back in
     let err = written_err has s u old now errs errs' _ c.into_inner.ensures.0 t _ _ _ c.into_inner-sink.result.ghost_name c.write_all_rows-outcome.result began c.write_all_rows-outcome.ensures.loan c.into_inner.ensures.1 c.into_inner-sink.ensures.back
     c.write_all_rows-outcome.ensures.err in
     search (rules, name, err)

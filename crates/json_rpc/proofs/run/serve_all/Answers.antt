@@ -1,7 +1,8 @@
 use Rattle.std.proofs.Common.{◌∙◌, rules}
 use Rattle.std.proofs.lemmas.Result.{err_from_is_err_and}
 use Rattle.json_text.specs.Outside.{SinkState}
-use Rattle.json_rpc.proofs.RunResults.{stops_at_once, same_sink, stopped_through}
+use Rattle.json_lines.proofs.SinkEnds.{same_sink}
+use Rattle.json_rpc.proofs.RunResults.{stops_at_once, stopped_through}
 use Rattle.json_rpc.proofs.run.serve_all.Goals as goal
 
 pub returns-in_err-reader-clause-err : goal.returns-in_err-reader-clause-err
