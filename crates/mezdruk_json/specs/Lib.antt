@@ -1,0 +1,10 @@
+pub use Rattle.json_grammar.specs.Tree
+pub use Rattle.json_grammar.specs.Grammar
+pub use Rattle.json_grammar.specs.Fault
+pub use Rattle.json_model.specs.Datum
+pub use Rattle.json_model.specs.Edit
+pub use Rattle.json_model.specs.Print
+pub use Rattle.json_model.specs.Same
+pub use Rattle.json_model.specs.Sort
+pub use Rattle.json_value.specs.Denotes
+pub use Rattle.json_value.specs.Edits
