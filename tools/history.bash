@@ -5,4 +5,4 @@ _history() {
     ((COMP_CWORD == 1)) && words="--help --version"
     mapfile -t COMPREPLY < <(compgen -W "$words" -- "$word")
 }
-complete -F _history mezdruk-history
+complete -o default -F _history mezdruk-history

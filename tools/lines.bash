@@ -10,4 +10,4 @@ _lines() {
     mapfile -t COMPREPLY < <(compgen -W "$words" -- "$word")
     [[ ${COMPREPLY[*]} == --has= ]] && compopt -o nospace
 }
-complete -F _lines mezdruk-lines
+complete -o default -F _lines mezdruk-lines

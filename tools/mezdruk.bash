@@ -24,4 +24,4 @@ _mezdruk() {
     fi
     mapfile -t COMPREPLY < <(compgen -W "$words" -- "$word")
 }
-complete -F _mezdruk mezdruk
+complete -o default -F _mezdruk mezdruk

@@ -8,4 +8,4 @@ _patch() {
         compopt -o nospace
     fi
 }
-complete -F _patch mezdruk-patch
+complete -o default -F _patch mezdruk-patch

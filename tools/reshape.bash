@@ -19,4 +19,4 @@ _reshape() {
         compopt -o nospace
     fi
 }
-complete -F _reshape reshape
+complete -o default -F _reshape reshape

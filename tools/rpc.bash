@@ -4,4 +4,4 @@ _rpc() {
     ((COMP_CWORD == 1)) || return
     mapfile -t COMPREPLY < <(compgen -W "--help --version" -- "${COMP_WORDS[COMP_CWORD]}")
 }
-complete -F _rpc mezdruk-rpc
+complete -o default -F _rpc mezdruk-rpc
