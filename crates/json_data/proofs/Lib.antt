@@ -20,7 +20,10 @@ pub mod CharTexts
 pub mod Objects
 pub mod ValueViews
 pub mod ValueSteps
+pub mod Placed
 pub mod ValueCalls
 pub mod TextValues
 pub mod Spelling
 pub mod ValueData
+pub mod TakenRows
+pub mod Complete

@@ -48,16 +48,18 @@ pub record Passed {S : Type 0} (taken : S → List Tok → Type 0) (stand : S �
   pub open_there : IsOpen (stand b).spot
   pub takes : Takes taken a xs b
   pub input : (stand b).input ≡ (stand a).input
+  pub unfailed : (stand b).failed ≡ None
   pub left : (stand b).left ≤ (stand a).left
   pub first : (k : TokenKind) → (stand a).told ≡ Some k → First xs (stand b).told k
 
-pub passed_none : {S : Type 0} {taken : S → List Tok → Type 0} {stand : S → Stand} (a : S) → IsOpen (stand a).spot → Passed taken stand a a
-passed_none {taken = taken} a o = record {
+pub passed_none : {S : Type 0} {taken : S → List Tok → Type 0} {stand : S → Stand} (a : S) → IsOpen (stand a).spot → (stand a).failed ≡ None → Passed taken stand a a
+passed_none {taken = taken} a o u = record {
   xs = [];
   path = here;
   open_there = o;
   takes = record { on = λ ts t. subst (taken a) (sym (append-nil ts)) t };
   input = refl;
+  unfailed = u;
   left = omega arith;
   first = λ k e. e;
 }
@@ -128,8 +130,8 @@ value_path (key_or_end c) h o t m = absurd (no_value (key_kinds c (first_kind t)
 value_path (member c) h o t m = (one_member h t, tt)
 
 -- a tree more
-pub passed_tree : {S : Type 0} {taken : S → List Tok → Type 0} {stand : S → Stand} {a b c : S} {t : Tree} → Passed taken stand a b → TakesTree taken stand b c t → Passed taken stand a c
-passed_tree {taken = taken} {stand = stand} {a = a} {b = b} {c = c} {t = t} w r =
+pub passed_tree : {S : Type 0} {taken : S → List Tok → Type 0} {stand : S → Stand} {a b c : S} {t : Tree} → Passed taken stand a b → TakesTree taken stand b c t → (stand c).failed ≡ None → Passed taken stand a c
+passed_tree {taken = taken} {stand = stand} {a = a} {b = b} {c = c} {t = t} w r u =
     let m = r.moves in
     let h = value_path (stand b).spot w.path w.open_there t r.as_told.may in
     record {
@@ -138,6 +140,7 @@ passed_tree {taken = taken} {stand = stand} {a = a} {b = b} {c = c} {t = t} w r 
       open_there = subst IsOpen (sym m.spot) h.1;
       takes = joins w.takes r.takes;
       input = m.input ∙ w.input;
+      unfailed = u;
       left = omega (arith, w.left, m.left);
       first = λ k e. first_more (w.xs ++ tokens t) (stand c).told k (first_append w.xs (tokens t) (stand b).told k (w.first k e) (λ f. subst (FirstIs (tokens t)) (r.as_told.told k f) (first_tree t)));
     }
@@ -150,8 +153,8 @@ key_path (key_or_end c) h s m = (one_key h s, tt)
 key_path (member c) h s m = absurd (cc)
 
 -- a key more
-passed_key : {S : Type 0} {taken : S → List Tok → Type 0} {stand : S → Stand} {a b c : S} {s : List ℕ} → Passed taken stand a b → TakesOne taken stand b c (key_token s) → Passed taken stand a c
-passed_key {taken = taken} {stand = stand} {a = a} {b = b} {c = c} {s = s} w r =
+passed_key : {S : Type 0} {taken : S → List Tok → Type 0} {stand : S → Stand} {a b c : S} {s : List ℕ} → Passed taken stand a b → TakesOne taken stand b c (key_token s) → (stand c).failed ≡ None → Passed taken stand a c
+passed_key {taken = taken} {stand = stand} {a = a} {b = b} {c = c} {s = s} w r u =
     let m = r.moves in
     let h = key_path (stand b).spot w.path s r.as_told.may in
     record {
@@ -160,22 +163,23 @@ passed_key {taken = taken} {stand = stand} {a = a} {b = b} {c = c} {s = s} w r =
       open_there = subst IsOpen (sym m.spot) h.1;
       takes = joins w.takes r.takes;
       input = m.input ∙ w.input;
+      unfailed = u;
       left = omega (arith, w.left, m.left);
       first = λ k e. first_more (w.xs ++ key_token s ∷ []) (stand c).told k (first_append w.xs (key_token s ∷ []) (stand b).told k (w.first k e) (λ f. r.as_told.told k f));
     }
 
 -- a token that is no bracket
 pub passed_one : {S : Type 0} {taken : S → List Tok → Type 0} {stand : S → Stand} {a b c : S} (x : Tok) → Passed taken stand a b → TakesOne taken stand b c x
-    → kind_of x ≢ kind.BeginArray → kind_of x ≢ kind.BeginObject → kind_of x ≢ kind.EndArray → kind_of x ≢ kind.EndObject → Passed taken stand a c
-passed_one null_token w r f g i j = passed_tree w (scalar null null_token refl refl refl refl r)
-passed_one (boolean_token b) w r f g i j = passed_tree w (scalar (boolean b) (boolean_token b) refl refl refl refl r)
-passed_one (num_token l) w r f g i j = passed_tree w (scalar (num l) (num_token l) refl refl refl refl r)
-passed_one (text_token s) w r f g i j = passed_tree w (scalar (text s) (text_token s) refl refl refl refl r)
-passed_one (begin array) w r f g i j = absurd (f refl)
-passed_one (begin object) w r f g i j = absurd (g refl)
-passed_one (end array) w r f g i j = absurd (i refl)
-passed_one (end object) w r f g i j = absurd (j refl)
-passed_one (key_token s) w r f g i j = passed_key w r
+    → kind_of x ≢ kind.BeginArray → kind_of x ≢ kind.BeginObject → kind_of x ≢ kind.EndArray → kind_of x ≢ kind.EndObject → (stand c).failed ≡ None → Passed taken stand a c
+passed_one null_token w r f g i j u = passed_tree w (scalar null null_token refl refl refl refl r) u
+passed_one (boolean_token b) w r f g i j u = passed_tree w (scalar (boolean b) (boolean_token b) refl refl refl refl r) u
+passed_one (num_token l) w r f g i j u = passed_tree w (scalar (num l) (num_token l) refl refl refl refl r) u
+passed_one (text_token s) w r f g i j u = passed_tree w (scalar (text s) (text_token s) refl refl refl refl r) u
+passed_one (begin array) w r f g i j u = absurd (f refl)
+passed_one (begin object) w r f g i j u = absurd (g refl)
+passed_one (end array) w r f g i j u = absurd (i refl)
+passed_one (end object) w r f g i j u = absurd (j refl)
+passed_one (key_token s) w r f g i j u = passed_key w r u
 
 -- a container, whole
 pub whole_container : {S : Type 0} {taken : S → List Tok → Type 0} {stand : S → Stand} {a b c : S} (x : Tok) → (kind_of x ≡ kind.BeginArray) ⊎ (kind_of x ≡ kind.BeginObject) → TakesOne taken stand a b x → Leaves taken stand b c

@@ -20,7 +20,7 @@ use Rattle.json_data.specs.declared.token.TokenKind.{TokenKind}
 use Rattle.json_data.specs.Kinds.{kind_of}
 use Rattle.json_data.specs.Spots.{Spot, top, over, after, after_all, MayCome}
 use Rattle.json_data.specs.Stand.{Takes, Peeks, TakesOne}
-use Rattle.json_data.specs.Text.{TextState, TakenBefore, text_taken, text_stand, event_kind, place_of, ReadsAhead, HasReadValue}
+use Rattle.json_data.specs.Text.{TextState, TakenBefore, text_taken, text_stand, event_kind, place_of, ReadsAhead, HasFault, HasReadValue}
 use Rattle.json_doc.proofs.ValueRecording.{means_one}
 use Rattle.json_data.proofs.Places.{after_append}
 use Rattle.json_data.proofs.Events.{place_is, spot_back, same_kind, over_whole}
@@ -61,6 +61,12 @@ takes_next a p f e k i h z =
         as_told = record { may = subst (λ (i : TokenKind). MayCome (text_stand a).spot i) j h.may; told = λ o t. sym j ∙ h.again o t };
       },
     )
+
+-- the parser keeps the fault that it met
+pub fault_kept : (p q : ParserState) (e : Error) → q ≡ record p { failure = Some e } → HasFault p e → HasFault q e
+fault_kept p q e k f =
+    subst (λ (r : ParserState). HasFault r e) (sym k)
+    (record { offset = f.offset; place = f.place; in_text = f.in_text; in_value = f.in_value; needs = f.needs; no_refusal = f.no_refusal })
 
 -- where it failed before, it fails
 pub no_again : {X Y : Type 0} (o : Option Error) (r : Result X Error) (k : X) (q : Result Y Error) → IfSome o (λ e. r ≡ Err e) → r ≡ Ok k → IfSome o (λ e. q ≡ Err e)

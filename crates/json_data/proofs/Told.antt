@@ -1,5 +1,5 @@
 -- What a comparison of kinds, or an answer that is some, tells.
-use Rattle.std.proofs.Common.{◌≡◌, ◌≢◌, Bool, Option, Some, IfSome, true, false, not, rules, subst}
+use Rattle.std.proofs.Common.{◌≡◌, ◌≢◌, Bool, Option, Some, None, IfSome, IsSome, true, false, not, rules, subst}
 use denote.Enum.Bare.{sameb}
 use Rattle.json_data.specs.contracts.token.TokenKind.{the_type}
 use Rattle.json_data.specs.declared.token.TokenKind.{TokenKind}
@@ -13,6 +13,9 @@ is_kind-ne k j r e t = search rules
 
 pub no_end-kind : (k : TokenKind) (r : Bool) → r ≡ not (sameb the_type k EndArray) → r ≡ true → k ≢ EndArray
 no_end-kind k r e t = search rules
+
+pub not_some : {A : Type 0} {o : Option A} → o ≡ None → IsSome o → ⊥
+not_some e s = let h : false ≡ true = subst IsSome e s in cc
 
 pub known : {A : Type 0} {o : Option A} {x : A} (P : A → Type 0) → IfSome o P → o ≡ Some x → P x
 known P h e = subst (λ o. IfSome o P) e h

@@ -70,7 +70,7 @@ same_steps (a ∷ p) (b ∷ q) e =
     let g : steps_data p ≡ steps_data q = cc in
     ap₂ (λ s r. s ∷ r) (same_step a b f) (same_steps p q g)
 
-same_path : (p q : List Step) → path_datum p ≡ path_datum q → p ≡ q
+pub same_path : (p q : List Step) → path_datum p ≡ path_datum q → p ≡ q
 same_path p q e = same_steps p q (let f : steps_data p ≡ steps_data q = cc in f)
 
 -- two names differ

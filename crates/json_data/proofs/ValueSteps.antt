@@ -142,6 +142,10 @@ told_head false o j k e f = absurd (cc)
 told_none : (b : Bool) (o : Option TokenKind) → b ≡ false → (if b then o else None) ≡ None
 told_none b o e = rw e
 
+-- memory did not run out
+pub not_failed : (b : Bool) → b ≡ false → (if b then Some no_memory else None) ≡ None
+not_failed b e = rw e
+
 -- ---- what is promised of a step
 
 as_told : (a : ValueState) (k : TokenKind) → head_kind (rest_of a) ≡ Some k → AsTold (state_stand a) k
@@ -189,7 +193,7 @@ tree_taken a b t s =
 -- ---- behind an element that was reached
 
 pub settled : {a m b : ValueState} {xs : List Tok} {p q : Spot} → Settles a m → Steps m b xs p → p ≡ q → Steps a b xs q
-settled s t e = record { tree = t.tree ∙ s.tree; rest = sym s.rest ∙ t.rest; spot = t.spot ∙ e; told = t.told }
+settled s t e = record { tree = t.tree ∙ s.tree; rest = sym s.rest ∙ t.rest; spot = t.spot ∙ e; told = t.told; failed = t.failed ∙ s.failed }
 
 pub fails : {a m b : ValueState} {e : Error} → Settles a m → e ≡ no_memory → Breaks m b → Fails (state_stand a) (state_stand b) e
 fails {e = e} s n k = record { input = ap over_tree (k.tree ∙ s.tree); no_refusal = ap (λ (i : Error). is_refusal i.code) n; failed = rw k.failed (ap Some (sym n)) }
@@ -221,7 +225,7 @@ next_rest : (a : ValueState) (t : Tree) → a.next ≡ Some t → rest_of a ≡ 
 next_rest a t n = ap (λ (o : Option Tree). next_tokens o ++ open_tokens a.levels) n
 
 value_passed : (a : ValueState) (t : Tree) → a.next ≡ Some t → Steps a (record a { next = None; told = false }) (tokens t) (behind_value (spot_in a.levels a.next))
-value_passed a t n = record { tree = refl; rest = next_rest a t n; spot = spot_value a.levels a.next; told = refl }
+value_passed a t n = record { tree = refl; rest = next_rest a t n; spot = spot_value a.levels a.next; told = refl; failed = refl }
 
 -- a scalar is one token
 pub scalar_one : (t : Tree) → type_of t ≢ json.Array → type_of t ≢ json.Object → (x : Tok) × (tokens t ≡ x ∷ []) × ((p : Spot) → behind_value p ≡ after p x)
@@ -233,7 +237,7 @@ scalar_one (list ts) n m = absurd (n refl)
 scalar_one (pairs ps) n m = absurd (m refl)
 
 pub scalar_taken : (a : ValueState) (t : Tree) (x : Tok) → a.next ≡ Some t → tokens t ≡ x ∷ [] → ((p : Spot) → behind_value p ≡ after p x) → Steps a (record a { next = None; told = false }) (x ∷ []) (after (spot_in a.levels a.next) x)
-scalar_taken a t x n e f = record { tree = refl; rest = next_rest a t n ∙ ap (λ (xs : List Tok). xs ++ open_tokens a.levels) e; spot = spot_value a.levels a.next ∙ f _; told = refl }
+scalar_taken a t x n e f = record { tree = refl; rest = next_rest a t n ∙ ap (λ (xs : List Tok). xs ++ open_tokens a.levels) e; spot = spot_value a.levels a.next ∙ f _; told = refl; failed = refl }
 
 array_is : (t : Tree) → type_of t ≡ json.Array → (ts : Trees) × (t ≡ list ts)
 array_is null e = absurd (cc)
@@ -257,6 +261,7 @@ array_begun a ts n = record {
   rest = next_rest a (list ts) n ∙ ap (λ (us : Trees). begin array ∷ ((trees_tokens us ++ end array ∷ []) ++ open_tokens a.levels)) (sym (list_back ts));
   spot = ap element (kinds_at a.levels a.next);
   told = refl;
+  failed = refl;
 }
 
 object_begun : (a : ValueState) (ps : Pairs) → a.next ≡ Some (pairs ps) → Steps a (record a { next = None; levels = members_of (pairs_list ps) ∷ a.levels; told = false }) (begin object ∷ []) (after (spot_in a.levels a.next) (begin object))
@@ -265,6 +270,7 @@ object_begun a ps n = record {
   rest = next_rest a (pairs ps) n ∙ ap (λ (qs : Pairs). begin object ∷ ((pairs_tokens qs ++ end object ∷ []) ++ open_tokens a.levels)) (sym (pairs_back ps));
   spot = ap key_or_end (kinds_at a.levels a.next);
   told = refl;
+  failed = refl;
 }
 
 -- as the code says it: into a level, whose list is that of the value
@@ -306,6 +312,7 @@ key_taken a ks p n h =
       rest = ap (λ (o : Option Tree). next_tokens o ++ open_tokens a.levels) n ∙ r.0;
       spot = r.1 ∙ ap (λ (o : Option Tree). after (spot_in a.levels o) (key_token p.0)) (sym n);
       told = refl;
+      failed = refl;
     }
 
 end_parts : (ls ks : List Left) (k : TokenKind) → NoElement ls → FrontIs ls k → PullsMember ls None ks → spot_in ls None ≢ over
@@ -330,6 +337,7 @@ end_taken a b ks k n r f h o x =
         rest = ap (λ (q : Option Tree). next_tokens q ++ open_tokens a.levels) n ∙ i ∙ ap (λ (z : ValueState). end j ∷ rest_of z) (sym y);
         spot = ap (λ (z : ValueState). spot_in z.levels z.next) y ∙ s ∙ ap (λ (q : Option Tree). after (spot_in a.levels q) (end j)) (sym n);
         told = ap (λ (z : ValueState). z.told) y;
+        failed = ap (λ (z : ValueState). z.failed) y;
       },
     )
 
@@ -381,6 +389,7 @@ leaving a b l ls e y =
       rest = ap (λ (c : List Left). next_tokens s.next ++ open_tokens c) e ∙ sym (append_assoc (next_tokens s.next) (left_tokens l) (open_tokens ls));
       spot = spot_around l ls s.next ∙ ap (λ (c : List Left). around (spot_in c s.next)) (sym e);
       told = refl;
+      failed = refl;
     })
 
 pub leaves : (a b : ValueTokens) → IsOpen (value_stand a).spot

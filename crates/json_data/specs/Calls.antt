@@ -13,11 +13,16 @@ use Rattle.json_text.specs.Outside.{SourceState}
 use Rattle.json_text.specs.Positions.{place_at}
 use Rattle.json_text.specs.Transfer.{ReadsWithin, ReadingCause}
 use Rattle.json_text.specs.Utf8.{IsUtf8Fault}
-use Rattle.json_data.specs.Reading.{Reading, refuses}
+use Rattle.json_model.specs.Datum.{Datum}
+use Rattle.json_data.specs.Reading.{Reading, gives, refuses}
 
 -- the bytes are a text of a tree of so many levels at most, of which r is the reading
 abbrev pub ReadsText : ℕ → (Tree → Reading) → List ℕ → Reading → Type 0
 ReadsText limit f b r = (t : Tree) × is_text false t b × (depth t ≤ limit) × (f t ≡ r)
+
+-- the bytes are a text that fits, of whose tree the type has a datum
+abbrev pub HasDatum : ℕ → (Tree → Reading) → List ℕ → Type 0
+HasDatum limit f b = (d : Datum) × ReadsText limit f b (gives d)
 
 -- the value of the text begins there
 abbrev pub ValueBegins : List ℕ → Place → Type 0

@@ -16,3 +16,4 @@ pub mod ValueCalls
 pub mod TextValues
 pub mod ReadingValues
 pub mod Spelled
+pub mod Laws

@@ -1,11 +1,16 @@
 -- What the tokens of a value are.
-use Rattle.std.specs.Prelude.{◌≡◌, ℕ, List, [], ◌∷◌, ◌++◌, length, map, Bool, true, false, if◌then◌else◌, Option, Some, None, option_map}
+use Rattle.std.specs.Prelude.{◌≡◌, ℕ, List, [], ◌∷◌, ◌++◌, length, map, Bool, true, false, if◌then◌else◌, Option, Some, None, IfSome, option_map, slice_get}
 use Rattle.json_grammar.specs.declared.Kind.{Kind}
 use Rattle.json_grammar.specs.declared.Kind.TheVariants.{Array as array, Object as object}
 use Rattle.json_grammar.specs.Tree.{Tree, Token as Tok, tokens, trees_tokens, pairs_tokens, list_trees, list_pairs, end}
 use Rattle.json_text.specs.Errors.{no_memory}
 use Rattle.json_value.specs.Seen.{seen}
-use Rattle.json_value.specs.Left.{elements_left, members_left}
+use Rattle.json_value.specs.Left.{elements_left, members_left, elements_sights_left}
+use Rattle.json_value.specs.Places.{places_in}
+use Rattle.json_value.specs.Sights.{Sight, sight_of, sight_kept, sight_places}
+use Rattle.json_value.specs.Spots.{spot_of}
+use Rattle.json_value.specs.declared.value.Value.{Value}
+use Rattle.json_value.specs.declared.view.View.{View}
 use Rattle.json_data.specs.declared.level.Level.{Level}
 use Rattle.json_data.specs.declared.level.Level.TheVariants as level
 use Rattle.json_data.specs.declared.token.TokenKind.{TokenKind}
@@ -103,6 +108,28 @@ value_taken s ts = state_taken (value_state s) ts
 abbrev pub value_stand : ValueTokens → Stand
 value_stand s = state_stand (value_state s)
 
+-- ---- values that are returned
+
+-- what the views of the elements that an array has left are of
+abbrev pub element_sights : Level → List Sight
+element_sights level.Root = []
+element_sights (level.List s) = elements_sights_left s
+element_sights (level.Pairs s) = []
+
+-- what the view of the value that comes next is of
+abbrev pub next_sight : Option View → Level → Option Sight
+next_sight (Some v) l = Some (sight_of v)
+next_sight None l = slice_get (element_sights l) 0
+
+-- a value made of what is seen: where that is a place of the document of a value it is read from there, and of a whole value each part stands where
+-- its own does
+pub record IsMadeOf (s : Sight) (v : Value) : Type 0 where
+  pub spot : spot_of v ≡ sight_kept s
+  pub parts : IfSome (sight_places s) (λ places. places_in v ≡ places)
+
+abbrev pub value_placed : ValueTokens → Value → Type 0
+value_placed s v = IfSome (next_sight s.next s.inner) (λ g. IsMadeOf g v)
+
 -- no token of the tree was told, taken or refused
 abbrev pub at_begin : Tree → ValueState
 at_begin t = record { tree = t; next = Some t; levels = []; told = false; failed = false }
@@ -146,6 +173,7 @@ pub record Steps (a b : ValueState) (xs : List Tok) (p : Spot) : Type 0 where
   pub rest : rest_of a ≡ xs ++ rest_of b
   pub spot : spot_in b.levels b.next ≡ p
   pub told : b.told ≡ false
+  pub failed : b.failed ≡ a.failed
 
 -- memory ran out
 pub record Breaks (a b : ValueState) : Type 0 where

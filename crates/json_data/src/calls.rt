@@ -1,11 +1,12 @@
 // Values read from texts and sources.
-ghost use Rattle.std.specs.Prelude.{◌≡◌, ◌+◌, ◌<◌, ◌≤◌, ◌^◌, length, true, IfOk, IfErr, IsErrOf, IsUtf8};
-ghost use Rattle.json_text.specs.Errors.{reading_failed, too_large as spec_too_large};
+ghost use Rattle.std.specs.Prelude.{◌≡◌, ◌+◌, ◌<◌, ◌≤◌, ◌^◌, length, true, IfOk, IfErr, IsErrOf, IsOkUnless, OnErr, OnOk, IsUtf8};
+ghost use Rattle.json_text.specs.Errors.{no_memory, reading_failed, too_large as spec_too_large};
 ghost use Rattle.json_text.specs.Ruled.{rules_of};
-ghost use Rattle.json_text.specs.Transfer.{TakesAtMost};
+ghost use Rattle.json_text.specs.Transfer.{ReadsWithin, ReadingCause, TakesAtMost};
 ghost use Rattle.json_data.specs.Reading.{gives};
 ghost use Rattle.json_data.specs.Calls.{most, TextFails};
-ghost use Rattle.json_data.specs.Calls.{ReadsText, ReadingFails, ReadsTextWith, ReadingFailsWith, ReadsSource, SourceFails};
+ghost use Rattle.json_data.specs.TextValues.{IsPacked};
+ghost use Rattle.json_data.specs.Calls.{ReadsText, ReadingFails, HasDatum, ReadsTextWith, ReadingFailsWith, ReadsSource, SourceFails};
 
 use crate::deserialize::{Deserialize, DeserializeFrom};
 use crate::refusals::is_refusal;
@@ -51,6 +52,7 @@ fn text_of(json: &[u8]) -> Result<&str>
 fn read_text<'a, T: Deserialize<'a> + Drop>(alloc: Global, text: &'a str, depth: u32) -> Result<T>
     requires { depth ≤ 1024 }
     ensures ok { IfOk result (λ v. ReadsText depth T.from_tree text.now (gives (T.datum v))) }
+    ensures place { IfOk result (T.placed IsPacked) }
     ensures err { IfErr result (λ e. ReadingFails depth T.from_tree text.now e.code e.place) }
 {
     let mut tokens = TextTokens::new(text).depth(depth);
@@ -81,7 +83,10 @@ fn read_text<'a, T: Deserialize<'a> + Drop>(alloc: Global, text: &'a str, depth:
 /// `NumberOutOfRange`, `ExpectedNumericKey`. Or memory runs out.
 pub fn from_str<'a, T: Deserialize<'a> + Drop>(alloc: Global, s: &'a str) -> Result<T>
     ensures ok { IfOk result (λ v. ReadsText 254 T.from_tree s.now (gives (T.datum v))) }
+    ensures place { IfOk result (T.placed IsPacked) }
     ensures err { IfErr result (λ e. ReadingFails 254 T.from_tree s.now e.code e.place) }
+    ensures complete { HasDatum 254 T.from_tree s.now → length s.now < 2 ^ 32
+        → IsOkUnless result no_memory }
     ensures large { 2 ^ 32 ≤ length s.now → IsErrOf result spec_too_large }
 {
     if s.len() > MOST {
@@ -94,10 +99,14 @@ pub fn from_str<'a, T: Deserialize<'a> + Drop>(alloc: Global, s: &'a str) -> Res
 /// fault of the text.
 pub fn from_slice<'a, T: Deserialize<'a> + Drop>(alloc: Global, json: &'a [u8]) -> Result<T>
     ensures ok { IfOk result (λ v. ReadsText 254 T.from_tree json.now (gives (T.datum v))) }
+    ensures place { IfOk result (T.placed IsPacked) }
     ensures err { IfErr result (λ e. ReadingFails 254 T.from_tree json.now e.code e.place) }
+    ensures complete { HasDatum 254 T.from_tree json.now → length json.now < 2 ^ 32
+        → IsOkUnless result no_memory }
     ensures large { 2 ^ 32 ≤ length json.now → IsErrOf result spec_too_large }
 {
-    read_text(alloc, text_of(json)?, LEVELS)
+    let text = text_of(json)?;
+    read_text(alloc, text, LEVELS)
 }
 
 /// The value of bytes that are UTF-8, as [`from_slice`], without a test of that.
@@ -107,7 +116,10 @@ pub fn from_slice_unchecked<'a, T: Deserialize<'a> + Drop>(
 ) -> Result<T>
     requires { IsUtf8 json.now }
     ensures ok { IfOk result (λ v. ReadsText 254 T.from_tree json.now (gives (T.datum v))) }
+    ensures place { IfOk result (T.placed IsPacked) }
     ensures err { IfErr result (λ e. ReadingFails 254 T.from_tree json.now e.code e.place) }
+    ensures complete { HasDatum 254 T.from_tree json.now → length json.now < 2 ^ 32
+        → IsOkUnless result no_memory }
     ensures large { 2 ^ 32 ≤ length json.now → IsErrOf result spec_too_large }
 {
     from_str(alloc, unsafe { from_utf8_unchecked(json) })
@@ -124,6 +136,7 @@ fn read_unique<'a, T: Deserialize<'a> + Drop>(
     requires size { length text.now < 2 ^ 32 }
     ensures ok { IfOk result (λ v.
         ReadsTextWith (rules_of rules) T.from_tree text.now (gives (T.datum v))) }
+    ensures place { IfOk result (T.placed IsPacked) }
     ensures err { IfErr result (λ e.
         ReadingFailsWith (rules_of rules) T.from_tree text.now e.code e.place) }
 {
@@ -141,6 +154,7 @@ pub fn from_slice_with<'a, T: Deserialize<'a> + Drop>(
 ) -> Result<T>
     ensures ok { IfOk result (λ v.
         ReadsTextWith (rules_of rules) T.from_tree json.now (gives (T.datum v))) }
+    ensures place { IfOk result (T.placed IsPacked) }
     ensures err { IfErr result (λ e.
         ReadingFailsWith (rules_of rules) T.from_tree json.now e.code e.place) }
     ensures large { 2 ^ 32 ≤ length json.now → IsErrOf result spec_too_large }
@@ -151,6 +165,22 @@ pub fn from_slice_with<'a, T: Deserialize<'a> + Drop>(
     } else {
         read_text(alloc, text, rules.depth())
     }
+}
+
+// Puts all that the source has left into the room, in place of what it had.
+fn fill<S: Source>(alloc: Global, source: &mut S, room: &mut Vec<u8>) -> Result<()>
+    ensures bytes { OnOk result
+        (ReadsWithin most (S.state source.old) (S.state source.new) room.new.items) }
+    ensures kept { OnErr result (room.new ≡ room.old) }
+    ensures cause { IfErr result (λ e.
+        ReadingCause most (S.state source.old) (S.state source.new) e.code e.place) }
+    ensures told { (S.state source.old).faults < (S.state source.new).faults
+        → IsErrOf result reading_failed }
+    ensures taken { TakesAtMost (most + 1) (S.state source.old) (S.state source.new) }
+{
+    let bytes = read_all(alloc, source, MOST)?;
+    *room = bytes;
+    Ok(())
 }
 
 /// The value of all that the source has left, as [`from_slice`]. The bytes go into `room`, from which the value may
@@ -165,13 +195,13 @@ pub fn from_reader<'a, S: Source, T: Deserialize<'a> + Drop>(
 ) -> Result<T>
     ensures ok { IfOk result (λ v.
         ReadsSource (S.state source.old) (S.state source.new) T.from_tree (gives (T.datum v))) }
+    ensures place { IfOk result (T.placed IsPacked) }
     ensures err { IfErr result (λ e.
         SourceFails (S.state source.old) (S.state source.new) T.from_tree e.code e.place) }
     ensures told { (S.state source.old).faults < (S.state source.new).faults
         → IsErrOf result reading_failed }
     ensures taken { TakesAtMost (most + 1) (S.state source.old) (S.state source.new) }
 {
-    let bytes = read_all(alloc, source, MOST)?;
-    *room = bytes;
+    fill(alloc, source, room)?;
     from_slice(alloc, room.as_slice())
 }

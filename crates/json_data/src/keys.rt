@@ -14,7 +14,7 @@ ghost use Rattle.json_data.specs.Stand.{NotWhole, TakesOne, TakesKey, Fails};
 
 use crate::brackets::pass;
 use crate::lent::Lent;
-use crate::piece::Piece;
+use crate::piece::{Piece, lend};
 use crate::refusals::refusal;
 use crate::token::{Token, TokenKind};
 use crate::tokens::Tokens;
@@ -72,10 +72,7 @@ impl<'de> FromKey<&'de str> for CowStr<'de> {
 
     fn from_key(alloc: Global, key: &Piece<&'de str>) -> Result<CowStr<'de>> {
         let piece = *key;
-        match piece.lent() {
-            Some(text) => Ok(CowStr::Borrowed(text)),
-            None => Ok(CowStr::Owned(piece.copy(alloc)?)),
-        }
+        lend(piece, alloc)
     }
 }
 

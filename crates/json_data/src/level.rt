@@ -1,8 +1,9 @@
 // Open containers of a value.
-ghost use Rattle.std.specs.Prelude.{◌≡◌, ◌∷◌, List, option_map};
+ghost use Rattle.std.specs.Prelude.{◌≡◌, ◌∷◌, List, option_map, slice_get};
 ghost use Rattle.json_grammar.specs.Tree.{list, pairs, trees_list, pairs_list, Trees, Pairs};
 ghost use Rattle.json_value.specs.Seen.{seen, member_seen};
-ghost use Rattle.json_data.specs.Values.{Left, opened, elements_of, members_of, PullsElement, PullsMember, FrontIs};
+ghost use Rattle.json_value.specs.Sights.{sight_of};
+ghost use Rattle.json_data.specs.Values.{Left, opened, element_sights, elements_of, members_of, PullsElement, PullsMember, FrontIs};
 
 use crate::token::TokenKind;
 use json_value::{ArrayIter, Iter, View};
@@ -41,8 +42,9 @@ impl<'a> Level<'a> {
 
     /// Takes the first element that is left.
     pub(crate) fn element(&mut self) -> Option<View<'a>>
-        ensures { (c : List Left) → PullsElement (opened self.old c) (option_map seen result)
-            (opened self.new c) }
+        ensures tree { (c : List Left) → PullsElement (opened self.old c)
+            (option_map seen result) (opened self.new c) }
+        ensures sight { option_map sight_of result ≡ slice_get (element_sights self.old) 0 }
     {
         match self {
             Level::List(elements) => elements.next(),

@@ -15,7 +15,7 @@ ghost use Rattle.json_data.specs.Reader.{Reads, Finds, Misses, Stops};
 use crate::brackets::{open, pass};
 use crate::deserialize::DeserializeFrom;
 use crate::lent::Lent;
-use crate::piece::Piece;
+use crate::piece::{Piece, lend};
 use crate::refusals::{is_refusal, refusal};
 use crate::token::{Token, TokenKind};
 use crate::tokens::Tokens;
@@ -113,10 +113,7 @@ impl<'de> DeserializeFrom<&'de str> for CowStr<'de> {
 
     fn deserialize<T: Tokens<&'de str>>(alloc: Global, tokens: &mut T) -> Result<CowStr<'de>> {
         let piece = expect_text(tokens)?;
-        match piece.lent() {
-            Some(text) => Ok(CowStr::Borrowed(text)),
-            None => Ok(CowStr::Owned(piece.copy(alloc)?)),
-        }
+        lend(piece, alloc)
     }
 }
 

@@ -6,7 +6,7 @@ ghost use Rattle.json_data.specs.Kinds.{StandsFor};
 ghost use Rattle.json_data.specs.TextValues.{IsPacked};
 ghost use Rattle.json_data.specs.Spots.{IsOpen, over};
 ghost use Rattle.json_data.specs.Stand.{NotWhole, WantsValue, Takes, Peeks, TakesOne, TakesTree, Leaves, Fails};
-ghost use Rattle.json_data.specs.Text.{IsFresh, text_taken, text_stand, TextFails, HasReadValue};
+ghost use Rattle.json_data.specs.Text.{IsFresh, text_taken, text_stand, TextFails, HasFault, HasReadValue};
 ghost use Rattle.json_data.specs.declared.token.TokenKind.{TokenKind as TokenKindOf};
 ghost use Rattle.json_data.specs.declared.token.TokenKind.TheVariants as TokenKindAt;
 ghost use Rattle.std.specs.Str.{IsCharBoundary};
@@ -172,6 +172,7 @@ impl<'a> TextTokens<'a> {
         ensures failed { result ≡ false → IsSome self.new.failed }
         ensures err { IfSome self.new.failed (λ e.
             Fails (text_stand self.old) (text_stand self.new) e) }
+        ensures cause { IfSome self.new.failed (HasFault self.new.parser) }
     {
         match read_ahead(&mut self.parser) {
             Ok(event) => {
@@ -191,9 +192,10 @@ impl<'a> TextTokens<'a> {
         requires { NotWhole (text_stand self.old) }
         ensures ok { IfOk result (λ k. Peeks (text_stand self.old) (text_stand self.new) k) }
         ensures none { OnOk result (Takes text_taken self.old [] self.new) }
-        ensures err { IfErr result (λ e. Fails (text_stand self.old) (text_stand self.new) e) }
-        ensures again { IfSome self.old.failed (λ e. result ≡ Err e) }
         ensures unfailed { OnOk result (self.new.failed ≡ None) }
+        ensures err { IfErr result (λ e. Fails (text_stand self.old) (text_stand self.new) e) }
+        ensures cause { self.old.failed ≡ None → IfErr result (HasFault self.new.parser) }
+        ensures again { IfSome self.old.failed (λ e. result ≡ Err e) }
     {
         if self.failed.is_some() {
             return Err(self.refusal());
@@ -216,7 +218,9 @@ impl<'a> TextTokens<'a> {
         requires { NotWhole (text_stand self.old) }
         ensures ok { IfOk result (λ y. (x : Tok) × StandsFor (λ s. s.now) y x
             × TakesOne text_taken text_stand self.old self.new x) }
+        ensures unfailed { OnOk result (self.new.failed ≡ None) }
         ensures err { IfErr result (λ e. Fails (text_stand self.old) (text_stand self.new) e) }
+        ensures cause { self.old.failed ≡ None → IfErr result (HasFault self.new.parser) }
         ensures again { IfSome self.old.failed (λ e. result ≡ Err e) }
     {
         self.look()?;
@@ -235,7 +239,9 @@ impl<'a> TextTokens<'a> {
         ensures ok { IfOk result (λ v.
             TakesTree text_taken text_stand self.old self.new (tree_of v)) }
         ensures place { IfOk result IsPacked }
+        ensures unfailed { OnOk result (self.new.failed ≡ None) }
         ensures err { IfErr result (λ e. Fails (text_stand self.old) (text_stand self.new) e) }
+        ensures cause { self.old.failed ≡ None → IfErr result (TextFails self.new.parser) }
         ensures again { IfSome self.old.failed (λ e. result ≡ Err e) }
     {
         self.look()?;
@@ -257,7 +263,9 @@ impl<'a> TextTokens<'a> {
     fn close(&mut self) -> Result<()>
         requires { IsOpen (text_stand self.old).spot }
         ensures ok { OnOk result (Leaves text_taken text_stand self.old self.new) }
+        ensures unfailed { OnOk result (self.new.failed ≡ None) }
         ensures err { IfErr result (λ e. Fails (text_stand self.old) (text_stand self.new) e) }
+        ensures cause { self.old.failed ≡ None → IfErr result (HasFault self.new.parser) }
         ensures again { IfSome self.old.failed (λ e. result ≡ Err e) }
     {
         if let Some(error) = self.failed {
@@ -279,7 +287,9 @@ impl<'a> TextTokens<'a> {
         requires { WantsValue (text_stand self.old) }
         ensures ok { OnOk result ((t : Tree)
             × TakesTree text_taken text_stand self.old self.new t) }
+        ensures unfailed { OnOk result (self.new.failed ≡ None) }
         ensures err { IfErr result (λ e. Fails (text_stand self.old) (text_stand self.new) e) }
+        ensures cause { self.old.failed ≡ None → IfErr result (HasFault self.new.parser) }
         ensures again { IfSome self.old.failed (λ e. result ≡ Err e) }
     {
         let kind = self.look()?;
@@ -291,10 +301,21 @@ impl<'a> TextTokens<'a> {
     }
 }
 
+/// At each state of a source over a text some tokens were taken so far.
+pub fn text_row_exists(tokens: &TextTokens<'_>)
+    ensures { (ts : List Tok) × text_taken tokens.now ts }
+{
+    let _failed = tokens.failed;
+}
+
 impl<'a> Tokens<&'a str> for TextTokens<'a> {
     ghost taken = { text_taken };
 
     ghost stand = { text_stand };
+
+    ghost causes = { λ s. HasFault s.parser };
+
+    ghost placed = { λ _. IsPacked };
 
     #[inline(always)]
     fn peek(&mut self) -> Result<TokenKind> {
@@ -307,14 +328,7 @@ impl<'a> Tokens<&'a str> for TextTokens<'a> {
     }
 
     // A container that has members is a place of a document of its own.
-    fn value(&mut self, alloc: Global) -> Result<Value>
-        requires { WantsValue (text_stand self.old) }
-        ensures ok { IfOk result (λ v.
-            TakesTree text_taken text_stand self.old self.new (tree_of v)) }
-        ensures place { IfOk result IsPacked }
-        ensures err { IfErr result (λ e. Fails (text_stand self.old) (text_stand self.new) e) }
-        ensures again { IfSome self.old.failed (λ e. result ≡ Err e) }
-    {
+    fn value(&mut self, alloc: Global) -> Result<Value> {
         self.keep(alloc)
     }
 

@@ -1,8 +1,10 @@
 // Values read from a value.
 ghost use Rattle.std.specs.Prelude.{◌≡◌, IfOk, IfErr};
 ghost use Rattle.json_value.specs.Denotes.{tree_of};
+ghost use Rattle.json_value.specs.Sights.{whole_value};
 ghost use Rattle.json_data.specs.Reading.{gives};
 ghost use Rattle.json_data.specs.ValueCalls.{TreeReadingFails};
+ghost use Rattle.json_data.specs.Values.{IsMadeOf};
 
 use crate::deserialize::{Deserialize, DeserializeFrom};
 use crate::value_tokens::ValueTokens;
@@ -14,6 +16,7 @@ use std::alloc::Global;
 /// `ExpectedNumericKey`. Or memory runs out.
 pub fn from_value<'a, T: Deserialize<'a>>(alloc: Global, value: &'a Value) -> Result<T>
     ensures ok { IfOk result (λ v. T.from_tree (tree_of value.now) ≡ gives (T.datum v)) }
+    ensures place { IfOk result (T.placed (IsMadeOf (whole_value value.now))) }
     ensures err { IfErr result (λ e.
         TreeReadingFails T.from_tree (tree_of value.now) e.code e.place) }
 {

@@ -1,6 +1,7 @@
 // Values, arrays and objects.
 ghost use Rattle.json_grammar.specs.Tree.{list, list_trees, pairs, list_pairs};
 ghost use Rattle.json_value.specs.Denotes.{tree_of, list_in, pairs_in};
+ghost use Rattle.json_value.specs.declared.value.Value.{Array as ArrayValue, Object as ObjectValue};
 ghost use Rattle.json_data.specs.ReadingValues.{value_datum, read_value, read_array, read_object};
 
 use crate::deserialize::DeserializeFrom;
@@ -17,6 +18,8 @@ impl<S: Lent> DeserializeFrom<S> for Value {
 
     ghost from_tree = { read_value };
 
+    ghost placed = { λ stands v. stands v };
+
     fn deserialize<T: Tokens<S>>(alloc: Global, tokens: &mut T) -> Result<Value> {
         tokens.value(alloc)
     }
@@ -26,6 +29,8 @@ impl<S: Lent> DeserializeFrom<S> for Array {
     ghost datum = { λ a. value_datum (list (list_trees (list_in a))) };
 
     ghost from_tree = { read_array };
+
+    ghost placed = { λ stands a. stands (ArrayValue a) };
 
     fn deserialize<T: Tokens<S>>(alloc: Global, tokens: &mut T) -> Result<Array> {
         if tokens.peek()? != TokenKind::BeginArray {
@@ -43,6 +48,8 @@ impl<S: Lent> DeserializeFrom<S> for Object {
     ghost datum = { λ o. value_datum (pairs (list_pairs (pairs_in o))) };
 
     ghost from_tree = { read_object };
+
+    ghost placed = { λ stands o. stands (ObjectValue o) };
 
     fn deserialize<T: Tokens<S>>(alloc: Global, tokens: &mut T) -> Result<Object> {
         if tokens.peek()? != TokenKind::BeginObject {

@@ -1,12 +1,13 @@
 // The tokens of a value.
-ghost use Rattle.std.specs.Prelude.{◌≡◌, List, [], ◌∷◌, false, true, Some, None, OnOk, IfOk, IfErr};
+ghost use Rattle.std.specs.Prelude.{◌≡◌, List, [], ◌∷◌, false, true, Some, None, OnOk, IfOk, IfErr, option_map};
 ghost use Rattle.json_grammar.specs.Tree.{Token as Tok};
 ghost use Rattle.json_text.specs.Errors.{no_memory};
 ghost use Rattle.json_value.specs.Seen.{seen};
+ghost use Rattle.json_value.specs.Sights.{sight_of};
 ghost use Rattle.json_data.specs.Kinds.{StandsFor};
 ghost use Rattle.json_data.specs.Spots.{after};
 ghost use Rattle.json_data.specs.Stand.{NotWhole};
-ghost use Rattle.json_data.specs.Values.{Left, opened, value_state, value_taken, value_stand, at_begin, NoElement, Settles, Steps, Breaks};
+ghost use Rattle.json_data.specs.Values.{Left, opened, value_state, value_taken, value_stand, value_placed, next_sight, at_begin, NoElement, Settles, Steps, Breaks};
 
 use crate::level::Level;
 use crate::piece::Piece;
@@ -38,7 +39,9 @@ pub struct ValueTokens<'a> {
 impl<'a> ValueTokens<'a> {
     /// Stands before the value.
     pub fn new(alloc: Global, view: View<'a>) -> ValueTokens<'a>
-        ensures { value_state result ≡ at_begin (seen view.entry) }
+        ensures state { value_state result ≡ at_begin (seen view.entry) }
+        ensures sight { next_sight result.next result.inner ≡ Some (sight_of view.entry) }
+        ensures taken { value_taken result [] }
     {
         ValueTokens {
             whole: view,
@@ -52,7 +55,9 @@ impl<'a> ValueTokens<'a> {
 
     // Reaches an element that comes next.
     fn settle(&mut self)
-        ensures { Settles (value_state self.old) (value_state self.new) }
+        ensures state { Settles (value_state self.old) (value_state self.new) }
+        ensures sight { option_map sight_of self.new.next
+            ≡ next_sight self.old.next self.old.inner }
     {
         if self.next.is_none() {
             self.next = self.inner.element();
@@ -88,8 +93,9 @@ impl<'a> ValueTokens<'a> {
 
     // Goes behind the innermost container.
     fn exit(&mut self)
-        ensures { let s = value_state self.old in (l : Left) (ls : List Left) → s.levels ≡ l ∷ ls
+        ensures state { let s = value_state self.old in (l : Left) (ls : List Left) → s.levels ≡ l ∷ ls
             → value_state self.new ≡ record s { next = None; levels = ls; told = false } }
+        ensures failed { self.new.failed ≡ self.old.failed }
     {
         self.next = None;
         self.told = false;
@@ -153,6 +159,10 @@ impl<'a> Tokens<&'a str> for ValueTokens<'a> {
     ghost taken = { value_taken };
 
     ghost stand = { value_stand };
+
+    ghost causes = { λ _ e. e ≡ no_memory };
+
+    ghost placed = { value_placed };
 
     fn peek(&mut self) -> Result<TokenKind> {
         if self.failed {

@@ -8,6 +8,7 @@ use json_number::RawNumber;
 use json_text::{ErrorCode, FakeSource, Place, Result, Rules, SliceSource};
 use json_write::to_string_pretty;
 use std::alloc::Global;
+use std::borrow::CowStr;
 use std::collections::BTreeMap;
 
 // Whether this is refused, at this offset.
@@ -96,6 +97,48 @@ fn room_is_kept(alloc: Global) -> Result<bool> {
     Ok(failed && room.as_slice() == b"kept".as_slice())
 }
 
+// Whether a room that held something holds exactly what was read.
+fn room_is_filled(alloc: Global) -> Result<bool> {
+    let mut room = Vec::new(alloc);
+    room.extend_from_slice(b"kept")?;
+    let mut source = SliceSource::new(b" 7");
+    let read = from_reader::<SliceSource, u8>(alloc, &mut source, &mut room).is_ok();
+    Ok(read && room.as_slice() == b" 7".as_slice())
+}
+
+// Whether a text that is refused stands in the room, in place of what it held.
+fn room_holds_a_refused_text(alloc: Global) -> Result<bool> {
+    let mut room = Vec::new(alloc);
+    room.extend_from_slice(b"kept")?;
+    let mut source = SliceSource::new(b"[1,");
+    let refused = from_reader::<SliceSource, IgnoredAny>(alloc, &mut source, &mut room).is_err();
+    Ok(refused && room.as_slice() == b"[1,".as_slice())
+}
+
+// Whether the text is lent where it has no escape, and copied where it has one.
+fn is_lent(outcome: Result<CowStr>) -> bool {
+    match outcome {
+        Ok(text) => matches!(&text, CowStr::Borrowed(_)),
+        Err(_) => false,
+    }
+}
+
+#[test]
+fn texts_without_an_escape_are_lent(rt: HostRuntime) {
+    let alloc = rt.alloc();
+    assert!(rt; is_lent(from_str(alloc, "\"a\"")));
+    assert!(rt; is_lent(from_str(alloc, " \"\u{e9}\"")));
+    assert!(rt; !is_lent(from_str(alloc, "\"\\n\"")));
+}
+
+#[test]
+fn a_room_that_held_something(rt: HostRuntime) {
+    let alloc = rt.alloc();
+    assert!(rt; matches!(room_is_kept(alloc), Ok(true)));
+    assert!(rt; matches!(room_is_filled(alloc), Ok(true)));
+    assert!(rt; matches!(room_holds_a_refused_text(alloc), Ok(true)));
+}
+
 // Whether a name that repeats is refused by the rules.
 fn rules_refuse(alloc: Global) -> bool {
     match Rules::new(1, true) {
@@ -116,7 +159,6 @@ fn values_of_other_calls(rt: HostRuntime) {
     assert!(rt; matches!(from_slice::<u8>(alloc, b"7"), Ok(7)));
     assert!(rt; rules_refuse(alloc));
     assert!(rt; matches!(number_of_source(alloc), Ok(7)));
-    assert!(rt; matches!(room_is_kept(alloc), Ok(true)));
 }
 
 fn is_xiaoming(person: Person) -> bool {

@@ -2,6 +2,7 @@
 ghost use Rattle.std.specs.Prelude.{◌≡◌, ◌<◌, ◌^◌, length, true, false, IfSome, IfOk, IfErr, OnOk, OnErr, IsUtf8, option_copied};
 ghost use Rattle.json_grammar.specs.declared.Kind.TheVariants as Kind;
 ghost use Rattle.json_data.specs.Reading.{gives};
+ghost use Rattle.json_data.specs.TextValues.{IsPacked};
 ghost use Rattle.json_text.specs.Ends.{NothingLeft, TrailsAt, LacksEnd};
 ghost use Rattle.json_stream.specs.Streams.{InputState, standing, stands_at, offset_in, TakesValue, Fails, PassesEnd, EndFails};
 
@@ -144,6 +145,7 @@ impl<'a> Deserializer<'a> {
     pub fn deserialize<T: Deserialize<'a>>(&mut self, alloc: Global) -> Result<T>
         ensures ok { IfOk result (λ v.
             TakesValue T.from_tree self.old (gives (T.datum v)) self.new) }
+        ensures place { IfOk result (T.placed IsPacked) }
         ensures err { IfErr result (λ e.
             Fails T.from_tree self.old e.code e.place self.new) }
     {

@@ -3,6 +3,7 @@ ghost use Rattle.std.specs.Prelude.{◌≡◌, IfSome, IfOk, IfErr, option_copie
 ghost use Rattle.std.specs.Str.{IsCharBoundary};
 ghost use Rattle.json_data.specs.Reading.{gives};
 ghost use Rattle.json_data.specs.Text.{IsFresh};
+ghost use Rattle.json_data.specs.TextValues.{IsPacked};
 ghost use Rattle.json_stream.specs.Streams.{stands_at, TakesValue, Fails};
 
 use crate::told::told;
@@ -37,6 +38,7 @@ pub(crate) fn read_value<'a, T: Deserialize<'a>>(
         (stands_at text.now lossy (option_copied repaired.entry) at.old)
         (gives (T.datum v))
         (stands_at text.now lossy (option_copied repaired.entry) at.new)) }
+    ensures place { IfOk result (T.placed IsPacked) }
     ensures err { IfErr result (λ e. Fails T.from_tree
         (stands_at text.now lossy (option_copied repaired.entry) at.old) e.code e.place
         (stands_at text.now lossy (option_copied repaired.entry) at.new)) }

@@ -2,6 +2,7 @@
 ghost use Rattle.std.specs.Prelude.{◌≡◌, true, false, IfSome, IfOk, IfErr, IsErrAnd, MatchOption, IsUtf8};
 ghost use Rattle.json_text.specs.Ends.{NothingLeft};
 ghost use Rattle.json_data.specs.Reading.{gives};
+ghost use Rattle.json_data.specs.TextValues.{IsPacked};
 ghost use Rattle.json_stream.specs.Streams.{standing, TakesValue, Fails, TellsEnd};
 
 use crate::deserializer::Deserializer;
@@ -55,6 +56,7 @@ impl<'a, T: Deserialize<'a>> StreamDeserializer<'a, T> {
         ensures ok { IfSome result (λ r. IfOk r (λ v.
             TakesValue T.from_tree self.old.input (gives (T.datum v)) self.new.input
             × (self.new.ended ≡ false))) }
+        ensures place { IfSome result (λ r. IfOk r (T.placed IsPacked)) }
         ensures err { IfSome result (λ r. IfErr r (λ e.
             Fails T.from_tree self.old.input e.code e.place self.new.input
             × (self.new.ended ≡ true))) }

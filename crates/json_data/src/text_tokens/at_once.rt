@@ -1,5 +1,5 @@
 // Tokens that are taken at once, and those whose events wait.
-ghost use Rattle.std.specs.Prelude.{◌≡◌, ◌≤◌, true, false, None, IfSome, MatchOption};
+ghost use Rattle.std.specs.Prelude.{◌≡◌, ◌≤◌, true, false, None, IfSome, IsSome, MatchOption};
 ghost use Rattle.json_grammar.specs.Tree.{begin as begin_token, end as end_token};
 ghost use Rattle.json_data.specs.Stand.{NotWhole, TakesOne, TakesInteger, TakesText, TakesKey};
 ghost use Rattle.json_data.specs.Pieces.{Says};
@@ -26,8 +26,10 @@ impl<'a> TextTokens<'a> {
     #[inline(always)]
     fn waiting_text(&mut self) -> Option<Piece<&'a str>>
         requires { NotWhole (text_stand self.old) }
-        ensures { MatchOption result (self.new ≡ self.old) (λ p.
+        ensures takes { MatchOption result (self.new ≡ self.old) (λ p.
             TakesText text_taken text_stand (λ s. Says s p.escaped p.text.now) self.old self.new) }
+        ensures unfailed { IsSome result → self.new.failed ≡ None }
+        ensures again { IsSome self.old.failed → result ≡ None }
     {
         if self.failed.is_some() {
             return None;
@@ -52,6 +54,8 @@ impl<'a> TextTokens<'a> {
         ensures begun { result ≡ true
             → TakesOne text_taken text_stand self.old self.new (begin_token kind) }
         ensures kept { result ≡ false → self.new ≡ self.old }
+        ensures unfailed { result ≡ true → self.new.failed ≡ None }
+        ensures again { IsSome self.old.failed → result ≡ false }
     {
         if self.failed.is_some() {
             return false;
@@ -74,6 +78,8 @@ impl<'a> TextTokens<'a> {
         ensures most { IfSome result (λ n. n ≤ most) }
         ensures takes { MatchOption result (self.new ≡ self.old)
             (TakesInteger text_taken text_stand self.old self.new) }
+        ensures unfailed { IsSome result → self.new.failed ≡ None }
+        ensures again { IsSome self.old.failed → result ≡ None }
     {
         if !self.is_clear() {
             return None;
@@ -88,8 +94,10 @@ impl<'a> TextTokens<'a> {
     #[inline(always)]
     pub(super) fn take_text(&mut self) -> Option<Piece<&'a str>>
         requires { NotWhole (text_stand self.old) }
-        ensures { MatchOption result (self.new ≡ self.old) (λ p.
+        ensures takes { MatchOption result (self.new ≡ self.old) (λ p.
             TakesText text_taken text_stand (λ s. Says s p.escaped p.text.now) self.old self.new) }
+        ensures unfailed { IsSome result → self.new.failed ≡ None }
+        ensures again { IsSome self.old.failed → result ≡ None }
     {
         if !self.is_clear() {
             return self.waiting_text();
@@ -104,8 +112,10 @@ impl<'a> TextTokens<'a> {
     #[inline(always)]
     pub(super) fn take_key(&mut self) -> Option<Piece<&'a str>>
         requires { NotWhole (text_stand self.old) }
-        ensures { MatchOption result (self.new ≡ self.old) (λ p.
+        ensures takes { MatchOption result (self.new ≡ self.old) (λ p.
             TakesKey text_taken text_stand (λ s. Says s p.escaped p.text.now) self.old self.new) }
+        ensures unfailed { IsSome result → self.new.failed ≡ None }
+        ensures again { IsSome self.old.failed → result ≡ None }
     {
         if !self.is_clear() {
             return None;
@@ -123,6 +133,8 @@ impl<'a> TextTokens<'a> {
         ensures begun { result ≡ true
             → TakesOne text_taken text_stand self.old self.new (begin_token kind) }
         ensures kept { result ≡ false → self.new ≡ self.old }
+        ensures unfailed { result ≡ true → self.new.failed ≡ None }
+        ensures again { IsSome self.old.failed → result ≡ false }
     {
         if !self.is_clear() {
             return self.waiting_begin(kind);
@@ -140,6 +152,8 @@ impl<'a> TextTokens<'a> {
         ensures ended { result ≡ true
             → TakesOne text_taken text_stand self.old self.new (end_token kind) }
         ensures kept { result ≡ false → self.new ≡ self.old }
+        ensures unfailed { result ≡ true → self.new.failed ≡ None }
+        ensures again { IsSome self.old.failed → result ≡ false }
     {
         if !self.is_clear() {
             return false;

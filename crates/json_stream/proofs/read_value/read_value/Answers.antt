@@ -21,7 +21,7 @@ returns-in-Ok g c =
     let e = reads_from b l i s.result c.deserialize.new.tokens s.ensures.text s.ensures.mode s.ensures.start r.takes.moves.input in
     let v : TakesValue f (stands_at b l o i) (gives (g.T.DeserializeFrom.datum c.in-Ok.value)) (stands_at b l o j.result) =
     takes_value f b l o i j.result s.result c.deserialize.new.tokens r.tree _ e c.utf8.text s.ensures.fresh.taken r.takes j.ensures.read j.ensures.same j.ensures.order r.answer in
-    record { ok = v; err = tt; boundary = boundary_behind f b l o i j.result _ c.requires.boundary v }
+    record { ok = v; place = c.in-Ok.ensures.place; err = tt; boundary = boundary_behind f b l o i j.result _ c.requires.boundary v }
 
 pub told-requires : goal.told-requires
 told-requires g c =
@@ -80,6 +80,7 @@ returns-else-not-is_refusal g c =
     let t = tree_fails f (stands_at b l o i) x.code (in_input o p.result) (stands_at b l o j.result) q (record { takes = v; begins = k.result; next = n; place = ap (in_input o) at }) in
     record {
       ok = tt;
+      place = tt;
       err = subst (λ (y : Error). Fails f (stands_at b l o i) y.code y.place (stands_at b l o j.result)) (sym c.told-in-Err.ensures) t;
       boundary = boundary_behind f b l o i j.result _ c.requires.boundary v;
     }

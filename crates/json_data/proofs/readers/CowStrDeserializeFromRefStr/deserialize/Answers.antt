@@ -1,23 +1,17 @@
 use Rattle.std.proofs.Common.{ap, List, ℕ}
+use Rattle.std.proofs.lemmas.Result.{IfOk-weaker}
 use Rattle.json_grammar.specs.Tree.{text}
 use Rattle.json_model.specs.Datum.{text_datum}
 use Rattle.json_data.specs.Reading.{gives}
 use Rattle.json_data.proofs.readers.CowStrDeserializeFromRefStr.deserialize.Goals as goal
 
-pub returns-in-Some-clause-ok : goal.returns-in-Some-clause-ok
-returns-in-Some-clause-ok g c =
+pub returns-clause-ok : goal.returns-clause-ok
+returns-clause-ok g c =
     let r = c.in_ok-piece.ensures.ok in
-    record {
+    IfOk-weaker c.lend.result _ _
+    (λ v said. record {
       tree = text r.text;
       takes = r.takes;
-      answer = ap (λ (s : List ℕ). gives (text_datum s)) (c.in-Some.ensures.text r.text r.said);
-    }
-
-pub returns-in_ok-copy-in-None-clause-ok : goal.returns-in_ok-copy-in-None-clause-ok
-returns-in_ok-copy-in-None-clause-ok g c =
-    let r = c.in_ok-piece.ensures.ok in
-    record {
-      tree = text r.text;
-      takes = r.takes;
-      answer = ap (λ (s : List ℕ). gives (text_datum s)) (c.in_ok-copy-in-None.ensures.ok r.text r.said);
-    }
+      answer = ap (λ (s : List ℕ). gives (text_datum s)) (said r.text r.said);
+    })
+    c.lend.ensures.ok

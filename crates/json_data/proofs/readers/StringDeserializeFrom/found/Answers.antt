@@ -6,7 +6,7 @@ use Rattle.json_data.proofs.readers.StringDeserializeFrom.found.Goals as goal
 
 pub returns-in_ok-copy-in-Some-clause-ok : goal.returns-in_ok-copy-in-Some-clause-ok
 returns-in_ok-copy-in-Some-clause-ok g c =
-    let r = c.in-Some.ensures in
+    let r = c.in-Some.ensures.takes in
     record {
       tree = text r.text;
       takes = r.takes;

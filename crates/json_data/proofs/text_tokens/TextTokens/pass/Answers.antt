@@ -23,6 +23,8 @@ returns-in_default c =
     record {
       ok = whole_scalar t.0 r.0 (λ e. c.in_default.not-BeginArray (sym r.1 ∙ e)) (λ e. c.in_default.not-BeginObject (sym r.1 ∙ e))
           (subst (λ (k : TokenKind). begins_value k ≡ true) (sym r.1) (wants s.spot s.told c.in_ok-kind.kind c.requires h.may h.again));
+      unfailed = c.in_ok-take.ensures.unfailed;
       err = tt;
+      cause = λ _. tt;
       again = no_again c.args.self.now.failed c.look.result c.in_ok-kind.kind (Ok tt) c.look.ensures.again c.in_ok-kind.was;
     }

@@ -4,9 +4,9 @@ use Rattle.json_text.specs.declared.event.Event.{Event}
 use Rattle.json_text.specs.Parsing.{ParserState, HasGiven, IsWhole, HasRead}
 use Rattle.json_data.specs.declared.ahead.Ahead.{Ahead}
 use Rattle.json_data.specs.Stand.{Takes}
-use Rattle.json_data.specs.Text.{TextState, TakenBefore, text_taken, TextFails, HasFault, ReadsAhead}
+use Rattle.json_data.specs.Text.{TextState, TakenBefore, text_taken, TextFails, ReadsAhead}
 use Rattle.json_data.proofs.Events.{event_number}
-use Rattle.json_data.proofs.TextSteps.{takes_none}
+use Rattle.json_data.proofs.TextSteps.{takes_none, fault_kept}
 use Rattle.json_data.proofs.text_tokens.TextTokens.read.Goals as goal
 
 pub new-requires : goal.new-requires
@@ -43,11 +43,9 @@ invariant_of-self-in-Err c =
     let e = c.in-Err.error in
     let n : option_map (λ (h : Ahead). h.event) c.self.inside.ahead ≡ None = ap (λ (t : TextState). t.ahead) c.self.view_is ∙ c.requires.none in
     let h : HasGiven p i.0 = subst (λ (o : Option Event). TakenBefore o p i.0) n i.1 in
-    let f = c.in-Err.ensures.fault in
-    let g : HasFault (record p { failure = Some e }) e = record { offset = f.offset; place = f.place; in_text = f.in_text; in_value = f.in_value; needs = f.needs; no_refusal = f.no_refusal } in
     record {
       given = (i.0, subst (λ (o : Option Event). TakenBefore o c.read_ahead.new.parser i.0) (sym n) (subst (λ (q : ParserState). HasGiven q i.0) (sym c.in-Err.ensures.kept) h));
-      failed = subst (λ (q : ParserState). TextFails q e) (sym c.in-Err.ensures.kept) (inr g);
+      failed = inr (fault_kept p c.read_ahead.new.parser e c.in-Err.ensures.kept c.in-Err.ensures.fault);
       fresh = λ n. absurd (cc);
       order = subst (λ (q : ParserState). q.start ≤ q.index) (sym c.in-Err.ensures.kept) c.self.invariant.order;
       read = subst (λ (q : ParserState). IsWhole q → HasRead q) (sym c.in-Err.ensures.kept) c.self.invariant.read;
@@ -63,3 +61,6 @@ returns-in-Ok-clause-none c = λ _.
     let s : record { parser = p; ahead = None; failed = f } ≡ c.args.self.now = ap (λ (o : Option Event). record { parser = p; ahead = o; failed = f }) (sym n) ∙ c.self.view_is in
     let r : ReadsAhead p e q = subst (λ (e : Event). ReadsAhead p e q) (sym c.new.ensures) c.in-Ok.ensures.ok in
     subst (λ (a : TextState). Takes text_taken a [] (record { parser = q; ahead = Some e; failed = f })) s (takes_none p q f f e r)
+
+pub returns-in-Err-clause-cause : goal.returns-in-Err-clause-cause
+returns-in-Err-clause-cause c = fault_kept c.self.inside.parser c.read_ahead.new.parser c.in-Err.error c.in-Err.ensures.kept c.in-Err.ensures.fault

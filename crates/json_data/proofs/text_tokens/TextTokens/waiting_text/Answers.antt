@@ -8,8 +8,8 @@ use Rattle.json_data.specs.Pieces.{Says}
 use Rattle.json_data.proofs.Waiting.{waits, text_waiting}
 use Rattle.json_data.proofs.text_tokens.TextTokens.waiting_text.Goals as goal
 
-pub returns-in-Str : goal.returns-in-Str
-returns-in-Str c =
+pub returns-in-Str-clause-takes : goal.returns-in-Str-clause-takes
+returns-in-Str-clause-takes c =
     let s = c.self.inside in
     let i = c.self.invariant.given in
     let e : Event = event.Str c.in-Str.span in

@@ -24,7 +24,7 @@ returns-then-eq c =
     let s = c.args.self.now in
     let o = opened_in [] s.outer.items in
     let f = c.front-front.result in
-    let r = end_taken (value_state s) (value_state c.exit.new.self) (opened c.member.new.self o) f c.requires.next c.requires.reached (c.front-front.ensures o) (c.in_default.ensures o) c.requires.open c.exit.ensures in
+    let r = end_taken (value_state s) (value_state c.exit.new.self) (opened c.member.new.self o) f c.requires.next c.requires.reached (c.front-front.ensures o) (c.in_default.ensures o) c.requires.open c.exit.ensures.state in
     let j = object_end r.0 f r.1 (is_kind _ _ _ c.eq.ensures c.if-eq.true) in
     (_, refl, subst (λ (i : Kind). Steps (value_state s) (value_state c.exit.new.self) (end i ∷ []) (after (value_stand s).spot (end i))) j r.2)
 
@@ -33,6 +33,6 @@ returns-else-eq c =
     let s = c.args.self.now in
     let o = opened_in [] s.outer.items in
     let f = c.front-front.result in
-    let r = end_taken (value_state s) (value_state c.exit.new.self) (opened c.member.new.self o) f c.requires.next c.requires.reached (c.front-front.ensures o) (c.in_default.ensures o) c.requires.open c.exit.ensures in
+    let r = end_taken (value_state s) (value_state c.exit.new.self) (opened c.member.new.self o) f c.requires.next c.requires.reached (c.front-front.ensures o) (c.in_default.ensures o) c.requires.open c.exit.ensures.state in
     let j = array_end r.0 f r.1 (no_object_end f _ c.eq.ensures c.if-eq.false) in
     (_, refl, subst (λ (i : Kind). Steps (value_state s) (value_state c.exit.new.self) (end i ∷ []) (after (value_stand s).spot (end i))) j r.2)

@@ -1,7 +1,10 @@
-use Rattle.std.proofs.Common.{refl}
+use Rattle.std.proofs.Common.{◌∙◌, refl}
 use Rattle.json_data.specs.Values.{value_state}
-use Rattle.json_data.proofs.ValueSteps.{skips}
+use Rattle.json_data.proofs.ValueSteps.{skips, not_failed}
 use Rattle.json_data.proofs.value_tokens.ValueTokensTokensRefStr.skip.Goals as goal
 
 pub returns-clause-ok : goal.returns-clause-ok
-returns-clause-ok c = skips c.args.self.now _ (value_state c.settle.new.self) c.settle.ensures c.requires refl
+returns-clause-ok c = skips c.args.self.now _ (value_state c.settle.new.self) c.settle.ensures.state c.requires refl
+
+pub returns-clause-unfailed : goal.returns-clause-unfailed
+returns-clause-unfailed c = not_failed _ (c.settle.ensures.state.failed ∙ c.if-self.false)
