@@ -1,5 +1,5 @@
 -- What a sink gained that was lent to a writer.
-use Rattle.std.proofs.Common.{◌≡◌, ℕ, List, [], ◌∷◌, ◌++◌, refl, sym, ap, subst, ◌∙◌, Bool, false, ◌||◌, Option, Some, None, Result, Ok, Err, OnOk, IfErr, IfSome, arith}
+use Rattle.std.proofs.Common.{◌≡◌, ℕ, List, [], ◌++◌, refl, sym, ap, subst, ◌∙◌, Bool, false, ◌||◌, Option, Some, None, Result, Ok, Err, OnOk, IfErr, IfSome, arith}
 use Rattle.std.specs.Borrow.{GName}
 use Rattle.json_text.specs.Known.{Grows, append_known}
 use Rattle.json_text.specs.Lending.{lent_as, ComesBack}

@@ -10,6 +10,8 @@ pub mod Statuses
 pub mod SinkEnds
 pub mod RunStatus
 pub mod OneOutcome
+pub mod CellTexts
+pub mod PathSteps
 pub mod CellWriting
 pub mod LineRows
 pub mod LentSinks

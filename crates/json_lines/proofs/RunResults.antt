@@ -1,10 +1,9 @@
 -- What the top call does, for each status.
-use Rattle.std.proofs.Common.{◌≡◌, ◌≢◌, ◌⊎◌, inl, inr, ◌<◌, ◌≤◌, ℕ, List, [], ◌++◌, length, refl, sym, ap, subst, ◌∙◌, Bool, true, false, Option, Some, None, IfSome, arith, append_assoc}
+use Rattle.std.proofs.Common.{◌≡◌, ◌≢◌, ◌⊎◌, inl, inr, ◌<◌, ◌≤◌, ℕ, List, [], ◌++◌, length, refl, sym, ap, subst, ◌∙◌, Bool, true, false, Option, IfSome, arith, append_assoc}
 use Rattle.std.specs.Prelude.{if◌then◌else◌}
-use Rattle.std.proofs.lemmas.List.{length-append}
 use Rattle.json_text.specs.Errors.{no_memory, bad_words}
 use Rattle.json_text.specs.FaultText.{text_of}
-use Rattle.json_text.specs.Known.{Consumes, Appends, prepend_known}
+use Rattle.json_text.specs.Known.{Consumes, Appends}
 use Rattle.json_text.specs.Outside.{SinkState, SourceState, Rose}
 use Rattle.json_text.specs.Transfer.{AppendsFront}
 use Rattle.json_text.specs.declared.error.Error.{Error}

@@ -1,49 +1,32 @@
 -- What words spell.
-use Rattle.std.proofs.Common.{◌≡◌, ◌≢◌, ◌⊎◌, inl, inr, ◌∙◌, ℕ, ◌≤◌, ◌^◌, false, List, [], ◌∷◌, length, Option, Some, None, MatchOption, slice_get, refl, sym, ap, subst, arith}
+use Rattle.std.proofs.Common.{◌≡◌, ◌≢◌, ◌⊎◌, inl, inr, ◌∙◌, ℕ, ◌≤◌, Bool, true, false, List, [], ◌∷◌, ◌++◌, length, take, drop, cond, Option, Some, None, MatchOption, slice_get, bytes_eq, refl, sym, ap, arith}
+use Rattle.std.proofs.Math.Seq.{take-append_seam}
+use Rattle.std.proofs.lemmas.List.{take-append-drop}
+use Rattle.std.proofs.lemmas.Slice.Eq.{bytes_eq-Decides}
+use Rattle.std.specs.Borrow.{Bor}
+use Rattle.std.specs.Prelude.{option_map}
+use Rattle.std.specs.Str.Pattern.{LacksTextAt, FindsTextPrefix, StripsPrefix}
 use Rattle.json_grammar.specs.Tree.{Tree, null, boolean, num, text, list, pairs, trees_list}
-use Rattle.json_grammar.proofs.TextUtf8.{text_utf8}
 use Rattle.json_grammar.proofs.Values.{one_tree}
 use Rattle.json_text.specs.Errors.{no_memory, bad_words}
 use Rattle.json_text.specs.Ruled.{usual_rules}
 use Rattle.json_text.specs.declared.error.Error.{Error}
 use Rattle.json_text.specs.declared.error.ErrorCode.{ErrorCode}
-use Rattle.json_text.specs.declared.error.ErrorCode.TheVariants.{NoMemory, TooLarge, InvalidUTF8, TypeUnmatched, NumberOutOfRange, ExpectedNumericKey}
+use Rattle.json_text.specs.declared.error.ErrorCode.TheVariants.{NoMemory, TypeUnmatched, NumberOutOfRange, ExpectedNumericKey}
 use Rattle.json_text.specs.declared.error.Place.{Place}
 use Rattle.json_text.specs.declared.error.Place.TheVariants.{None as nowhere}
-use Rattle.json_text.proofs.NoText.{no_text}
 use Rattle.json_model.specs.Edit.{Step, push_at}
 use Rattle.json_value.specs.EditTrees.{path_in, each_in}
 use Rattle.json_value.specs.Seen.{list_of}
-use Rattle.json_data.specs.Calls.{ReadsText, TreeRefused, ReadingFails}
 use Rattle.json_data.specs.Reading.{gives, refuses}
-use Rattle.json_data.specs.ReadingValues.{value_datum, read_value, path_datum, spelled, read_path}
+use Rattle.json_data.specs.ReadingValues.{path_datum, spelled, read_path}
 use Rattle.json_data.specs.Refusals.{refusal}
 use Rattle.json_data.specs.Spelled.{Unspelled}
 use Rattle.json_data.specs.ValueCalls.{TreeReadingFails}
-use Rattle.json_data.proofs.ValueData.{same_value, same_edit}
-use Rattle.json_command.specs.Input.{IsInput}
-use Rattle.json_command.proofs.Inputs.{utf8_no_fault}
+use Rattle.json_data.proofs.ValueData.{same_edit}
+use Rattle.json_command.specs.Input.{IsInput, IsValid}
 use Rattle.json_lines.specs.Cells.{Column, Command}
 use Rattle.json_lines.specs.Words.{column_of_pair, column_in, columns_in, WordSpells, WordSpellsNothing, NoColumns, SpellsCommand, SpellsHas, Asks, split_words}
-
--- ---- the value of a word
-
-pub value_input : (word : List ℕ) (t : Tree) → ¬ (2 ^ 32 ≤ length word) → ReadsText 254 read_value word (gives (value_datum t)) → IsInput usual_rules word t
-value_input word t short (u, h, d, e) =
-    let same : u ≡ t = same_value u t (cc) in
-    subst (IsInput usual_rules word) same (record { short = omega (arith, short); text = h; fit = (d, λ x. absurd (cc)) })
-
-never_refused : (word : List ℕ) (c : ErrorCode) (p : Place) → TreeRefused 254 read_value word c p → ⊥
-never_refused word c p ((t, h, d, e), b) = cc
-
-pub no_input : (word : List ℕ) (c : ErrorCode) (place : Place) → c ≢ NoMemory → ReadingFails 254 read_value word c place → (t : Tree) → ¬ (IsInput usual_rules word t)
-no_input word NoMemory place n h t i = absurd (n refl)
-no_input word TooLarge nowhere n h t i = omega (arith, h, i.short)
-no_input word InvalidUTF8 place n h t i = utf8_no_fault word h.0 h.1 (text_utf8 false t word i.text)
-no_input word TypeUnmatched place n h t i = never_refused word TypeUnmatched place h
-no_input word NumberOutOfRange place n h t i = never_refused word NumberOutOfRange place h
-no_input word ExpectedNumericKey place n h t i = never_refused word ExpectedNumericKey place h
-no_input word c place n h t i = no_text false 254 word c h.1.0 h.1.2 t i.text i.fit.0
 
 -- ---- paths
 
@@ -140,10 +123,6 @@ one_spelled reads word x y h k = some_is (sym h.so ∙ ap reads (one_tree false 
 pub spells : {A : Type 0} (reads : Tree → Option A) (word : List ℕ) (t : Tree) (x : A) → IsInput usual_rules word t → reads t ≡ Some x → WordSpells reads word x
 spells reads word t x i h = record { tree = t; input = i; so = h }
 
--- no tree was read
-pub none_read : {A : Type 0} (reads : Tree → Option A) (word : List ℕ) → ((t : Tree) → ¬ (IsInput usual_rules word t)) → WordSpellsNothing reads word
-none_read reads word n x s = n s.tree s.input
-
 -- the tree that was read spells nothing
 none_spelled : {A : Type 0} (reads : Tree → Option A) (word : List ℕ) (t : Tree) → IsInput usual_rules word t → reads t ≡ None → WordSpellsNothing reads word
 none_spelled reads word t i n x s = none_some (sym n ∙ ap reads (one_tree false t s.tree word i.text s.input.text) ∙ s.so)
@@ -157,9 +136,10 @@ unread_word reads word t e r i u (inl m) = inl m
 unread_word reads word t e r i (inl m) (inr (b, n)) = absurd (n (ap (λ (x : Error). x.code) m))
 unread_word reads word t e r i (inr (f, n)) (inr (b, k)) = inr (b, none_spelled reads word t i n)
 
-pub unread_value : {A : Type 0} (reads : Tree → Option A) (word : List ℕ) (e : Error) → (e ≡ no_memory) ⊎ ((e ≡ bad_words) × ((t : Tree) → ¬ (IsInput usual_rules word t))) → (e ≡ no_memory) ⊎ ((e ≡ bad_words) × WordSpellsNothing reads word)
-unread_value reads word e (inl m) = inl m
-unread_value reads word e (inr (b, n)) = inr (b, none_read reads word n)
+-- the word is no JSON text
+pub unread_argument : {A : Type 0} (reads : Tree → Option A) (word : List ℕ) (e : Error) → (e ≡ no_memory) ⊎ ((e ≡ bad_words) × ¬ (IsValid usual_rules word)) → (e ≡ no_memory) ⊎ ((e ≡ bad_words) × WordSpellsNothing reads word)
+unread_argument reads word e (inl m) = inl m
+unread_argument reads word e (inr (b, n)) = inr (b, λ x s. n (record { tree = s.tree; input = s.input }))
 
 pub none_few : (word : List ℕ) (e : Error) → (e ≡ no_memory) ⊎ ((e ≡ bad_words) × WordSpellsNothing columns_in word) → (e ≡ no_memory) ⊎ ((e ≡ bad_words) × NoColumns word)
 none_few word e (inl m) = inl m
@@ -181,11 +161,23 @@ pub no_has : (word : List ℕ) (has : Option (List ℕ)) (e : Error) → (e ≡ 
 no_has word has e (inl m) = inl m
 no_has word has e (inr (b, n)) = inr (b, λ k s. n k.has s.has)
 
-pub two_words : (words : List (List ℕ)) (a b c d : List ℕ) → length words ≡ 2 → slice_get words 0 ≡ Some a → slice_get words 1 ≡ Some b → c ≡ a → d ≡ b → c ∷ d ∷ [] ≡ words
-two_words [] a b c d n e f g h = absurd (omega arith)
-two_words (x ∷ []) a b c d n e f g h = absurd (omega arith)
-two_words (x ∷ y ∷ []) a b c d n e f g h = cc
-two_words (x ∷ y ∷ z ∷ xs) a b c d n e f g h = absurd (omega arith)
+pub two_words : (words : List (List ℕ)) (a b : List ℕ) → length words ≡ 2 → slice_get words 0 ≡ Some a → slice_get words 1 ≡ Some b → a ∷ b ∷ [] ≡ words
+two_words [] a b n e f = absurd (omega arith)
+two_words (x ∷ []) a b n e f = absurd (omega arith)
+two_words (x ∷ y ∷ []) a b n e f = cc
+two_words (x ∷ y ∷ z ∷ xs) a b n e f = absurd (omega arith)
+
+-- what follows an option, where a word begins with it
+pub option_text : (word option : List ℕ) (found : Option (Bor (List ℕ))) → MatchOption found (LacksTextAt option word 0) (λ x. StripsPrefix (FindsTextPrefix option) word x.now)
+    → option_map (λ x. x.now) found ≡ cond (bytes_eq (take (length option) word) option) (Some (drop (length option) word)) None
+option_text word option None lacks = by (bytes_eq (take (length option) word) option) refl
+  where
+    by : (b : Bool) → bytes_eq (take (length option) word) option ≡ b → None ≡ cond b (Some (drop (length option) word)) None
+    by true e = absurd (lacks (drop (length option) word) (sym (take-append-drop (length option) word) ∙ ap (λ front. front ++ drop (length option) word) ((bytes_eq-Decides (take (length option) word) option).0 e)))
+    by false e = refl
+option_text word option (Some x) (k, (is, split, at), rest, len) =
+    let front : take (length option) word ≡ option = ap (take (length option)) split ∙ take-append_seam option (drop k word) in
+    ap (λ b. cond b (Some x.now) None) (sym ((bytes_eq-Decides (take (length option) word) option).1 front)) ∙ ap (λ t. cond (bytes_eq (take (length option) word) option) (Some t) None) (rest ∙ ap (λ n. drop n word) is)
 
 -- ---- one command
 

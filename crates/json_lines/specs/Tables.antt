@@ -1,11 +1,10 @@
 -- The command that a table stands for.
-use Rattle.std.specs.Prelude.{ℕ, List, [], ◌∷◌, Bool, true, false, is_some, map}
-use Rattle.json_grammar.specs.Tree.{Tree}
-use Rattle.json_grammar.specs.Grammar.{ws}
-use Rattle.json_doc.specs.Readings.{string_of, integer_of, bool_of}
+use Rattle.std.specs.Prelude.{ℕ, List, [], ◌∷◌, Bool, true, false, Option, Some, None, map}
+use Rattle.json_grammar.specs.Grammar.{ws, boolean_bytes}
+use Rattle.json_model.specs.Print.{quoted}
 use Rattle.json_value.specs.Edits.{path_steps}
 use Rattle.json_lines.specs.Cells as cell
-use Rattle.json_lines.specs.Cells.{Command}
+use Rattle.json_lines.specs.Cells.{Command, dash}
 use Rattle.json_lines.specs.declared.table.Kind.{Kind}
 use Rattle.json_lines.specs.declared.table.Kind.TheVariants.{Text, Int, Bool as Truth, Json}
 use Rattle.json_lines.specs.declared.table.Column.{Column}
@@ -23,12 +22,18 @@ table_column c = record { path = path_steps c.path; kind = cell_kind c.kind }
 abbrev pub table_command : Table → Command
 table_command t = record { columns = map table_column t.columns.items; has = path_steps t.has }
 
--- whether the tree is of the kind
-abbrev pub is_of_kind : cell.Kind → Tree → Bool
-is_of_kind cell.texts t = is_some (string_of t)
-is_of_kind cell.integers t = is_some (integer_of t)
-is_of_kind cell.booleans t = is_some (bool_of t)
-is_of_kind cell.any_json t = true
+-- the cell of a string, of the text of an integer, and of a boolean: a dash where there is none
+abbrev pub string_cell : Option (List ℕ) → List ℕ
+string_cell None = dash
+string_cell (Some s) = quoted s
+
+abbrev pub integer_cell : Option (List ℕ) → List ℕ
+integer_cell None = dash
+integer_cell (Some text) = text
+
+abbrev pub boolean_cell : Option Bool → List ℕ
+boolean_cell None = dash
+boolean_cell (Some b) = boolean_bytes b
 
 -- the bytes before a cell
 abbrev pub cell_separator : Bool → List ℕ

@@ -1,8 +1,6 @@
 // Reads what the words of the command line ask for.
 ghost use Rattle.std.specs.Prelude.{◌≡◌, ◌≢◌, ◌⊎◌, ◌≤◌, List, ℕ, [], ◌∷◌, length, map, drop, cond, Some, None, IfOk, IfErr, MatchOption, option_map};
-ghost use Rattle.json_grammar.specs.Tree.{Tree};
 ghost use Rattle.json_text.specs.Errors.{no_memory, bad_words};
-ghost use Rattle.json_text.specs.Ruled.{usual_rules};
 ghost use Rattle.json_text.specs.declared.error.ErrorCode.TheVariants.{NoMemory, TypeUnmatched};
 ghost use Rattle.json_data.specs.Refusals.{refusal as spec_refusal};
 ghost use Rattle.json_data.specs.Spelled.{Unspelled};
@@ -11,14 +9,13 @@ ghost use Rattle.json_value.specs.Denotes.{tree_of};
 ghost use Rattle.json_value.specs.Edits.{path_steps};
 ghost use Rattle.json_value.specs.EditTrees.{path_in, each_in};
 ghost use Rattle.json_value.specs.Seen.{seen, elements_seen};
-ghost use Rattle.json_command.specs.Input.{IsInput};
 ghost use Rattle.json_lines.specs.Cells.{Command};
 ghost use Rattle.json_lines.specs.Tables.{cell_kind, table_column, table_command};
 ghost use Rattle.json_lines.specs.Words.{kind_named as spec_kind_named, kind_in, column_of_pair, column_in, columns_in, WordSpells, WordSpellsNothing, NoColumns, is_has_option, split_words, SpellsCommand, SpellsHas, Asks, IsAsked};
 
 use crate::table::{Column, Kind, Table};
-use json_command::{BAD_WORDS, arguments_error};
-use json_data::{from_slice, from_value, refusal};
+use json_command::{BAD_WORDS, arguments_error, read_argument};
+use json_data::{from_value, refusal};
 use json_text::{Error, ErrorCode, Result, Words};
 use json_value::{ArrayView, Path, Value, View};
 use std::alloc::Global;
@@ -28,18 +25,6 @@ fn type_unmatched() -> Error
     ensures { result ≡ spec_refusal TypeUnmatched }
 {
     refusal(ErrorCode::TypeUnmatched)
-}
-
-// Reads the value of a word, by the usual rules.
-fn read_value(alloc: Global, word: &[u8]) -> Result<Value>
-    ensures ok { IfOk result (λ v. IsInput usual_rules word.now (tree_of v)) }
-    ensures err { IfErr result (λ e. (e ≡ no_memory)
-        ⊎ ((e ≡ bad_words) × ((t : Tree) → ¬ (IsInput usual_rules word.now t)))) }
-{
-    match from_slice::<Value>(alloc, word) {
-        Ok(value) => Ok(value),
-        Err(error) => Err(arguments_error(error.code)),
-    }
 }
 
 // Reads the path that a value spells.
@@ -144,45 +129,45 @@ fn read_each(alloc: Global, array: ArrayView<'_>) -> Result<Vec<Column>>
     Ok(columns)
 }
 
-// Reads the columns that a value spells.
-fn read_columns(alloc: Global, value: &Value) -> Result<Vec<Column>>
-    ensures ok { IfOk result (λ v. columns_in (tree_of value.now) ≡ Some (map table_column v.items)) }
-    ensures err { IfErr result (Unspelled (columns_in (tree_of value.now))) }
+// Reads the columns that a view spells.
+fn read_columns(alloc: Global, view: View<'_>) -> Result<Vec<Column>>
+    ensures ok { IfOk result (λ v. columns_in (seen view.entry) ≡ Some (map table_column v.items)) }
+    ensures err { IfErr result (Unspelled (columns_in (seen view.entry))) }
 {
-    match value.view().as_array() {
+    match view.as_array() {
         Some(array) => read_each(alloc, array),
         None => Err(type_unmatched()),
     }
 }
 
-// Reads the columns that a word spells.
-fn columns_of_word(alloc: Global, word: &[u8]) -> Result<Vec<Column>>
+// Reads the columns that a word spells, by the usual rules.
+fn columns_of_word(alloc: Global, word: &str) -> Result<Vec<Column>>
     ensures ok { IfOk result (λ v. WordSpells columns_in word.now (map table_column v.items)) }
     ensures err { IfErr result (λ e. (e ≡ no_memory)
         ⊎ ((e ≡ bad_words) × WordSpellsNothing columns_in word.now)) }
 {
-    let value = read_value(alloc, word)?;
-    match read_columns(alloc, &value) {
+    let doc = read_argument(alloc, word)?;
+    match read_columns(alloc, View::packed(doc.view())) {
         Ok(columns) => Ok(columns),
         Err(error) => Err(arguments_error(error.code)),
     }
 }
 
-// Reads the path that a word spells.
-fn path_of_word(alloc: Global, word: &[u8]) -> Result<Path>
+// Reads the path that a word spells, by the usual rules.
+fn path_of_word(alloc: Global, word: &str) -> Result<Path>
     ensures ok { IfOk result (λ p. WordSpells path_in word.now (path_steps p)) }
     ensures err { IfErr result (λ e. (e ≡ no_memory)
         ⊎ ((e ≡ bad_words) × WordSpellsNothing path_in word.now)) }
 {
-    let value = read_value(alloc, word)?;
-    match read_path(alloc, &value) {
+    let doc = read_argument(alloc, word)?;
+    match read_path_seen(alloc, View::packed(doc.view())) {
         Ok(path) => Ok(path),
         Err(error) => Err(arguments_error(error.code)),
     }
 }
 
 // Reads the path of the option `--has=`; the empty path if there is no option.
-fn read_has(alloc: Global, word: Option<&[u8]>) -> Result<Path>
+fn read_has(alloc: Global, word: Option<&str>) -> Result<Path>
     ensures ok { IfOk result (λ p. SpellsHas (option_map (λ s. s.now) word.entry) (path_steps p)) }
     ensures err { IfErr result (λ e. (e ≡ no_memory)
         ⊎ ((e ≡ bad_words)
@@ -195,7 +180,7 @@ fn read_has(alloc: Global, word: Option<&[u8]>) -> Result<Path>
 }
 
 // Reads the 1 to 64 columns that a word spells.
-fn limited_columns(alloc: Global, word: &[u8]) -> Result<Vec<Column>>
+fn limited_columns(alloc: Global, word: &str) -> Result<Vec<Column>>
     ensures ok { IfOk result (λ v. WordSpells columns_in word.now (map table_column v.items)) }
     ensures count { IfOk result (λ v. (1 ≤ length v.items) × (length v.items ≤ 64)) }
     ensures err { IfErr result (λ e. (e ≡ no_memory)
@@ -213,7 +198,7 @@ fn limited_columns(alloc: Global, word: &[u8]) -> Result<Vec<Column>>
 }
 
 // Reads the table of a columns word and the text of the option.
-fn read_table(alloc: Global, columns: &[u8], has: Option<&[u8]>) -> Result<Table>
+fn read_table(alloc: Global, columns: &str, has: Option<&str>) -> Result<Table>
     ensures ok { IfOk result (λ t.
         SpellsCommand columns.now (option_map (λ s. s.now) has.entry) (table_command t)) }
     ensures err { IfErr result (λ e. (e ≡ no_memory)
@@ -228,15 +213,15 @@ fn read_table(alloc: Global, columns: &[u8], has: Option<&[u8]>) -> Result<Table
 }
 
 // Returns the text after `--has=`.
-fn has_option(word: &[u8]) -> Option<&[u8]>
+fn has_option(word: &str) -> Option<&str>
     ensures { option_map (λ s. s.now) result
         ≡ cond (is_has_option word.now) (Some (drop 6 word.now)) None }
 {
-    word.strip_prefix(b"--has=")
+    word.strip_prefix("--has=")
 }
 
 // Returns the columns word and the text of the option, of two words.
-fn split_pair<'a>(first: &'a [u8], second: &'a [u8]) -> Option<(&'a [u8], Option<&'a [u8]>)>
+fn split_pair<'a>(first: &'a str, second: &'a str) -> Option<(&'a str, Option<&'a str>)>
     ensures { option_map (λ p. (p.0.now, option_map (λ s. s.now) p.1)) result
         ≡ split_words (first.now ∷ second.now ∷ []) }
 {
@@ -250,13 +235,13 @@ fn split_pair<'a>(first: &'a [u8], second: &'a [u8]) -> Option<(&'a [u8], Option
 }
 
 // Returns the columns word and the text of the option, if any.
-fn split_words(words: &Words) -> Option<(&[u8], Option<&[u8]>)>
+fn split_words(words: &Words) -> Option<(&str, Option<&str>)>
     ensures { option_map (λ p. (p.0.now, option_map (λ s. s.now) p.1)) result
         ≡ split_words words.now }
 {
     match words.len() {
-        1 => Some((words.word(0).as_bytes(), None)),
-        2 => split_pair(words.word(0).as_bytes(), words.word(1).as_bytes()),
+        1 => Some((words.word(0), None)),
+        2 => split_pair(words.word(0), words.word(1)),
         _ => None,
     }
 }

@@ -18,8 +18,10 @@
 #![tactic(auto)]
 
 mod asked;
+mod cells;
 pub mod laws;
 mod line_reader;
+mod paths;
 mod run;
 mod table;
 mod top;

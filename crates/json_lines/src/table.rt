@@ -1,8 +1,8 @@
 // A table of columns, which writes the rows of lines.
 ghost use Rattle.std.specs.Prelude.{◌≡◌, ◌≢◌, ◌≤◌, None, Some, Err, ◌<◌, ◌∷◌, ◌++◌, [], List, ℕ, length, map, IfOk, IfErr, OnOk, Ok, option_map};
 ghost use Rattle.json_print.specs.TextWriting.{WritesText};
-ghost use Rattle.json_value.specs.Seen.{seen};
-ghost use Rattle.json_lines.specs.Cells.{dash, cell_of, cell_where, cells, row};
+ghost use Rattle.json_doc.specs.Seen.{view_tree};
+ghost use Rattle.json_lines.specs.Cells.{cells, row};
 ghost use Rattle.json_grammar.specs.Grammar.{ws};
 ghost use Rattle.json_text.specs.Errors.{no_memory};
 ghost use Rattle.json_text.specs.FaultText.{text_of};
@@ -10,15 +10,17 @@ ghost use Rattle.json_text.specs.declared.error.ErrorCode.TheVariants.{NoMemory}
 ghost use Rattle.json_doc.specs.Docs.{doc_tree, doc_root};
 ghost use Rattle.json_lines.specs.LineHandling.{WritesRow, RowFails};
 ghost use Rattle.json_lines.specs.Outcomes.{HasOutcome};
-ghost use Rattle.json_lines.specs.Tables.{BlankTest, cell_kind, table_column, table_command, is_of_kind, cell_separator};
+ghost use Rattle.json_lines.specs.Tables.{BlankTest, table_column, table_command};
 
+use crate::cells::{write_bytes, write_next_cell};
+use crate::paths::follow;
 use crate::run::RowWriter;
-use json_doc::{Doc, read_document_with};
-use json_print::{BufferedWriter, OneLine, answered, show_piece};
+use json_doc::{Doc, DocView, read_document_with};
+use json_print::BufferedWriter;
 use json_text::{
     Error, ErrorCode, FaultText, Place, Result, Rules, Sink, check_utf8, fault_text, ws_run,
 };
-use json_value::{Path, View};
+use json_value::Path;
 use std::alloc::Global;
 
 // Which values a cell shows.
@@ -42,88 +44,6 @@ pub(crate) struct Column {
 pub(crate) struct Table {
     pub(crate) columns: Vec<Column>,
     pub(crate) has: Path,
-}
-
-impl Kind {
-    // Returns whether a value is of this kind.
-    fn is_of_kind(self, view: View<'_>) -> bool
-        ensures { result ≡ is_of_kind (cell_kind self) (seen view.entry) }
-    {
-        match self {
-            Kind::Text => view.text().is_some(),
-            Kind::Int => view.as_number().is_some(),
-            Kind::Bool => view.as_bool().is_some(),
-            Kind::Json => true,
-        }
-    }
-}
-
-// Writes some bytes.
-fn write_bytes<W: Sink>(out: &mut BufferedWriter<W>, piece: &[u8]) -> Result<()>
-    ensures { WritesText
-        (⟦<BufferedWriter<W> as Sink>⟧.state out.old) (⟦<BufferedWriter<W> as Sink>⟧.state out.new)
-        piece.now result }
-{
-    answered(show_piece(out, piece))
-}
-
-// Writes the cell of a value.
-fn write_value<W: Sink>(out: &mut BufferedWriter<W>, kind: Kind, view: View<'_>) -> Result<()>
-    ensures { WritesText
-        (⟦<BufferedWriter<W> as Sink>⟧.state out.old) (⟦<BufferedWriter<W> as Sink>⟧.state out.new)
-        (cell_of (cell_kind kind) (seen view.entry)) result }
-{
-    if kind.is_of_kind(view) {
-        view.print(OneLine, out)
-    } else {
-        write_bytes(out, b"-")
-    }
-}
-
-// Writes a cell: a dash where there is no value.
-fn write_cell<W: Sink>(
-    out: &mut BufferedWriter<W>,
-    kind: Kind,
-    found: Option<View<'_>>,
-) -> Result<()>
-    ensures { WritesText
-        (⟦<BufferedWriter<W> as Sink>⟧.state out.old) (⟦<BufferedWriter<W> as Sink>⟧.state out.new)
-        (cell_where (cell_kind kind) (option_map seen found.entry)) result }
-{
-    match found {
-        Some(view) => write_value(out, kind, view),
-        None => write_bytes(out, b"-"),
-    }
-}
-
-// Writes a tab before each cell but the first.
-fn write_separator<W: Sink>(out: &mut BufferedWriter<W>, first: bool) -> Result<()>
-    ensures { WritesText
-        (⟦<BufferedWriter<W> as Sink>⟧.state out.old) (⟦<BufferedWriter<W> as Sink>⟧.state out.new)
-        (cell_separator first) result }
-{
-    if first {
-        Ok(())
-    } else {
-        write_bytes(out, b"\t")
-    }
-}
-
-// Writes a cell after its separator.
-fn write_next_cell<W: Sink>(
-    out: &mut BufferedWriter<W>,
-    first: bool,
-    kind: Kind,
-    found: Option<View<'_>>,
-) -> Result<()>
-    ensures { WritesText
-        (⟦<BufferedWriter<W> as Sink>⟧.state out.old) (⟦<BufferedWriter<W> as Sink>⟧.state out.new)
-        (cell_separator first ++ cell_where (cell_kind kind) (option_map seen found.entry)) result }
-{
-    match write_separator(out, first) {
-        Ok(()) => write_cell(out, kind, found),
-        Err(error) => Err(error),
-    }
 }
 
 // Returns the error text of a line. Memory that ran out is no error of the line.
@@ -187,22 +107,22 @@ impl Table {
             (⟦<BufferedWriter<W> as Sink>⟧.state out.new)
             (row (table_command self.now) (doc_tree doc.now (doc_root doc.now))) (Err e)) }
     {
-        match self.write_view_row(out, View::packed(doc.view())) {
+        match self.write_view_row(out, doc.view()) {
             Ok(()) => Ok(None),
             Err(error) => Err(error),
         }
     }
 
     // Writes the cells, with tabs between them.
-    fn write_cells<W: Sink>(&self, out: &mut BufferedWriter<W>, view: View<'_>) -> Result<()>
+    fn write_cells<W: Sink>(&self, out: &mut BufferedWriter<W>, view: DocView<'_>) -> Result<()>
         ensures { WritesText
             (⟦<BufferedWriter<W> as Sink>⟧.state out.old)
             (⟦<BufferedWriter<W> as Sink>⟧.state out.new)
-            (cells (table_command self.now).columns (seen view.entry)) result }
+            (cells (table_command self.now).columns (view_tree view.entry)) result }
     {
         let mut first = true;
         'cells: for column in &self.columns {
-            match write_next_cell(out, first, column.kind, view.pointer(column.path.steps())) {
+            match write_next_cell(out, first, column.kind, follow(view, column.path.steps())) {
                 Ok(()) => {}
                 Err(error) => return Err(error),
             }
@@ -212,24 +132,28 @@ impl Table {
     }
 
     // Writes the row of a value, if it has one.
-    fn write_view_row<W: Sink>(&self, out: &mut BufferedWriter<W>, view: View<'_>) -> Result<()>
+    fn write_view_row<W: Sink>(&self, out: &mut BufferedWriter<W>, view: DocView<'_>) -> Result<()>
         ensures { WritesText
             (⟦<BufferedWriter<W> as Sink>⟧.state out.old)
             (⟦<BufferedWriter<W> as Sink>⟧.state out.new)
-            (row (table_command self.now) (seen view.entry)) result }
+            (row (table_command self.now) (view_tree view.entry)) result }
     {
-        match view.pointer(self.has.steps()) {
+        match follow(view, self.has.steps()) {
             Some(_) => self.write_cells_line(out, view),
             None => Ok(()),
         }
     }
 
     // Writes the cells and a newline.
-    fn write_cells_line<W: Sink>(&self, out: &mut BufferedWriter<W>, view: View<'_>) -> Result<()>
+    fn write_cells_line<W: Sink>(
+        &self,
+        out: &mut BufferedWriter<W>,
+        view: DocView<'_>,
+    ) -> Result<()>
         ensures { WritesText
             (⟦<BufferedWriter<W> as Sink>⟧.state out.old)
             (⟦<BufferedWriter<W> as Sink>⟧.state out.new)
-            (cells (table_command self.now).columns (seen view.entry) ++ 10 ∷ []) result }
+            (cells (table_command self.now).columns (view_tree view.entry) ++ 10 ∷ []) result }
     {
         match self.write_cells(out, view) {
             Ok(()) => write_bytes(out, b"\n"),

@@ -1,6 +1,5 @@
-use Rattle.std.proofs.Common.{◌≡◌, ◌∙◌, Some, map, sym, ap}
+use Rattle.std.proofs.Common.{◌≡◌, ◌∙◌, Some, map}
 use Rattle.std.proofs.lemmas.Result.{IfOk-weaker, IfErr-weaker}
-use Rattle.json_value.specs.Denotes.{tree_of}
 use Rattle.json_value.specs.EditTrees.{each_in}
 use Rattle.json_value.specs.Seen.{seen, elements_seen}
 use Rattle.json_data.specs.Spelled.{Unspelled}
@@ -12,11 +11,11 @@ use Rattle.json_lines.proofs.asked.read_columns.Goals as goal
 
 pub returns-in-Some-clause-ok : goal.returns-in-Some-clause-ok
 returns-in-Some-clause-ok c =
-    let e = ap columns_in (sym c.view.ensures.tree) ∙ columns_of_array (seen c.view.result) (elements_seen c.in-Some.array) c.in-Some.ensures.trees in
-    IfOk-weaker c.read_each.result _ (λ v. columns_in (tree_of c.args.value.now) ≡ Some (map table_column v.items)) (λ v h. e ∙ h) c.read_each.ensures.ok
+    let e = columns_of_array (seen c.args.view) (elements_seen c.in-Some.array) c.in-Some.ensures.trees in
+    IfOk-weaker c.read_each.result _ (λ v. columns_in (seen c.args.view) ≡ Some (map table_column v.items)) (λ v h. e ∙ h) c.read_each.ensures.ok
 
 pub returns-in-Some-clause-err : goal.returns-in-Some-clause-err
 returns-in-Some-clause-err c =
-    let e = ap columns_in (sym c.view.ensures.tree) ∙ columns_of_array (seen c.view.result) (elements_seen c.in-Some.array) c.in-Some.ensures.trees in
-    IfErr-weaker c.read_each.result _ (Unspelled (columns_in (tree_of c.args.value.now)))
-    (λ d h. unread (each_in column_in (elements_seen c.in-Some.array)) (columns_in (tree_of c.args.value.now)) d (λ n. e ∙ n) h) c.read_each.ensures.err
+    let e = columns_of_array (seen c.args.view) (elements_seen c.in-Some.array) c.in-Some.ensures.trees in
+    IfErr-weaker c.read_each.result _ (Unspelled (columns_in (seen c.args.view)))
+    (λ d h. unread (each_in column_in (elements_seen c.in-Some.array)) (columns_in (seen c.args.view)) d (λ n. e ∙ n) h) c.read_each.ensures.err

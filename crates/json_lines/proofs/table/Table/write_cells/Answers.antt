@@ -1,5 +1,5 @@
 use Rattle.std.proofs.Common.{map, take, drop, suc, ap, ◌∙◌, arith, Err, Ok, sym}
-use Rattle.json_value.specs.Seen.{seen}
+use Rattle.json_doc.specs.Seen.{view_tree}
 use Rattle.json_lines.specs.Cells.{cells}
 use Rattle.json_lines.specs.Tables.{table_column}
 use Rattle.json_lines.proofs.TextWriting.{WritesText-is}
@@ -7,25 +7,25 @@ use Rattle.json_lines.proofs.CellWriting.{WritesCells-is, WritesCells-start, Wri
 use Rattle.json_lines.proofs.table.Table.write_cells.Goals as goal
 
 pub cells-init : goal.cells-init
-cells-init g c = WritesCells-start _ (seen c.args.view)
+cells-init g c = WritesCells-start _ (view_tree c.args.view)
 
 pub returns-in-Err : goal.returns-in-Err
 returns-in-Err g c =
     let xs = c.deref-column-items.result.now in
     let i = c.cells.column-index in
     let x = c.column-item.result in
-    let t = seen c.args.view in
+    let t = view_tree c.args.view in
     let split = mapped-split table_column xs i x (omega (arith, c.cells-test.true)) c.column-item.is in
     WritesText-is _ _ _ _ (Err c.in-Err.error) (ap (λ l. cells l t) (sym split ∙ ap (map table_column) c.deref-column-items.ensures.value))
     (WritesCells-stopped _ _ _ c.cells.first (map table_column (take i xs)) (table_column x) (map table_column (drop (suc i) xs)) t c.in-Err.error c.cells.invariant
-    (cell-found _ _ c.cells.first (table_column x) _ _ t (Err c.in-Err.error) c.pointer.ensures.tree c.steps.ensures c.in-Err.ensures))
+    (cell-found _ _ c.cells.first (table_column x) _ _ t (Err c.in-Err.error) c.follow.ensures c.steps.ensures c.in-Err.ensures))
 
 pub cells-preserved : goal.cells-preserved
 cells-preserved g c =
     let xs = c.deref-column-items.result.now in
     let i = c.cells.column-index in
     let x = c.column-item.result in
-    let t = seen c.args.view in
+    let t = view_tree c.args.view in
     WritesCells-is _ _ _ _ _ t (sym (mapped-more table_column xs i x (omega (arith, c.cells-test.true)) c.column-item.is))
     (WritesCells-more _ _ _ c.cells.first (map table_column (take i xs)) (table_column x) t c.in-Ok.field-0 c.cells.invariant
-    (cell-found _ _ c.cells.first (table_column x) _ _ t (Ok c.in-Ok.field-0) c.pointer.ensures.tree c.steps.ensures c.in-Ok.ensures))
+    (cell-found _ _ c.cells.first (table_column x) _ _ t (Ok c.in-Ok.field-0) c.follow.ensures c.steps.ensures c.in-Ok.ensures))

@@ -1,6 +1,6 @@
 use Rattle.std.proofs.Common.{map, take, drop}
 use Rattle.json_print.specs.Buffered.{held_behind}
-use Rattle.json_value.specs.Seen.{seen}
+use Rattle.json_doc.specs.Seen.{view_tree}
 use Rattle.json_lines.specs.Tables.{table_column}
 use Rattle.json_lines.proofs.CellWriting.{WritesCells}
 use Rattle.json_lines.proofs.table.Table.write_cells.Given as goal
@@ -9,4 +9,4 @@ abbrev pub invariant-cells : goal.invariant-cells
 invariant-cells g l =
     WritesCells (held_behind (g.W.Sink.state l.fn.out.inner) (drop l.fn.out.sent (take l.fn.out.end l.fn.out.buffer.items)))
     (held_behind (g.W.Sink.state l.out.inner) (drop l.out.sent (take l.out.end l.out.buffer.items)))
-    l.first (map table_column (take l.column-index l.column-items)) (seen l.fn.view)
+    l.first (map table_column (take l.column-index l.column-items)) (view_tree l.fn.view)
