@@ -14,6 +14,7 @@ mod Errors
 mod Changes
 mod Members
 mod OperationLists
+mod KeyStarts
 mod MergedMembers
 mod Touched
 mod Commands

@@ -14,7 +14,6 @@ use Rattle.json_value.specs.declared.value.Value.{Value, Object}
 use Rattle.json_value.proofs.ValueLevels.{object_tree}
 use Rattle.json_patch.specs.Merge.{pairs_merged, tree_or_null}
 use Rattle.json_patch.specs.Merge.{member_merged}
-use Rattle.json_patch.proofs.OperationLists.{drop_got}
 
 no_true : true ≡ false → ⊥
 no_true e = cc
@@ -56,8 +55,8 @@ pub first_null : (k : List ℕ) (ps : Pairs) → has_key k ps ≡ false → tree
 first_null k ps h = ap tree_or_null (none_there k ps h)
 
 -- one member more
-pub members_more : (ps : Pairs) (qs : List (List ℕ × Tree)) (i : ℕ) (q : List ℕ × Tree) → Some q ≡ slice_get qs i → pairs_merged ps (list_pairs (drop i qs)) ≡ pairs_merged (member_merged q.0 q.1 ps) (list_pairs (drop (i + 1) qs))
-members_more ps qs i q got = ap (λ rs. pairs_merged ps (list_pairs rs)) (drop_got qs i q got)
+pub merged_more : (ps rs : Pairs) (all left : List (List ℕ × Tree)) (k : List ℕ) (v : Tree) → all ≡ (k, v) ∷ left → rs ≡ member_merged k v ps → pairs_merged ps (list_pairs all) ≡ pairs_merged rs (list_pairs left)
+merged_more ps rs all left k v e h = ap (λ (qs : List (List ℕ × Tree)). pairs_merged ps (list_pairs qs)) e ∙ ap (λ (qs : Pairs). pairs_merged qs (list_pairs left)) (sym h)
 
 same_pairs : (ps qs : Pairs) → pairs ps ≡ pairs qs → ps ≡ qs
 same_pairs ps qs e = cc

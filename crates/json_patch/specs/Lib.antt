@@ -1,6 +1,7 @@
 pub mod ValuesAt
 pub mod Pointer
 pub mod Patch
+pub mod KeyIndex
 pub mod Merge
 pub mod Laws
 pub mod ExampleTrees

@@ -19,6 +19,7 @@ pub mod diff_examples;
 pub mod diff_laws;
 mod error;
 pub mod examples;
+mod key_index;
 pub mod laws;
 mod lookup;
 mod merge;

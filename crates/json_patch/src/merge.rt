@@ -1,8 +1,9 @@
 // JSON Merge Patch (RFC 7396).
-ghost use Rattle.std.specs.Prelude.{◌≡◌, map, OnOk, OnErr, IfOk, IfErr};
+ghost use Rattle.std.specs.Prelude.{◌≡◌, map, false, OnOk, OnErr, IfOk, IfErr};
 ghost use Rattle.json_grammar.specs.Tree.{pairs, list_pairs};
-ghost use Rattle.json_model.specs.Edit.{inserted, without_key};
+ghost use Rattle.json_model.specs.Edit.{inserted, without_key, has_key};
 ghost use Rattle.json_model.specs.Same.{first_value};
+ghost use Rattle.json_patch.specs.KeyIndex.{HasStarts};
 ghost use Rattle.json_patch.specs.Merge.{merged, pairs_merged, tree_or_null, members_of};
 ghost use Rattle.json_value.specs.Denotes.{tree_of, pair_of, pairs_in};
 ghost use Rattle.json_value.specs.Failures.{OnlyNoMemory};
@@ -12,17 +13,46 @@ ghost use Rattle.json_patch.specs.Merge.{member_merged};
 
 use crate::change::object_mut_in;
 use crate::error::{PatchCode, PatchError};
+use crate::key_index::KeyIndex;
 use json_doc::JsonType;
 use json_text::Result as TextResult;
-use json_value::{Object, ObjectView, Pair, Text, Value, View, find_key};
+use json_value::{Object, ObjectView, Pair, Text, Value, View};
 use std::alloc::Global;
 
 // Removes all members of the key.
-fn remove_key(pairs: &mut Vec<Pair>, key: &str)
-    ensures { list_pairs (map pair_of pairs.new.items)
+fn remove_key(pairs: &mut Vec<Pair>, index: &mut KeyIndex, key: &str)
+    requires { HasStarts index.old pairs.old.items }
+    ensures removed { list_pairs (map pair_of pairs.new.items)
         ≡ without_key key.now (list_pairs (map pair_of pairs.old.items)) }
+    ensures starts { HasStarts index.new pairs.new.items }
 {
+    let Some(_) = index.find_key(pairs.as_slice(), key) else {
+        return;
+    };
+    let len = pairs.len();
     pairs.retain(|pair| pair.key() != key);
+    index.subtract(len - pairs.len());
+}
+
+// Appends a member of a key that no member has.
+fn append_member(
+    pairs: &mut Vec<Pair>,
+    index: &mut KeyIndex,
+    alloc: Global,
+    key: &str,
+    value: Value,
+) -> TextResult<()>
+    requires starts { HasStarts index.old pairs.old.items }
+    requires absent { has_key key.now (list_pairs (map pair_of pairs.old.items)) ≡ false }
+    ensures ok { OnOk result (list_pairs (map pair_of pairs.new.items) ≡ inserted key.now
+        (tree_of value) (list_pairs (map pair_of pairs.old.items))) }
+    ensures starts { OnOk result (HasStarts index.new pairs.new.items) }
+    ensures only { OnlyNoMemory result }
+{
+    let text = Text::copy(alloc, key)?;
+    index.add(key, pairs.len());
+    pairs.push(Pair::new(text, value))?;
+    Ok(())
 }
 
 // Replaces a value that is no object by an empty object.
@@ -37,13 +67,21 @@ fn become_object(value: &mut Value)
 
 // Merges a value into the first value of the key, or into null, and inserts it.
 #[cycle(merge)]
-fn merge_value(pairs: &mut Vec<Pair>, alloc: Global, key: &str, value: View<'_>) -> TextResult<()>
+fn merge_value(
+    pairs: &mut Vec<Pair>,
+    index: &mut KeyIndex,
+    alloc: Global,
+    key: &str,
+    value: View<'_>,
+) -> TextResult<()>
+    requires { HasStarts index.old pairs.old.items }
     ensures ok { let ps = list_pairs (map pair_of pairs.old.items) in
         OnOk result (list_pairs (map pair_of pairs.new.items) ≡ inserted key.now
         (merged (tree_or_null (first_value key.now ps)) (seen value.entry)) ps) }
+    ensures starts { OnOk result (HasStarts index.new pairs.new.items) }
     ensures only { OnlyNoMemory result }
 {
-    match find_key(pairs.as_slice(), key) {
+    match index.find_key(pairs.as_slice(), key) {
         Some(i) => {
             let member = &mut pairs[i];
             merge_in(member.value_mut(), alloc, value)
@@ -51,25 +89,31 @@ fn merge_value(pairs: &mut Vec<Pair>, alloc: Global, key: &str, value: View<'_>)
         None => {
             let mut member = Value::new_null();
             merge_in(&mut member, alloc, value)?;
-            let key = Text::copy(alloc, key)?;
-            pairs.push(Pair::new(key, member))?;
-            Ok(())
+            append_member(pairs, index, alloc, key, member)
         }
     }
 }
 
 // Merges a member: null removes all members of the key.
 #[cycle(merge)]
-fn merge_member(pairs: &mut Vec<Pair>, alloc: Global, key: &str, value: View<'_>) -> TextResult<()>
+fn merge_member(
+    pairs: &mut Vec<Pair>,
+    index: &mut KeyIndex,
+    alloc: Global,
+    key: &str,
+    value: View<'_>,
+) -> TextResult<()>
+    requires { HasStarts index.old pairs.old.items }
     ensures ok { OnOk result (list_pairs (map pair_of pairs.new.items) ≡ member_merged key.now
         (seen value.entry) (list_pairs (map pair_of pairs.old.items))) }
+    ensures starts { OnOk result (HasStarts index.new pairs.new.items) }
     ensures only { OnlyNoMemory result }
 {
     if value.get_type() == JsonType::Null {
-        remove_key(pairs, key);
+        remove_key(pairs, index, key);
         return Ok(());
     }
-    merge_value(pairs, alloc, key, value)
+    merge_value(pairs, index, alloc, key, value)
 }
 
 // Merges members in turn.
@@ -79,10 +123,9 @@ fn merge_members(pairs: &mut Vec<Pair>, alloc: Global, members: ObjectView<'_>) 
         (list_pairs (map pair_of pairs.old.items)) (list_pairs (members_seen members.entry))) }
     ensures only { OnlyNoMemory result }
 {
-    'members: for i in 0..members.len() {
-        if let Some((key, value)) = members.pair(i) {
-            merge_member(pairs, alloc, key, value)?;
-        }
+    let mut index = KeyIndex::new(alloc, pairs.as_slice(), members.len());
+    'members: for (key, value) in members.iter() {
+        merge_member(pairs, &mut index, alloc, key, value)?;
     }
     Ok(())
 }

@@ -1,8 +1,10 @@
-use Rattle.std.proofs.Common.{◌≡◌, ◌+◌, ◌*◌, map, drop}
+use Rattle.std.proofs.Common.{◌≡◌, ◌+◌, ◌*◌, ◌≤◌, map}
 use Rattle.json_grammar.specs.Sizes.{nodes, pairs_nodes}
 use Rattle.json_grammar.specs.Tree.{list_pairs}
+use Rattle.json_patch.specs.KeyIndex.{HasStarts}
 use Rattle.json_patch.specs.Merge.{pairs_merged}
 use Rattle.json_value.specs.Denotes.{pair_of}
+use Rattle.json_value.specs.Left.{members_left}
 use Rattle.json_value.specs.Seen.{seen, members_seen}
 use Rattle.json_patch.proofs.merge.+merge.Given as goal
 
@@ -27,4 +29,7 @@ decreases-merge_value l = 5 * nodes (seen l.value) + 1
 -- the members left are merged into the pairs so far
 abbrev pub invariant-merge_members-members : goal.invariant-merge_members-members
 invariant-merge_members-members l =
-    pairs_merged (list_pairs (map pair_of l.fn.pairs.items)) (list_pairs (members_seen l.fn.members)) ≡ pairs_merged (list_pairs (map pair_of l.pairs.items)) (list_pairs (drop l.i (members_seen l.fn.members)))
+    let qs = members_seen l.fn.members in let left = members_left l.key-iterator in
+    (pairs_merged (list_pairs (map pair_of l.fn.pairs.items)) (list_pairs qs) ≡ pairs_merged (list_pairs (map pair_of l.pairs.items)) (list_pairs left))
+    × (pairs_nodes (list_pairs left) ≤ pairs_nodes (list_pairs qs))
+    × HasStarts l.index l.pairs.items
