@@ -1,7 +1,6 @@
 -- Starts of keys, and what a search from there finds.
 use Rattle.std.proofs.Common.{◌≡◌, ℕ, zero, suc, ◌+◌, ◌-◌, ◌≤◌, ◌<◌, List, [], ◌∷◌, ◌++◌, length, get_or, set, map, filter, take, drop, Bool, true, false, cond, refl, sym, ap, ◌∙◌, subst, arith, bytes_eq}
 use Rattle.std.proofs.lemmas.List.{length-take-le, take_more, take_rest, drop-map}
-use Rattle.std.specs.Prelude.{slice_get, slice_index, IfSome}
 use Rattle.json_grammar.specs.Tree.{Tree, Pairs, no_pairs, pair_and, list_pairs}
 use Rattle.json_model.specs.Edit.{has_key, without_key}
 use Rattle.json_model.proofs.Members.{same_key}

@@ -1,5 +1,5 @@
 // Where the search for a key among the members of an object may begin.
-ghost use Rattle.std.specs.Prelude.{◌≡◌, ℕ, ◌+◌, ◌≤◌, ◌<◌, List, length, map, false, IfSome, IfNone, slice_index};
+ghost use Rattle.std.specs.Prelude.{◌≡◌, ℕ, ◌+◌, ◌≤◌, List, length, map, false, IfSome, IfNone, slice_index};
 ghost use Rattle.json_grammar.specs.Tree.{list_pairs};
 ghost use Rattle.json_model.specs.Edit.{has_key};
 ghost use Rattle.json_patch.specs.KeyIndex.{key_hash, first_slot, second_slot, StartsAtMost, AreStarts, HasStarts};

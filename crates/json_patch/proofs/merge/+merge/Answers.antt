@@ -1,17 +1,16 @@
-use Rattle.std.proofs.Common.{map, refl, sym, ap, ◌∙◌, ◌++◌, ◌∷◌, [], drop, List, Vec, Global, ◌+◌, arith}
+use Rattle.std.proofs.Common.{map, refl, sym, ap, ◌∙◌, arith}
 use Rattle.std.proofs.lemmas.Result.{on_ok_weaker}
 use Rattle.json_grammar.specs.Sizes.{nodes}
-use Rattle.json_grammar.specs.Tree.{Tree, Pairs, list_pairs}
+use Rattle.json_grammar.specs.Tree.{Tree, list_pairs}
 use Rattle.json_model.specs.Edit.{inserted}
 use Rattle.json_patch.specs.KeyIndex.{HasStarts}
 use Rattle.json_patch.specs.Merge.{merged, members_of}
 use Rattle.json_value.specs.Denotes.{tree_of, pair_of}
 use Rattle.json_value.specs.Left.{members_left}
 use Rattle.json_value.specs.Seen.{seen, members_seen}
-use Rattle.json_value.specs.declared.pair.Keyed.{Keyed}
 use Rattle.json_value.specs.declared.value.Value.{Value}
-use Rattle.json_value.proofs.AppliedTrees.{first_moved, none_moved, insert_over, insert_beside}
-use Rattle.json_value.proofs.SameViews.{object_seen, member_nodes}
+use Rattle.json_value.proofs.AppliedTrees.{first_moved, none_moved, insert_over}
+use Rattle.json_value.proofs.SameViews.{object_seen}
 use Rattle.json_patch.proofs.KeyStarts.{starts_set}
 use Rattle.json_patch.proofs.MergeDiffViews.{fewer_nodes}
 use Rattle.json_patch.proofs.MergedMembers.{first_is, first_null, merged_more, object_merged}
