@@ -7,6 +7,8 @@ mod calls;
 #[cfg(test)]
 mod failing;
 #[cfg(test)]
+mod large_merges;
+#[cfg(test)]
 mod merge_between;
 #[cfg(test)]
 mod rows;
