@@ -24,5 +24,8 @@ mod MergeDiffViews
 mod DiffSteps
 mod DiffMembers
 mod DiffElements
-mod Diff
+mod OperationsLead
 mod DiffDocument
+mod OperationsBelow
+mod DiffParts
+mod DiffWriting

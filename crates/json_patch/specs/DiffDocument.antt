@@ -1,5 +1,5 @@
 -- The document of a JSON Patch (RFC 6902, section 3): an array of its operations.
-use Rattle.std.specs.Prelude.{◌≡◌, ℕ, List, [], ◌∷◌, ◌++◌, map, Ok, codes, true}
+use Rattle.std.specs.Prelude.{◌≡◌, ℕ, List, [], ◌++◌, map, Ok, codes, true}
 use Rattle.json_grammar.specs.Tree.{Tree, text, list, pairs, Pairs, no_pairs, pair_and, no_trees, list_trees}
 use Rattle.json_model.specs.Same.{same}
 use Rattle.json_patch.specs.Pointer.{Token, pointer_text}

@@ -13,6 +13,7 @@
 //! ```
 #![tactic(auto)]
 
+mod between;
 mod change;
 mod command;
 pub mod diff_examples;
@@ -30,6 +31,7 @@ mod path;
 mod pointer;
 mod run;
 
+pub use between::diff;
 pub use error::{PatchCode, PatchError};
 pub use merge::apply_merge;
 pub use merge_between::merge_diff;

@@ -16,9 +16,9 @@ use json_text::Result;
 use json_value::{Object, ObjectView, Pair, Text, Value, View};
 use std::alloc::Global;
 
-// Returns whether no two members have the same key.
+/// Returns whether no two members have the same key.
 #[tactic(auto, using(crate::proofs::UniqueKeys::unique_if_single))]
-fn has_unique_keys(object: ObjectView<'_>) -> bool
+pub fn has_unique_keys(object: ObjectView<'_>) -> bool
     ensures { result ≡ has_unique_keys (list_pairs (members_seen object.entry)) }
 {
     'members: for (key, _) in object.iter() {

@@ -99,8 +99,8 @@ fn push_slashes(text: &mut String, part: &str) -> TextResult<()>
     Ok(())
 }
 
-// Appends a token, escaped.
-fn push_escaped(text: &mut String, token: &str) -> TextResult<()>
+/// Appends a token, escaped.
+pub fn push_escaped(text: &mut String, token: &str) -> TextResult<()>
     ensures ok { OnOk result (string_bytes text.new
         ≡ string_bytes text.old ++ escaped_token token.now) }
     ensures only { OnlyNoMemory result }
