@@ -1,7 +1,10 @@
 -- The members of a batch that were served so far.
-use Rattle.std.proofs.Common.{◌≡◌, List, ◌++◌}
+use Rattle.std.proofs.Common.{◌≡◌, ◌∙◌, List, [], ◌∷◌, ◌++◌, Bool, true, false, ◌&&◌, append_assoc, sym, ap}
+use Rattle.std.specs.Prelude.{Option, option_to_list}
+use Rattle.std.specs.List.{list_all}
+use Rattle.std.proofs.lemmas.Bool.{and_parts}
 use Rattle.json_grammar.specs.Tree.{Tree}
-use Rattle.json_rpc.specs.Serving.{batch_served}
+use Rattle.json_rpc.specs.Serving.{batch_served, member_served, member_only_reads}
 
 -- responses before others
 abbrev before : List Tree → Tree × List Tree → Tree × List Tree
@@ -10,3 +13,48 @@ before got r = (r.0, got ++ r.1)
 -- the members before the rest were served, with this document and these responses
 pub record Underway (t : Tree) (us rest : List Tree) (now : Tree) (got : List Tree) : Type 0 where
   pub whole : batch_served t us ≡ before got (batch_served now rest)
+
+pub underway_next : (t : Tree) (us more rest : List Tree) (u now next : Tree) (o : Option Tree) (got got' : List Tree) → Underway t us more now got → more ≡ u ∷ rest → member_served now u ≡ (next, o) → got' ≡ got ++ option_to_list o → Underway t us rest next got'
+underway_next t us more rest u now next o got got' h e s g =
+    let later = batch_served next rest in
+    record {
+      whole = h.whole ∙ ap (λ ws. before got (batch_served now ws)) e ∙ ap (λ (p : Tree × Option Tree). let l = batch_served p.0 rest in before got (l.0, option_to_list p.1 ++ l.1)) s
+          ∙ ap (λ ws. (later.0, ws)) (sym (append_assoc got (option_to_list o) later.1) ∙ ap (λ ws. ws ++ later.1) (sym g));
+    }
+
+-- ---- members that only read
+
+abbrev AllRead : List Tree → Type 0
+AllRead us = list_all member_only_reads us ≡ true
+
+-- the members before the rest left the document as it was, if all members only read
+pub record LeavesDocument {V : Type 0} (us rest : List Tree) (old now : V) : Type 0 where
+  pub so : AllRead us → (now ≡ old) × AllRead rest
+
+pub leaves_none : {V : Type 0} (us rest : List Tree) (old now : V) → rest ≡ us → now ≡ old → LeavesDocument us rest old now
+leaves_none us rest old now e n = record { so = λ h. (n, ap (list_all member_only_reads) e ∙ h) }
+
+pub leaves_next : {V : Type 0} (us more rest : List Tree) (u : Tree) (old now next : V) → LeavesDocument us more old now → more ≡ u ∷ rest → (member_only_reads u ≡ true → next ≡ now) → LeavesDocument us rest old next
+leaves_next us more rest u old now next h e step =
+    record {
+      so = λ all.
+          let k = h.so all in
+          let parts = and_parts (member_only_reads u) (list_all member_only_reads rest) (ap (list_all member_only_reads) (sym e) ∙ k.1) in
+          (step parts.0 ∙ k.0, parts.1);
+    }
+
+pub leaves_all : {V : Type 0} (us rest : List Tree) (old now : V) → LeavesDocument us rest old now → AllRead us → now ≡ old
+leaves_all us rest old now h all = (h.so all).0
+
+-- all members only read, if the rest does
+pub record ReadSoFar (us rest : List Tree) : Type 0 where
+  pub same : list_all member_only_reads us ≡ list_all member_only_reads rest
+
+pub reads_next : (us more rest : List Tree) (u : Tree) → ReadSoFar us more → more ≡ u ∷ rest → true ≡ member_only_reads u → ReadSoFar us rest
+reads_next us more rest u h e b = record { same = h.same ∙ ap (list_all member_only_reads) e ∙ ap (λ b. b && list_all member_only_reads rest) (sym b) }
+
+pub reads_stops : (us more rest : List Tree) (u : Tree) → ReadSoFar us more → more ≡ u ∷ rest → false ≡ member_only_reads u → false ≡ list_all member_only_reads us
+reads_stops us more rest u h e b = sym (h.same ∙ ap (list_all member_only_reads) e ∙ ap (λ b. b && list_all member_only_reads rest) (sym b))
+
+pub reads_all : (us rest : List Tree) → ReadSoFar us rest → rest ≡ [] → true ≡ list_all member_only_reads us
+reads_all us rest h e = sym (h.same ∙ ap (list_all member_only_reads) e)

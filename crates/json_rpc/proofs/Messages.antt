@@ -1,5 +1,5 @@
 -- The message that a line is, and that it is only one.
-use Rattle.std.proofs.Common.{◌≡◌, ◌≢◌, ◌⊎◌, inl, inr, ◌↔◌, ℕ, ◌<◌, ◌≤◌, Bool, true, false, List, [], ◌∷◌, length, IsUtf8, refl, ap, arith}
+use Rattle.std.proofs.Common.{◌≡◌, ◌≢◌, ◌∙◌, ◌⊎◌, inl, inr, ◌↔◌, ℕ, ◌<◌, ◌≤◌, Bool, true, false, List, [], ◌∷◌, length, IsUtf8, refl, sym, ap, arith}
 use Rattle.std.specs.Prelude.{IsTrue}
 use Rattle.std.proofs.lemmas.Bool.{cases_lt, false≢true}
 use Rattle.json_grammar.specs.Tree.{Tree, depth}
@@ -23,7 +23,9 @@ use Rattle.json_doc.specs.Reading.{ReadingFails}
 use Rattle.json_command.proofs.Inputs.{utf8_no_fault}
 use Rattle.json_lines.specs.Tables.{BlankTest}
 use Rattle.json_rpc.specs.Laws.{OneMessage, SomeMessage}
-use Rattle.json_rpc.specs.Serving.{Message, blank, unreadable, readable, IsMessage, IsNoText, max_line_bytes, max_levels}
+use Rattle.json_lines.specs.declared.line_reader.Line.{Line}
+use Rattle.json_lines.specs.declared.line_reader.Line.TheVariants.{Whole, TooLong}
+use Rattle.json_rpc.specs.Serving.{Message, blank, unreadable, readable, IsMessage, IsNoText, LineIsMessage, OnlyReads, message_only_reads, max_line_bytes, max_levels}
 
 -- ---- whitespace
 
@@ -80,6 +82,14 @@ one_message b (readable u) blank h k = absurd (blank_no_text b u k.1 h.1)
 one_message b (readable u) unreadable h (inl k) = absurd (omega (arith, h.0, k))
 one_message b (readable u) unreadable h (inr k) = let d = k.1 u h.1 in absurd (omega (arith, d, h.2))
 one_message b (readable u) (readable v) h k = ap readable (one_tree false u v b h.1 k.1)
+
+one_line_message : (line : Line) (m n : Message) → LineIsMessage line m → LineIsMessage line n → m ≡ n
+one_line_message (Whole b) m n h k = one_message b.now m n h k
+one_line_message TooLong m n h k = h ∙ sym k
+
+-- a line that only reads is no message that edits
+pub message_reads : (line : Line) (m : Message) → LineIsMessage line m → OnlyReads line → message_only_reads m ≡ true
+message_reads line m h o = ap message_only_reads (one_line_message line m o.message h o.is) ∙ o.reads
 
 pub some_message : SomeMessage
 some_message b = elim (cases_lt max_line_bytes (length b)) [ inl l ↦ (unreadable, inl l) | inr s ↦ by s (ws_or_not b) (some_fault b) ]

@@ -16,10 +16,14 @@ pub data Operation : Type 0 where
 
 -- ---- methods and params
 
+-- whether a method of this name is an edit
+abbrev pub is_edit : List ℕ → Bool
+is_edit name =
+    bytes_eq name (codes "set") || (bytes_eq name (codes "insert") || (bytes_eq name (codes "push") || bytes_eq name (codes "remove")))
+
 -- whether there is a method of this name
 abbrev pub is_method : List ℕ → Bool
-is_method name =
-    bytes_eq name (codes "get") || (bytes_eq name (codes "set") || (bytes_eq name (codes "insert") || (bytes_eq name (codes "push") || bytes_eq name (codes "remove"))))
+is_method name = bytes_eq name (codes "get") || is_edit name
 
 -- the params by position (JSON-RPC 2.0, section 4.2); there are none if they are by name or omitted
 abbrev pub positional_params : Option Tree → List Tree

@@ -1,12 +1,13 @@
 -- What a line does: the next document, and a reply or none.
-use Rattle.std.specs.Prelude.{◌≡◌, ◌⊎◌, ℕ, ◌<◌, ◌≤◌, List, [], ◌∷◌, ◌++◌, length, false, Option, Some, None, Result, Ok, Err, option_map, option_to_list}
+use Rattle.std.specs.Prelude.{◌≡◌, ◌⊎◌, ℕ, ◌<◌, ◌≤◌, List, [], ◌∷◌, ◌++◌, length, Bool, false, true, cond, Option, Some, None, Result, Ok, Err, option_map, option_to_list}
+use Rattle.std.specs.List.{list_all}
 use Rattle.json_grammar.specs.Tree.{Tree, null, list, depth, no_trees, tree_and, trees_list, list_trees}
 use Rattle.json_grammar.specs.Grammar.{ws, is_text}
 use Rattle.json_lines.specs.declared.line_reader.Line.{Line}
 use Rattle.json_lines.specs.declared.line_reader.Line.TheVariants.{Whole, TooLong}
 use Rattle.json_rpc.specs.Requests.{Request, request_of}
 use Rattle.json_rpc.specs.Responses.{result_response, error_response}
-use Rattle.json_rpc.specs.Methods.{operation_of, performed}
+use Rattle.json_rpc.specs.Methods.{is_edit, operation_of, performed}
 use Rattle.json_rpc.specs.declared.error.RpcError.{RpcError}
 use Rattle.json_rpc.specs.declared.error.RpcError.TheVariants.{ParseError, InvalidRequest}
 
@@ -89,3 +90,29 @@ pub record Serves (t : Tree) (line : Line) (u : Tree) (reply : Option Tree) : Ty
   pub message : Message
   pub is : LineIsMessage line message
   pub served_so : served t message ≡ (u, reply)
+
+-- ---- what only reads
+
+-- whether a request asks for no edit. A value that is no valid request asks for nothing.
+abbrev pub request_only_reads : Option Request → Bool
+request_only_reads None = true
+request_only_reads (Some r) = cond (is_edit r.method) false true
+
+abbrev pub member_only_reads : Tree → Bool
+member_only_reads u = request_only_reads (request_of u)
+
+-- whether a value does: each member of a batch
+abbrev pub tree_only_reads : Tree → Bool
+tree_only_reads (list us) = list_all member_only_reads (trees_list us)
+tree_only_reads u = member_only_reads u
+
+abbrev pub message_only_reads : Message → Bool
+message_only_reads blank = true
+message_only_reads unreadable = true
+message_only_reads (readable u) = tree_only_reads u
+
+-- the line asks for no edit
+pub record OnlyReads (line : Line) : Type 0 where
+  pub message : Message
+  pub is : LineIsMessage line message
+  pub reads : message_only_reads message ≡ true

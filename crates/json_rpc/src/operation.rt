@@ -6,7 +6,7 @@ ghost use Rattle.json_value.specs.Edits.{step_of, path_steps};
 ghost use Rattle.json_value.specs.EditTrees.{each_in, index_of, step_in, path_in};
 ghost use Rattle.json_value.specs.Failures.{OnlyNoMemory};
 ghost use Rattle.json_value.specs.Seen.{seen, elements_seen};
-ghost use Rattle.json_rpc.specs.Methods.{positional_params, operation_with, operation_of};
+ghost use Rattle.json_rpc.specs.Methods.{is_edit, positional_params, operation_with, operation_of};
 ghost use Rattle.json_rpc.specs.Denoted.{request_seen, operation_denoted};
 ghost use Rattle.json_rpc.specs.declared.error.RpcError.TheVariants.{InvalidParams};
 
@@ -219,6 +219,13 @@ fn or_invalid(operation: Option<Operation>) -> std::result::Result<Operation, Rp
         Some(operation) => Ok(operation),
         None => Err(RpcError::InvalidParams),
     }
+}
+
+/// Returns whether a method of this name is an edit.
+pub(crate) fn is_edit(method: &str) -> bool
+    ensures { result ≡ is_edit method.now }
+{
+    matches!(method, "set" | "insert" | "push" | "remove")
 }
 
 /// Reads what a request asks for, or the error that it gets.

@@ -1,16 +1,18 @@
 // Serves a value: one request, or a batch of them.
-ghost use Rattle.std.specs.Prelude.{◌≡◌, IfOk, OnErr, Some, map, option_map};
+ghost use Rattle.std.specs.Prelude.{◌≡◌, IfOk, OnErr, Some, false, true, map, option_map};
+ghost use Rattle.std.specs.List.{list_all};
 ghost use Rattle.json_grammar.specs.Tree.{null};
 ghost use Rattle.json_value.specs.Denotes.{tree_of};
 ghost use Rattle.json_value.specs.Failures.{OnlyNoMemory};
 ghost use Rattle.json_value.specs.Seen.{seen, elements_seen};
 ghost use Rattle.json_rpc.specs.Responses.{error_response};
-ghost use Rattle.json_rpc.specs.Serving.{responded, executed, member_served, batch_served, batch_reply, whole_batch_served, served_tree};
+ghost use Rattle.json_rpc.specs.Methods.{is_edit};
+ghost use Rattle.json_rpc.specs.Serving.{responded, executed, member_served, batch_served, batch_reply, whole_batch_served, served_tree, member_only_reads, tree_only_reads};
 ghost use Rattle.json_rpc.specs.Denoted.{request_seen};
 ghost use Rattle.json_rpc.specs.declared.error.RpcError.TheVariants.{InvalidRequest};
 
 use crate::error::RpcError;
-use crate::operation::{Operation, read_operation};
+use crate::operation::{Operation, is_edit, read_operation};
 use crate::perform::{change, get};
 use crate::request::{Request, read_request};
 use crate::response::{error_response, error_with};
@@ -24,6 +26,8 @@ fn execute(alloc: Global, document: &mut Value, request: &Request<'_>) -> Result
         responded (tree_of document.old) r.id (executed r (tree_of document.old))
         ≡ (tree_of document.new, option_map tree_of o)) }
     ensures kept { OnErr result (tree_of document.new ≡ tree_of document.old) }
+    ensures reads { is_edit (request_seen request.now).method ≡ false
+        → document.new ≡ document.old }
     ensures only { OnlyNoMemory result }
 {
     match read_operation(alloc, request)? {
@@ -46,6 +50,7 @@ fn serve_member(alloc: Global, document: &mut Value, view: View<'_>) -> Result<O
     ensures ok { IfOk result (λ o. member_served (tree_of document.old) (seen view.entry)
         ≡ (tree_of document.new, option_map tree_of o)) }
     ensures kept { OnErr result (tree_of document.new ≡ tree_of document.old) }
+    ensures reads { member_only_reads (seen view.entry) ≡ true → document.new ≡ document.old }
     ensures only { OnlyNoMemory result }
 {
     match read_request(view) {
@@ -62,6 +67,8 @@ fn serve_members(alloc: Global, document: &mut Value, members: ArrayView<'_>) ->
     ensures ok { IfOk result (λ rs.
         batch_served (tree_of document.old) (elements_seen members.entry)
         ≡ (tree_of document.new, map tree_of rs.items)) }
+    ensures reads { list_all member_only_reads (elements_seen members.entry) ≡ true
+        → document.new ≡ document.old }
     ensures only { OnlyNoMemory result }
 {
     let mut replies = Vec::new(alloc);
@@ -84,15 +91,43 @@ fn reply_of(replies: Vec<Value>) -> Option<Value>
     }
 }
 
-// Serves a batch that has a member, on a clone of the document: if memory runs out half way, the
-// document stays as it is.
+// Returns whether a member of a batch asks for no edit.
+fn only_reads(view: View<'_>) -> bool
+    ensures { result ≡ member_only_reads (seen view.entry) }
+{
+    match read_request(view) {
+        Some(request) => !is_edit(request.method),
+        None => true,
+    }
+}
+
+// Returns whether each member of a batch asks for no edit.
+fn all_only_read(members: ArrayView<'_>) -> bool
+    ensures { result ≡ list_all member_only_reads (elements_seen members.entry) }
+{
+    'members: for member in members.iter() {
+        if !only_reads(member) {
+            return false;
+        }
+    }
+    true
+}
+
+// Serves a batch that has a member. One with an edit is served on a clone of the document, so that
+// the document stays as it is if memory runs out half way.
 fn serve_batch(alloc: Global, document: &mut Value, members: ArrayView<'_>) -> Result<Option<Value>>
     ensures ok { IfOk result (λ o.
         whole_batch_served (tree_of document.old) (elements_seen members.entry)
         ≡ (tree_of document.new, option_map tree_of o)) }
     ensures kept { OnErr result (tree_of document.new ≡ tree_of document.old) }
+    ensures reads { list_all member_only_reads (elements_seen members.entry) ≡ true
+        → document.new ≡ document.old }
     ensures only { OnlyNoMemory result }
 {
+    if all_only_read(members) {
+        let replies = serve_members(alloc, document, members)?;
+        return Ok(reply_of(replies));
+    }
     let mut next = document.clone(alloc)?;
     let replies = serve_members(alloc, &mut next, members)?;
     *document = next;
@@ -108,6 +143,7 @@ pub(crate) fn serve_tree(
     ensures ok { IfOk result (λ o. served_tree (tree_of document.old) (seen view.entry)
         ≡ (tree_of document.new, option_map tree_of o)) }
     ensures kept { OnErr result (tree_of document.new ≡ tree_of document.old) }
+    ensures reads { tree_only_reads (seen view.entry) ≡ true → document.new ≡ document.old }
     ensures only { OnlyNoMemory result }
 {
     let Some(members) = view.as_array() else {

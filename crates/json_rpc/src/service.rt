@@ -1,10 +1,10 @@
 // The service: a document, and what serves a line.
-ghost use Rattle.std.specs.Prelude.{◌≡◌, IfOk, OnErr, option_map};
+ghost use Rattle.std.specs.Prelude.{◌≡◌, IfOk, OnErr, option_map, true};
 ghost use Rattle.json_grammar.specs.Tree.{null};
 ghost use Rattle.json_value.specs.Denotes.{tree_of};
 ghost use Rattle.json_value.specs.Failures.{OnlyNoMemory};
 ghost use Rattle.json_rpc.specs.Responses.{error_response};
-ghost use Rattle.json_rpc.specs.Serving.{LineIsMessage, Serves, served};
+ghost use Rattle.json_rpc.specs.Serving.{LineIsMessage, OnlyReads, Serves, message_only_reads, served};
 ghost use Rattle.json_rpc.specs.Denoted.{message_denoted};
 ghost use Rattle.json_rpc.specs.declared.error.RpcError.TheVariants.{ParseError};
 
@@ -51,6 +51,8 @@ fn serve_message(alloc: Global, document: &mut Value, message: Message) -> Resul
     ensures ok { IfOk result (λ o. served (tree_of document.old) (message_denoted message)
         ≡ (tree_of document.new, option_map tree_of o)) }
     ensures kept { OnErr result (tree_of document.new ≡ tree_of document.old) }
+    ensures reads { message_only_reads (message_denoted message) ≡ true
+        → document.new ≡ document.old }
     ensures only { OnlyNoMemory result }
 {
     match message {
@@ -91,11 +93,13 @@ impl Service {
     ///
     /// A line of more than 1,048,576 bytes, or that is no JSON text (RFC 8259) of at most 254
     /// levels in UTF-8, has a reply with `ParseError`. Fails with `NoMemory` alone, and then the
-    /// document is as it was.
+    /// document is as it was. A line that asks for no edit is served on the document itself; a
+    /// batch with an edit on a clone, which shares the parts that were not edited.
     pub fn serve(&mut self, alloc: Global, line: Line<'_>) -> Result<Option<Value>>
         ensures ok { IfOk result (λ o. Serves (document_of self.old) line.entry
             (document_of self.new) (option_map tree_of o)) }
         ensures kept { OnErr result (document_of self.new ≡ document_of self.old) }
+        ensures reads { OnlyReads line.entry → self.new ≡ self.old }
         ensures only { OnlyNoMemory result }
     {
         let message = error_message(alloc, line)?;
