@@ -137,10 +137,10 @@ pub trait ArrayCalls {
         ensures only { IfErr result (λ e. e ≡ no_memory) };
 
     /// Appends the element.
-    fn push(&mut self, alloc: Global, element: Value) -> Result<()>
+    fn push(&mut self, alloc: Global, val: Value) -> Result<()>
         ensures ok { OnOk result (list_in (held self.new)
-            ≡ list_in (held self.old) ++ tree_of element ∷ []) }
-        ensures children { OnOk result (ArrayBecame (λ items. items ++ element ∷ [])
+            ≡ list_in (held self.old) ++ tree_of val ∷ []) }
+        ensures children { OnOk result (ArrayBecame (λ items. items ++ val ∷ [])
             (held self.old) (held self.new)) }
         ensures kept { OnErr result (ArrayStays (held self.old) (held self.new)) }
         ensures free { 0 < spare_in (held self.old) → IsOk result }
@@ -361,9 +361,9 @@ impl ArrayCalls for Array {
         Ok(())
     }
 
-    fn push(&mut self, alloc: Global, element: Value) -> Result<()> {
+    fn push(&mut self, alloc: Global, val: Value) -> Result<()> {
         let list = self.list_mut(alloc)?;
-        list.push(element)?;
+        list.push(val)?;
         Ok(())
     }
 

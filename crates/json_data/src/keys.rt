@@ -24,6 +24,12 @@ use std::alloc::Global;
 use std::borrow::CowStr;
 
 /// A key of a map, read from the text of a name.
+///
+/// ```
+/// use json_data::{FromKey, Piece};
+/// assert_eq!(rt; <u16 as FromKey<&str>>::from_key(alloc, &Piece::plain("1815"))?, 1815);
+/// assert!(rt; <u16 as FromKey<&str>>::from_key(alloc, &Piece::plain("born")).is_err());
+/// ```
 pub trait FromKey<S: Lent>: Sized + Ord {
     /// What a key means.
     ghost key_datum: { Self → Datum };

@@ -21,6 +21,27 @@ use json_text::Result;
 use std::alloc::Global;
 
 /// What is read so far of the members of an object.
+///
+/// ```
+/// use json_data::{Lent, Members, TextTokens, Tokens, read_members};
+/// use json_text::Result;
+/// #[derive(Drop)]
+/// struct Count(u64);
+/// impl<S: Lent> Members<S> for Count {
+///     ghost use Rattle.json_model.specs.Datum.{null_datum};
+///     ghost use Rattle.json_data.specs.Reading.{gives};
+///     ghost so_far = { λ _. null_datum };
+///     ghost step = { λ _ _ _. gives null_datum };
+///     fn member<T: Tokens<S>>(&mut self, _: Global, _: &str, tokens: &mut T) -> Result<()> {
+///         self.0 = self.0.wrapping_add(1);
+///         tokens.skip()
+///     }
+/// }
+/// let mut count = Count(0);
+/// let mut tokens = TextTokens::new("{\"a\": 1, \"b\": [2]}");
+/// read_members(alloc, &mut count, &mut tokens)?;
+/// assert_eq!(rt; count.0, 2);
+/// ```
 pub trait Members<S: Lent>: Sized {
     /// What it means.
     ghost so_far: { Self → Datum };

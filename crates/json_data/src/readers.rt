@@ -176,6 +176,12 @@ impl<S: Lent> DeserializeFrom<S> for () {
 }
 
 /// Any value, which is thrown away.
+///
+/// ```
+/// use json_data::{IgnoredAny, from_str};
+/// assert_eq!(rt; from_str::<IgnoredAny>(alloc, "{\"a\": [1]}")?, IgnoredAny);
+/// assert!(rt; from_str::<IgnoredAny>(alloc, "{\"a\": [1}").is_err());
+/// ```
 #[derive(Clone, Copy, PartialEq, Eq, Debug)]
 pub struct IgnoredAny;
 

@@ -28,6 +28,15 @@ use std::alloc::Global;
 use std::marker::Model;
 
 /// The tokens of a text that begins with a value. What stands behind the value is not looked at.
+///
+/// ```
+/// use json_data::{TextTokens, TokenKind, Tokens};
+/// let mut tokens = TextTokens::new("[true] and the rest");
+/// tokens.next()?;
+/// assert_eq!(rt; tokens.peek()?, TokenKind::Bool);
+/// tokens.skip()?;
+/// assert_eq!(rt; tokens.peek()?, TokenKind::EndArray);
+/// ```
 #[derive(Drop)]
 pub struct TextTokens<'a> {
     parser: Parser<'a>,

@@ -22,6 +22,14 @@ use std::alloc::Global;
 use std::mem;
 
 /// The tokens of a value. Its calls answer no error but `NoMemory`.
+///
+/// ```
+/// use json_data::{Token, Tokens, ValueTokens};
+/// use json_value::{Value, View};
+/// let value = Value::Bool(true);
+/// let mut tokens = ValueTokens::new(alloc, value.view());
+/// assert!(rt; matches!(tokens.next()?, Token::Bool(true)));
+/// ```
 #[derive(Drop)]
 pub struct ValueTokens<'a> {
     whole: View<'a>,
@@ -93,7 +101,8 @@ impl<'a> ValueTokens<'a> {
 
     // Goes behind the innermost container.
     fn exit(&mut self)
-        ensures state { let s = value_state self.old in (l : Left) (ls : List Left) → s.levels ≡ l ∷ ls
+        ensures state { let s = value_state self.old in (l : Left) (ls : List Left)
+            → s.levels ≡ l ∷ ls
             → value_state self.new ≡ record s { next = None; levels = ls; told = false } }
         ensures failed { self.new.failed ≡ self.old.failed }
     {

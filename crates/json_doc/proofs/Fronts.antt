@@ -1,5 +1,5 @@
 -- What the reader of one value rests on.
-use Rattle.std.proofs.Common.{◌≡◌, ◌∙◌, ◌⊎◌, inl, inr, Bool, ℕ, drop, None, ◌≤◌, List, [], ◌∷◌, take, sym, ap, subst}
+use Rattle.std.proofs.Common.{◌≡◌, ◌∙◌, ◌⊎◌, inl, inr, Bool, ℕ, drop, None, Some, ◌≤◌, List, [], ◌∷◌, take, sym, ap, subst}
 use Rattle.std.proofs.lemmas.List.{nil_from_length}
 use Rattle.json_grammar.specs.Tree.{Tree, depth, null, boolean, num, text, list, pairs, Token, tokens}
 use Rattle.json_grammar.specs.Place.{reading}
@@ -54,16 +54,29 @@ first_out p q e fresh whole goes unfailed =
 
 -- ---- the end, and a fault
 
+-- the tokens handed out to the end of the value are its own
+front_given : (old p q : ParserState) (e : Event) (t : Tree) → HasGiven old [] → (e ≡ event.End → IsWhole old) → Goes old e p → ReadsValue p e t q → HasGiven q (tokens t)
+front_given old p q e t fresh whole goes r =
+    let x = goes_on old p e (λ is. fresh_not_whole old fresh (whole is)) goes [] fresh in
+    r.goes [] (subst (λ y. HasGiven p (y ∷ [])) (means_one e x.0 r.token x.1 r.means) x.2)
+
 -- the tree of the value, which was read as far as it goes
 pub front_read : (old p q : ParserState) (e : Event) (v : DocumentVisitor) → HasGiven old [] → (e ≡ event.End → IsWhole old) → Goes old e p → SameInput old p → SameInput p q
     → (¬ (IsWhole old) → IsWhole p → HasRead p) → ((IsWhole p → HasRead p) → IsWhole q → HasRead q) → (t : Tree) × ReadsValue p e t q × Holds v (tokens t)
     → (t : Tree) × reads old.lossy (input old) t (taken q) × (depth t ≤ old.limit) × Holds v (tokens t)
 front_read old p q e v fresh whole goes same on first more (t, r, held) =
-    let open_still = fresh_not_whole old fresh in
-    let x = goes_on old p e (λ is. open_still (whole is)) goes [] fresh in
-    let given : HasGiven q (tokens t) = r.goes [] (subst (λ y. HasGiven p (y ∷ [])) (means_one e x.0 r.token x.1 r.means) x.2) in
-    let u = more (first open_still) (tree_whole q t given) (tokens t) given in
+    let given = front_given old p q e t fresh whole goes r in
+    let u = more (first (fresh_not_whole old fresh)) (tree_whole q t given) (tokens t) given in
     (u.0, subst (λ (m : Bool). reads m (input old) u.0 (taken q)) (on.lossy ∙ same.lossy) (subst (λ (y : List ℕ). reads q.lossy y u.0 (taken q)) (input_is p q on ∙ input_is old p same) u.1), subst (λ n. depth u.0 ≤ n) (on.limit ∙ same.limit) u.3, subst (λ (us : List Token). Holds v us) u.2 held)
+
+-- behind it the parser is done
+pub front_whole : (old p q : ParserState) (e : Event) (v : DocumentVisitor) → HasGiven old [] → (e ≡ event.End → IsWhole old) → Goes old e p → (t : Tree) × ReadsValue p e t q × Holds v (tokens t) → IsWhole q × (q.failure ≡ None)
+front_whole old p q e v fresh whole goes (t, r, held) = (tree_whole q t (front_given old p q e t fresh whole goes r), r.unfailed)
+
+-- what is refused is kept
+pub front_kept : (q : ParserState) (e : Error) → (e ≡ no_memory) ⊎ RefusesValue q e → (e ≡ no_memory) ⊎ (q.failure ≡ Some e)
+front_kept q e (inl m) = inl m
+front_kept q e (inr r) = inr r.kept
 
 pub front_fails : (old p : ParserState) (c : ErrorCode) (at : Place) → SameInput old p → ValueFaultFrom p.lossy p.limit p.start p.text c at → FrontFails old c at
 front_fails old p c at same h = by c at

@@ -1,11 +1,12 @@
 // Reads a text into a document.
-ghost use Rattle.std.specs.Prelude.{◌≡◌, ◌+◌, ◌-◌, ◌≤◌, ◌<◌, ◌^◌, List, ℕ, [], ◌∷◌, ◌++◌, length, true, false, IfOk, IfErr, OnOk};
+ghost use Rattle.std.specs.Prelude.{◌≡◌, ◌⊎◌, ◌+◌, ◌-◌, ◌≤◌, ◌<◌, ◌^◌, List, ℕ, [], ◌∷◌, ◌++◌, length, true, false, None, Some, IfOk, IfErr, OnOk};
 ghost use Rattle.json_grammar.specs.Tree.{Tree, Token, num_token, depth};
 ghost use Rattle.json_grammar.specs.Grammar.{is_text, number};
 ghost use Rattle.json_grammar.specs.Fault.{reads};
 ghost use Rattle.json_grammar.specs.Rules.{fits};
+ghost use Rattle.json_text.specs.Errors.{no_memory};
 ghost use Rattle.json_text.specs.Events.{Means, raw_size, token_bytes};
-ghost use Rattle.json_text.specs.Parsing.{input, taken, HasGiven, SameInput};
+ghost use Rattle.json_text.specs.Parsing.{input, taken, HasGiven, IsWhole, SameInput};
 ghost use Rattle.json_text.specs.Positions.{place_at};
 ghost use Rattle.json_text.specs.Ruled.{rules_of};
 ghost use Rattle.json_doc.specs.Awaited.{Begins};
@@ -223,8 +224,9 @@ pub fn read_document(alloc: Global, text: &str) -> Result<Rc<Doc>>
 }
 
 /// The document of one value, whatever follows it: the parser, which has handed out no event, goes on to the end of the
-/// value and stands right behind it. It reads in its mode, strict or lossy. Each fault of what it reads, as a value, is told
-/// with its place in the text; or memory runs out.
+/// value and stands right behind it, done. It reads in its mode, strict or lossy. Each fault of what it reads, as a value,
+/// is told with its place in the text, and each later call of the parser's `next` returns it again. Or memory runs out,
+/// and then the parser may stand within the value.
 ///
 /// ```
 /// use json_doc::read_front;
@@ -239,7 +241,9 @@ pub fn read_front(alloc: Global, parser: &mut Parser<'_>) -> Result<Rc<Doc>>
     ensures ok { IfOk result (λ d. (t : Tree)
         × reads parser.old.lossy (input parser.old) t (taken parser.new)
         × (depth t ≤ parser.old.limit) × IsDocOf d.value t) }
+    ensures done { OnOk result (IsWhole parser.new × (parser.new.failure ≡ None)) }
     ensures err { IfErr result (λ e. FrontFails parser.old e.code e.place) }
+    ensures kept { IfErr result (λ e. (e ≡ no_memory) ⊎ (parser.new.failure ≡ Some e)) }
 {
     let mut visitor = DocumentVisitor::with_room(alloc, 0, 0)?;
     let first = parser.next()?;

@@ -3,7 +3,7 @@ ghost use Rattle.std.specs.Prelude.{◌≡◌, ◌++◌, option_map};
 ghost use Rattle.json_grammar.specs.Grammar.{boolean_bytes};
 ghost use Rattle.json_doc.specs.Seen.{view_tree};
 ghost use Rattle.json_number.specs.Numbers.{text_of_number};
-ghost use Rattle.json_print.specs.Showing.{Shows};
+ghost use Rattle.json_print.specs.Adding.{Adds};
 ghost use Rattle.json_print.specs.TextWriting.{WritesText};
 ghost use Rattle.json_lines.specs.Cells.{cell_of, cell_where};
 ghost use Rattle.json_lines.specs.Tables.{cell_kind, cell_separator, string_cell, integer_cell, boolean_cell};
@@ -31,7 +31,7 @@ pub(crate) fn write_bytes<W: Sink>(out: &mut BufferedWriter<W>, piece: &[u8]) ->
 
 // Shows an integer.
 fn show_integer<W: Sink>(out: &mut BufferedWriter<W>, number: Number) -> Shown
-    ensures { Shows
+    ensures { Adds
         (⟦<BufferedWriter<W> as Sink>⟧.state out.old) (⟦<BufferedWriter<W> as Sink>⟧.state out.new)
         (text_of_number number) result }
 {
@@ -46,7 +46,7 @@ fn show_integer<W: Sink>(out: &mut BufferedWriter<W>, number: Number) -> Shown
 
 // Shows the cell of a string: a dash where there is none.
 fn show_string_cell<W: Sink>(out: &mut BufferedWriter<W>, string: Option<&str>) -> Shown
-    ensures { Shows
+    ensures { Adds
         (⟦<BufferedWriter<W> as Sink>⟧.state out.old) (⟦<BufferedWriter<W> as Sink>⟧.state out.new)
         (string_cell (option_map (λ s. s.now) string.entry)) result }
 {
@@ -58,7 +58,7 @@ fn show_string_cell<W: Sink>(out: &mut BufferedWriter<W>, string: Option<&str>) 
 
 // Shows the cell of an integer: a dash where there is none.
 fn show_integer_cell<W: Sink>(out: &mut BufferedWriter<W>, number: Option<Number>) -> Shown
-    ensures { Shows
+    ensures { Adds
         (⟦<BufferedWriter<W> as Sink>⟧.state out.old) (⟦<BufferedWriter<W> as Sink>⟧.state out.new)
         (integer_cell (option_map text_of_number number)) result }
 {
@@ -70,7 +70,7 @@ fn show_integer_cell<W: Sink>(out: &mut BufferedWriter<W>, number: Option<Number
 
 // Shows the cell of a boolean: a dash where there is none.
 fn show_boolean_cell<W: Sink>(out: &mut BufferedWriter<W>, boolean: Option<bool>) -> Shown
-    ensures { Shows
+    ensures { Adds
         (⟦<BufferedWriter<W> as Sink>⟧.state out.old) (⟦<BufferedWriter<W> as Sink>⟧.state out.new)
         (boolean_cell boolean) result }
 {

@@ -38,6 +38,7 @@ fn step_into<'a>(view: DocView<'a>, step: &PointerNode) -> Option<DocView<'a>>
 }
 
 // Returns the value to which a path leads.
+#[inline(always)]
 pub(crate) fn follow<'a>(view: DocView<'a>, path: &[PointerNode]) -> Option<DocView<'a>>
     ensures { option_map view_tree result ≡ tree_at (steps_of path.now) (view_tree view.entry) }
 {

@@ -1,5 +1,5 @@
 -- What showing a text by parts does to a sink.
-use Rattle.std.specs.Prelude.{◌≡◌, ℕ, ◌≤◌, List, [], ◌∷◌, ◌++◌, Bool, true, false, Option, Result, OnOk, OnErr, IsErrOf}
+use Rattle.std.specs.Prelude.{◌≡◌, ◌⊎◌, ℕ, ◌+◌, ◌-◌, ◌^◌, ◌≤◌, List, [], ◌∷◌, ◌++◌, length, Bool, true, false, Option, Result, OnOk, OnErr, IsErrOf}
 use Rattle.json_model.specs.Print.{line, quoted, colon_bytes}
 use Rattle.json_print.specs.Calls.{comma}
 use Rattle.json_text.specs.Known.{Appends}
@@ -8,13 +8,19 @@ use Rattle.json_text.specs.declared.sink.SinkError.TheVariants as sink_error
 use Rattle.json_text.specs.Outside.{SinkState, Rose}
 use Rattle.json_text.specs.Transfer.{AppendsFront}
 
--- this text was added, or a front of it. Where the sink failed its count of that rose; memory can also be lacking before a call of it
-pub record Shows (old new : SinkState) (text : List ℕ) (result : Result (Unit {0}) SinkError) : Type 0 where
+-- the sink found no memory, or a text of so many bytes has as many as a usize counts
+abbrev pub RanOut : SinkState → SinkState → ℕ → Type 0
+RanOut old new size = Rose old.lacks new.lacks ⊎ (2 ^ 64 - 1 ≤ size)
+
+-- this text, which has so many containers around it, was added, or a front of it, and why not all of it was
+pub record Shows (level : ℕ) (old new : SinkState) (text : List ℕ) (result : Result (Unit {0}) SinkError) : Type 0 where
   pub ok : OnOk result (Appends old.gained new.gained text)
   pub err : OnErr result (AppendsFront old.gained new.gained text)
   pub faults_ok : OnOk result (new.faults ≡ old.faults)
   pub failed : IsErrOf result sink_error.Failed → Rose old.faults new.faults
+  pub lacks_ok : OnOk result (new.lacks ≡ old.lacks)
   pub lacking : IsErrOf result sink_error.NoMemory → new.faults ≡ old.faults
+  pub ran_out : IsErrOf result sink_error.NoMemory → RanOut old new (level + length text)
   pub later : old.faults ≤ new.faults
   pub same_loan : new.loan ≡ old.loan
 

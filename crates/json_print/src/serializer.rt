@@ -113,11 +113,13 @@ impl<W: Sink, F: Formatter> Serializer<W, F> {
 
     /// The writer. Where the calls were those of the tokens of a tree, it has gained the text of the tree in the layout of the formatter;
     /// where they were the first of them, a prefix of that text, and also where an error was answered behind them.
+    /// Of any formatter it has gained the pieces of the calls that reached it, in order.
     /// `Io` at `Writing` was answered exactly where a call of the writer failed.
     pub fn into_inner(self) -> W
     where
         F: Drop,
-        ensures { Written F.form (out_of W.state self) (W.state result) }
+        ensures written { Written F.form (out_of W.state self) (W.state result) }
+        ensures gained { (W.state result).gained ≡ (out_of W.state self).gained }
     {
         self.writer
     }

@@ -1,11 +1,12 @@
 // The parts of a text whose places are known where they are written, so that nothing of them is kept.
-ghost use Rattle.std.specs.Prelude.{◌≡◌, ◌∷◌, ◌++◌, [], ℕ, List, Option, None, Some};
+ghost use Rattle.std.specs.Prelude.{◌≡◌, ◌+◌, ◌∷◌, ◌++◌, [], ℕ, List, Option, None, Some, length, IsErrOf};
 ghost use Rattle.std.specs.Fmt.{decimal, signed_decimal};
 ghost use Rattle.json_model.specs.Print.{quoted, colon_bytes};
+ghost use Rattle.json_text.specs.Errors.{no_memory};
 ghost use Rattle.json_text.specs.Outside.{SinkState};
 ghost use Rattle.json_print.specs.Adding.{Adds};
 ghost use Rattle.json_print.specs.Calls.{comma};
-ghost use Rattle.json_print.specs.Showing.{Shows, lead, closed_by, key_shown, text_shown};
+ghost use Rattle.json_print.specs.Showing.{RanOut, Shows, lead, closed_by, key_shown, text_shown};
 ghost use Rattle.json_print.specs.TextWriting.{WritesText};
 
 use crate::BufferedWriter;
@@ -33,7 +34,7 @@ pub trait Layout: Copy {
 
     /// Writes what stands before an element that is no string.
     fn lead<W: Sink>(self, out: &mut BufferedWriter<W>, level: usize, first: bool) -> Added
-        ensures { Shows (⟦<BufferedWriter<W> as Sink>⟧.state out.old)
+        ensures { Adds (⟦<BufferedWriter<W> as Sink>⟧.state out.old)
             (⟦<BufferedWriter<W> as Sink>⟧.state out.new) (lead (indent self) level first) result };
 
     /// Writes an element that is a string, and what stands before it.
@@ -44,7 +45,7 @@ pub trait Layout: Copy {
         first: bool,
         text: &str,
     ) -> Added
-        ensures { Shows (⟦<BufferedWriter<W> as Sink>⟧.state out.old)
+        ensures { Adds (⟦<BufferedWriter<W> as Sink>⟧.state out.old)
             (⟦<BufferedWriter<W> as Sink>⟧.state out.new)
             (text_shown (indent self) level first text.now) result };
 
@@ -56,13 +57,13 @@ pub trait Layout: Copy {
         first: bool,
         key: &str,
     ) -> Added
-        ensures { Shows (⟦<BufferedWriter<W> as Sink>⟧.state out.old)
+        ensures { Adds (⟦<BufferedWriter<W> as Sink>⟧.state out.old)
             (⟦<BufferedWriter<W> as Sink>⟧.state out.new)
             (key_shown (indent self) level first key.now) result };
 
     /// Writes what stands behind a key.
     fn colon<W: Sink>(self, out: &mut BufferedWriter<W>) -> Added
-        ensures { Shows (⟦<BufferedWriter<W> as Sink>⟧.state out.old)
+        ensures { Adds (⟦<BufferedWriter<W> as Sink>⟧.state out.old)
             (⟦<BufferedWriter<W> as Sink>⟧.state out.new) (colon_bytes (indent self)) result };
 
     /// Writes a closing bracket, and what stands before it. `empty` says that no element and no member came.
@@ -73,7 +74,7 @@ pub trait Layout: Copy {
         empty: bool,
         bracket: u8,
     ) -> Added
-        ensures { Shows (⟦<BufferedWriter<W> as Sink>⟧.state out.old)
+        ensures { Adds (⟦<BufferedWriter<W> as Sink>⟧.state out.old)
             (⟦<BufferedWriter<W> as Sink>⟧.state out.new)
             (closed_by (indent self) level empty bracket) result };
 }
@@ -101,6 +102,16 @@ fn add_key<W: Sink>(out: &mut W, first: bool, key: &[u8]) -> Added
 }
 
 /// No whitespace between the tokens.
+///
+/// ```
+/// use json_print::{BufferedWriter, Layout, OneLine, answered};
+/// use json_text::{VecSink, flush_all};
+/// let mut out = BufferedWriter::new(alloc, VecSink::new(alloc))?;
+/// answered(OneLine.element(&mut out, 0, true, "Ada"))?;
+/// answered(OneLine.element(&mut out, 0, false, "Grace"))?;
+/// flush_all(&mut out)?;
+/// assert_eq!(rt; out.into_inner().as_slice(), b"\"Ada\",\"Grace\"".as_slice());
+/// ```
 #[derive(Clone, Copy, Debug)]
 pub struct OneLine;
 
@@ -162,6 +173,15 @@ impl Layout for OneLine {
 }
 
 /// Each element and each member on a line of its own, behind one indent for each container around it.
+///
+/// ```
+/// use json_print::{BufferedWriter, Layout, ManyLines, answered};
+/// use json_text::{VecSink, flush_all};
+/// let mut out = BufferedWriter::new(alloc, VecSink::new(alloc))?;
+/// answered(ManyLines::new(b"\t").element(&mut out, 1, true, "Ada"))?;
+/// flush_all(&mut out)?;
+/// assert_eq!(rt; out.into_inner().as_slice(), b"\n\t\"Ada\"".as_slice());
+/// ```
 #[derive(Clone, Copy, Debug)]
 pub struct ManyLines<'a> {
     indent: Indent<'a>,
@@ -235,7 +255,7 @@ impl Layout for ManyLines<'_> {
 /// Writes a piece of the text as it is.
 #[inline(always)]
 pub fn show_piece<W: Sink>(out: &mut BufferedWriter<W>, piece: &[u8]) -> Added
-    ensures { Shows (⟦<BufferedWriter<W> as Sink>⟧.state out.old)
+    ensures { Adds (⟦<BufferedWriter<W> as Sink>⟧.state out.old)
         (⟦<BufferedWriter<W> as Sink>⟧.state out.new) piece.now result }
 {
     add(out, piece)
@@ -244,7 +264,7 @@ pub fn show_piece<W: Sink>(out: &mut BufferedWriter<W>, piece: &[u8]) -> Added
 /// Writes a string, between quotes and escaped.
 #[inline(always)]
 pub fn show_text<W: Sink>(out: &mut BufferedWriter<W>, text: &str) -> Added
-    ensures { Shows (⟦<BufferedWriter<W> as Sink>⟧.state out.old)
+    ensures { Adds (⟦<BufferedWriter<W> as Sink>⟧.state out.old)
         (⟦<BufferedWriter<W> as Sink>⟧.state out.new) (quoted text.now) result }
 {
     if out.put_item(true, text.as_bytes()) {
@@ -256,7 +276,7 @@ pub fn show_text<W: Sink>(out: &mut BufferedWriter<W>, text: &str) -> Added
 /// Writes an integer from zero on.
 #[inline(always)]
 pub fn show_unsigned<W: Sink>(out: &mut BufferedWriter<W>, number: u64) -> Added
-    ensures { Shows (⟦<BufferedWriter<W> as Sink>⟧.state out.old)
+    ensures { Adds (⟦<BufferedWriter<W> as Sink>⟧.state out.old)
         (⟦<BufferedWriter<W> as Sink>⟧.state out.new) (decimal number) result }
 {
     add_unsigned(out, number)
@@ -265,7 +285,7 @@ pub fn show_unsigned<W: Sink>(out: &mut BufferedWriter<W>, number: u64) -> Added
 /// Writes an integer.
 #[inline(always)]
 pub fn show_signed<W: Sink>(out: &mut BufferedWriter<W>, number: i64) -> Added
-    ensures { Shows (⟦<BufferedWriter<W> as Sink>⟧.state out.old)
+    ensures { Adds (⟦<BufferedWriter<W> as Sink>⟧.state out.old)
         (⟦<BufferedWriter<W> as Sink>⟧.state out.new) (signed_decimal number) result }
 {
     add_number(out, number)
@@ -273,8 +293,11 @@ pub fn show_signed<W: Sink>(out: &mut BufferedWriter<W>, number: i64) -> Added
 
 /// The answer to a caller: why a call of the sink failed, or that memory was lacking.
 pub fn answered(shown: Added) -> Result<()>
-    ensures { (old new : SinkState) (text : List ℕ) → Shows old new text shown
-        → WritesText old new text result }
+    ensures text { (level : ℕ) (old new : SinkState) (text : List ℕ)
+        → Shows level old new text shown → WritesText old new text result }
+    ensures ran_out { (level : ℕ) (old new : SinkState) (text : List ℕ)
+        → Shows level old new text shown → IsErrOf result no_memory
+        → RanOut old new (level + length text) }
 {
     match shown {
         Ok(()) => Ok(()),

@@ -1,7 +1,7 @@
 -- Values that are read at places of documents.
-use Rattle.std.proofs.Common.{◌≡◌, ℕ, ◌+◌, ◌-◌, List, [], ◌∷◌, Option, Some, None, length, sym, ap, ◌∙◌, arith}
+use Rattle.std.proofs.Common.{◌≡◌, ℕ, ◌+◌, ◌-◌, List, [], ◌∷◌, Option, Some, None, length, refl, sym, ap, ◌∙◌, arith}
 use Rattle.std.specs.Prelude.{slice_get}
-use Rattle.json_grammar.specs.Tree.{Tree, text, list, pairs, list_trees, list_pairs}
+use Rattle.json_grammar.specs.Tree.{Tree, text, list, pairs, no_trees, tree_and, no_pairs, pair_and, list_trees, list_pairs}
 use Rattle.json_doc.specs.Docs.{doc_tree}
 use Rattle.json_doc.specs.Seen.{view_doc, view_place, view_tree}
 use Rattle.json_doc.specs.Readings.{type_of, elements, children}
@@ -11,7 +11,7 @@ use Rattle.json_doc.specs.declared.json_type.JsonType.TheVariants as kind
 use Rattle.json_value.specs.Readings.{members, text_said}
 use Rattle.json_value.specs.Denotes.{tree_of, pair_of, text_bytes}
 use Rattle.json_value.specs.Said.{place_tree}
-use Rattle.json_value.specs.Spots.{CellRef, spot_in, spot_of, spot_of_text, read_spot, member_spots, read_member_spots}
+use Rattle.json_value.specs.Spots.{CellRef, spot_in, spot_of, spot_of_text, kept_spot, read_spot, member_spots, read_member_spots}
 use Rattle.json_value.specs.declared.place.Place.{Place}
 use Rattle.json_value.specs.declared.pair.Keyed.{Keyed}
 use Rattle.json_value.specs.declared.container.Form.TheVariants.{Empty, Packed}
@@ -34,6 +34,17 @@ empty_array_read t h e = array_tree (record { form = Empty }) ∙ no_array t h e
 
 pub empty_object_read : (t : Tree) → type_of t ≡ kind.Object → length (children t) ≡ 0 → tree_of (Object (record { form = Empty })) ≡ t
 empty_object_read t h e = object_tree (record { form = Empty }) ∙ no_object t h e
+
+-- the place of a container that has members is kept
+pub array_kept : (t : Tree) (s : CellRef) → type_of t ≡ kind.Array → (length (children t) ≡ 0 → ⊥) → kept_spot t s ≡ None → ⊥
+array_kept (list no_trees) s k some none = some refl
+array_kept (list (tree_and t ts)) s k some none = cc
+array_kept _ s k some none = absurd (cc)
+
+pub object_kept : (t : Tree) (s : CellRef) → type_of t ≡ kind.Object → (length (children t) ≡ 0 → ⊥) → kept_spot t s ≡ None → ⊥
+object_kept (pairs no_pairs) s k some none = some refl
+object_kept (pairs (pair_and k' t ps)) s k some none = cc
+object_kept _ s k some none = absurd (cc)
 
 -- the member that is read from the place of a value, and of the key before it
 pub member_read : (d : Doc) (key value : DocView) (m : Keyed Value) (k : List ℕ) → view_doc key ≡ d → view_doc value ≡ d → Some (view_tree key) ≡ Some (text k)

@@ -1,20 +1,21 @@
 -- What is still to be shown of a container, element by element.
-use Rattle.std.proofs.Common.{◌≡◌, ℕ, zero, suc, ◌+◌, ◌≤◌, List, [], ◌∷◌, ◌++◌, length, take, drop, slice_get, Bool, true, false, Option, Some, Result, Ok, Err, refl, sym, ap, subst, ◌∙◌, arith, append_assoc}
+use Rattle.std.proofs.Common.{◌≡◌, ℕ, zero, suc, ◌+◌, ◌≤◌, List, [], ◌∷◌, ◌++◌, length, take, drop, slice_get, Bool, true, false, Option, Some, Result, Ok, Err, refl, sym, ap, ◌∙◌, arith, append_assoc}
 use Rattle.std.proofs.Math.Seq.{drop-cons}
 use Rattle.std.proofs.lemmas.Option.{slice_get_within, get_or_from_slice_get}
-use Rattle.json_grammar.specs.Tree.{Tree, Trees, Pairs, null, boolean, num, text, list, list_trees, pairs, list_pairs, trees_list, pairs_list}
+use Rattle.json_grammar.specs.Tree.{Tree, list, list_trees, pairs, list_pairs}
 use Rattle.json_grammar.specs.Sizes.{nodes, trees_nodes, pairs_nodes}
-use Rattle.json_model.specs.Print.{shown, trees_shown, more_trees_shown, pairs_shown, more_pairs_shown, line, quoted, colon_bytes}
+use Rattle.json_model.specs.Print.{shown, more_trees_shown, more_pairs_shown, line, quoted, colon_bytes}
 use Rattle.json_text.specs.declared.sink.SinkError.{SinkError}
 use Rattle.json_text.specs.Outside.{SinkState}
 use Rattle.json_doc.specs.Nodes.{NodeOf}
 use Rattle.json_doc.specs.Left.{children_left, pairs_left}
 use Rattle.json_doc.specs.declared.node.DocNode.{DocNode}
 use Rattle.json_doc.specs.declared.node.DocNode.TheVariants as node
+use Rattle.json_print.specs.Adding.{Adds}
 use Rattle.json_print.specs.Buffered.{held_behind}
 use Rattle.json_print.specs.declared.buffered.BufferedWriter.{BufferedWriter}
 use Rattle.json_print.specs.Showing.{Shows, lead, closed_by, key_shown}
-use Rattle.json_print.proofs.ShownParts.{Shows-first, Shows-then, Shows-same}
+use Rattle.json_print.proofs.ShownParts.{added_shows, Shows-first, Shows-within, Shows-then, Shows-same}
 use Rattle.json_value.specs.ShownNodes.{node_tree}
 use Rattle.json_value.proofs.TokensGiven.{list_seen, pairs_seen}
 
@@ -85,44 +86,44 @@ object_is i d ps = ap (λ e. 123 ∷ members_left i d e true ps) (next d) ∙ ob
 abbrev pub held : {W : Type 0} → (W → SinkState) → BufferedWriter W → SinkState
 held state b = held_behind (state b.inner) (drop b.sent (take b.end b.buffer.items))
 
--- what is left of it brings all that was to be shown
-pub Goes : SinkState → SinkState → List ℕ → List ℕ → Type 0
-Goes old now left all = (new : SinkState) (r : Result (Unit {0}) SinkError) → Shows now new left r → Shows old new all r
+-- what is left of it, with e containers around it, brings all that was to be shown, which has d around it
+pub Goes : ℕ → ℕ → SinkState → SinkState → List ℕ → List ℕ → Type 0
+Goes d e old now left all = (new : SinkState) (r : Result (Unit {0}) SinkError) → Shows e now new left r → Shows d old new all r
 
--- behind the first piece
-pub goes_first : (old now : SinkState) (p left all : List ℕ) (u : Unit {0}) → Shows old now p (Ok u) → p ++ left ≡ all → Goes old now left all
+-- behind the bracket that opens it
+pub goes_first : (d : ℕ) (old now : SinkState) (x : ℕ) (left all : List ℕ) (u : Unit {0}) → Adds old now (x ∷ []) (Ok u) → x ∷ left ≡ all → Goes d (d + 1) old now left all
 unfolding Goes
-goes_first old now p left all u h e new r k = Shows-same old new (p ++ left) all r e (Shows-then old now new p left u r h k)
+goes_first d old now x left all u h is new r k = Shows-same old new (x ∷ left) all r is (Shows-within d (d + 1) old now new (x ∷ []) left u r (omega arith) (added_shows old now (x ∷ []) (Ok u) h) k)
 
 -- behind one more
-pub goes_on : (old now next : SinkState) (p rest left all : List ℕ) (u : Unit {0}) → Goes old now left all → left ≡ p ++ rest → Shows now next p (Ok u) → Goes old next rest all
+pub goes_on : (d e : ℕ) (old now next : SinkState) (p rest left all : List ℕ) (u : Unit {0}) → Goes d e old now left all → left ≡ p ++ rest → Shows e now next p (Ok u) → Goes d e old next rest all
 unfolding Goes
-goes_on old now next p rest left all u g e h new r k = g new r (Shows-same now new (p ++ rest) left r (sym e) (Shows-then now next new p rest u r h k))
+goes_on d e old now next p rest left all u g is h new r k = g new r (Shows-same now new (p ++ rest) left r (sym is) (Shows-then now next new p rest u r h k))
 
 -- one failed
-pub goes_failed : (old now next : SinkState) (p rest left all : List ℕ) (x : SinkError) → Goes old now left all → left ≡ p ++ rest → Shows now next p (Err x) → Shows old next all (Err x)
+pub goes_failed : (d e : ℕ) (old now next : SinkState) (p rest left all : List ℕ) (x : SinkError) → Goes d e old now left all → left ≡ p ++ rest → Shows e now next p (Err x) → Shows d old next all (Err x)
 unfolding Goes
-goes_failed old now next p rest left all x g e h = g next (Err x) (Shows-same now next (p ++ rest) left (Err x) (sym e) (Shows-first now next p rest x h))
+goes_failed d e old now next p rest left all x g is h = g next (Err x) (Shows-same now next (p ++ rest) left (Err x) (sym is) (Shows-first now next p rest x h))
 
--- the last is all that is left
-pub goes_last : (old now new : SinkState) (p left all : List ℕ) (r : Result (Unit {0}) SinkError) → Goes old now left all → p ≡ left → Shows now new p r → Shows old new all r
+-- the bracket that closes it is all that is left
+pub goes_last : (d e : ℕ) (old now new : SinkState) (p left all : List ℕ) (r : Result (Unit {0}) SinkError) → Goes d e old now left all → p ≡ left → Adds now new p r → Shows d old new all r
 unfolding Goes
-goes_last old now new p left all r g e h = g new r (Shows-same now new p left r e h)
+goes_last d e old now new p left all r g is h = g new r (Shows-same now new p left r is (added_shows now new p r h))
 
 -- ---- an array
 
 element_eq : (i : Option (List ℕ)) (d e : ℕ) (first : Bool) (n u : Tree) (left rest : List Tree) → left ≡ u ∷ rest → n ≡ u → elements_left i d e first left ≡ (lead i e first ++ shown i e n) ++ elements_left i d e false rest
 element_eq i d e first n u left rest h k = ap (elements_left i d e first) h ∙ ap (λ t. (lead i e first ++ shown i e t) ++ elements_left i d e false rest) (sym k)
 
-pub element_on : (old now next : SinkState) (i : Option (List ℕ)) (d e : ℕ) (first : Bool) (n u : Tree) (left rest : List Tree) (all : List ℕ) (o : Unit {0}) → Goes old now (elements_left i d e first left) all → left ≡ u ∷ rest → n ≡ u → Shows now next (lead i e first ++ shown i e n) (Ok o)
-    → Goes old next (elements_left i d e false rest) all
+pub element_on : (old now next : SinkState) (i : Option (List ℕ)) (d e : ℕ) (first : Bool) (n u : Tree) (left rest : List Tree) (all : List ℕ) (o : Unit {0}) → Goes d e old now (elements_left i d e first left) all → left ≡ u ∷ rest → n ≡ u → Shows e now next (lead i e first ++ shown i e n) (Ok o)
+    → Goes d e old next (elements_left i d e false rest) all
 element_on old now next i d e first n u left rest all o g h k s =
-    goes_on old now next (lead i e first ++ shown i e n) (elements_left i d e false rest) (elements_left i d e first left) all o g (element_eq i d e first n u left rest h k) s
+    goes_on d e old now next (lead i e first ++ shown i e n) (elements_left i d e false rest) (elements_left i d e first left) all o g (element_eq i d e first n u left rest h k) s
 
-pub element_failed : (old now next : SinkState) (i : Option (List ℕ)) (d e : ℕ) (first : Bool) (n u : Tree) (left rest : List Tree) (all : List ℕ) (x : SinkError) → Goes old now (elements_left i d e first left) all → left ≡ u ∷ rest → n ≡ u → Shows now next (lead i e first ++ shown i e n) (Err x)
-    → Shows old next all (Err x)
+pub element_failed : (old now next : SinkState) (i : Option (List ℕ)) (d e : ℕ) (first : Bool) (n u : Tree) (left rest : List Tree) (all : List ℕ) (x : SinkError) → Goes d e old now (elements_left i d e first left) all → left ≡ u ∷ rest → n ≡ u → Shows e now next (lead i e first ++ shown i e n) (Err x)
+    → Shows d old next all (Err x)
 element_failed old now next i d e first n u left rest all x g h k s =
-    goes_failed old now next (lead i e first ++ shown i e n) (elements_left i d e false rest) (elements_left i d e first left) all x g (element_eq i d e first n u left rest h k) s
+    goes_failed d e old now next (lead i e first ++ shown i e n) (elements_left i d e false rest) (elements_left i d e first left) all x g (element_eq i d e first n u left rest h k) s
 
 -- an element and those behind it have no more nodes than all
 pub element_bound : (n u : Tree) (left rest : List Tree) → left ≡ u ∷ rest → n ≡ u → nodes n + trees_nodes (list_trees rest) ≡ trees_nodes (list_trees left)
@@ -133,20 +134,20 @@ element_bound n u left rest h k = ap (λ t. nodes t + trees_nodes (list_trees re
 member_eq : (i : Option (List ℕ)) (d e : ℕ) (first : Bool) (k : List ℕ) (n u : Tree) (left rest : List (List ℕ × Tree)) → left ≡ (k, u) ∷ rest → n ≡ u → members_left i d e first left ≡ (key_shown i e first k ++ shown i e n) ++ members_left i d e false rest
 member_eq i d e first k n u left rest h s = ap (members_left i d e first) h ∙ ap (λ t. (key_shown i e first k ++ shown i e t) ++ members_left i d e false rest) (sym s)
 
-pub member_on : (old now mid next : SinkState) (i : Option (List ℕ)) (d e : ℕ) (first : Bool) (k : List ℕ) (n u : Tree) (left rest : List (List ℕ × Tree)) (all : List ℕ) (o p : Unit {0}) → Goes old now (members_left i d e first left) all → left ≡ (k, u) ∷ rest → n ≡ u → Shows now mid (key_shown i e first k) (Ok o)
-    → Shows mid next (shown i e n) (Ok p) → Goes old next (members_left i d e false rest) all
+pub member_on : (old now mid next : SinkState) (i : Option (List ℕ)) (d e : ℕ) (first : Bool) (k : List ℕ) (n u : Tree) (left rest : List (List ℕ × Tree)) (all : List ℕ) (o p : Unit {0}) → Goes d e old now (members_left i d e first left) all → left ≡ (k, u) ∷ rest → n ≡ u → Adds now mid (key_shown i e first k) (Ok o)
+    → Shows e mid next (shown i e n) (Ok p) → Goes d e old next (members_left i d e false rest) all
 member_on old now mid next i d e first k n u left rest all o p g h s a b =
-    goes_on old now next (key_shown i e first k ++ shown i e n) (members_left i d e false rest) (members_left i d e first left) all p g (member_eq i d e first k n u left rest h s) (Shows-then now mid next (key_shown i e first k) (shown i e n) o (Ok p) a b)
+    goes_on d e old now next (key_shown i e first k ++ shown i e n) (members_left i d e false rest) (members_left i d e first left) all p g (member_eq i d e first k n u left rest h s) (Shows-then now mid next (key_shown i e first k) (shown i e n) o (Ok p) (added_shows now mid (key_shown i e first k) (Ok o) a) b)
 
-pub key_failed : (old now next : SinkState) (i : Option (List ℕ)) (d e : ℕ) (first : Bool) (k : List ℕ) (u : Tree) (left rest : List (List ℕ × Tree)) (all : List ℕ) (x : SinkError) → Goes old now (members_left i d e first left) all → left ≡ (k, u) ∷ rest → Shows now next (key_shown i e first k) (Err x)
-    → Shows old next all (Err x)
+pub key_failed : (old now next : SinkState) (i : Option (List ℕ)) (d e : ℕ) (first : Bool) (k : List ℕ) (u : Tree) (left rest : List (List ℕ × Tree)) (all : List ℕ) (x : SinkError) → Goes d e old now (members_left i d e first left) all → left ≡ (k, u) ∷ rest → Adds now next (key_shown i e first k) (Err x)
+    → Shows d old next all (Err x)
 key_failed old now next i d e first k u left rest all x g h a =
-    goes_failed old now next (key_shown i e first k ++ shown i e u) (members_left i d e false rest) (members_left i d e first left) all x g (member_eq i d e first k u u left rest h refl) (Shows-first now next (key_shown i e first k) (shown i e u) x a)
+    goes_failed d e old now next (key_shown i e first k ++ shown i e u) (members_left i d e false rest) (members_left i d e first left) all x g (member_eq i d e first k u u left rest h refl) (Shows-first now next (key_shown i e first k) (shown i e u) x (added_shows now next (key_shown i e first k) (Err x) a))
 
-pub value_failed : (old now mid next : SinkState) (i : Option (List ℕ)) (d e : ℕ) (first : Bool) (k : List ℕ) (n u : Tree) (left rest : List (List ℕ × Tree)) (all : List ℕ) (o : Unit {0}) (x : SinkError) → Goes old now (members_left i d e first left) all → left ≡ (k, u) ∷ rest → n ≡ u → Shows now mid (key_shown i e first k) (Ok o)
-    → Shows mid next (shown i e n) (Err x) → Shows old next all (Err x)
+pub value_failed : (old now mid next : SinkState) (i : Option (List ℕ)) (d e : ℕ) (first : Bool) (k : List ℕ) (n u : Tree) (left rest : List (List ℕ × Tree)) (all : List ℕ) (o : Unit {0}) (x : SinkError) → Goes d e old now (members_left i d e first left) all → left ≡ (k, u) ∷ rest → n ≡ u → Adds now mid (key_shown i e first k) (Ok o)
+    → Shows e mid next (shown i e n) (Err x) → Shows d old next all (Err x)
 value_failed old now mid next i d e first k n u left rest all o x g h s a b =
-    goes_failed old now next (key_shown i e first k ++ shown i e n) (members_left i d e false rest) (members_left i d e first left) all x g (member_eq i d e first k n u left rest h s) (Shows-then now mid next (key_shown i e first k) (shown i e n) o (Err x) a b)
+    goes_failed d e old now next (key_shown i e first k ++ shown i e n) (members_left i d e false rest) (members_left i d e first left) all x g (member_eq i d e first k n u left rest h s) (Shows-then now mid next (key_shown i e first k) (shown i e n) o (Err x) (added_shows now mid (key_shown i e first k) (Ok o) a) b)
 
 pub member_bound : (k : List ℕ) (n u : Tree) (left rest : List (List ℕ × Tree)) → left ≡ (k, u) ∷ rest → n ≡ u → suc (nodes n + pairs_nodes (list_pairs rest)) ≡ pairs_nodes (list_pairs left)
 member_bound k n u left rest h s = ap (λ t. suc (nodes t + pairs_nodes (list_pairs rest))) s ∙ sym (ap (λ ps. pairs_nodes (list_pairs ps)) h)

@@ -218,7 +218,7 @@ impl Container<Value> {
 }
 
 impl Default for Container<Value> {
-    ghost is_default = { λ a. list_in a ≡ [] };
+    ghost is_default = { λ a. (list_in a ≡ []) × (IsPlace a → ⊥) };
 
     /// The array without elements. Takes no memory.
     fn default() -> Array {

@@ -229,7 +229,7 @@ impl Container<Keyed<Value>> {
 }
 
 impl Default for Container<Keyed<Value>> {
-    ghost is_default = { λ o. pairs_in o ≡ [] };
+    ghost is_default = { λ o. (pairs_in o ≡ []) × (IsPlace o → ⊥) };
 
     /// The object without members. Takes no memory.
     fn default() -> Object {

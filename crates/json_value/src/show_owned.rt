@@ -2,6 +2,7 @@
 ghost use Rattle.std.specs.Prelude.{map, ◌++◌};
 ghost use Rattle.json_grammar.specs.Tree.{list, list_trees, pairs, list_pairs};
 ghost use Rattle.json_model.specs.Print.{shown};
+ghost use Rattle.json_print.specs.Adding.{Adds};
 ghost use Rattle.json_print.specs.Showing.{Shows, lead, key_shown};
 ghost use Rattle.json_value.specs.Denotes.{tree_of, pair_of, text_bytes};
 
@@ -21,7 +22,7 @@ pub(crate) fn show_value<W: Sink, L: Layout>(
     level: usize,
     out: &mut BufferedWriter<W>,
 ) -> Showed
-    ensures { Shows (⟦<BufferedWriter<W> as Sink>⟧.state out.old)
+    ensures { Shows level (⟦<BufferedWriter<W> as Sink>⟧.state out.old)
         (⟦<BufferedWriter<W> as Sink>⟧.state out.new)
         (shown (L.indent layout) level (tree_of value.now)) result }
 {
@@ -52,7 +53,7 @@ fn show_key<W: Sink, L: Layout>(
     first: bool,
     out: &mut BufferedWriter<W>,
 ) -> Showed
-    ensures { Shows (⟦<BufferedWriter<W> as Sink>⟧.state out.old)
+    ensures { Adds (⟦<BufferedWriter<W> as Sink>⟧.state out.old)
         (⟦<BufferedWriter<W> as Sink>⟧.state out.new)
         (key_shown (L.indent layout) level first (text_bytes key.now)) result }
 {
@@ -70,7 +71,7 @@ fn show_owned_element<W: Sink, L: Layout>(
     first: bool,
     out: &mut BufferedWriter<W>,
 ) -> Showed
-    ensures { Shows (⟦<BufferedWriter<W> as Sink>⟧.state out.old)
+    ensures { Shows level (⟦<BufferedWriter<W> as Sink>⟧.state out.old)
         (⟦<BufferedWriter<W> as Sink>⟧.state out.new)
         (lead (L.indent layout) level first ++ shown (L.indent layout) level (tree_of value.now)) result }
 {
@@ -86,7 +87,7 @@ fn show_values<W: Sink, L: Layout>(
     level: usize,
     out: &mut BufferedWriter<W>,
 ) -> Showed
-    ensures { Shows (⟦<BufferedWriter<W> as Sink>⟧.state out.old)
+    ensures { Shows level (⟦<BufferedWriter<W> as Sink>⟧.state out.old)
         (⟦<BufferedWriter<W> as Sink>⟧.state out.new)
         (shown (L.indent layout) level (list (list_trees (map tree_of values.now.items)))) result }
 {
@@ -110,7 +111,7 @@ fn show_owned_pairs<W: Sink, L: Layout>(
     level: usize,
     out: &mut BufferedWriter<W>,
 ) -> Showed
-    ensures { Shows (⟦<BufferedWriter<W> as Sink>⟧.state out.old)
+    ensures { Shows level (⟦<BufferedWriter<W> as Sink>⟧.state out.old)
         (⟦<BufferedWriter<W> as Sink>⟧.state out.new)
         (shown (L.indent layout) level (pairs (list_pairs (map pair_of values.now.items)))) result }
 {

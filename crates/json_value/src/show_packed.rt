@@ -8,6 +8,7 @@ ghost use Rattle.json_doc.specs.Readings.{elements};
 ghost use Rattle.json_doc.specs.Seen.{view_tree};
 ghost use Rattle.json_value.specs.Readings.{members};
 ghost use Rattle.std.specs.Prelude.{◌++◌};
+ghost use Rattle.json_print.specs.Adding.{Adds};
 ghost use Rattle.json_print.specs.Showing.{Shows, lead};
 ghost use Rattle.json_value.specs.ShownNodes.{node_tree};
 
@@ -25,7 +26,7 @@ pub(crate) fn show_document<W: Sink, L: Layout>(
     level: usize,
     out: &mut BufferedWriter<W>,
 ) -> Showed
-    ensures { Shows (⟦<BufferedWriter<W> as Sink>⟧.state out.old)
+    ensures { Shows level (⟦<BufferedWriter<W> as Sink>⟧.state out.old)
         (⟦<BufferedWriter<W> as Sink>⟧.state out.new)
         (shown (L.indent layout) level (view_tree view.entry)) result }
 {
@@ -34,7 +35,7 @@ pub(crate) fn show_document<W: Sink, L: Layout>(
 
 // An integer by value.
 pub(crate) fn show_number<W: Sink>(number: Number, out: &mut BufferedWriter<W>) -> Showed
-    ensures { Shows (⟦<BufferedWriter<W> as Sink>⟧.state out.old)
+    ensures { Adds (⟦<BufferedWriter<W> as Sink>⟧.state out.old)
         (⟦<BufferedWriter<W> as Sink>⟧.state out.new) (text_of_number number) result }
 {
     match number.as_u64() {
@@ -47,7 +48,7 @@ pub(crate) fn show_number<W: Sink>(number: Number, out: &mut BufferedWriter<W>) 
 }
 
 pub(crate) fn show_bool<W: Sink>(boolean: bool, out: &mut BufferedWriter<W>) -> Showed
-    ensures { Shows (⟦<BufferedWriter<W> as Sink>⟧.state out.old)
+    ensures { Adds (⟦<BufferedWriter<W> as Sink>⟧.state out.old)
         (⟦<BufferedWriter<W> as Sink>⟧.state out.new) (boolean_bytes boolean) result }
 {
     if boolean {
@@ -79,7 +80,7 @@ fn show_root<W: Sink, L: Layout>(
     level: usize,
     out: &mut BufferedWriter<W>,
 ) -> Showed
-    ensures { Shows (⟦<BufferedWriter<W> as Sink>⟧.state out.old)
+    ensures { Shows level (⟦<BufferedWriter<W> as Sink>⟧.state out.old)
         (⟦<BufferedWriter<W> as Sink>⟧.state out.new)
         (shown (L.indent layout) level (node_tree node.entry)) result }
 {
@@ -95,7 +96,7 @@ fn show_node<W: Sink, L: Layout>(
     level: usize,
     out: &mut BufferedWriter<W>,
 ) -> Showed
-    ensures { Shows (⟦<BufferedWriter<W> as Sink>⟧.state out.old)
+    ensures { Shows level (⟦<BufferedWriter<W> as Sink>⟧.state out.old)
         (⟦<BufferedWriter<W> as Sink>⟧.state out.new)
         (shown (L.indent layout) level (node_tree node.entry)) result }
 {
@@ -111,7 +112,7 @@ fn show_member<W: Sink, L: Layout>(
     level: usize,
     out: &mut BufferedWriter<W>,
 ) -> Showed
-    ensures { Shows (⟦<BufferedWriter<W> as Sink>⟧.state out.old)
+    ensures { Shows level (⟦<BufferedWriter<W> as Sink>⟧.state out.old)
         (⟦<BufferedWriter<W> as Sink>⟧.state out.new)
         (shown (L.indent layout) level (node_tree node.entry)) result }
 {
@@ -128,7 +129,7 @@ fn show_element<W: Sink, L: Layout>(
     first: bool,
     out: &mut BufferedWriter<W>,
 ) -> Showed
-    ensures { Shows (⟦<BufferedWriter<W> as Sink>⟧.state out.old)
+    ensures { Shows level (⟦<BufferedWriter<W> as Sink>⟧.state out.old)
         (⟦<BufferedWriter<W> as Sink>⟧.state out.new)
         (lead (L.indent layout) level first ++ shown (L.indent layout) level (node_tree node.entry)) result }
 {
@@ -149,7 +150,7 @@ fn show_children<W: Sink, L: Layout>(
     level: usize,
     out: &mut BufferedWriter<W>,
 ) -> Showed
-    ensures { Shows (⟦<BufferedWriter<W> as Sink>⟧.state out.old)
+    ensures { Shows level (⟦<BufferedWriter<W> as Sink>⟧.state out.old)
         (⟦<BufferedWriter<W> as Sink>⟧.state out.new)
         (shown (L.indent layout) level (list (list_trees (children_left children.entry)))) result }
 {
@@ -173,7 +174,7 @@ fn show_pairs<W: Sink, L: Layout>(
     level: usize,
     out: &mut BufferedWriter<W>,
 ) -> Showed
-    ensures { Shows (⟦<BufferedWriter<W> as Sink>⟧.state out.old)
+    ensures { Shows level (⟦<BufferedWriter<W> as Sink>⟧.state out.old)
         (⟦<BufferedWriter<W> as Sink>⟧.state out.new)
         (shown (L.indent layout) level (pairs (list_pairs (pairs_left members.entry)))) result }
 {
@@ -197,7 +198,7 @@ pub(crate) fn show_elements<W: Sink, L: Layout>(
     level: usize,
     out: &mut BufferedWriter<W>,
 ) -> Showed
-    ensures { Shows (⟦<BufferedWriter<W> as Sink>⟧.state out.old)
+    ensures { Shows level (⟦<BufferedWriter<W> as Sink>⟧.state out.old)
         (⟦<BufferedWriter<W> as Sink>⟧.state out.new)
         (shown (L.indent layout) level (list (list_trees (elements (view_tree view.entry))))) result }
 {
@@ -214,7 +215,7 @@ pub(crate) fn show_members<W: Sink, L: Layout>(
     level: usize,
     out: &mut BufferedWriter<W>,
 ) -> Showed
-    ensures { Shows (⟦<BufferedWriter<W> as Sink>⟧.state out.old)
+    ensures { Shows level (⟦<BufferedWriter<W> as Sink>⟧.state out.old)
         (⟦<BufferedWriter<W> as Sink>⟧.state out.new)
         (shown (L.indent layout) level (pairs (list_pairs (members (view_tree view.entry))))) result }
 {

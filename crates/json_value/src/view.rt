@@ -1,6 +1,7 @@
 // Views of values.
-ghost use Rattle.std.specs.Prelude.{◌≡◌, None, Some, option_map, IfSome, ◌<◌, length, IfOk};
+ghost use Rattle.std.specs.Prelude.{◌≡◌, None, Some, option_map, IfSome, ◌<◌, length, IfOk, IsErrOf};
 ghost use Rattle.json_grammar.specs.Tree.{num, null, tokens};
+ghost use Rattle.json_text.specs.Errors.{no_memory};
 ghost use Rattle.json_number.specs.Numbers.{value_of, text_of_number};
 ghost use Rattle.json_doc.specs.Readings.{type_of, bool_of, integer_of, literal_of, string_of};
 ghost use Rattle.json_doc.specs.Seen.{view_doc, view_place, view_tree};
@@ -17,7 +18,7 @@ ghost use Rattle.json_value.specs.Edits.{steps_of};
 ghost use Rattle.json_value.specs.Steps.{child, tree_at, tree_or_null};
 ghost use Rattle.json_doc.specs.Docs.{doc_cells, doc_tree};
 ghost use Rattle.json_model.specs.Print.{shown};
-ghost use Rattle.json_print.specs.Showing.{Shows};
+ghost use Rattle.json_print.specs.Showing.{RanOut, Shows};
 ghost use Rattle.json_print.specs.Standing.{TakesValue};
 ghost use Rattle.json_print.specs.TextWriting.{WritesText};
 ghost use Rattle.json_print.specs.Given.{given_tokens};
@@ -290,12 +291,16 @@ impl<'a> View<'a> {
         }
     }
 
-    /// Writes the text of the tree that is seen, in the layout. Fails as the writer's inner sink does, or with
-    /// `NoMemory`; a front of the text was written then.
+    /// Writes the text of the tree that is seen, in the layout. Fails as the writer's inner sink does; a front of the
+    /// text was written then. `NoMemory` comes where the sink finds none, or of a text of 2^64 - 1 bytes or more.
     pub fn print<W: Sink, L: Layout>(self, layout: L, out: &mut BufferedWriter<W>) -> Result<()>
-        ensures { WritesText (⟦<BufferedWriter<W> as Sink>⟧.state out.old)
+        ensures text { WritesText (⟦<BufferedWriter<W> as Sink>⟧.state out.old)
             (⟦<BufferedWriter<W> as Sink>⟧.state out.new)
             (shown (L.indent layout) 0 (seen self.entry)) result }
+        ensures ran_out { IsErrOf result no_memory
+            → RanOut (⟦<BufferedWriter<W> as Sink>⟧.state out.old)
+            (⟦<BufferedWriter<W> as Sink>⟧.state out.new)
+            (length (shown (L.indent layout) 0 (seen self.entry))) }
     {
         answered(show(self, layout, out))
     }
@@ -324,7 +329,7 @@ impl<'a> View<'a> {
 }
 
 fn show<W: Sink, L: Layout>(view: View<'_>, layout: L, out: &mut BufferedWriter<W>) -> Showed
-    ensures { Shows (⟦<BufferedWriter<W> as Sink>⟧.state out.old)
+    ensures { Shows 0 (⟦<BufferedWriter<W> as Sink>⟧.state out.old)
         (⟦<BufferedWriter<W> as Sink>⟧.state out.new)
         (shown (L.indent layout) 0 (seen view.entry)) result }
 {

@@ -16,6 +16,15 @@ use crate::token::string_at;
 use json_grammar::Spot;
 
 /// A number that is an integer by value, with its literal.
+///
+/// ```
+/// use json_text::{Integer, Parser};
+/// let mut parser = Parser::new("17");
+/// if let Some(Integer { value, .. }) = parser.next_integer(100) {
+///     assert_eq!(rt; value, 17);
+/// }
+/// assert!(rt; Parser::new("170").next_integer(100).is_none());
+/// ```
 #[derive(Clone, Copy)]
 pub struct Integer<'a> {
     pub literal: &'a str,

@@ -7,6 +7,7 @@ ghost use Rattle.json_number.specs.Numbers.{text_of_number};
 ghost use Rattle.json_value.specs.Denotes.{tree_of, pair_of};
 ghost use Rattle.json_value.specs.Places.{places_in};
 ghost use Rattle.json_value.specs.Rows.{owned};
+ghost use Rattle.json_value.specs.Spots.{ContainerIsPlace};
 ghost use Rattle.json_value.specs.declared.value.Value.{Array as ArrayValue, Null};
 ghost use Rattle.std.specs.Char.{encode_utf8};
 ghost use Rattle.json_value.specs.Made.{IsArrayOf, IsObjectOf};
@@ -41,64 +42,66 @@ impl Value {
     }
 
     /// The boolean. Takes no memory.
-    pub fn new_bool(value: bool) -> Value
-        ensures { tree_of result ≡ boolean value }
+    pub fn new_bool(val: bool) -> Value
+        ensures { tree_of result ≡ boolean val }
     {
-        Value::Bool(value)
+        Value::Bool(val)
     }
 
     /// The integer. Takes no memory.
-    pub fn new_u64(value: u64) -> Value
-        ensures { tree_of result ≡ num (decimal value) }
+    pub fn new_u64(val: u64) -> Value
+        ensures { tree_of result ≡ num (decimal val) }
     {
-        Value::Number(Number::from(value))
+        Value::Number(Number::from(val))
     }
 
     /// The integer. Takes no memory.
-    pub fn new_i64(value: i64) -> Value
-        ensures { tree_of result ≡ num (signed_decimal value) }
+    pub fn new_i64(val: i64) -> Value
+        ensures { tree_of result ≡ num (signed_decimal val) }
     {
-        Value::Number(Number::from(value))
+        Value::Number(Number::from(val))
     }
 
     /// The number. Takes no memory.
-    pub fn from_number(number: Number) -> Value
-        ensures { tree_of result ≡ num (text_of_number number) }
+    pub fn from_number(n: Number) -> Value
+        ensures { tree_of result ≡ num (text_of_number n) }
     {
-        Value::Number(number)
+        Value::Number(n)
     }
 
     /// The number: by value where it is an integer of `u64` or `i64`, else as its literal. Takes no memory.
-    pub fn from_raw_number(number: RawNumber) -> Value
-        ensures tree { tree_of result ≡ num (raw_literal number) }
+    pub fn from_raw_number(n: RawNumber) -> Value
+        ensures tree { tree_of result ≡ num (raw_literal n) }
         ensures places { places_in result ≡ None ∷ [] }
     {
-        match number.to_number() {
+        match n.to_number() {
             Some(integer) => Value::Number(integer),
-            None => Value::Raw(Literal::new(number.into_string())),
+            None => Value::Raw(Literal::new(n.into_string())),
         }
     }
 
     /// The array without elements. Takes no memory.
     pub fn new_array() -> Value
-        ensures { tree_of result ≡ list no_trees }
+        ensures tree { tree_of result ≡ list no_trees }
+        ensures no_place { ContainerIsPlace result → ⊥ }
     {
         Value::Array(Container { form: Form::Empty })
     }
 
     /// The object without members. Takes no memory.
     pub fn new_object() -> Value
-        ensures { tree_of result ≡ object no_pairs }
+        ensures tree { tree_of result ≡ object no_pairs }
+        ensures no_place { ContainerIsPlace result → ⊥ }
     {
         Value::Object(Container { form: Form::Empty })
     }
 
     /// The static string. Takes no memory.
-    pub fn from_static_str(s: &'static str) -> Value
-        ensures tree { tree_of result ≡ text s.now }
+    pub fn from_static_str(val: &'static str) -> Value
+        ensures tree { tree_of result ≡ text val.now }
         ensures places { places_in result ≡ None ∷ [] }
     {
-        Value::Text(Text::from_static(s))
+        Value::Text(Text::from_static(val))
     }
 
     /// The array of these elements. Takes no memory.
@@ -112,21 +115,21 @@ impl Value {
     }
 
     /// A string of these characters, of its own. Fails with `NoMemory` if memory runs out.
-    pub fn copy_str(alloc: Global, s: &str) -> Result<Value>
-        ensures tree { IfOk result (λ v. tree_of v ≡ text s.now) }
+    pub fn copy_str(alloc: Global, val: &str) -> Result<Value>
+        ensures tree { IfOk result (λ v. tree_of v ≡ text val.now) }
         ensures places { IfOk result (λ v. places_in v ≡ None ∷ []) }
         ensures only { OnlyNoMemory result }
     {
-        let copied = Text::copy(alloc, s)?;
+        let copied = Text::copy(alloc, val)?;
         Ok(Value::Text(copied))
     }
 
     /// The value; null for none. Takes no memory.
-    pub fn from_option(value: Option<Value>) -> Value
-        ensures tree { tree_of result ≡ tree_or_null (option_map tree_of value) }
-        ensures value { result ≡ unwrap_or value Null }
+    pub fn from_option(v: Option<Value>) -> Value
+        ensures tree { tree_of result ≡ tree_or_null (option_map tree_of v) }
+        ensures value { result ≡ unwrap_or v Null }
     {
-        match value {
+        match v {
             Some(value) => value,
             None => Value::Null,
         }
@@ -165,6 +168,7 @@ impl Value {
     /// Fails with `NoMemory` if memory runs out.
     pub fn new_array_with(alloc: Global, capacity: usize) -> Result<Value>
         ensures tree { IfOk result (λ v. tree_of v ≡ list no_trees) }
+        ensures no_place { IfOk result (λ v. ContainerIsPlace v → ⊥) }
         ensures room { IfOk result (λ v. capacity ≤ room_in v) }
         ensures only { OnlyNoMemory result }
     {
@@ -178,6 +182,7 @@ impl Value {
     /// Fails with `NoMemory` if memory runs out.
     pub fn new_object_with(alloc: Global, capacity: usize) -> Result<Value>
         ensures tree { IfOk result (λ v. tree_of v ≡ object no_pairs) }
+        ensures no_place { IfOk result (λ v. ContainerIsPlace v → ⊥) }
         ensures room { IfOk result (λ v. capacity ≤ room_in v) }
         ensures only { OnlyNoMemory result }
     {

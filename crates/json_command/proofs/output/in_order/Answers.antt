@@ -13,6 +13,6 @@ returns g c =
     let t = sorted (tree_of c.args.value.now) in let same = ap sorted c.view.ensures.tree in
     let tokens_so = subst (λ (u : Tree). given_tokens (tree_given u) ≡ tokens u) same c.emit_sorted-went.ensures.tokens in
     record {
-      text = λ indent laid. text_written g.F.Formatter.form c.args.formatter (g.W.Sink.state c.args.writer) _ _ _ _ t (tree_given t) indent laid c.with_formatter-out.ensures.starts tokens_so c.into_inner.ensures _ _ c.with_formatter-out.ensures.fresh
+      text = λ indent laid. text_written g.F.Formatter.form c.args.formatter (g.W.Sink.state c.args.writer) _ _ _ _ t (tree_given t) indent laid c.with_formatter-out.ensures.starts tokens_so c.into_inner.ensures.written _ _ c.with_formatter-out.ensures.fresh
           (same_given _ _ _ _ _ _ _ _ _ (ap tree_given same) c.emit_sorted-went.ensures.given);
     }

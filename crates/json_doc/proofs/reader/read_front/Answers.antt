@@ -1,8 +1,9 @@
-use Rattle.std.proofs.Common.{◌≡◌, Result, Ok, Err, refl, sym, subst}
+use Rattle.std.proofs.Common.{◌≡◌, Result, Ok, Err, refl, sym, subst, ap, inr}
 use Rattle.std.proofs.lemmas.Result.{IfOk-weaker}
 use Rattle.std.specs.Result.{IsErrAnd, IfErr}
 use Rattle.json_text.specs.declared.error.Error.{Error}
-use Rattle.json_doc.proofs.Fronts.{fresh_not_whole, first_out, front_read, front_fails, front_gives_up}
+use Rattle.json_text.specs.Parsing.{ParserState}
+use Rattle.json_doc.proofs.Fronts.{fresh_not_whole, first_out, front_read, front_whole, front_kept, front_fails, front_gives_up}
 use Rattle.json_doc.proofs.reader.read_front.Goals as goal
 
 pub record_value-requires-clause-first : goal.record_value-requires-clause-first
@@ -38,3 +39,20 @@ returns-clause-ok c =
     let r = c.in_ok-record_value.ensures in
     let t = front_read c.args.parser.now c.next.new.self c.record_value.new.parser c.in_ok-first.first c.record_value.new.visitor c.requires n.whole n.ok.2 n.same r.same n.reads r.whole r.ok in
     IfOk-weaker c.finish.result _ _ (λ d h. (t.0, t.1, t.2, h t.0 t.3)) c.finish.ensures.ok
+
+pub returns-clause-done : goal.returns-clause-done
+returns-clause-done c =
+    let n = c.in_ok-first.ensures in
+    IfOk-weaker c.finish.result _ _ (λ d h. front_whole c.args.parser.now c.next.new.self c.record_value.new.parser c.in_ok-first.first c.record_value.new.visitor c.requires n.whole n.ok.2 c.in_ok-record_value.ensures.ok) c.finish.ensures.ok
+
+pub returns-in_err-first-clause-kept : goal.returns-in_err-first-clause-kept
+returns-in_err-first-clause-kept c =
+    let e = c.in_err-first.field-0.0 in
+    err_is c.from_residual-in_err-first.result e _ c.from_residual-in_err-first.ensures.1
+    (inr (ap (λ (s : ParserState). s.failure) c.in_err-first.ensures.err.kept))
+
+pub returns-in_err-record_value-clause-kept : goal.returns-in_err-record_value-clause-kept
+returns-in_err-record_value-clause-kept c =
+    let e = c.in_err-record_value.field-0.0 in
+    err_is c.from_residual-in_err-record_value.result e _ c.from_residual-in_err-record_value.ensures.1
+    (front_kept c.record_value.new.parser e c.in_err-record_value.ensures.err)

@@ -2,7 +2,7 @@ use Rattle.std.proofs.Common.{◌+◌, [], ◌∷◌, map, drop, refl, sym, ap, 
 use Rattle.std.proofs.lemmas.Result.{err_from_is_err_and}
 use Rattle.json_grammar.specs.Sizes.{nodes}
 use Rattle.json_model.specs.Print.{shown}
-use Rattle.json_print.proofs.ShownParts.{Shows-first, Shows-then, Shows-same}
+use Rattle.json_print.proofs.ShownParts.{added_shows, Shows-first, Shows-then, Shows-same}
 use Rattle.json_value.specs.Denotes.{tree_of, pair_of, text_bytes}
 use Rattle.json_value.proofs.ShownTrees.{elements_left, members_left, array_is, object_is, goes_first, goes_last, element_on, element_failed, member_on, key_failed, value_failed, there, none_there}
 use Rattle.json_value.proofs.TokensGiven.{element_within, value_within}
@@ -11,10 +11,10 @@ use Rattle.json_value.proofs.show_owned.+shown_value.Goals as goal
 
 pub show_owned_element-returns-in_err-lead : goal.show_owned_element-returns-in_err-lead
 show_owned_element-returns-in_err-lead g t c =
-    let p = err_from_is_err_and c.from_residual.result c.from_residual.ensures.1 in rw (p.1, p.2) (Shows-first _ _ _ _ _ c.in_err-lead.ensures)
+    let p = err_from_is_err_and c.from_residual.result c.from_residual.ensures.1 in rw (p.1, p.2) (Shows-first _ _ _ _ _ (added_shows _ _ _ _ c.in_err-lead.ensures))
 
 pub show_owned_element-returns : goal.show_owned_element-returns
-show_owned_element-returns g t c = Shows-then _ _ _ _ _ _ _ c.in_ok-lead.ensures c.show_value.ensures
+show_owned_element-returns g t c = Shows-then _ _ _ _ _ _ _ (added_shows _ _ _ _ c.in_ok-lead.ensures) c.show_value.ensures
 
 pub show_value-show_owned_pairs-requires : goal.show_value-show_owned_pairs-requires
 show_value-show_owned_pairs-requires g t c κs within =
@@ -28,10 +28,10 @@ show_value-returns-in-Owned-form g t c =
 pub show_values-returns-in_err-show_piece : goal.show_values-returns-in_err-show_piece
 show_values-returns-in_err-show_piece g t c =
     let p = err_from_is_err_and c.from_residual.result c.from_residual.ensures.1 in
-    rw (p.1, p.2) (Shows-same _ _ _ _ _ (array_is (g.L.Layout.indent c.args.layout) c.args.level (map tree_of c.args.values.now.items)) (Shows-first _ _ (91 ∷ []) _ _ c.in_err-show_piece.ensures))
+    rw (p.1, p.2) (Shows-same _ _ _ _ _ (array_is (g.L.Layout.indent c.args.layout) c.args.level (map tree_of c.args.values.now.items)) (Shows-first _ _ (91 ∷ []) _ _ (added_shows _ _ _ _ c.in_err-show_piece.ensures)))
 
 pub show_values-loop-value-init : goal.show_values-loop-value-init
-show_values-loop-value-init g t c = goes_first _ _ (91 ∷ []) _ _ _ c.in_ok-show_piece.ensures (array_is (g.L.Layout.indent c.args.layout) c.args.level (map tree_of c.args.values.now.items))
+show_values-loop-value-init g t c = goes_first c.args.level _ _ 91 _ _ _ c.in_ok-show_piece.ensures (array_is (g.L.Layout.indent c.args.layout) c.args.level (map tree_of c.args.values.now.items))
 
 pub show_values-show_owned_element-requires : goal.show_values-show_owned_element-requires
 show_values-show_owned_element-requires g t c κs within =
@@ -56,15 +56,15 @@ pub show_values-returns : goal.show_values-returns
 show_values-returns g t c =
     let xs = c.args.values.now.items in let i = c.loop-value.value-index in
     let e = none_there (map tree_of xs) i (items_end tree_of _ xs i c.deref-value-items.ensures.value c.loop-value-test.false) in
-    goes_last _ _ _ _ _ _ _ c.loop-value.invariant (sym (ap (elements_left (g.L.Layout.indent c.args.layout) c.args.level (c.args.level + 1) c.loop-value.first) e)) c.close.ensures
+    goes_last c.args.level (c.args.level + 1) _ _ _ _ _ _ _ c.loop-value.invariant (sym (ap (elements_left (g.L.Layout.indent c.args.layout) c.args.level (c.args.level + 1) c.loop-value.first) e)) c.close.ensures
 
 pub show_owned_pairs-returns-in_err-show_piece : goal.show_owned_pairs-returns-in_err-show_piece
 show_owned_pairs-returns-in_err-show_piece g t c =
     let p = err_from_is_err_and c.from_residual.result c.from_residual.ensures.1 in
-    rw (p.1, p.2) (Shows-same _ _ _ _ _ (object_is (g.L.Layout.indent c.args.layout) c.args.level (map pair_of c.args.values.now.items)) (Shows-first _ _ (123 ∷ []) _ _ c.in_err-show_piece.ensures))
+    rw (p.1, p.2) (Shows-same _ _ _ _ _ (object_is (g.L.Layout.indent c.args.layout) c.args.level (map pair_of c.args.values.now.items)) (Shows-first _ _ (123 ∷ []) _ _ (added_shows _ _ _ _ c.in_err-show_piece.ensures)))
 
 pub show_owned_pairs-loop-pair-init : goal.show_owned_pairs-loop-pair-init
-show_owned_pairs-loop-pair-init g t c = goes_first _ _ (123 ∷ []) _ _ _ c.in_ok-show_piece.ensures (object_is (g.L.Layout.indent c.args.layout) c.args.level (map pair_of c.args.values.now.items))
+show_owned_pairs-loop-pair-init g t c = goes_first c.args.level _ _ 123 _ _ _ c.in_ok-show_piece.ensures (object_is (g.L.Layout.indent c.args.layout) c.args.level (map pair_of c.args.values.now.items))
 
 pub show_owned_pairs-returns-in_err-show_key : goal.show_owned_pairs-returns-in_err-show_key
 show_owned_pairs-returns-in_err-show_key g t c =
@@ -96,4 +96,4 @@ pub show_owned_pairs-returns : goal.show_owned_pairs-returns
 show_owned_pairs-returns g t c =
     let xs = c.args.values.now.items in let i = c.loop-pair.pair-index in
     let e = none_there (map pair_of xs) i (items_end pair_of _ xs i c.deref-pair-items.ensures.value c.loop-pair-test.false) in
-    goes_last _ _ _ _ _ _ _ c.loop-pair.invariant (sym (ap (members_left (g.L.Layout.indent c.args.layout) c.args.level (c.args.level + 1) c.loop-pair.first) e)) c.close.ensures
+    goes_last c.args.level (c.args.level + 1) _ _ _ _ _ _ _ c.loop-pair.invariant (sym (ap (members_left (g.L.Layout.indent c.args.layout) c.args.level (c.args.level + 1) c.loop-pair.first) e)) c.close.ensures

@@ -1,4 +1,4 @@
-use Rattle.std.proofs.Common.{◌≡◌, ℕ, ◌+◌, ◌*◌, drop, map}
+use Rattle.std.proofs.Common.{◌+◌, ◌*◌, drop, map}
 use Rattle.json_grammar.specs.Sizes.{nodes, trees_nodes, pairs_nodes}
 use Rattle.json_grammar.specs.Tree.{list, list_trees, pairs, list_pairs}
 use Rattle.json_model.specs.Print.{shown}
@@ -21,9 +21,9 @@ decreases-show_owned_pairs g l = 3 * pairs_nodes (list_pairs (map pair_of l.valu
 abbrev pub invariant-show_values-loop-value : goal.invariant-show_values-loop-value
 invariant-show_values-loop-value g l =
     let i = g.L.Layout.indent l.layout in let ts = map tree_of l.fn.values.items in
-    Goes (held g.W.Sink.state l.fn.out) (held g.W.Sink.state l.out) (elements_left i l.level (l.level + 1) l.first (drop l.value-index ts)) (shown i l.level (list (list_trees ts)))
+    Goes l.level (l.level + 1) (held g.W.Sink.state l.fn.out) (held g.W.Sink.state l.out) (elements_left i l.level (l.level + 1) l.first (drop l.value-index ts)) (shown i l.level (list (list_trees ts)))
 
 abbrev pub invariant-show_owned_pairs-loop-pair : goal.invariant-show_owned_pairs-loop-pair
 invariant-show_owned_pairs-loop-pair g l =
     let i = g.L.Layout.indent l.layout in let ps = map pair_of l.fn.values.items in
-    Goes (held g.W.Sink.state l.fn.out) (held g.W.Sink.state l.out) (members_left i l.level (l.level + 1) l.first (drop l.pair-index ps)) (shown i l.level (pairs (list_pairs ps)))
+    Goes l.level (l.level + 1) (held g.W.Sink.state l.fn.out) (held g.W.Sink.state l.out) (members_left i l.level (l.level + 1) l.first (drop l.pair-index ps)) (shown i l.level (pairs (list_pairs ps)))

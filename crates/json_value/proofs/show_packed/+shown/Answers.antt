@@ -6,23 +6,23 @@ use Rattle.json_doc.specs.Left.{children_left, pairs_left}
 use Rattle.json_doc.specs.Seen.{view_tree}
 use Rattle.json_doc.specs.declared.children.DocChildren.{DocChildren}
 use Rattle.json_doc.specs.declared.pairs.DocPairs.{DocPairs}
-use Rattle.json_print.proofs.ShownParts.{Shows-first, Shows-then, Shows-same}
+use Rattle.json_print.proofs.ShownParts.{added_shows, Shows-first, Shows-then, Shows-same}
 use Rattle.json_value.specs.ShownNodes.{node_tree}
 use Rattle.json_value.proofs.ShownTrees.{node_is, elements_left, members_left, array_is, object_is, goes_first, goes_last, element_on, element_failed, element_bound, member_on, key_failed, value_failed, member_bound}
 use Rattle.json_value.proofs.show_packed.+shown.Goals as goal
 
 pub show_element-returns-in_err-lead-in_default : goal.show_element-returns-in_err-lead-in_default
 show_element-returns-in_err-lead-in_default g t c =
-    let p = err_from_is_err_and c.from_residual.result c.from_residual.ensures.1 in rw (p.1, p.2) (Shows-first _ _ _ _ _ c.in_err-lead-in_default.ensures)
+    let p = err_from_is_err_and c.from_residual.result c.from_residual.ensures.1 in rw (p.1, p.2) (Shows-first _ _ _ _ _ (added_shows _ _ _ _ c.in_err-lead-in_default.ensures))
 
 pub show_element-returns-in_ok-lead-in_default : goal.show_element-returns-in_ok-lead-in_default
 show_element-returns-in_ok-lead-in_default g t c =
-    Shows-then _ _ _ _ _ _ _ c.in_ok-lead-in_default.ensures c.show_node.ensures
+    Shows-then _ _ _ _ _ _ _ (added_shows _ _ _ _ c.in_ok-lead-in_default.ensures) c.show_node.ensures
 
 pub show_children-returns-in_err-show_piece : goal.show_children-returns-in_err-show_piece
 show_children-returns-in_err-show_piece g t c =
     let p = err_from_is_err_and c.from_residual.result c.from_residual.ensures.1 in
-    rw (p.1, p.2) (Shows-same _ _ _ _ _ (array_is (g.L.Layout.indent c.args.layout) c.args.level (children_left c.args.children)) (Shows-first _ _ (91 ∷ []) _ _ c.in_err-show_piece.ensures))
+    rw (p.1, p.2) (Shows-same _ _ _ _ _ (array_is (g.L.Layout.indent c.args.layout) c.args.level (children_left c.args.children)) (Shows-first _ _ (91 ∷ []) _ _ (added_shows _ _ _ _ c.in_err-show_piece.ensures)))
 
 pub show_children-loop-child-init : goal.show_children-loop-child-init
 show_children-loop-child-init g t c =
@@ -30,7 +30,7 @@ show_children-loop-child-init g t c =
       tt,
       tt,
       omega (arith, ap (λ (s : DocChildren). trees_nodes (list_trees (children_left s))) e),
-      goes_first _ _ (91 ∷ []) _ _ _ c.in_ok-show_piece.ensures (ap (λ (s : DocChildren). 91 ∷ elements_left i d (d + 1) true (children_left s)) e ∙ array_is i d (children_left c.args.children)),
+      goes_first c.args.level _ _ 91 _ _ _ c.in_ok-show_piece.ensures (ap (λ (s : DocChildren). 91 ∷ elements_left i d (d + 1) true (children_left s)) e ∙ array_is i d (children_left c.args.children)),
     )
 
 pub show_children-show_element-requires : goal.show_children-show_element-requires
@@ -56,12 +56,12 @@ show_children-loop-child-preserved g t c =
 
 pub show_children-returns : goal.show_children-returns
 show_children-returns g t c =
-    goes_last _ _ _ _ _ _ _ c.loop-child.invariant.3 (sym (ap (elements_left (g.L.Layout.indent c.args.layout) c.args.level (c.args.level + 1) c.loop-child.first) c.in-None.ensures.steps.0.0)) c.close.ensures
+    goes_last c.args.level (c.args.level + 1) _ _ _ _ _ _ _ c.loop-child.invariant.3 (sym (ap (elements_left (g.L.Layout.indent c.args.layout) c.args.level (c.args.level + 1) c.loop-child.first) c.in-None.ensures.steps.0.0)) c.close.ensures
 
 pub show_pairs-returns-in_err-show_piece : goal.show_pairs-returns-in_err-show_piece
 show_pairs-returns-in_err-show_piece g t c =
     let p = err_from_is_err_and c.from_residual.result c.from_residual.ensures.1 in
-    rw (p.1, p.2) (Shows-same _ _ _ _ _ (object_is (g.L.Layout.indent c.args.layout) c.args.level (pairs_left c.args.members)) (Shows-first _ _ (123 ∷ []) _ _ c.in_err-show_piece.ensures))
+    rw (p.1, p.2) (Shows-same _ _ _ _ _ (object_is (g.L.Layout.indent c.args.layout) c.args.level (pairs_left c.args.members)) (Shows-first _ _ (123 ∷ []) _ _ (added_shows _ _ _ _ c.in_err-show_piece.ensures)))
 
 pub show_pairs-loop-key-init : goal.show_pairs-loop-key-init
 show_pairs-loop-key-init g t c =
@@ -69,7 +69,7 @@ show_pairs-loop-key-init g t c =
       tt,
       tt,
       omega (arith, ap (λ (s : DocPairs). pairs_nodes (list_pairs (pairs_left s))) e),
-      goes_first _ _ (123 ∷ []) _ _ _ c.in_ok-show_piece.ensures (ap (λ (s : DocPairs). 123 ∷ members_left i d (d + 1) true (pairs_left s)) e ∙ object_is i d (pairs_left c.args.members)),
+      goes_first c.args.level _ _ 123 _ _ _ c.in_ok-show_piece.ensures (ap (λ (s : DocPairs). 123 ∷ members_left i d (d + 1) true (pairs_left s)) e ∙ object_is i d (pairs_left c.args.members)),
     )
 
 pub show_pairs-returns-in_err-key : goal.show_pairs-returns-in_err-key
@@ -100,4 +100,4 @@ show_pairs-loop-key-preserved g t c =
 
 pub show_pairs-returns : goal.show_pairs-returns
 show_pairs-returns g t c =
-    goes_last _ _ _ _ _ _ _ c.loop-key.invariant.3 (sym (ap (members_left (g.L.Layout.indent c.args.layout) c.args.level (c.args.level + 1) c.loop-key.first) c.in-None.ensures.steps.0.0)) c.close.ensures
+    goes_last c.args.level (c.args.level + 1) _ _ _ _ _ _ _ c.loop-key.invariant.3 (sym (ap (members_left (g.L.Layout.indent c.args.layout) c.args.level (c.args.level + 1) c.loop-key.first) c.in-None.ensures.steps.0.0)) c.close.ensures

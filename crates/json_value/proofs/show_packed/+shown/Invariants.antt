@@ -1,4 +1,4 @@
-use Rattle.std.proofs.Common.{◌≡◌, ℕ, ◌+◌, ◌*◌, ◌≤◌}
+use Rattle.std.proofs.Common.{◌+◌, ◌*◌, ◌≤◌}
 use Rattle.json_grammar.specs.Sizes.{nodes, trees_nodes, pairs_nodes}
 use Rattle.json_grammar.specs.Tree.{list, list_trees, pairs, list_pairs}
 use Rattle.json_model.specs.Print.{shown}
@@ -27,11 +27,11 @@ invariant-show_children-loop-child g l =
     let i = g.L.Layout.indent l.layout in
     (goal.iterator-show_children-loop-child g).can_next l.child-iterator × (goal.iterator-show_children-loop-child g).is_finite l.child-iterator
     × (trees_nodes (list_trees (children_left l.child-iterator)) ≤ trees_nodes (list_trees (children_left l.fn.children)))
-    × Goes (held g.W.Sink.state l.fn.out) (held g.W.Sink.state l.out) (elements_left i l.level (l.level + 1) l.first (children_left l.child-iterator)) (shown i l.level (list (list_trees (children_left l.fn.children))))
+    × Goes l.level (l.level + 1) (held g.W.Sink.state l.fn.out) (held g.W.Sink.state l.out) (elements_left i l.level (l.level + 1) l.first (children_left l.child-iterator)) (shown i l.level (list (list_trees (children_left l.fn.children))))
 
 abbrev pub invariant-show_pairs-loop-key : goal.invariant-show_pairs-loop-key
 invariant-show_pairs-loop-key g l =
     let i = g.L.Layout.indent l.layout in
     (goal.iterator-show_pairs-loop-key g).can_next l.key-iterator × (goal.iterator-show_pairs-loop-key g).is_finite l.key-iterator
     × (pairs_nodes (list_pairs (pairs_left l.key-iterator)) ≤ pairs_nodes (list_pairs (pairs_left l.fn.members)))
-    × Goes (held g.W.Sink.state l.fn.out) (held g.W.Sink.state l.out) (members_left i l.level (l.level + 1) l.first (pairs_left l.key-iterator)) (shown i l.level (pairs (list_pairs (pairs_left l.fn.members))))
+    × Goes l.level (l.level + 1) (held g.W.Sink.state l.fn.out) (held g.W.Sink.state l.out) (members_left i l.level (l.level + 1) l.first (pairs_left l.key-iterator)) (shown i l.level (pairs (list_pairs (pairs_left l.fn.members))))
