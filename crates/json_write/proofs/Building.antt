@@ -9,7 +9,7 @@ use Rattle.json_model.specs.Datum.{tree_of as datum_tree}
 use Rattle.json_model.specs.Merged.{merged, trees_merged, values_merged}
 use Rattle.json_model.proofs.Merging.{once_put}
 use Rattle.json_print.specs.Data.{parts, before_gap, is_whole}
-use Rattle.json_print.specs.Given.{Given, given, given_integer, token_of, given_tokens}
+use Rattle.json_print.specs.Given.{Given, given, given_integer, given_tokens}
 use Rattle.json_print.specs.Taking.{after_all, StopsAmong, Takes}
 use Rattle.json_print.proofs.Data.{whole_tree}
 use Rattle.json_write.specs.Building.{Frame, Work, Build, new_frame, frame_take, work_after, build_after, at_start, is_inside, StopsAs, StopsBuild, first_refusal}

@@ -6,7 +6,7 @@ use Rattle.json_grammar.specs.Tree.{begin, key_token}
 use Rattle.json_text.specs.declared.error.Error.{Error}
 use Rattle.json_model.specs.Datum.{Datum, Rows, no_rows, row_and, key_of}
 use Rattle.json_print.specs.Data.{parts, rows_parts, before_gap, is_whole}
-use Rattle.json_print.specs.Given.{Given, given, token_of}
+use Rattle.json_print.specs.Given.{Given, given}
 use Rattle.json_print.specs.declared.events.Turn.TheVariants.{Key as at_key}
 use Rattle.json_print.specs.Standing.{Stand, stand_after, TakesValue, TakesKey, TakesEnd}
 use Rattle.json_write.specs.FieldRows.{rows_append, AtKey}

@@ -11,3 +11,6 @@ pub mod Sending
 pub mod Building
 pub mod TreeData
 pub mod FieldRows
+pub mod Placed
+pub mod TextLaws
+pub mod TextsInMemory

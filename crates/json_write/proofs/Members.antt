@@ -1,8 +1,8 @@
 -- Lists and rows, one member more.
-use Rattle.std.proofs.Common.{◌≡◌, ℕ, zero, suc, ◌+◌, ◌<◌, List, [], ◌∷◌, ◌++◌, length, take, drop, get_or, map, Option, Some, None, option_map, refl, sym, ap, ◌∙◌, append_assoc, append-nil, add-one, arith}
+use Rattle.std.proofs.Common.{◌≡◌, ℕ, zero, suc, ◌+◌, ◌<◌, List, [], ◌∷◌, ◌++◌, length, take, drop, get_or, map, Option, Some, option_map, refl, sym, ap, ◌∙◌, append_assoc, append-nil, add-one, arith}
 use Rattle.json_grammar.specs.declared.Kind.TheVariants.{Array as array, Object as object}
-use Rattle.json_grammar.specs.Tree.{Token, begin, end, key_token}
-use Rattle.json_print.specs.Given.{Given, given, given_integer, token_of}
+use Rattle.json_grammar.specs.Tree.{begin, end, key_token}
+use Rattle.json_print.specs.Given.{Given, given}
 use Rattle.json_model.specs.Datum.{Datum, list_datum, rows_datum, row_of, list_data, list_rows, key_of}
 use Rattle.json_print.specs.Data.{parts, data_parts, rows_parts}
 

@@ -4,9 +4,9 @@ use Rattle.json_text.specs.declared.error.Error.{Error}
 use Rattle.json_text.specs.Errors.{key_refused}
 use Rattle.json_print.specs.Data.{before_gap, is_whole}
 use Rattle.json_print.specs.Given.{Given, token_of}
-use Rattle.json_print.specs.Taking.{after_all, StopsAmong, Takes}
+use Rattle.json_print.specs.Taking.{after_all, Takes}
 use Rattle.json_print.proofs.Data.{before_append, whole_append, gap_append}
-use Rattle.json_write.specs.Writing.{Writes, answer_of, IsTokenProper, AreTokensProper}
+use Rattle.json_write.specs.Writing.{Writes, IsTokenProper, AreTokensProper}
 
 pub after_append : {S T : Type 0} (after : S → T → S) (s : S) (a b : List T) → after_all after s (a ++ b) ≡ after_all after (after_all after s a) b
 after_append after s [] b = refl

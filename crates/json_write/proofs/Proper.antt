@@ -6,7 +6,7 @@ use Rattle.json_grammar.specs.declared.Kind.TheVariants.{Array as array, Object 
 use Rattle.json_grammar.proofs.TextUtf8.{text_utf8}
 use Rattle.json_model.specs.Print.{shown, IsIndent}
 use Rattle.json_model.proofs.Printing.{shown_text}
-use Rattle.json_print.specs.Given.{Given, token_of, given_tokens}
+use Rattle.json_print.specs.Given.{Given, given_tokens}
 use Rattle.json_write.specs.Writing.{IsTokenProper, AreTokensProper}
 
 abbrev AreProperTokens : List Token → Type 0

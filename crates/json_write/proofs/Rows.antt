@@ -1,15 +1,15 @@
 -- Rows that are written in turn.
-use Rattle.std.proofs.Common.{◌≡◌, ℕ, List, [], ◌∷◌, ◌++◌, map, Option, Some, None, Err, Result, option_map, refl, sym, ap, ◌∙◌, append_assoc, append-nil}
+use Rattle.std.proofs.Common.{◌≡◌, ℕ, List, [], ◌∷◌, ◌++◌, map, Option, Some, None, Err, Result, option_map, sym, ap, ◌∙◌, append_assoc, append-nil}
 use Rattle.json_grammar.specs.declared.Kind.TheVariants.{Object as object}
-use Rattle.json_grammar.specs.Tree.{Token, begin, end, key_token}
+use Rattle.json_grammar.specs.Tree.{begin, end, key_token}
 use Rattle.json_text.specs.declared.error.Error.{Error}
-use Rattle.json_print.specs.Given.{Given, given, given_integer, token_of}
+use Rattle.json_print.specs.Given.{Given, given}
 use Rattle.json_model.specs.Datum.{Datum, rows_datum, row_of, list_rows, key_of}
 use Rattle.json_print.specs.Data.{parts}
 use Rattle.json_write.specs.Writing.{Writes}
 use Rattle.json_text.specs.Errors.{key_refused}
 use Rattle.json_write.proofs.Parts.{Wrote, wrote_then, wrote_same, writes_then, writes_stop, writes_same, writes_gap}
-use Rattle.json_write.proofs.Members.{rows_front, rows_front_more, rows_around, entry, entries}
+use Rattle.json_write.proofs.Members.{rows_front, rows_front_more, rows_around}
 
 -- those before the rest are written
 pub record RowsUpTo {K V S : Type 0} (f : K → Datum) (g : V → Datum) (after : S → Given → S) (old new : S) (err failed : Option Error) (all rest : List (K × V)) : Type 0 where

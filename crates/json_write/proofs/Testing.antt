@@ -5,7 +5,7 @@ use Rattle.json_text.specs.declared.error.Error.{Error}
 use Rattle.json_text.specs.Errors.{no_memory, key_refused}
 use Rattle.json_model.specs.Datum.{Datum, tree_of}
 use Rattle.json_print.specs.Data.{parts}
-use Rattle.json_print.specs.Given.{Given, given, token_of}
+use Rattle.json_print.specs.Given.{Given, given}
 use Rattle.json_print.specs.Standing.{Stand}
 use Rattle.json_print.specs.Taking.{Takes}
 use Rattle.json_print.proofs.Data.{whole_tree, gap_tree}

@@ -8,11 +8,11 @@ use Rattle.json_text.specs.declared.error.Error.{Error}
 use Rattle.json_number.specs.Integers.{integer_in}
 use Rattle.json_number.proofs.Integers.{prints_its_literal}
 use Rattle.json_print.specs.Data.{parts, data_parts, rows_parts, before_gap, is_whole}
-use Rattle.json_print.specs.Given.{Given, given, token_of}
+use Rattle.json_print.specs.Given.{Given, given}
 use Rattle.json_print.specs.Taking.{after_all}
 use Rattle.json_value.specs.Emitting.{Emits, number_given, tree_given, trees_given, pairs_given}
 use Rattle.json_write.specs.TreeDatum.{number_datum, tree_datum, trees_data, pairs_rows}
-use Rattle.json_write.specs.Writing.{Writes, IsTokenProper, AreTokensProper}
+use Rattle.json_write.specs.Writing.{Writes, AreTokensProper}
 
 -- as parts, of which none is missing
 somes : List Given → List (Option Given)

@@ -3,14 +3,14 @@ use Rattle.std.proofs.Common.{◌≡◌, ℕ, List, [], ◌∷◌, ◌++◌, Boo
 use Rattle.json_grammar.specs.declared.Kind.{Kind}
 use Rattle.json_grammar.specs.declared.Kind.TheVariants.{Array as array, Object as object}
 use Rattle.json_text.specs.declared.error.Error.{Error}
-use Rattle.json_grammar.specs.Tree.{Token, begin, end, key_token}
+use Rattle.json_grammar.specs.Tree.{begin, end, key_token}
 use Rattle.json_print.specs.declared.events.Turn.TheVariants.{Element as at_element, Key as at_key, Member as at_member}
 use Rattle.json_print.specs.Standing.{Stand, behind, outside, stand_after, TakesValue, TakesKey, TakesEnd}
 use Rattle.json_print.specs.Taking.{after_all}
-use Rattle.json_print.specs.Given.{Given, given, given_integer, token_of}
+use Rattle.json_print.specs.Given.{Given, given, token_of}
 use Rattle.json_model.specs.Datum.{Datum, null_datum, boolean_datum, integer_datum, text_datum, literal_datum, list_datum, rows_datum, Data, no_data, datum_and, Rows, no_rows, row_and, key_of}
 use Rattle.json_print.specs.Data.{parts, data_parts, rows_parts, before_gap, is_whole}
-use Rattle.json_print.proofs.Data.{before_append, whole_append}
+use Rattle.json_print.proofs.Data.{before_append}
 use Rattle.json_write.proofs.Parts.{whole_front, whole_back, Wrote}
 
 -- what may come behind tokens in turn

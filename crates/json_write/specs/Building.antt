@@ -1,6 +1,5 @@
 -- A value that is built from what is given.
 use Rattle.std.specs.Prelude.{◌≡◌, ◌⊎◌, ℕ, ◌^◌, ℤ, pos, negsuc, List, [], ◌∷◌, ◌++◌, map, reverse, Bool, false, true, ◌&&◌, nat_lt, cond, Option, Some, None, Result}
-use Rattle.std.specs.Fmt.{signed_decimal}
 use Rattle.json_grammar.specs.declared.Kind.{Kind}
 use Rattle.json_grammar.specs.declared.Kind.TheVariants.{Array as array, Object as object}
 use Rattle.json_grammar.specs.Tree.{Tree, null, boolean, num, text, list, pairs, no_pairs, list_trees, Token, null_token, boolean_token, num_token, text_token, begin, end, key_token}

@@ -12,6 +12,17 @@ use json_print::Events;
 use json_text::Result;
 
 /// Members of an object in their order: a [`Field`], or a pair of members and those behind them.
+///
+/// ```
+/// use json_print::Serializer;
+/// use json_text::VecSink;
+/// use json_write::{Field, Fields, give_fields};
+/// let mut out = Serializer::new(alloc, VecSink::new(alloc));
+/// let (born, died) = (1815u16, 1852u16);
+/// let fields = (Field { name: "born", value: &born }, Field { name: "died", value: &died });
+/// give_fields(&fields, &mut out)?;
+/// assert_eq!(rt; out.into_inner().as_slice(), b"{\"born\":1815,\"died\":1852}".as_slice());
+/// ```
 pub trait Fields {
     /// Their keys and values.
     ghost rows: { Self → Rows };
@@ -25,6 +36,15 @@ pub trait Fields {
 }
 
 /// A member of an object: its key, and what its value is written from.
+///
+/// ```
+/// use json_print::Serializer;
+/// use json_text::VecSink;
+/// use json_write::{Field, give_fields};
+/// let mut out = Serializer::new(alloc, VecSink::new(alloc));
+/// give_fields(&Field { name: "ready", value: &true }, &mut out)?;
+/// assert_eq!(rt; out.into_inner().as_slice(), b"{\"ready\":true}".as_slice());
+/// ```
 #[derive(Clone, Copy)]
 pub struct Field<'k, 'v, V> {
     /// The key.
@@ -36,6 +56,7 @@ pub struct Field<'k, 'v, V> {
 impl<'k, 'v, V: Serialize> Fields for Field<'k, 'v, V> {
     ghost rows = { λ f. row_and (text_datum f.name.now) (V.datum f.value.now) no_rows };
 
+    #[inline(always)]
     fn give<E: Events>(&self, out: &mut E) -> Result<()> {
         give_key(self.name, out)?;
         self.value.serialize(out)
@@ -45,6 +66,7 @@ impl<'k, 'v, V: Serialize> Fields for Field<'k, 'v, V> {
 impl<A: Fields, B: Fields> Fields for (A, B) {
     ghost rows = { λ p. rows_append (A.rows p.0) (B.rows p.1) };
 
+    #[inline(always)]
     fn give<E: Events>(&self, out: &mut E) -> Result<()> {
         self.0.give(out)?;
         self.1.give(out)
@@ -52,6 +74,7 @@ impl<A: Fields, B: Fields> Fields for (A, B) {
 }
 
 /// Gives an object of these members: the body of [`Serialize::serialize`] of a type with fields.
+#[inline(always)]
 pub fn give_fields<F: Fields, E: Events>(fields: &F, out: &mut E) -> Result<()>
     requires { E.failed out.old ≡ None → TakesValue (E.stand (E.state out.old)).turn }
     ensures { Writes E.after E.stopped (E.state out.old) (E.state out.new)

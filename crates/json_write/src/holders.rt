@@ -9,6 +9,7 @@ use json_text::Result;
 impl<T: Serialize> Serialize for &T {
     ghost datum = { λ s. T.datum s.now };
 
+    #[inline(always)]
     fn serialize<E: Events>(&self, out: &mut E) -> Result<()> {
         (**self).serialize(out)
     }
@@ -21,6 +22,7 @@ impl<T: Serialize> Serialize for &T {
 impl<T: Serialize> Serialize for Option<T> {
     ghost datum = { λ s. option_datum T.datum s };
 
+    #[inline(always)]
     fn serialize<E: Events>(&self, out: &mut E) -> Result<()> {
         match self {
             None => give_null(out),

@@ -10,6 +10,7 @@ use json_text::Result;
 impl Serialize for u8 {
     ghost datum = { λ n. integer_datum (pos n) };
 
+    #[inline(always)]
     fn serialize<E: Events>(&self, out: &mut E) -> Result<()> {
         give_uint(*self as u128, out)
     }
@@ -22,6 +23,7 @@ impl Serialize for u8 {
 impl Serialize for u16 {
     ghost datum = { λ n. integer_datum (pos n) };
 
+    #[inline(always)]
     fn serialize<E: Events>(&self, out: &mut E) -> Result<()> {
         give_uint(*self as u128, out)
     }
@@ -34,6 +36,7 @@ impl Serialize for u16 {
 impl Serialize for u32 {
     ghost datum = { λ n. integer_datum (pos n) };
 
+    #[inline(always)]
     fn serialize<E: Events>(&self, out: &mut E) -> Result<()> {
         give_uint(*self as u128, out)
     }
@@ -46,6 +49,7 @@ impl Serialize for u32 {
 impl Serialize for u64 {
     ghost datum = { λ n. integer_datum (pos n) };
 
+    #[inline(always)]
     fn serialize<E: Events>(&self, out: &mut E) -> Result<()> {
         give_uint(*self as u128, out)
     }
@@ -58,6 +62,7 @@ impl Serialize for u64 {
 impl Serialize for usize {
     ghost datum = { λ n. integer_datum (pos n) };
 
+    #[inline(always)]
     fn serialize<E: Events>(&self, out: &mut E) -> Result<()> {
         give_uint(*self as u128, out)
     }
@@ -70,6 +75,7 @@ impl Serialize for usize {
 impl Serialize for u128 {
     ghost datum = { λ n. integer_datum (pos n) };
 
+    #[inline(always)]
     fn serialize<E: Events>(&self, out: &mut E) -> Result<()> {
         give_uint(*self, out)
     }
@@ -82,6 +88,7 @@ impl Serialize for u128 {
 impl Serialize for i8 {
     ghost datum = { λ n. integer_datum n };
 
+    #[inline(always)]
     fn serialize<E: Events>(&self, out: &mut E) -> Result<()> {
         give_int(*self as i128, out)
     }
@@ -94,6 +101,7 @@ impl Serialize for i8 {
 impl Serialize for i16 {
     ghost datum = { λ n. integer_datum n };
 
+    #[inline(always)]
     fn serialize<E: Events>(&self, out: &mut E) -> Result<()> {
         give_int(*self as i128, out)
     }
@@ -106,6 +114,7 @@ impl Serialize for i16 {
 impl Serialize for i32 {
     ghost datum = { λ n. integer_datum n };
 
+    #[inline(always)]
     fn serialize<E: Events>(&self, out: &mut E) -> Result<()> {
         give_int(*self as i128, out)
     }
@@ -118,6 +127,7 @@ impl Serialize for i32 {
 impl Serialize for i64 {
     ghost datum = { λ n. integer_datum n };
 
+    #[inline(always)]
     fn serialize<E: Events>(&self, out: &mut E) -> Result<()> {
         give_int(*self as i128, out)
     }
@@ -130,6 +140,7 @@ impl Serialize for i64 {
 impl Serialize for isize {
     ghost datum = { λ n. integer_datum n };
 
+    #[inline(always)]
     fn serialize<E: Events>(&self, out: &mut E) -> Result<()> {
         give_int(*self as i128, out)
     }
@@ -142,6 +153,7 @@ impl Serialize for isize {
 impl Serialize for i128 {
     ghost datum = { λ n. integer_datum n };
 
+    #[inline(always)]
     fn serialize<E: Events>(&self, out: &mut E) -> Result<()> {
         give_int(*self, out)
     }

@@ -12,6 +12,7 @@ use std::borrow::CowStr;
 impl Serialize for () {
     ghost datum = { λ _. null_datum };
 
+    #[inline(always)]
     fn serialize<E: Events>(&self, out: &mut E) -> Result<()> {
         give_null(out)
     }
@@ -25,6 +26,7 @@ impl Serialize for () {
 impl Serialize for bool {
     ghost datum = { λ b. boolean_datum b };
 
+    #[inline(always)]
     fn serialize<E: Events>(&self, out: &mut E) -> Result<()> {
         give_boolean(*self, out)
     }
@@ -38,6 +40,7 @@ impl Serialize for bool {
 impl Serialize for char {
     ghost datum = { λ c. text_datum (encode_utf8 c) };
 
+    #[inline(always)]
     fn serialize<E: Events>(&self, out: &mut E) -> Result<()> {
         give_text(self.encode_utf8(&mut [0; 4]), out)
     }
@@ -50,6 +53,7 @@ impl Serialize for char {
 impl Serialize for &str {
     ghost datum = { λ s. text_datum s.now };
 
+    #[inline(always)]
     fn serialize<E: Events>(&self, out: &mut E) -> Result<()> {
         give_text(*self, out)
     }
@@ -63,6 +67,7 @@ impl Serialize for &str {
 impl Serialize for String {
     ghost datum = { λ s. text_datum (string_bytes s) };
 
+    #[inline(always)]
     fn serialize<E: Events>(&self, out: &mut E) -> Result<()> {
         give_text(self.as_str(), out)
     }
@@ -76,6 +81,7 @@ impl Serialize for String {
 impl<'a> Serialize for CowStr<'a> {
     ghost datum = { λ s. text_datum (cow_str_bytes s) };
 
+    #[inline(always)]
     fn serialize<E: Events>(&self, out: &mut E) -> Result<()> {
         give_text(self.as_str(), out)
     }

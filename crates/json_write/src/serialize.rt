@@ -11,6 +11,12 @@ use json_text::Result;
 
 /// What can be written as JSON. It means a datum: null, a boolean, an integer, a text, a number's literal, a list, or
 /// rows of keys and values.
+///
+/// ```
+/// use json_write::to_string;
+/// let rates: Vec<Option<u8>> = vec![in alloc; Some(7), None]?;
+/// assert_eq!(rt; to_string(alloc, &rates)?.as_str(), "[7,null]");
+/// ```
 pub trait Serialize {
     /// What it means.
     ghost datum: { Self → Datum };

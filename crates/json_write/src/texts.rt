@@ -5,6 +5,7 @@ ghost use Rattle.json_model.specs.Datum.{tree_of};
 ghost use Rattle.json_write.specs.Sending.{datum_text, two_spaces};
 
 use crate::Serialize;
+use crate::text_writer::TextWriter;
 use json_print::Serializer;
 use json_text::{Result, VecSink};
 use std::alloc::Global;
@@ -16,9 +17,9 @@ pub fn to_vec<T: Serialize>(alloc: Global, value: &T) -> Result<Vec<u8>>
     ensures err { IfErr result (λ e. (e ≡ no_memory)
         ⊎ ((e ≡ key_refused) × (tree_of (T.datum value.now) ≡ None))) }
 {
-    let mut out = Serializer::new(alloc, VecSink::new(alloc));
+    let mut out = TextWriter::new(alloc);
     value.serialize(&mut out)?;
-    Ok(out.into_inner().into_vec())
+    Ok(out.into_vec())
 }
 
 /// The text of the value's tree, indented by two spaces. A refusal comes exactly where a key has no text, but for

@@ -1,8 +1,7 @@
-use Rattle.json_print.specs.Given.{given, given_integer}
-use Rattle.std.proofs.Common.{◌≡◌, ◌∷◌, [], Some, sym, ap, subst, to_z-of_z}
+use Rattle.json_print.specs.Given.{given_integer}
+use Rattle.std.proofs.Common.{◌∷◌, [], Some, sym, ap, subst, to_z-of_z}
 use Rattle.std.specs.Fmt.{signed_decimal}
 use Rattle.json_grammar.specs.Grammar.{number}
-use Rattle.json_grammar.specs.Tree.{num_token}
 use Rattle.json_write.proofs.Decimals.{signed_number}
 use Rattle.json_write.proofs.Parts.{writes_token, writes_same}
 use Rattle.json_write.proofs.giving.give_int.Goals as goal

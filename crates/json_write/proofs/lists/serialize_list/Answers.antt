@@ -1,5 +1,5 @@
-use Rattle.json_print.specs.Given.{given, given_integer}
-use Rattle.std.proofs.Common.{◌≡◌, ◌∙◌, ap, arith, List, [], ◌∷◌, ◌++◌, Some, suc, take, drop}
+use Rattle.json_print.specs.Given.{given}
+use Rattle.std.proofs.Common.{◌∙◌, ap, arith, [], ◌∷◌, ◌++◌, Some, suc, take, drop}
 use Rattle.std.proofs.lemmas.Result.{err_from_is_err_and}
 use Rattle.std.proofs.lemmas.List.{take_all}
 use Rattle.json_grammar.specs.declared.Kind.TheVariants.{Array as array}

@@ -1,26 +1,14 @@
-use Rattle.std.proofs.Common.{None, refl, ap}
 use Rattle.std.proofs.lemmas.Result.{err_from_is_err_and}
-use Rattle.json_text.specs.Outside.{SinkState}
-use Rattle.json_text.specs.Sinks.{vec_sink_state}
-use Rattle.json_print.specs.contracts.compact.CompactFormatterFormatter.TheImpl.{ghosts}
 use Rattle.json_write.proofs.Refused.{if_err}
-use Rattle.json_write.proofs.Printing.{memory_or_refused, text_gained, text_in_vec, text_is_utf8}
-use Rattle.json_write.proofs.Parts.{wrote}
+use Rattle.json_write.proofs.TextsInMemory.{text_put, text_is, text_refused}
 use Rattle.json_write.proofs.texts.to_vec.Goals as goal
 
 pub returns-in_err-serialize-clause-err : goal.returns-in_err-serialize-clause-err
 returns-in_err-serialize-clause-err g c =
-    if_err _ _ _ (err_from_is_err_and c.from_residual.result c.from_residual.ensures.1) (memory_or_refused ghosts.form _ _ _ _ (g.T.Serialize.datum c.args.value.now) _ c.new-out.ensures.fresh c.in_err-serialize.ensures refl)
+    if_err _ _ _ (err_from_is_err_and c.from_residual.result c.from_residual.ensures.1) (text_refused (g.T.Serialize.datum c.args.value.now) c.new-out.ensures.fresh c.in_err-serialize.ensures)
 
 pub returns-clause-ok : goal.returns-clause-ok
-returns-clause-ok g c =
-    let d = g.T.Serialize.datum c.args.value.now in
-    let w : SinkState = vec_sink_state c.new.result in let w' : SinkState = vec_sink_state c.into_inner.result in
-    text_in_vec d None w w' _ (ap (λ (s : SinkState). s.gained) c.new.ensures) (text_gained _ _ _ _ _ d _ w w' None c.new-out.ensures.starts c.new-out.ensures.laid c.in_ok-serialize.ensures c.into_inner.ensures) c.into_vec.ensures
+returns-clause-ok g c = rw c.into_vec.ensures (text_is _ _ (text_put (g.T.Serialize.datum c.args.value.now) c.new-out.ensures.starts c.in_ok-serialize.ensures))
 
 pub returns-clause-utf8 : goal.returns-clause-utf8
-returns-clause-utf8 g c =
-    let d = g.T.Serialize.datum c.args.value.now in
-    let w : SinkState = vec_sink_state c.new.result in let w' : SinkState = vec_sink_state c.into_inner.result in
-    text_is_utf8 d None w w' _ tt (ap (λ (s : SinkState). s.gained) c.new.ensures) (text_gained _ _ _ _ _ d _ w w' None c.new-out.ensures.starts c.new-out.ensures.laid c.in_ok-serialize.ensures c.into_inner.ensures) c.into_vec.ensures
-    (wrote c.in_ok-serialize.ensures).proper
+returns-clause-utf8 g c = rw c.into_vec.ensures (text_put (g.T.Serialize.datum c.args.value.now) c.new-out.ensures.starts c.in_ok-serialize.ensures).utf8

@@ -20,11 +20,11 @@ pub returns-clause-ok : goal.returns-clause-ok
 returns-clause-ok g c =
     let d = g.T.Serialize.datum c.args.value.now in
     let w : SinkState = vec_sink_state c.new.result in let w' : SinkState = vec_sink_state c.into_inner.result in
-    text_in_vec d (Some (codes "  ")) w w' _ (ap (λ (s : SinkState). s.gained) c.new.ensures) (text_gained _ _ _ _ _ d _ w w' (Some (codes "  ")) c.pretty-out.ensures.starts c.pretty-out.ensures.laid c.in_ok-serialize.ensures c.into_inner.ensures) c.into_vec.ensures
+    text_in_vec d (Some (codes "  ")) w w' _ (ap (λ (s : SinkState). s.gained) c.new.ensures) (text_gained _ _ _ _ _ d _ w w' (Some (codes "  ")) c.pretty-out.ensures.starts c.pretty-out.ensures.laid c.in_ok-serialize.ensures c.into_inner.ensures.written) c.into_vec.ensures
 
 pub returns-clause-utf8 : goal.returns-clause-utf8
 returns-clause-utf8 g c =
     let d = g.T.Serialize.datum c.args.value.now in
     let w : SinkState = vec_sink_state c.new.result in let w' : SinkState = vec_sink_state c.into_inner.result in
-    text_is_utf8 d (Some (codes "  ")) w w' _ two_spaces (ap (λ (s : SinkState). s.gained) c.new.ensures) (text_gained _ _ _ _ _ d _ w w' (Some (codes "  ")) c.pretty-out.ensures.starts c.pretty-out.ensures.laid c.in_ok-serialize.ensures c.into_inner.ensures) c.into_vec.ensures
+    text_is_utf8 d (Some (codes "  ")) w w' _ two_spaces (ap (λ (s : SinkState). s.gained) c.new.ensures) (text_gained _ _ _ _ _ d _ w w' (Some (codes "  ")) c.pretty-out.ensures.starts c.pretty-out.ensures.laid c.in_ok-serialize.ensures c.into_inner.ensures.written) c.into_vec.ensures
     (wrote c.in_ok-serialize.ensures).proper

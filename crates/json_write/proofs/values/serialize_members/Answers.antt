@@ -1,4 +1,4 @@
-use Rattle.std.proofs.Common.{◌≡◌, ◌≤◌, ◌∙◌, ap, sym, arith, refl, List, [], ◌∷◌, ◌++◌, Some, suc, take, drop, length}
+use Rattle.std.proofs.Common.{arith, refl}
 use Rattle.std.proofs.lemmas.Result.{err_from_is_err_and}
 use Rattle.json_value.specs.Seen.{seen, members_seen}
 use Rattle.json_write.specs.TreeDatum.{tree_datum}

@@ -1,5 +1,5 @@
-use Rattle.json_print.specs.Given.{given, given_integer}
-use Rattle.std.proofs.Common.{◌≡◌, ◌∙◌, ap, sym, List, [], ◌∷◌, ◌++◌, Some, append_assoc, append-nil}
+use Rattle.json_print.specs.Given.{given}
+use Rattle.std.proofs.Common.{◌∙◌, ap, sym, [], ◌∷◌, ◌++◌, Some, append_assoc, append-nil}
 use Rattle.std.proofs.lemmas.Result.{err_from_is_err_and}
 use Rattle.json_grammar.specs.declared.Kind.TheVariants.{Array as array}
 use Rattle.json_grammar.specs.Tree.{begin, end}

@@ -1,10 +1,9 @@
-use Rattle.std.proofs.Common.{◌≡◌, ◌∙◌, ap, sym, arith, rules, List, [], ◌∷◌, ◌++◌, Some, subst, Err}
+use Rattle.std.proofs.Common.{arith}
 use Rattle.std.proofs.lemmas.Grind.{common_steps}
 use Rattle.std.proofs.lemmas.Result.{err_from_is_err_and}
 use Rattle.json_write.proofs.Parts.{writes_err, writes_stop, wrote}
 use Rattle.json_write.proofs.Rows.{rows_start, rows_gap, rows_key_stop, rows_value_stop, rows_next, rows_all}
 use Rattle.json_write.proofs.Turns.{rows_begun, rows_key, rows_more, rows_take, rows_end, value_takes}
-use Rattle.json_write.specs.Writing.{Writes}
 use Rattle.json_write.proofs.maps.BTreeMapSerialize.serialize.Goals as goal
 
 pub returns-in_err-begin_rows : goal.returns-in_err-begin_rows

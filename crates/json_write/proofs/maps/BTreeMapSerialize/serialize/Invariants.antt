@@ -1,6 +1,3 @@
-use Rattle.std.proofs.Common.{◌≡◌, List, ◌++◌}
-use Rattle.json_write.proofs.Members.{rows_front}
-use Rattle.json_write.proofs.Parts.{Wrote}
 use Rattle.json_write.proofs.Turns.{InRows}
 use Rattle.json_write.proofs.Rows.{RowsUpTo}
 use Rattle.json_write.proofs.maps.BTreeMapSerialize.serialize.Given as goal
