@@ -12,7 +12,10 @@ use Rattle.json_rpc.specs.Requests as spec
 use Rattle.json_rpc.specs.Serving as serve
 use Rattle.json_rpc.specs.declared.message.Message.{Message}
 use Rattle.json_rpc.specs.declared.message.Message.TheVariants.{Blank, Unreadable, Readable}
+use Rattle.json_rpc.specs.declared.reply.Reply.{Reply}
+use Rattle.json_rpc.specs.declared.reply.Reply.TheVariants.{Done, Failed, Batch}
 use Rattle.json_rpc.specs.declared.service.Service.{Service}
+use Rattle.json_rpc.specs.Responses.{result_response, error_response}
 use Rattle.json_rpc.specs.Methods as methods
 use Rattle.json_rpc.specs.declared.request.Request.{Request}
 use Rattle.json_rpc.specs.declared.operation.Operation.{Operation}
@@ -36,6 +39,12 @@ message_denoted (Readable v) = serve.readable (tree_of v)
 -- the document of a service
 abbrev pub document_of : Service → Tree
 document_of s = tree_of s.document
+
+-- the reply that is written
+abbrev pub reply_tree : Reply → Tree
+reply_tree (Done outcome id) = result_response (tree_of outcome) (tree_of id)
+reply_tree (Failed error id) = error_response error (tree_of id)
+reply_tree (Batch responses) = tree_of responses
 
 -- all that a step of a run may change
 abbrev pub run_state : LineReader → SourceState → SinkState → Service → RunState

@@ -1,5 +1,6 @@
 pub mod Requests
 pub mod Responses
+pub mod ReplyTexts
 pub mod Methods
 pub mod Serving
 pub mod Denoted

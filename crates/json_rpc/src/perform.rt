@@ -11,7 +11,7 @@ ghost use Rattle.json_rpc.specs.Perform.{container_type, Applies};
 ghost use Rattle.json_rpc.specs.Serving.{responded};
 
 use crate::error::RpcError;
-use crate::response::{error_response, result_response};
+use crate::response::{Respond, error_response, result_response};
 use json_doc::JsonType;
 use json_text::{ErrorCode, Result};
 use json_value::{Edit, Path, PointerNode, Value, View};
@@ -57,16 +57,16 @@ fn lookup<'a>(root: View<'a>, path: &[PointerNode]) -> std::result::Result<View<
 }
 
 /// Returns the response of `get` to a request with this id; `None` without an id.
-pub(crate) fn get(
+pub(crate) fn get<R: Respond>(
     alloc: Global,
     document: &Value,
     path: &Path,
     id: Option<View<'_>>,
-) -> Result<Option<Value>>
+) -> Result<Option<R>>
     ensures ok { IfOk result (λ o.
         responded (tree_of document.now) (option_map seen id.entry)
         (performed (get_at (path_steps path.now)) (tree_of document.now))
-        ≡ (tree_of document.now, option_map tree_of o)) }
+        ≡ (tree_of document.now, option_map R.response o)) }
     ensures only { OnlyNoMemory result }
 {
     match lookup(document.view(), path.steps()) {
@@ -100,16 +100,16 @@ fn apply(
 }
 
 /// Applies an edit and returns the response to a request with this id; `None` without an id.
-pub(crate) fn change(
+pub(crate) fn change<R: Respond>(
     alloc: Global,
     document: &mut Value,
     edit: &Edit,
     id: Option<View<'_>>,
-) -> Result<Option<Value>>
+) -> Result<Option<R>>
     ensures ok { IfOk result (λ o.
         responded (tree_of document.old) (option_map seen id.entry)
         (performed (change_by (edit_of edit.now)) (tree_of document.old))
-        ≡ (tree_of document.new, option_map tree_of o)) }
+        ≡ (tree_of document.new, option_map R.response o)) }
     ensures kept { OnErr result (tree_of document.new ≡ tree_of document.old) }
     ensures only { OnlyNoMemory result }
 {

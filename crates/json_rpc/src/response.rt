@@ -12,6 +12,33 @@ use json_text::Result;
 use json_value::{Object, Pair, Text, Value, View};
 use std::alloc::Global;
 
+/// What is made of a response (JSON-RPC 2.0, section 5): a value, or what is written.
+pub(crate) trait Respond: Sized + Drop {
+    ghost use Rattle.std.specs.Prelude.{◌≡◌, IfOk};
+    ghost use Rattle.json_grammar.specs.Tree.{Tree};
+    ghost use Rattle.json_value.specs.Denotes.{tree_of};
+    ghost use Rattle.json_value.specs.Failures.{OnlyNoMemory};
+    ghost use Rattle.json_rpc.specs.Responses.{result_response, error_response};
+
+    /// The response object.
+    ghost response: { Self → Tree };
+
+    /// Makes the response that carries a result.
+    fn with_result(alloc: Global, outcome: Value, id: Value) -> Result<Self>
+        ensures ok { IfOk result (λ r. response r
+            ≡ result_response (tree_of outcome) (tree_of id)) }
+        ensures only { OnlyNoMemory result };
+
+    /// Makes the response that carries an error.
+    fn with_error(alloc: Global, error: RpcError, id: Value) -> Result<Self>
+        ensures ok { IfOk result (λ r. response r ≡ error_response error (tree_of id)) }
+        ensures only { OnlyNoMemory result };
+
+    /// Makes the reply of the responses to a batch.
+    fn of_batch(responses: Value) -> Self
+        ensures { response result ≡ tree_of responses };
+}
+
 // Returns a member.
 fn member(name: &'static str, value: Value) -> Pair
     ensures { pair_of result ≡ (name.now, tree_of value) }
@@ -43,49 +70,57 @@ fn response(alloc: Global, name: &'static str, outcome: Value, id: Value) -> Res
     Ok(Object::from_list(members).into_value())
 }
 
+impl Respond for Value {
+    ghost response = { tree_of };
+
+    fn with_result(alloc: Global, outcome: Value, id: Value) -> Result<Value> {
+        response(alloc, "result", outcome, id)
+    }
+
+    fn with_error(alloc: Global, error: RpcError, id: Value) -> Result<Value> {
+        let error = error_object(alloc, error)?;
+        response(alloc, "error", error, id)
+    }
+
+    fn of_batch(responses: Value) -> Value {
+        responses
+    }
+}
+
 /// Returns the response that carries a result; `None` without an id.
-pub(crate) fn result_response(
+pub(crate) fn result_response<R: Respond>(
     alloc: Global,
     outcome: Value,
     id: Option<View<'_>>,
-) -> Result<Option<Value>>
-    ensures ok { IfOk result (λ o. option_map tree_of o
+) -> Result<Option<R>>
+    ensures ok { IfOk result (λ o. option_map R.response o
         ≡ option_map (result_response (tree_of outcome)) (option_map seen id.entry)) }
     ensures only { OnlyNoMemory result }
 {
     match id {
         Some(id) => {
             let id = id.to_value(alloc)?;
-            let reply = response(alloc, "result", outcome, id)?;
+            let reply = R::with_result(alloc, outcome, id)?;
             Ok(Some(reply))
         }
         None => Ok(None),
     }
 }
 
-/// Returns the response that carries an error.
-pub(crate) fn error_with(alloc: Global, error: RpcError, id: Value) -> Result<Value>
-    ensures ok { IfOk result (λ v. tree_of v ≡ error_response error (tree_of id)) }
-    ensures only { OnlyNoMemory result }
-{
-    let error = error_object(alloc, error)?;
-    response(alloc, "error", error, id)
-}
-
 /// Returns the response that carries an error; `None` without an id.
-pub(crate) fn error_response(
+pub(crate) fn error_response<R: Respond>(
     alloc: Global,
     error: RpcError,
     id: Option<View<'_>>,
-) -> Result<Option<Value>>
-    ensures ok { IfOk result (λ o. option_map tree_of o
+) -> Result<Option<R>>
+    ensures ok { IfOk result (λ o. option_map R.response o
         ≡ option_map (error_response error) (option_map seen id.entry)) }
     ensures only { OnlyNoMemory result }
 {
     match id {
         Some(id) => {
             let id = id.to_value(alloc)?;
-            let reply = error_with(alloc, error, id)?;
+            let reply = R::with_error(alloc, error, id)?;
             Ok(Some(reply))
         }
         None => Ok(None),

@@ -15,16 +15,20 @@ use crate::error::RpcError;
 use crate::operation::{Operation, is_edit, read_operation};
 use crate::perform::{change, get};
 use crate::request::{Request, read_request};
-use crate::response::{error_response, error_with};
+use crate::response::{Respond, error_response};
 use json_text::Result;
 use json_value::{ArrayView, Value, View};
 use std::alloc::Global;
 
 // Executes a request and returns its response; `None` for a notification.
-fn execute(alloc: Global, document: &mut Value, request: &Request<'_>) -> Result<Option<Value>>
+fn execute<R: Respond>(
+    alloc: Global,
+    document: &mut Value,
+    request: &Request<'_>,
+) -> Result<Option<R>>
     ensures ok { IfOk result (λ o. let r = request_seen request.now in
         responded (tree_of document.old) r.id (executed r (tree_of document.old))
-        ≡ (tree_of document.new, option_map tree_of o)) }
+        ≡ (tree_of document.new, option_map R.response o)) }
     ensures kept { OnErr result (tree_of document.new ≡ tree_of document.old) }
     ensures reads { is_edit (request_seen request.now).method ≡ false
         → document.new ≡ document.old }
@@ -38,17 +42,21 @@ fn execute(alloc: Global, document: &mut Value, request: &Request<'_>) -> Result
 }
 
 // Returns the response to a value that is no valid request.
-fn invalid_request(alloc: Global) -> Result<Value>
-    ensures ok { IfOk result (λ v. tree_of v ≡ error_response InvalidRequest null) }
+fn invalid_request<R: Respond>(alloc: Global) -> Result<R>
+    ensures ok { IfOk result (λ r. R.response r ≡ error_response InvalidRequest null) }
     ensures only { OnlyNoMemory result }
 {
-    error_with(alloc, RpcError::InvalidRequest, Value::new_null())
+    R::with_error(alloc, RpcError::InvalidRequest, Value::new_null())
 }
 
 // Serves one request.
-fn serve_member(alloc: Global, document: &mut Value, view: View<'_>) -> Result<Option<Value>>
+fn serve_member<R: Respond>(
+    alloc: Global,
+    document: &mut Value,
+    view: View<'_>,
+) -> Result<Option<R>>
     ensures ok { IfOk result (λ o. member_served (tree_of document.old) (seen view.entry)
-        ≡ (tree_of document.new, option_map tree_of o)) }
+        ≡ (tree_of document.new, option_map R.response o)) }
     ensures kept { OnErr result (tree_of document.new ≡ tree_of document.old) }
     ensures reads { member_only_reads (seen view.entry) ≡ true → document.new ≡ document.old }
     ensures only { OnlyNoMemory result }
@@ -81,13 +89,13 @@ fn serve_members(alloc: Global, document: &mut Value, members: ArrayView<'_>) ->
 }
 
 // Returns the reply to a batch; `None` if there is no response.
-fn reply_of(replies: Vec<Value>) -> Option<Value>
-    ensures { option_map tree_of result ≡ batch_reply (map tree_of replies.items) }
+fn reply_of<R: Respond>(responses: Vec<Value>) -> Option<R>
+    ensures { option_map R.response result ≡ batch_reply (map tree_of responses.items) }
 {
-    if replies.is_empty() {
+    if responses.is_empty() {
         None
     } else {
-        Some(Value::from_vec(replies))
+        Some(R::of_batch(Value::from_vec(responses)))
     }
 }
 
@@ -115,10 +123,14 @@ fn all_only_read(members: ArrayView<'_>) -> bool
 
 // Serves a batch that has a member. One with an edit is served on a clone of the document, so that
 // the document stays as it is if memory runs out half way.
-fn serve_batch(alloc: Global, document: &mut Value, members: ArrayView<'_>) -> Result<Option<Value>>
+fn serve_batch<R: Respond>(
+    alloc: Global,
+    document: &mut Value,
+    members: ArrayView<'_>,
+) -> Result<Option<R>>
     ensures ok { IfOk result (λ o.
         whole_batch_served (tree_of document.old) (elements_seen members.entry)
-        ≡ (tree_of document.new, option_map tree_of o)) }
+        ≡ (tree_of document.new, option_map R.response o)) }
     ensures kept { OnErr result (tree_of document.new ≡ tree_of document.old) }
     ensures reads { list_all member_only_reads (elements_seen members.entry) ≡ true
         → document.new ≡ document.old }
@@ -135,13 +147,13 @@ fn serve_batch(alloc: Global, document: &mut Value, members: ArrayView<'_>) -> R
 }
 
 /// Serves a value: a batch if it is an array, and else one request.
-pub(crate) fn serve_tree(
+pub(crate) fn serve_tree<R: Respond>(
     alloc: Global,
     document: &mut Value,
     view: View<'_>,
-) -> Result<Option<Value>>
+) -> Result<Option<R>>
     ensures ok { IfOk result (λ o. served_tree (tree_of document.old) (seen view.entry)
-        ≡ (tree_of document.new, option_map tree_of o)) }
+        ≡ (tree_of document.new, option_map R.response o)) }
     ensures kept { OnErr result (tree_of document.new ≡ tree_of document.old) }
     ensures reads { tree_only_reads (seen view.entry) ≡ true → document.new ≡ document.old }
     ensures only { OnlyNoMemory result }

@@ -10,7 +10,7 @@ ghost use Rattle.json_rpc.specs.declared.error.RpcError.TheVariants.{ParseError}
 
 use crate::error::RpcError;
 use crate::message::{Message, read_message};
-use crate::response::error_with;
+use crate::response::Respond;
 use crate::serve::serve_tree;
 use json_lines::Line;
 use json_text::Result;
@@ -39,17 +39,21 @@ pub struct Service {
 }
 
 // Returns the response to a line that cannot be read.
-fn parse_error(alloc: Global) -> Result<Value>
-    ensures ok { IfOk result (λ v. tree_of v ≡ error_response ParseError null) }
+fn parse_error<R: Respond>(alloc: Global) -> Result<R>
+    ensures ok { IfOk result (λ r. R.response r ≡ error_response ParseError null) }
     ensures only { OnlyNoMemory result }
 {
-    error_with(alloc, RpcError::ParseError, Value::new_null())
+    R::with_error(alloc, RpcError::ParseError, Value::new_null())
 }
 
 // Serves a line that was read.
-fn serve_message(alloc: Global, document: &mut Value, message: Message) -> Result<Option<Value>>
+fn serve_message<R: Respond>(
+    alloc: Global,
+    document: &mut Value,
+    message: Message,
+) -> Result<Option<R>>
     ensures ok { IfOk result (λ o. served (tree_of document.old) (message_denoted message)
-        ≡ (tree_of document.new, option_map tree_of o)) }
+        ≡ (tree_of document.new, option_map R.response o)) }
     ensures kept { OnErr result (tree_of document.new ≡ tree_of document.old) }
     ensures reads { message_only_reads (message_denoted message) ≡ true
         → document.new ≡ document.old }
@@ -98,6 +102,21 @@ impl Service {
     pub fn serve(&mut self, alloc: Global, line: Line<'_>) -> Result<Option<Value>>
         ensures ok { IfOk result (λ o. Serves (document_of self.old) line.entry
             (document_of self.new) (option_map tree_of o)) }
+        ensures kept { OnErr result (document_of self.new ≡ document_of self.old) }
+        ensures reads { OnlyReads line.entry → self.new ≡ self.old }
+        ensures only { OnlyNoMemory result }
+    {
+        self.reply_to(alloc, line)
+    }
+
+    /// Serves a line as `serve` does, and returns the reply as what it is to be.
+    pub(crate) fn reply_to<R: Respond>(
+        &mut self,
+        alloc: Global,
+        line: Line<'_>,
+    ) -> Result<Option<R>>
+        ensures ok { IfOk result (λ o. Serves (document_of self.old) line.entry
+            (document_of self.new) (option_map R.response o)) }
         ensures kept { OnErr result (document_of self.new ≡ document_of self.old) }
         ensures reads { OnlyReads line.entry → self.new ≡ self.old }
         ensures only { OnlyNoMemory result }
