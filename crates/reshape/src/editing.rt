@@ -23,8 +23,10 @@ fn numbered(error: Error, number: u32) -> Error
     }
 }
 
-/// Applies the edits in turn, each to what the one before it left. The first that does not apply is told by its number;
-/// or memory runs out. There are fewer than 2^32 edits.
+/// Applies the edits in turn, each to what those before it left. Fails with `NotFound` or
+/// `TypeUnmatched` at the number of the first edit that does not apply, and with `NoMemory` if
+/// memory runs out; what the value is then is not said. There must be fewer than 4,294,967,296
+/// edits.
 pub fn apply_all(alloc: Global, value: &mut Value, edits: &[Edit]) -> Result<()>
     requires { length edits.now < 2 ^ 32 }
     ensures ok { OnOk result

@@ -26,6 +26,7 @@ mod words;
 
 pub use asked_style::AskedStyle;
 pub use command::Asked;
+pub use editing::apply_all;
 pub use edits::Edits;
 pub use engine::{reshape, reshape_with};
 pub use top::run;

@@ -1,7 +1,7 @@
-# Completion of the script `./mezdruk` for fish: `source tools/completions/fish/mezdruk.fish`.
+# Completion of `mezdruk`, and of the script `./mezdruk`, for fish.
 # The arguments of a program are completed by the file of that program.
 for file in (path dirname (status filename))/{reshape,mezdruk-*}.fish
-    source $file
+    test -e $file; and source $file
 end
 function __mezdruk_arguments -d 'Completes the arguments behind the name of a program'
     set -l words (commandline -opc)
@@ -11,10 +11,42 @@ function __mezdruk_arguments -d 'Completes the arguments behind the name of a pr
     test (count $words) -eq 2; and echo --build
     complete -C (string join ' ' -- $program (string escape -- $words[3..]) (commandline -ct))
 end
+function __mezdruk_takes -d 'Whether the command is one of the first list, and no option of the second stands'
+    set -l words (commandline -opc)
+    test (count $words) -ge 2; or return 1
+    contains -- $words[2] (string split , -- $argv[1]); or return 1
+    for token in $words[3..]
+        contains -- (string split -m 1 = -- $token)[1] $argv[2..]; and return 1
+    end
+    return 0
+end
 set -l first 'test (count (commandline -opc)) -eq 1'
-complete -c mezdruk -f
-complete -c mezdruk -n $first -a 'reshape lines patch history rpc'
-complete -c mezdruk -n $first -a '--build' -d 'prove and build the programs'
-complete -c mezdruk -n $first -a '--help' -d 'print the usage and the programs'
-complete -c mezdruk -n "not $first; and test (commandline -opc)[2] = --build" -a 'reshape lines patch history rpc'
+set -l prints fmt,get,edit,set,insert,push,remove,merge
+set -l writes fmt,edit,set,insert,push,remove,merge
+set -l layouts --compact --pretty --indent --tabs
+complete -c mezdruk -n $first -f -a 'fmt' -d 'lay documents out'
+complete -c mezdruk -n $first -f -a 'check' -d 'print nothing but errors'
+complete -c mezdruk -n $first -f -a 'get' -d 'print the value at a path'
+complete -c mezdruk -n $first -f -a 'edit' -d 'apply edits'
+complete -c mezdruk -n $first -f -a 'set insert push remove' -d 'apply one edit'
+complete -c mezdruk -n $first -f -a 'merge' -d 'apply a JSON Merge Patch'
+complete -c mezdruk -n $first -f -a 'reshape lines patch history rpc'
+complete -c mezdruk -n $first -f -a '--build' -d 'prove and build the programs'
+complete -c mezdruk -n $first -f -a '--help' -d 'print the usage and the programs'
+complete -c mezdruk -n $first -f -a '--version' -d 'print the version'
+complete -c mezdruk -n "not $first; and test (commandline -opc)[2] = --build" -f -a 'reshape lines patch history rpc'
 complete -c mezdruk -n "not $first" -a '(__mezdruk_arguments)'
+complete -c mezdruk -n "__mezdruk_takes $prints $layouts" -a '--compact' -d 'no whitespace'
+complete -c mezdruk -n "__mezdruk_takes $prints $layouts" -a '--pretty' -d 'indent by two spaces'
+complete -c mezdruk -n "__mezdruk_takes $prints $layouts" -a "--indent=(seq 0 8)" -d 'indent by so many spaces'
+complete -c mezdruk -n "__mezdruk_takes $prints $layouts" -a '--tabs' -d 'indent by a tab'
+complete -c mezdruk -n "__mezdruk_takes $prints --sort-keys" -a '--sort-keys' -d 'sort the members of each object'
+complete -c mezdruk -n "__mezdruk_takes check,$prints --unique-keys" -a '--unique-keys' -d 'refuse two members of one key'
+complete -c mezdruk -n "__mezdruk_takes check,$prints --depth" -a '--depth=' -d 'refuse input of more levels, 254 without it'
+complete -c mezdruk -n "__mezdruk_takes check,$prints --lines --stream" -a '--lines' -d 'each line is a document'
+complete -c mezdruk -n "__mezdruk_takes check,$prints --lines --stream" -a '--stream' -d 'documents follow one another'
+complete -c mezdruk -n '__mezdruk_takes get --raw' -a '--raw' -d 'print the content of a string'
+complete -c mezdruk -n "__mezdruk_takes $writes -i --in-place" -a '--in-place' -d 'write each file in place'
+complete -c mezdruk -n '__mezdruk_takes edit --edits' -a '--edits=' -d 'take the edits from a file'
+complete -c mezdruk -n '__mezdruk_takes patch --patch' -a '--patch=' -d 'take the patch from a file'
+complete -c mezdruk -n '__mezdruk_takes merge --merge' -a '--merge=' -d 'take the patch from a file'

@@ -1,0 +1,5 @@
+pub mod Operands
+pub mod CommandLines
+pub mod Lines
+pub mod Indents
+pub mod Spelled

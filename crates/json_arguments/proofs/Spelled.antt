@@ -1,0 +1,84 @@
+-- What the readers of paths and edits return of a tree, and whether it has their form.
+use Rattle.std.proofs.Common.{◌≡◌, ◌⊎◌, inl, inr, ◌∙◌, true, false, List, [], ◌∷◌, map, Option, Some, None, is_some, refl, sym, ap}
+use Rattle.json_grammar.specs.Tree.{Tree, null, boolean, num, text, list, pairs}
+use Rattle.json_text.specs.Errors.{no_memory}
+use Rattle.json_text.specs.declared.error.Error.{Error}
+use Rattle.json_text.specs.declared.error.ErrorCode.{ErrorCode}
+use Rattle.json_text.specs.declared.error.ErrorCode.TheVariants.{NoMemory, TypeUnmatched, NumberOutOfRange, ExpectedNumericKey}
+use Rattle.json_text.specs.declared.error.Place.{Place}
+use Rattle.json_text.specs.declared.error.Place.TheVariants.{None as nowhere}
+use Rattle.json_model.specs.Datum.{Datum, list_datum, list_data}
+use Rattle.json_model.specs.Edit.{Step, Edit}
+use Rattle.json_value.specs.declared.path.Edit.{Edit as ValueEdit}
+use Rattle.json_value.specs.Edits.{edit_of}
+use Rattle.json_value.specs.EditTrees.{path_in}
+use Rattle.json_data.specs.Reading.{Reading, gives, refuses, read_list}
+use Rattle.json_data.specs.ReadingValues.{spelled, path_datum, read_path, edit_datum, read_edit}
+use Rattle.json_data.specs.Refusals.{is_refusal}
+use Rattle.json_data.specs.ValueCalls.{TreeReadingFails}
+use Rattle.json_data.proofs.ValueData.{list_edits, list_none}
+use Rattle.json_arguments.specs.Operands.{edits_in, path_formed, edits_formed}
+
+-- an error that is a refusal is one of the tree
+pub refused : (f : Tree → Reading) (t : Tree) (c : ErrorCode) (p : Place) → is_refusal c ≡ true → TreeReadingFails f t c p → (d : ErrorCode) × (f t ≡ refuses d)
+refused f t NoMemory p i h = absurd (cc)
+refused f t TypeUnmatched nowhere i h = (TypeUnmatched, h)
+refused f t NumberOutOfRange nowhere i h = (NumberOutOfRange, h)
+refused f t ExpectedNumericKey nowhere i h = (ExpectedNumericKey, h)
+refused f t c p i h = absurd h
+
+-- ---- paths
+
+pub path_given : (t : Tree) (d : Datum) → read_path t ≡ gives d → true ≡ path_formed t
+path_given t d = by (path_in t)
+  where
+    by : (o : Option (List Step)) → spelled path_datum o ≡ gives d → true ≡ is_some o
+    by (Some p) e = refl
+    by None e = absurd (cc)
+
+pub path_refused : (t : Tree) (c : ErrorCode) → read_path t ≡ refuses c → false ≡ path_formed t
+path_refused t c = by (path_in t)
+  where
+    by : (o : Option (List Step)) → spelled path_datum o ≡ refuses c → false ≡ is_some o
+    by (Some p) e = absurd (cc)
+    by None e = refl
+
+-- ---- edits
+
+edits_read : (t : Tree) (es : List Edit) → read_list read_edit t ≡ gives (list_datum (list_data (map edit_datum es))) → edits_in t ≡ Some es
+edits_read (list ts) es e = list_edits ts es e
+edits_read null es e = absurd (cc)
+edits_read (boolean b) es e = absurd (cc)
+edits_read (num l) es e = absurd (cc)
+edits_read (text s) es e = absurd (cc)
+edits_read (pairs ps) es e = absurd (cc)
+
+pub edits_none : (t : Tree) (c : ErrorCode) → read_list read_edit t ≡ refuses c → edits_in t ≡ None
+edits_none (list ts) c e = list_none ts c e
+edits_none null c e = refl
+edits_none (boolean b) c e = refl
+edits_none (num l) c e = refl
+edits_none (text s) c e = refl
+edits_none (pairs ps) c e = refl
+
+mapped : (es : List ValueEdit) → map (λ e. edit_datum (edit_of e)) es ≡ map edit_datum (map edit_of es)
+mapped [] = refl
+mapped (e ∷ es) = ap (λ (ds : List Datum). edit_datum (edit_of e) ∷ ds) (mapped es)
+
+-- the edits that are read are those that the tree spells
+pub edits_given : (t : Tree) (es : List ValueEdit) → read_list read_edit t ≡ gives (list_datum (list_data (map (λ e. edit_datum (edit_of e)) es))) → edits_in t ≡ Some (map edit_of es)
+edits_given t es e = edits_read t (map edit_of es) (e ∙ ap (λ (ds : List Datum). gives (list_datum (list_data ds))) (mapped es))
+
+pub edits_are_formed : (t : Tree) (es : List ValueEdit) → read_list read_edit t ≡ gives (list_datum (list_data (map (λ e. edit_datum (edit_of e)) es))) → true ≡ edits_formed t
+edits_are_formed t es e = sym (ap is_some (edits_given t es e))
+
+pub edits_refused : (t : Tree) (c : ErrorCode) → read_list read_edit t ≡ refuses c → false ≡ edits_formed t
+edits_refused t c e = sym (ap is_some (edits_none t c e))
+
+-- why no edits are read
+pub edits_fail : (t : Tree) (c : ErrorCode) (p : Place) → TreeReadingFails (read_list read_edit) t c p → (◌≡◌ {A = Error} (record { code = c; place = p }) no_memory) ⊎ (edits_in t ≡ None)
+edits_fail t NoMemory nowhere h = inl refl
+edits_fail t TypeUnmatched nowhere h = inr (edits_none t TypeUnmatched h)
+edits_fail t NumberOutOfRange nowhere h = inr (edits_none t NumberOutOfRange h)
+edits_fail t ExpectedNumericKey nowhere h = inr (edits_none t ExpectedNumericKey h)
+edits_fail t c p h = absurd h

@@ -1,0 +1,130 @@
+-- The rules of the command line: what an argument is after those before it, whether it may come next, and what it adds.
+use Rattle.std.specs.Prelude.{◌≡◌, ℕ, ⊤, Bool, true, false, not, cond, ◌&&◌, ◌==◌, List, [], ◌∷◌, ◌++◌, length, slice_get, Option, Some, None, is_some, unwrap_or, option_and_then, bytes_eq, codes}
+use Rattle.std.specs.List.{list_any}
+use Rattle.json_arguments.specs.declared.verb.Verb.{Verb}
+use Rattle.json_arguments.specs.declared.operand.OperandKind.{OperandKind}
+use Rattle.json_arguments.specs.declared.setting.Setting.{Setting}
+use Rattle.json_arguments.specs.declared.setting.Setting.TheVariants.{InPlace}
+use Rattle.json_arguments.specs.declared.setting.Settings.{Settings}
+use Rattle.json_arguments.specs.declared.line.Role.{Role}
+use Rattle.json_arguments.specs.declared.line.Role.TheVariants as role
+use Rattle.json_arguments.specs.Arguments.{verb_in, setting_in, takes, source_in, operands_of, is_option, is_standard_input, no_settings, with_setting}
+use Rattle.json_arguments.specs.Operands.{IsOperand}
+
+-- what the arguments so far ask for
+pub record Asked : Type 0 where
+  pub verb : Option Verb
+  pub settings : Settings
+  pub ended : Bool
+  pub source : Option (List ℕ)
+  pub operands : List (List ℕ)
+  pub files : List (List ℕ)
+
+abbrev pub nothing_asked : Asked
+nothing_asked = record { verb = None; settings = no_settings; ended = false; source = None; operands = []; files = [] }
+
+-- the operands of the command
+abbrev pub operands_asked : Asked → List OperandKind
+operands_asked s = elim s.verb [ Some v ↦ operands_of v | None ↦ [] ]
+
+-- the operand that comes next: no option names a file for it, and there are fewer operands than the command has
+abbrev pub missing_operand : Asked → Option OperandKind
+missing_operand s = cond (is_some s.source) None (slice_get (operands_asked s) (length s.operands))
+
+-- the file that an argument names for the operand
+abbrev pub source_named : Asked → List ℕ → Option (List ℕ)
+source_named s w = option_and_then (λ v. source_in v w) s.verb
+
+-- ---- what an argument is
+
+-- where a command is expected
+abbrev pub command_role : List ℕ → Role
+command_role w = elim (verb_in w) [ Some v ↦ role.Command v | None ↦ role.Unknown ]
+
+-- an option of a command
+abbrev pub option_role : Verb → List ℕ → Role
+option_role v w = cond (is_some (source_in v w)) role.Source (elim (setting_in w) [ Some x ↦ cond (takes v x) (role.Setting x) role.Unknown | None ↦ role.Unknown ])
+
+-- an operand as long as one is missing, and then a file
+abbrev pub operand_role : Option OperandKind → Role
+operand_role (Some kind) = role.Operand kind
+operand_role None = role.File
+
+-- an argument after the command
+abbrev pub role_of : Verb → Bool → Option OperandKind → List ℕ → Role
+role_of v ended missing w =
+    cond (bytes_eq w (codes "--") && not ended) role.EndOfOptions
+    (cond (is_option w && not ended) (option_role v w) (operand_role missing))
+
+abbrev pub role_in : Asked → List ℕ → Role
+role_in s w = elim s.verb [ Some v ↦ role_of v s.ended (missing_operand s) w | None ↦ command_role w ]
+
+-- ---- whether it may come next
+
+-- standard input cannot be changed in place
+abbrev pub in_place_and_input : Setting → List (List ℕ) → Bool
+in_place_and_input InPlace files = list_any is_standard_input files
+in_place_and_input _ files = false
+
+-- no operand and no file was given
+abbrev pub has_no_operands : Asked → Bool
+has_no_operands s = length s.operands == 0 && length s.files == 0
+
+-- each option is asked for once; a file for the operand comes before operands and files
+abbrev pub allows : Asked → List ℕ → Role → Bool
+allows s w (role.Setting x) = is_some (with_setting s.settings x) && not (in_place_and_input x s.files)
+allows s w role.Source = is_some (source_named s w) && (not (is_some s.source) && has_no_operands s)
+allows s w role.File = not (is_standard_input w && s.settings.in_place)
+allows s w role.Unknown = false
+allows s w _ = true
+
+-- an operand has its form
+abbrev pub FormsOperand : List ℕ → Role → Type 0
+FormsOperand w (role.Operand kind) = IsOperand kind w
+FormsOperand w _ = ⊤
+
+pub record MayTake (s : Asked) (w : List ℕ) (r : Role) : Type 0 where
+  pub allowed : allows s w r ≡ true
+  pub operand : FormsOperand w r
+
+abbrev pub MayFollow : Asked → List ℕ → Type 0
+MayFollow s w = MayTake s w (role_in s w)
+
+-- ---- what it adds
+
+abbrev pub add : Asked → List ℕ → Role → Asked
+add s w (role.Command v) = record s { verb = Some v }
+add s w role.EndOfOptions = record s { ended = true }
+add s w (role.Setting x) = record s { settings = unwrap_or (with_setting s.settings x) s.settings }
+add s w role.Source = record s { source = source_named s w }
+add s w (role.Operand kind) = record s { operands = s.operands ++ w ∷ [] }
+add s w role.File = record s { files = s.files ++ w ∷ [] }
+add s w role.Unknown = s
+
+abbrev pub after : Asked → List ℕ → Asked
+after s w = add s w (role_in s w)
+
+-- ---- all arguments
+
+-- there is a command, no operand is missing, and there is a file where files are changed in place
+abbrev pub is_complete : Asked → Bool
+is_complete s = is_some s.verb && not (is_some (missing_operand s)) && not (length s.files == 0 && s.settings.in_place)
+
+-- each may follow those before it
+abbrev pub MayFollowAll : Asked → List (List ℕ) → Type 0
+MayFollowAll s [] = ⊤
+MayFollowAll s (w ∷ ws) = MayFollow s w × MayFollowAll (after s w) ws
+
+-- what they ask for
+abbrev pub after_all : Asked → List (List ℕ) → Asked
+after_all s [] = s
+after_all s (w ∷ ws) = after_all (after s w) ws
+
+-- the arguments are those of a command
+pub record IsCommandLine (ws : List (List ℕ)) : Type 0 where
+  pub follow : MayFollowAll nothing_asked ws
+  pub complete : is_complete (after_all nothing_asked ws) ≡ true
+
+-- the arguments begin those of a command
+abbrev pub BeginsCommandLine : List (List ℕ) → Type 0
+BeginsCommandLine ws = (more : List (List ℕ)) × IsCommandLine (ws ++ more)

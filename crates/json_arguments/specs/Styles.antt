@@ -1,0 +1,31 @@
+-- The layout of texts and the rules of input that the options ask for.
+use Rattle.std.specs.Prelude.{ℕ, min, List, [], ◌∷◌, replicate, Option, Some, None, unwrap_or}
+use Rattle.json_grammar.specs.Rules.{Rules}
+use Rattle.json_text.specs.Ruled.{usual_rules}
+use Rattle.json_arguments.specs.declared.verb.Verb.{Verb}
+use Rattle.json_arguments.specs.declared.verb.Verb.TheVariants.{Fmt}
+use Rattle.json_arguments.specs.declared.setting.Layout.{Layout}
+use Rattle.json_arguments.specs.declared.setting.Layout.TheVariants.{Compact, Spaces, Tab}
+use Rattle.json_arguments.specs.declared.setting.Settings.{Settings}
+
+-- so many spaces, 8 at most
+abbrev pub spaces_up_to_8 : ℕ → List ℕ
+spaces_up_to_8 n = replicate (min n 8) 32
+
+-- the indent of a layout
+abbrev pub indent_text : Layout → Option (List ℕ)
+indent_text Compact = None
+indent_text (Spaces n) = Some (spaces_up_to_8 n)
+indent_text Tab = Some (9 ∷ [])
+
+-- the layout where no option asks for one: two spaces for fmt, and compact for the other commands
+abbrev pub usual_layout : Verb → Layout
+usual_layout Fmt = Spaces 2
+usual_layout _ = Compact
+
+abbrev pub layout_asked : Settings → Verb → Layout
+layout_asked s v = unwrap_or s.layout (usual_layout v)
+
+-- the rules: the levels that are asked for, 1,024 at most, or the usual number
+abbrev pub rules_asked : Settings → Rules
+rules_asked s = record { limit = min (unwrap_or s.depth usual_rules.limit) 1024; unique = s.unique }

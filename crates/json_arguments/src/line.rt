@@ -1,0 +1,275 @@
+// The arguments that were read so far.
+ghost use Rattle.std.specs.Prelude.{◌≡◌, ◌⊎◌, ℕ, List, [], ◌∷◌, ◌++◌, if◌then◌else◌, true, false, Some, OnOk, OnErr, IfOk, IfErr};
+ghost use Rattle.std.specs.List.{list_any};
+ghost use Rattle.json_arguments.specs.Arguments.{is_option as option_word, is_standard_input, source_in};
+ghost use Rattle.json_arguments.specs.CommandLine.{Asked, nothing_asked, missing_operand, command_role as command_or_unknown, option_role as option_or_unknown, role_in, in_place_and_input, has_no_operands as no_operands, MayTake, MayFollow, after, is_complete};
+ghost use Rattle.json_arguments.specs.Line.{Holds, Takes};
+ghost use Rattle.json_arguments.specs.Asks.{Finishes};
+ghost use Rattle.json_arguments.specs.declared.problem.Refusal.TheVariants as Refusal;
+ghost use Rattle.json_arguments.specs.declared.line.Role.TheVariants as Role;
+
+use crate::arguments::Arguments;
+use crate::operand::{OperandKind, read_operand};
+use crate::problem::{Missing, Problem, Refusal};
+use crate::setting::{Setting, Settings};
+use crate::verb::Verb;
+use json_value::Value;
+use std::alloc::Global;
+
+/// What one argument is, after those before it.
+#[derive(Clone, Copy)]
+pub(crate) enum Role {
+    /// The name of a command.
+    Command(Verb),
+    /// The end of the options.
+    EndOfOptions,
+    /// An option of the command.
+    Setting(Setting),
+    /// An option that names the file of the operand.
+    Source,
+    /// An operand.
+    Operand(OperandKind),
+    /// A file.
+    File,
+    /// No command, or no option of the command.
+    Unknown,
+}
+
+/// The arguments that were read so far.
+#[derive(Drop)]
+pub(crate) struct Line<'a> {
+    verb: Option<Verb>,
+    settings: Settings,
+    ended: bool,
+    source: Option<&'a str>,
+    operands: Vec<Value>,
+    files: Vec<&'a str>,
+}
+
+// Whether a word is an option: it begins with a hyphen, and no digit follows, as in a number.
+fn is_option(word: &str) -> bool
+    ensures { result ≡ option_word word.now }
+{
+    match word.as_bytes() {
+        [b'-', next, ..] => *next < b'0' || *next > b'9',
+        _ => false,
+    }
+}
+
+// Appends a value, and returns whether there is memory for it.
+fn push_value(values: &mut Vec<Value>, value: Value) -> bool
+    ensures { values.new.items
+        ≡ (if result then values.old.items ++ value ∷ [] else values.old.items) }
+{
+    values.push(value).is_ok()
+}
+
+// Whether standard input is one of the files.
+fn has_standard_input(files: &[&str]) -> bool
+    ensures { result ≡ list_any (λ f. is_standard_input f.now) files.now }
+{
+    files.iter().any(|file| *file == "-")
+}
+
+// What a word is where a command is expected.
+fn command_role(word: &str) -> Role
+    ensures { result ≡ command_or_unknown word.now }
+{
+    match Verb::of_word(word) {
+        Some(verb) => Role::Command(verb),
+        None => Role::Unknown,
+    }
+}
+
+// What an option is for a command.
+fn option_role(verb: Verb, word: &str) -> Role
+    ensures { result ≡ option_or_unknown verb word.now }
+{
+    if verb.source_file(word).is_some() {
+        return Role::Source;
+    }
+    match Setting::of_word(word) {
+        Some(setting) if verb.takes(setting) => Role::Setting(setting),
+        _ => Role::Unknown,
+    }
+}
+
+impl<'a> Line<'a> {
+    /// No arguments.
+    pub(crate) fn new(alloc: Global) -> Line<'a>
+        ensures { Holds result nothing_asked }
+    {
+        Line {
+            verb: None,
+            settings: Settings::new(),
+            ended: false,
+            source: None,
+            operands: Vec::new(alloc),
+            files: Vec::new(alloc),
+        }
+    }
+
+    // The operand that comes next, where the command has one more.
+    fn missing_operand(&self) -> Option<OperandKind>
+        ensures { (s : Asked) → Holds self.now s → result ≡ missing_operand s }
+    {
+        match (self.verb, self.source) {
+            (Some(verb), None) => verb.operands().get(self.operands.len()).copied(),
+            _ => None,
+        }
+    }
+
+    // What a word is.
+    fn role_of(&self, word: &str) -> Role
+        ensures { (s : Asked) → Holds self.now s → result ≡ role_in s word.now }
+    {
+        let Some(verb) = self.verb else {
+            return command_role(word);
+        };
+        if word == "--" && !self.ended {
+            return Role::EndOfOptions;
+        }
+        if is_option(word) && !self.ended {
+            return option_role(verb, word);
+        }
+        match self.missing_operand() {
+            Some(kind) => Role::Operand(kind),
+            None => Role::File,
+        }
+    }
+
+    // Whether files are to be changed in place, and standard input is one of them.
+    fn changes_input(&self, setting: Setting) -> bool
+        ensures { (s : Asked) → Holds self.now s → result ≡ in_place_and_input setting s.files }
+    {
+        match setting {
+            Setting::InPlace => has_standard_input(&self.files),
+            _ => false,
+        }
+    }
+
+    // Adds an option, unless there is one of its kind.
+    fn take_setting(&mut self, setting: Setting) -> Result<(), Refusal>
+        ensures ok { OnOk result ((s : Asked) (w : List ℕ) → Holds self.old s
+            → Takes self.new s w (Role.Setting setting)) }
+        ensures err { IfErr result (λ r. (r ≡ Refusal.OutOfMemory)
+            ⊎ ((s : Asked) (w : List ℕ) → Holds self.old s
+            → ¬ (MayTake s w (Role.Setting setting)))) }
+    {
+        if self.changes_input(setting) {
+            return Err(Refusal::Invalid(Problem::StandardInput));
+        }
+        match self.settings.with(setting) {
+            Some(settings) => {
+                self.settings = settings;
+                Ok(())
+            }
+            None => Err(Refusal::Invalid(Problem::Repeated)),
+        }
+    }
+
+    // Whether no operand and no file was given.
+    fn has_no_operands(&self) -> bool
+        ensures { (s : Asked) → Holds self.now s → result ≡ no_operands s }
+    {
+        self.operands.is_empty() && self.files.is_empty()
+    }
+
+    // Adds the file that an option names for the operand.
+    fn take_source(&mut self, word: &'a str) -> Result<(), Refusal>
+        ensures ok { OnOk result ((s : Asked) → Holds self.old s
+            → Takes self.new s word.entry.now Role.Source) }
+        ensures err { IfErr result (λ r. (r ≡ Refusal.OutOfMemory)
+            ⊎ ((s : Asked) → Holds self.old s → ¬ (MayTake s word.entry.now Role.Source))) }
+    {
+        let Some(file) = self.verb.and_then(|verb| verb.source_file(word)) else {
+            return Err(Refusal::Invalid(Problem::Unknown));
+        };
+        if self.source.is_some() {
+            return Err(Refusal::Invalid(Problem::Repeated));
+        }
+        if !self.has_no_operands() {
+            return Err(Refusal::Invalid(Problem::Late));
+        }
+        self.source = Some(file);
+        Ok(())
+    }
+
+    // Adds an operand.
+    fn take_operand(&mut self, alloc: Global, kind: OperandKind, word: &str) -> Result<(), Refusal>
+        ensures ok { OnOk result ((s : Asked) → Holds self.old s
+            → missing_operand s ≡ Some kind → Takes self.new s word.now (Role.Operand kind)) }
+        ensures err { IfErr result (λ r. (r ≡ Refusal.OutOfMemory)
+            ⊎ ((s : Asked) → Holds self.old s → ¬ (MayTake s word.now (Role.Operand kind)))) }
+    {
+        let operand = read_operand(alloc, kind, word)?;
+        if push_value(&mut self.operands, operand) {
+            Ok(())
+        } else {
+            Err(Refusal::OutOfMemory)
+        }
+    }
+
+    // Adds a file.
+    fn take_file(&mut self, word: &'a str) -> Result<(), Refusal>
+        ensures ok { OnOk result ((s : Asked) → Holds self.old s
+            → Takes self.new s word.entry.now Role.File) }
+        ensures err { IfErr result (λ r. (r ≡ Refusal.OutOfMemory)
+            ⊎ ((s : Asked) → Holds self.old s → ¬ (MayTake s word.entry.now Role.File))) }
+    {
+        if word == "-" && self.settings.in_place {
+            return Err(Refusal::Invalid(Problem::StandardInput));
+        }
+        match self.files.push(word) {
+            Ok(()) => Ok(()),
+            Err(_) => Err(Refusal::OutOfMemory),
+        }
+    }
+
+    /// Adds an argument.
+    pub(crate) fn take(&mut self, alloc: Global, word: &'a str) -> Result<(), Refusal>
+        ensures ok { OnOk result ((s : Asked) → Holds self.old s
+            → MayFollow s word.entry.now × Holds self.new (after s word.entry.now)) }
+        ensures err { IfErr result (λ r. (r ≡ Refusal.OutOfMemory)
+            ⊎ ((s : Asked) → Holds self.old s → ¬ (MayFollow s word.entry.now))) }
+    {
+        match self.role_of(word) {
+            Role::Command(verb) => {
+                self.verb = Some(verb);
+                Ok(())
+            }
+            Role::EndOfOptions => {
+                self.ended = true;
+                Ok(())
+            }
+            Role::Setting(setting) => self.take_setting(setting),
+            Role::Source => self.take_source(word),
+            Role::Operand(kind) => self.take_operand(alloc, kind, word),
+            Role::File => self.take_file(word),
+            Role::Unknown => Err(Refusal::Invalid(Problem::Unknown)),
+        }
+    }
+
+    /// Returns what all the arguments ask for, or what is missing.
+    pub(crate) fn finish(self) -> Result<Arguments<'a>, Missing>
+        ensures ok { IfOk result (λ a. (s : Asked) → Holds self.entry s → Finishes a s) }
+        ensures err { OnErr result ((s : Asked) → Holds self.entry s → is_complete s ≡ false) }
+    {
+        let Some(verb) = self.verb else {
+            return Err(Missing::Command);
+        };
+        if let Some(kind) = self.missing_operand() {
+            return Err(Missing::Operand(kind));
+        }
+        if self.files.is_empty() && self.settings.in_place {
+            return Err(Missing::File);
+        }
+        Ok(Arguments {
+            verb,
+            settings: self.settings,
+            source: self.source,
+            operands: self.operands,
+            files: self.files,
+        })
+    }
+}

@@ -1,0 +1,102 @@
+// What is wrong with arguments.
+use crate::operand::OperandKind;
+use json_text::Error;
+
+/// What is wrong with an argument.
+///
+/// ```
+/// use json_arguments::{ArgumentsError, Problem, read_arguments};
+/// use json_text::Words;
+/// let mut words = Words::new(alloc);
+/// words.push("check")?;
+/// words.push("--raw")?;
+/// let error = read_arguments(alloc, &words).err().ok_or("valid")?;
+/// let problem = Problem::Unknown;
+/// assert_eq!(rt; error, ArgumentsError::Invalid { index: 1, problem });
+/// ```
+#[derive(Clone, Copy, Debug, PartialEq, Eq)]
+pub enum Problem {
+    /// It is no command, or no option of the command.
+    Unknown,
+    /// An option of its kind was there.
+    Repeated,
+    /// Standard input cannot be changed in place.
+    StandardInput,
+    /// It names the file of an operand after an operand or a file.
+    Late,
+    /// It is no JSON text.
+    NoText {
+        /// The operand.
+        kind: OperandKind,
+        /// The error of the text.
+        error: Error,
+    },
+    /// Its value has not the form of the operand.
+    WrongForm {
+        /// The operand.
+        kind: OperandKind,
+        /// The number of the first element that is no edit or no step, from 0, where there is one.
+        element: Option<usize>,
+    },
+}
+
+/// Why an argument is not taken.
+///
+/// ```
+/// use json_arguments::{OperandKind, Problem, Refusal, read_operand};
+/// let refusal = read_operand(alloc, OperandKind::Path, "[\"a\", 0.5]").err();
+/// let problem = Problem::WrongForm { kind: OperandKind::Path, element: Some(1) };
+/// assert_eq!(rt; refusal, Some(Refusal::Invalid(problem)));
+/// ```
+#[derive(Clone, Copy, Debug, PartialEq, Eq)]
+pub enum Refusal {
+    /// Memory ran out.
+    OutOfMemory,
+    /// The argument is not valid where it is.
+    Invalid(Problem),
+}
+
+/// What is missing after the last argument.
+///
+/// ```
+/// use json_arguments::{ArgumentsError, Missing, read_arguments};
+/// use json_text::Words;
+/// let error = read_arguments(alloc, &Words::new(alloc)).err().ok_or("valid")?;
+/// assert_eq!(rt; error, ArgumentsError::Incomplete(Missing::Command));
+/// ```
+#[derive(Clone, Copy, Debug, PartialEq, Eq)]
+pub enum Missing {
+    /// The command.
+    Command,
+    /// An operand of the command.
+    Operand(OperandKind),
+    /// A file that is changed in place.
+    File,
+}
+
+/// Why arguments are refused.
+///
+/// ```
+/// use json_arguments::{ArgumentsError, Missing, OperandKind, read_arguments};
+/// use json_text::Words;
+/// let mut words = Words::new(alloc);
+/// words.push("push")?;
+/// words.push("[]")?;
+/// let error = read_arguments(alloc, &words).err().ok_or("valid")?;
+/// let missing = Missing::Operand(OperandKind::Value);
+/// assert_eq!(rt; error, ArgumentsError::Incomplete(missing));
+/// ```
+#[derive(Clone, Copy, Debug, PartialEq, Eq)]
+pub enum ArgumentsError {
+    /// Memory ran out.
+    OutOfMemory,
+    /// The argument of this index is the first that makes the arguments invalid.
+    Invalid {
+        /// The index, from 0.
+        index: usize,
+        /// What is wrong with the argument.
+        problem: Problem,
+    },
+    /// No argument is wrong, and this is missing.
+    Incomplete(Missing),
+}

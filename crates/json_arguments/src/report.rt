@@ -1,0 +1,252 @@
+// What is reported of arguments that are refused.
+use crate::operand::OperandKind;
+use crate::problem::{ArgumentsError, Missing, Problem};
+use crate::setting::Setting;
+use crate::verb::Verb;
+use json_text::{Error, Words, fault_text};
+use std::alloc::{AllocError, Global};
+use strsim::levenshtein;
+
+/// The commands.
+const COMMANDS: [&str; 10] = [
+    "fmt", "check", "get", "edit", "set", "insert", "push", "remove", "patch", "merge",
+];
+
+/// The options.
+const OPTIONS: [&str; 14] = [
+    "--compact",
+    "--pretty",
+    "--indent=",
+    "--tabs",
+    "--sort-keys",
+    "--unique-keys",
+    "--depth=",
+    "--raw",
+    "--in-place",
+    "--lines",
+    "--stream",
+    "--edits=",
+    "--patch=",
+    "--merge=",
+];
+
+// Returns the word of a list that is nearest, where it is near: at most 2 letters differ.
+fn nearest<'a>(alloc: Global, word: &str, list: &[&'a str]) -> Result<Option<&'a str>, AllocError> {
+    let mut found = None;
+    let mut least = 3;
+    'list: for known in list {
+        let distance = levenshtein(alloc, word, known)?;
+        if distance < least {
+            least = distance;
+            found = Some(*known);
+        }
+    }
+    Ok(found)
+}
+
+// Appends a suggestion.
+fn suggest(text: &mut String, near: Option<&str>) -> Result<(), AllocError> {
+    match near {
+        Some(near) => {
+            text.push_str("; did you mean `")?;
+            text.push_str(near)?;
+            text.push_str("`?")
+        }
+        None => Ok(()),
+    }
+}
+
+// Returns the name of an option with the equals sign, where it has one.
+fn name_of(word: &str) -> &str {
+    match word.split_once('=') {
+        Some((name, _)) => name,
+        None => word,
+    }
+}
+
+// Returns what the value of an option has to be, where the option has one.
+fn value_wanted(name: &str) -> Option<&'static str> {
+    match name {
+        "--indent" => Some("takes a number from 0 to 8"),
+        "--depth" => Some("takes a number from 0 to 1024 without leading zeros"),
+        "--edits" | "--patch" | "--merge" => Some("takes the name of a file"),
+        _ => None,
+    }
+}
+
+// Whether some command has the option.
+fn is_option_of_another(word: &str) -> bool {
+    if Setting::of_word(word).is_some() {
+        return true;
+    }
+    match word.split_once('=') {
+        Some(("--edits" | "--patch" | "--merge", file)) => !file.is_empty(),
+        _ => false,
+    }
+}
+
+// Returns what is wrong with an option that is unknown.
+fn unknown_option(alloc: Global, word: &str) -> Result<String, AllocError> {
+    if is_option_of_another(word) {
+        return format!(in alloc; "the command has no option `{word}`");
+    }
+    if let Some(wanted) = value_wanted(name_of(word)) {
+        return format!(in alloc; "`{word}`: the option {wanted}");
+    }
+    let mut text = format!(in alloc; "there is no option `{word}`")?;
+    suggest(&mut text, nearest(alloc, word, &OPTIONS)?)?;
+    Ok(text)
+}
+
+// Returns what is wrong with a command that is unknown.
+fn unknown_command(alloc: Global, word: &str) -> Result<String, AllocError> {
+    let mut text = format!(in alloc; "there is no command `{word}`")?;
+    suggest(&mut text, nearest(alloc, word, &COMMANDS)?)?;
+    Ok(text)
+}
+
+// Returns what is wrong with an option where one of its kind was there.
+fn repeated_option(alloc: Global, word: &str) -> Result<String, AllocError> {
+    match Setting::of_word(word) {
+        Some(Setting::Layout(_)) => format!(in alloc; "`{word}` asks for a second layout"),
+        Some(Setting::Input(_)) => {
+            format!(in alloc; "`{word}`: at most one of --lines and --stream is taken, once")
+        }
+        Some(_) => format!(in alloc; "`{word}`: the option occurs twice"),
+        None => format!(in alloc; "`{word}` names a second file"),
+    }
+}
+
+// Returns what is wrong with an operand that is no JSON text, or a pointer.
+fn no_text(alloc: Global, kind: OperandKind, error: &Error) -> Result<String, AllocError> {
+    let line = fault_text(error);
+    let bytes = line.as_bytes();
+    let fault = str::from_utf8(bytes.strip_suffix(b"\n").unwrap_or(bytes)).unwrap_or("");
+    format!(in alloc; "{} is no JSON text: {fault}", kind.name())
+}
+
+// Returns what the operand has to be.
+fn form_wanted(kind: OperandKind) -> &'static str {
+    match kind {
+        OperandKind::Place => "is no JSON Pointer and no array of steps",
+        OperandKind::Edits => "is no array of edits",
+        OperandKind::Path => "is no array of steps",
+        OperandKind::Key => "is no string",
+        OperandKind::Step => "is no string and no index",
+        OperandKind::Value | OperandKind::Patch => "is no value",
+    }
+}
+
+// Returns what is wrong with an operand of another form.
+fn wrong_form(
+    alloc: Global,
+    kind: OperandKind,
+    element: Option<usize>,
+) -> Result<String, AllocError> {
+    let name = kind.name();
+    match (element, kind) {
+        (Some(number), OperandKind::Edits) => {
+            format!(in alloc; "element {number} of {name} is no edit")
+        }
+        (Some(number), _) => {
+            format!(in alloc; "step {number} of {name} is no string and no index")
+        }
+        (None, _) => format!(in alloc; "{name} {}", form_wanted(kind)),
+    }
+}
+
+// Returns what is wrong with an argument of a command.
+fn problem_text(alloc: Global, word: &str, problem: &Problem) -> Result<String, AllocError> {
+    match *problem {
+        Problem::Unknown => unknown_option(alloc, word),
+        Problem::Repeated => repeated_option(alloc, word),
+        Problem::StandardInput => {
+            format!(in alloc; "`{word}`: standard input cannot be changed in place")
+        }
+        Problem::Late => {
+            format!(in alloc; "`{word}`: the option has to come before operands and files")
+        }
+        Problem::NoText { kind, error } => no_text(alloc, kind, &error),
+        Problem::WrongForm { kind, element } => wrong_form(alloc, kind, element),
+    }
+}
+
+// Returns what is missing.
+fn missing_text(alloc: Global, missing: Missing) -> Result<String, AllocError> {
+    match missing {
+        Missing::Command => format!(in alloc; "there is no command"),
+        Missing::Operand(kind) => format!(in alloc; "{} is missing", kind.name()),
+        Missing::File => format!(in alloc; "a file to change in place is missing"),
+    }
+}
+
+// Returns the word of an index, or an empty one where there is none.
+fn word_at(words: &Words, index: usize) -> &str {
+    if index < words.len() {
+        words.word(index)
+    } else {
+        ""
+    }
+}
+
+// Adds the name of the program, that of the command where it is one, and a newline.
+fn report_of(alloc: Global, words: &Words, text: &str) -> Result<String, AllocError> {
+    match Verb::of_word(word_at(words, 0)) {
+        Some(verb) => format!(in alloc; "mezdruk {}: {text}\n", verb.name()),
+        None => format!(in alloc; "mezdruk: {text}\n"),
+    }
+}
+
+/// Returns the report of arguments that are refused: the program, the command, and what is wrong with
+/// the argument that the error names, or what is missing; and a newline. Fails where memory runs out.
+///
+/// ```
+/// use json_arguments::{arguments_report, read_arguments};
+/// use json_text::Words;
+/// let mut words = Words::new(alloc);
+/// words.push("fmt")?;
+/// words.push("--prety")?;
+/// let error = read_arguments(alloc, &words).err().ok_or("valid")?;
+/// let report = arguments_report(alloc, &words, &error)?;
+/// let expected = "mezdruk fmt: there is no option `--prety`; did you mean `--pretty`?\n";
+/// assert_eq!(rt; report.as_str(), expected);
+/// ```
+pub fn arguments_report(
+    alloc: Global,
+    words: &Words,
+    error: &ArgumentsError,
+) -> Result<String, AllocError> {
+    let text = match *error {
+        ArgumentsError::OutOfMemory => format!(in alloc; "memory ran out")?,
+        ArgumentsError::Invalid { index: 0, .. } => unknown_command(alloc, word_at(words, 0))?,
+        ArgumentsError::Invalid { index, problem } => {
+            problem_text(alloc, word_at(words, index), &problem)?
+        }
+        ArgumentsError::Incomplete(missing) => missing_text(alloc, missing)?,
+    };
+    report_of(alloc, words, text.as_str())
+}
+
+/// Returns the report of a file in which an operand was looked for: the program, the command, the
+/// file and what is wrong with it; and a newline. Fails where memory runs out.
+///
+/// ```
+/// use json_arguments::{OperandKind, Problem, file_report};
+/// use json_text::Words;
+/// let mut words = Words::new(alloc);
+/// words.push("edit")?;
+/// let problem = Problem::WrongForm { kind: OperandKind::Edits, element: Some(1) };
+/// let report = file_report(alloc, &words, "e.json", &problem)?;
+/// let expected = "mezdruk edit: e.json: element 1 of EDITS is no edit\n";
+/// assert_eq!(rt; report.as_str(), expected);
+/// ```
+pub fn file_report(
+    alloc: Global,
+    words: &Words,
+    file: &str,
+    problem: &Problem,
+) -> Result<String, AllocError> {
+    let told = problem_text(alloc, file, problem)?;
+    let text = format!(in alloc; "{file}: {}", told.as_str())?;
+    report_of(alloc, words, text.as_str())
+}

@@ -1,0 +1,205 @@
+// The options of the commands.
+ghost use Rattle.std.specs.Prelude.{◌≡◌, option_map};
+ghost use Rattle.json_arguments.specs.Arguments.{width_in, layout_in, depth_in, setting_in, setting_with_value as value_setting, with_setting, no_settings};
+
+use json_command::option_number;
+
+/// How the texts of values are laid out.
+///
+/// ```
+/// use json_arguments::Layout;
+/// assert_eq!(rt; Layout::Spaces(2).indent(), Some("  "));
+/// assert_eq!(rt; Layout::Compact.indent(), None);
+/// ```
+#[derive(Clone, Copy, Debug, PartialEq, Eq)]
+pub enum Layout {
+    /// Without whitespace.
+    Compact,
+    /// Indented by so many spaces.
+    Spaces(u8),
+    /// Indented by a tab.
+    Tab,
+}
+
+/// Which documents an input has.
+///
+/// ```
+/// use json_arguments::{InputForm, Setting};
+/// let setting = Setting::Input(InputForm::Lines);
+/// assert!(rt; setting != Setting::Input(InputForm::Stream));
+/// ```
+#[derive(Clone, Copy, Debug, PartialEq, Eq)]
+pub enum InputForm {
+    /// One document in each line.
+    Lines,
+    /// Documents one after another.
+    Stream,
+}
+
+/// What one option asks for.
+///
+/// ```
+/// use json_arguments::{Layout, Setting};
+/// assert!(rt; Setting::Layout(Layout::Tab) != Setting::SortKeys);
+/// ```
+#[derive(Clone, Copy, Debug, PartialEq, Eq)]
+pub enum Setting {
+    /// A layout.
+    Layout(Layout),
+    /// Members in the order of their keys.
+    SortKeys,
+    /// Input in which the keys of each object differ.
+    UniqueKeys,
+    /// Input of so many levels at most.
+    Depth(u32),
+    /// Strings by their content.
+    Raw,
+    /// The files changed in place.
+    InPlace,
+    /// Several documents in each input.
+    Input(InputForm),
+}
+
+/// What the options of a command ask for, each at most once.
+///
+/// ```
+/// use json_arguments::{Layout, read_arguments};
+/// use json_text::Words;
+/// let mut words = Words::new(alloc);
+/// for word in ["fmt", "--indent=4", "--sort-keys", "--depth=9"] {
+///     words.push(word)?;
+/// }
+/// let arguments = read_arguments(alloc, &words).map_err(|_| "not valid")?;
+/// let settings = arguments.settings;
+/// assert_eq!(rt; settings.layout, Some(Layout::Spaces(4)));
+/// assert!(rt; settings.sorted && !settings.unique);
+/// assert_eq!(rt; settings.rules().depth(), 9);
+/// ```
+#[derive(Clone, Copy, Debug, PartialEq, Eq)]
+pub struct Settings {
+    /// The layout, where one is asked for.
+    pub layout: Option<Layout>,
+    /// Whether members are sorted by their keys.
+    pub sorted: bool,
+    /// Whether the keys of each object have to differ.
+    pub unique: bool,
+    /// The greatest number of levels, where one is asked for.
+    pub depth: Option<u32>,
+    /// Whether a string is printed by its content.
+    pub raw: bool,
+    /// Whether files are changed in place.
+    pub in_place: bool,
+    /// Which documents each input has, where that is asked for.
+    pub input: Option<InputForm>,
+}
+
+// The number of spaces that one digit asks for, which is 8 at most.
+fn width_of(digits: &[u8]) -> Option<u8>
+    ensures { result ≡ width_in digits.now }
+{
+    match digits {
+        [digit] if *digit >= b'0' && *digit <= b'8' => Some(*digit - b'0'),
+        _ => None,
+    }
+}
+
+// The layout that a word asks for.
+fn layout_of(word: &str) -> Option<Layout>
+    ensures { result ≡ layout_in word.now }
+{
+    match word {
+        "--compact" => Some(Layout::Compact),
+        "--pretty" => Some(Layout::Spaces(2)),
+        "--tabs" => Some(Layout::Tab),
+        _ => {
+            let width = width_of(word.as_bytes().strip_prefix(b"--indent=")?)?;
+            Some(Layout::Spaces(width))
+        }
+    }
+}
+
+// The levels that a word asks for.
+fn depth_of(word: &str) -> Option<u32>
+    ensures { result ≡ depth_in word.now }
+{
+    option_number(word, "--depth", 1_024)
+}
+
+// What a word with a value asks for.
+fn setting_with_value(word: &str) -> Option<Setting>
+    ensures { result ≡ value_setting word.now }
+{
+    if let Some(layout) = layout_of(word) {
+        return Some(Setting::Layout(layout));
+    }
+    let depth = depth_of(word)?;
+    Some(Setting::Depth(depth))
+}
+
+impl Setting {
+    /// Returns what an option asks for, or `None` where it is unknown.
+    pub(crate) fn of_word(word: &str) -> Option<Setting>
+        ensures { result ≡ setting_in word.now }
+    {
+        match word {
+            "--sort-keys" => Some(Setting::SortKeys),
+            "--unique-keys" => Some(Setting::UniqueKeys),
+            "--raw" => Some(Setting::Raw),
+            "-i" | "--in-place" => Some(Setting::InPlace),
+            "--lines" => Some(Setting::Input(InputForm::Lines)),
+            "--stream" => Some(Setting::Input(InputForm::Stream)),
+            _ => setting_with_value(word),
+        }
+    }
+}
+
+impl Settings {
+    /// Returns the settings without any option.
+    pub(crate) fn new() -> Settings
+        ensures { result ≡ no_settings }
+    {
+        Settings {
+            layout: None,
+            sorted: false,
+            unique: false,
+            depth: None,
+            raw: false,
+            in_place: false,
+            input: None,
+        }
+    }
+
+    /// Returns the settings with one more option, or `None` where there is such an option.
+    pub(crate) fn with(self, setting: Setting) -> Option<Settings>
+        ensures { result ≡ with_setting self setting }
+    {
+        match setting {
+            Setting::Layout(layout) if self.layout.is_none() => Some(Settings {
+                layout: Some(layout),
+                ..self
+            }),
+            Setting::SortKeys if !self.sorted => Some(Settings {
+                sorted: true,
+                ..self
+            }),
+            Setting::UniqueKeys if !self.unique => Some(Settings {
+                unique: true,
+                ..self
+            }),
+            Setting::Depth(levels) if self.depth.is_none() => Some(Settings {
+                depth: Some(levels),
+                ..self
+            }),
+            Setting::Raw if !self.raw => Some(Settings { raw: true, ..self }),
+            Setting::InPlace if !self.in_place => Some(Settings {
+                in_place: true,
+                ..self
+            }),
+            Setting::Input(form) if self.input.is_none() => Some(Settings {
+                input: Some(form),
+                ..self
+            }),
+            _ => None,
+        }
+    }
+}

@@ -1,0 +1,81 @@
+// The style and the rules that options ask for.
+ghost use Rattle.std.specs.Prelude.{◌≡◌, option_map, MatchOption};
+ghost use Rattle.json_arguments.specs.Styles.{spaces_up_to_8, indent_text, layout_asked, rules_asked};
+ghost use Rattle.json_arguments.specs.declared.verb.Verb.TheVariants as Verb;
+ghost use Rattle.json_print.specs.Styles.{indent_of, is_sorted};
+ghost use Rattle.json_text.specs.Ruled.{rules_of};
+
+use crate::setting::{Layout, Settings};
+use crate::verb::Verb;
+use json_print::Style;
+use json_text::Rules;
+
+// So many spaces, 8 at most.
+fn spaces(count: u8) -> &'static str
+    ensures { result.now ≡ spaces_up_to_8 count }
+{
+    match count {
+        0 => "",
+        1 => " ",
+        2 => "  ",
+        3 => "   ",
+        4 => "    ",
+        5 => "     ",
+        6 => "      ",
+        7 => "       ",
+        _ => "        ",
+    }
+}
+
+impl Layout {
+    /// Returns the indent, or `None` without whitespace. There are 8 spaces at most.
+    pub fn indent(self) -> Option<&'static str>
+        ensures text { option_map (λ s. s.now) result ≡ indent_text self }
+    {
+        match self {
+            Layout::Compact => None,
+            Layout::Spaces(count) => Some(spaces(count)),
+            Layout::Tab => Some("\t"),
+        }
+    }
+}
+
+impl Settings {
+    /// Returns the layout for a command: two spaces for `fmt` and compact for the others where no
+    /// option asks for one.
+    pub fn layout_for(self, verb: Verb) -> Layout
+        ensures { result ≡ layout_asked self verb }
+    {
+        match (self.layout, verb) {
+            (Some(layout), _) => layout,
+            (None, Verb::Fmt) => Layout::Spaces(2),
+            (None, _) => Layout::Compact,
+        }
+    }
+
+    /// Returns the style for a command, or `None` for `check`, which prints nothing.
+    pub fn style_for(self, verb: Verb) -> Option<Style<'static>>
+        ensures { MatchOption result (verb ≡ Verb.Check) (λ s.
+            (indent_of s ≡ indent_text (layout_asked self verb)) × (is_sorted s ≡ self.sorted)) }
+    {
+        if verb == Verb::Check {
+            return None;
+        }
+        match Style::new(self.layout_for(verb).indent(), self.sorted) {
+            Some(style) => Some(style),
+            None => unreachable!(),
+        }
+    }
+
+    /// Returns the rules by which documents are read: 254 levels at most where no option asks for
+    /// another number, which is 1,024 at most, and keys that may repeat where none forbids it.
+    pub fn rules(self) -> Rules
+        ensures { rules_of result ≡ rules_asked self }
+    {
+        let levels = self.depth.unwrap_or(Rules::usual().depth());
+        match Rules::new(levels.min(1_024), self.unique) {
+            Some(rules) => rules,
+            None => unreachable!(),
+        }
+    }
+}

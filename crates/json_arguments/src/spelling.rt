@@ -1,0 +1,89 @@
+// What the value of an operand spells.
+ghost use Rattle.std.specs.Prelude.{◌≡◌, is_some, IfOk, IfErr};
+ghost use Rattle.json_arguments.specs.Operands.{path_formed, edits_formed};
+ghost use Rattle.json_arguments.specs.declared.problem.Refusal.TheVariants as Refusal;
+ghost use Rattle.json_number.specs.Numbers.{value_of};
+ghost use Rattle.json_value.specs.Denotes.{tree_of};
+ghost use Rattle.json_value.specs.EditTrees.{index_of, step_in};
+ghost use Rattle.json_value.specs.Seen.{seen};
+
+use crate::operand::OperandKind;
+use crate::problem::Refusal;
+use json_data::{from_value, is_refusal};
+use json_number::{JsonNumberTrait, Number};
+use json_value::{Edit, Path, Value, View};
+use std::alloc::Global;
+
+// Whether a number is an index.
+fn is_index(number: Number) -> bool
+    ensures { result ≡ is_some (index_of (value_of number)) }
+{
+    match number.as_u64() {
+        Some(index) => u32::try_from(index).is_ok(),
+        None => false,
+    }
+}
+
+/// Whether a value is a step: a key or an index.
+pub(crate) fn is_step(view: View<'_>) -> bool
+    ensures { result ≡ is_some (step_in (seen view.entry)) }
+{
+    if view.text().is_some() {
+        return true;
+    }
+    match view.as_number() {
+        Some(number) => is_index(number),
+        None => false,
+    }
+}
+
+/// Whether a value is an array of steps.
+pub(crate) fn is_path(alloc: Global, value: &Value) -> Result<bool, Refusal>
+    ensures ok { IfOk result (λ b. b ≡ path_formed (tree_of value.now)) }
+    ensures only { IfErr result (λ r. r ≡ Refusal.OutOfMemory) }
+{
+    match from_value::<Path>(alloc, value) {
+        Ok(_) => Ok(true),
+        Err(error) if is_refusal(error.code) => Ok(false),
+        Err(_) => Err(Refusal::OutOfMemory),
+    }
+}
+
+/// Whether a value is an array of edits.
+pub(crate) fn are_edits(alloc: Global, value: &Value) -> Result<bool, Refusal>
+    ensures ok { IfOk result (λ b. b ≡ edits_formed (tree_of value.now)) }
+    ensures only { IfErr result (λ r. r ≡ Refusal.OutOfMemory) }
+{
+    match from_value::<Vec<Edit>>(alloc, value) {
+        Ok(_) => Ok(true),
+        Err(error) if is_refusal(error.code) => Ok(false),
+        Err(_) => Err(Refusal::OutOfMemory),
+    }
+}
+
+// Whether an element is an edit. Where memory runs out it is none.
+fn is_edit(alloc: Global, view: View<'_>) -> bool {
+    match view.to_value(alloc) {
+        Ok(value) => from_value::<Edit>(alloc, &value).is_ok(),
+        Err(_) => false,
+    }
+}
+
+/// Returns the number of the first element, from 0, that is no edit or no step, or `None` where the
+/// value is no array or the operand is none.
+pub(crate) fn first_unspelled(alloc: Global, kind: OperandKind, value: &Value) -> Option<usize> {
+    let array = value.view().as_array()?;
+    let mut number = 0usize;
+    'elements: for element in array.iter() {
+        let spelled = match kind {
+            OperandKind::Edits => is_edit(alloc, element),
+            OperandKind::Path | OperandKind::Place => is_step(element),
+            _ => return None,
+        };
+        if !spelled {
+            return Some(number);
+        }
+        number = number.saturating_add(1);
+    }
+    None
+}

@@ -1,0 +1,9 @@
+pub mod FirstLines
+pub mod CutLines
+pub mod ReadBytes
+pub mod TextWriting
+pub mod Totals
+pub mod SmallStatuses
+pub mod Handled
+pub mod ValueStreams
+pub mod HandledStreams

@@ -1,0 +1,8 @@
+-- The edits of a change.
+use Rattle.std.specs.Prelude.{List, map}
+use Rattle.json_model.specs.Edit.{Edit}
+use Rattle.json_value.specs.Edits.{edit_of}
+use Rattle.json_files.specs.declared.edit_all.EditAll.{EditAll}
+
+abbrev pub edits_of : EditAll → List Edit
+edits_of change = map edit_of change.edits.now

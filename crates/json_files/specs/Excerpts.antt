@@ -1,0 +1,43 @@
+-- The line of the input that an error is at, with a caret under its column.
+use Rattle.std.specs.Prelude.{◌≡◌, ◌==◌, ℕ, ◌+◌, ◌≤◌, ◌&&◌, ◌||◌, cond, nat_le, nat_lt, List, [], ◌∷◌, ◌++◌, length, take, drop, map, codes}
+use Rattle.std.specs.List.{after_last, before_first, flat_map}
+
+-- the bytes of the line of an offset before it, and those from it on
+abbrev pub line_before : List ℕ → ℕ → List ℕ
+line_before bytes offset = after_last (λ x. x == 10) (take offset bytes)
+
+abbrev pub line_after : List ℕ → ℕ → List ℕ
+line_after bytes offset = before_first (λ x. x == 10) (drop offset bytes)
+
+-- the byte that is shown: a space for a control character
+abbrev pub shown_byte : ℕ → ℕ
+shown_byte x = cond (nat_lt x 32 || x == 127) 32 x
+
+-- a space for each character: one for its first byte, and none for the others
+abbrev pub space_under : ℕ → List ℕ
+space_under x = cond (nat_le 128 x && nat_lt x 192) [] (32 ∷ [])
+
+-- at most so many of the first bytes, or of the last ones: all where there are no more
+pub record IsFront (bytes : List ℕ) (max : ℕ) (front : List ℕ) : Type 0 where
+  pub rest : List ℕ
+  pub whole : bytes ≡ front ++ rest
+  pub few : length front ≤ max
+  pub all : length bytes ≤ max → rest ≡ []
+
+pub record IsBack (bytes : List ℕ) (max : ℕ) (back : List ℕ) : Type 0 where
+  pub rest : List ℕ
+  pub whole : bytes ≡ rest ++ back
+  pub few : length back ≤ max
+  pub all : length bytes ≤ max → rest ≡ []
+
+-- at most 76 bytes of the line, which are all where it has no more, and below them a caret under the byte at the offset
+pub record IsExcerpt (bytes : List ℕ) (offset : ℕ) (excerpt : List ℕ) : Type 0 where
+  pub cut_before : List ℕ
+  pub before : List ℕ
+  pub line_before_is : line_before bytes offset ≡ cut_before ++ before
+  pub after : List ℕ
+  pub cut_after : List ℕ
+  pub line_after_is : line_after bytes offset ≡ after ++ cut_after
+  pub narrow : length before + length after ≤ 76
+  pub whole_line : length (line_before bytes offset) + length (line_after bytes offset) ≤ 76 → (cut_before ≡ []) × (cut_after ≡ [])
+  pub shown : excerpt ≡ map shown_byte before ++ map shown_byte after ++ codes "\n" ++ flat_map space_under before ++ codes "^\n"

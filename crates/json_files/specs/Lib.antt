@@ -1,0 +1,13 @@
+pub mod Changes
+pub mod Lines
+pub mod Parts
+pub mod Excerpts
+pub mod Reports
+pub mod Writing
+pub mod Outcomes
+pub mod Streams
+pub mod Documents
+pub mod Running
+pub mod EditLists
+pub mod PatchOutcomes
+pub mod Patches

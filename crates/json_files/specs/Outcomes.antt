@@ -1,0 +1,112 @@
+-- What becomes of a document: its lines are printed, and its errors are reported.
+use Rattle.std.specs.Prelude.{◌≡◌, ◌⊎◌, ℕ, ◌+◌, ◌≤◌, max, ⊤, Bool, true, false, List, [], ◌∷◌, ◌++◌, drop, Result, Ok, Err, Some, None, option_map, unwrap_or, string_bytes}
+use Rattle.std.specs.declared.option.Option.{Option}
+use Rattle.std.specs.List.{flat_map}
+use Rattle.json_grammar.specs.Grammar.{ws}
+use Rattle.json_grammar.specs.Rules.{Rules}
+use Rattle.json_grammar.specs.Tree.{Tree}
+use Rattle.json_text.specs.declared.error.Error.{Error}
+use Rattle.json_text.specs.declared.error.ErrorCode.{ErrorCode}
+use Rattle.json_text.specs.declared.error.ErrorCode.TheVariants.{NoMemory}
+use Rattle.json_text.specs.declared.error.Place.{Place}
+use Rattle.json_text.specs.declared.error.Place.TheVariants.{None as nowhere}
+use Rattle.json_text.specs.Errors.{reading_failed}
+use Rattle.json_text.specs.Ruled.{rules_of}
+use Rattle.json_doc.specs.Readings.{string_of}
+use Rattle.json_print.specs.Styles.{printed}
+use Rattle.json_print.specs.declared.style.Style.{Style}
+use Rattle.json_command.specs.Input.{IsInput, InputFault}
+use Rattle.json_command.specs.Statuses.{status_of}
+use Rattle.json_files.specs.Parts.{Part, whole_part, line_parts, lines_of}
+use Rattle.json_files.specs.Reports.{IsReport}
+use Rattle.json_files.specs.declared.change_error.ChangeError.{ChangeError}
+use Rattle.json_files.specs.declared.document_error.DocumentError.{DocumentError}
+use Rattle.json_files.specs.declared.document_error.DocumentError.TheVariants.{Input, Change}
+use Rattle.json_files.specs.declared.job.InputForm.{InputForm}
+use Rattle.json_files.specs.declared.job.Job.{Job}
+
+-- ---- what is done
+
+-- the text of a tree in a style, or the content of a string
+abbrev pub text_in : Bool → Style → Tree → List ℕ
+text_in false style tree = printed style tree
+text_in true style tree = unwrap_or (string_of tree) (printed style tree)
+
+-- the line of a tree in the output: its text and a newline; nothing where no style is asked for
+abbrev pub line_in : Bool → Option Style → Tree → List ℕ
+line_in raw None tree = []
+line_in raw (Some style) tree = text_in raw style tree ++ 10 ∷ []
+
+-- what is done with documents: how their bytes are cut, the rules by which they are read, what becomes of a tree, and the
+-- line of a tree
+pub record Task : Type 0 where
+  pub form : InputForm
+  pub rules : Rules
+  pub changed : Tree → Result Tree ChangeError
+  pub line : Tree → List ℕ
+
+-- what a job asks for, where its change makes this of a tree
+abbrev pub task_of : {C : Type 0} → (C → Tree → Result Tree ChangeError) → Job C → Task
+task_of changed job = record { form = job.input; rules = rules_of job.rules; changed = changed job.change; line = line_in job.raw job.style }
+
+-- ---- the outcome of a part of a document
+
+-- the line that is printed, or the error with its report
+pub data Outcome : Type 0 where
+  Printed : List ℕ → Outcome
+  Refused : DocumentError → List ℕ → Outcome
+
+-- the outcome of a tree that was read: the line of the changed tree, or the error of the change
+abbrev pub TreeOutcome : Task → Part → Tree → Outcome → Type 0
+TreeOutcome task part tree (Printed line) = (changed : Tree) × (task.changed tree ≡ Ok changed) × (line ≡ task.line changed)
+TreeOutcome task part tree (Refused (Change e) report) = (task.changed tree ≡ Err e) × IsReport part (Change e) report
+TreeOutcome task part tree (Refused (Input e) report) = ⊥
+
+-- the outcome of bytes: that of their tree, or their error
+abbrev pub HasOutcome : Task → Part → Outcome → Type 0
+HasOutcome task part (Refused (Input e) report) = InputFault task.rules part.bytes e.code e.place × IsReport part (Input e) report
+HasOutcome task part outcome = (tree : Tree) × IsInput task.rules part.bytes tree × TreeOutcome task part tree outcome
+
+-- the outcome of a line: nothing is printed of one that has only whitespace (RFC 8259, section 2)
+abbrev pub LineOutcome : Task → Part → Outcome → Type 0
+LineOutcome task part outcome = (ws part.bytes × (outcome ≡ Printed [])) ⊎ (¬ (ws part.bytes) × HasOutcome task part outcome)
+
+-- the outcome of a document that could not be read
+abbrev pub IsUnread : Part → Outcome → Type 0
+IsUnread part (Refused (Input e) report) = (e ≡ reading_failed) × IsReport part (Input e) report
+IsUnread part _ = ⊥
+
+-- these parts have these outcomes; if not of the whole, the first of them
+abbrev pub PartsHave : Bool → (Part → Outcome → Type 0) → List Part → List Outcome → Type 0
+PartsHave whole Has [] [] = ⊤
+PartsHave whole Has (part ∷ later) [] = whole ≡ false
+PartsHave whole Has [] (outcome ∷ outcomes) = ⊥
+PartsHave whole Has (part ∷ later) (outcome ∷ outcomes) = Has part outcome × PartsHave whole Has later outcomes
+
+-- ---- the output, the reports and the status
+
+abbrev pub outcome_line : Outcome → List ℕ
+outcome_line (Printed line) = line
+outcome_line (Refused error report) = []
+
+abbrev pub outcome_report : Outcome → List ℕ
+outcome_report (Printed line) = []
+outcome_report (Refused error report) = report
+
+abbrev pub error_status : DocumentError → ℕ
+error_status (Input e) = status_of e.code e.place
+error_status (Change e) = 3
+
+abbrev pub outcome_status : Outcome → ℕ
+outcome_status (Printed line) = 0
+outcome_status (Refused error report) = error_status error
+
+abbrev pub output_of : List Outcome → List ℕ
+output_of outcomes = flat_map outcome_line outcomes
+
+abbrev pub reports_of : List Outcome → List ℕ
+reports_of outcomes = flat_map outcome_report outcomes
+
+abbrev pub greatest_status : List Outcome → ℕ
+greatest_status [] = 0
+greatest_status (outcome ∷ later) = max (outcome_status outcome) (greatest_status later)

@@ -1,0 +1,28 @@
+// Why a document is not printed.
+ghost use Rattle.std.specs.Prelude.{◌≡◌};
+ghost use Rattle.json_files.specs.Outcomes.{error_status};
+
+use crate::change_error::ChangeError;
+use json_command::Status;
+use json_text::Error;
+
+/// Why a document, or a part of it, is not printed.
+#[derive(Clone, Copy, Debug, PartialEq, Eq)]
+pub enum DocumentError {
+    /// It could not be read, or it is not valid.
+    Input(Error),
+    /// The change does not apply to its value.
+    Change(ChangeError),
+}
+
+impl DocumentError {
+    /// Returns the number of the status of the error.
+    pub(crate) fn status(&self) -> u8
+        ensures { result ≡ error_status self.now }
+    {
+        match self {
+            DocumentError::Input(error) => Status::of_error(error).number(),
+            DocumentError::Change(_) => Status::EditFailed.number(),
+        }
+    }
+}

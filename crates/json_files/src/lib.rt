@@ -1,0 +1,44 @@
+//! What the program `mezdruk` does with files: documents in memory are read, changed and printed,
+//! each with a newline after it, and the errors of those that are not valid are reported.
+//!
+//! ```
+//! use json_files::{Document, Job, Unchanged, print_documents};
+//! use json_print::Style;
+//! use json_text::{Rules, VecSink};
+//! let documents = vec![in alloc;
+//!     Document::new(alloc, "a.json", b" [1, 2.50] ")?,
+//!     Document::new(alloc, "b.json", b"[1,\n 01]")?,
+//!     Document::new(alloc, "c.json", b"{}")?,
+//! ]?;
+//! let job = Job::new(Unchanged, Style::new(None, false), Rules::usual());
+//! let (mut sink, mut errs) = (VecSink::new(alloc), VecSink::new(alloc));
+//! assert_eq!(rt; print_documents(alloc, &documents, &job, &mut sink, &mut errs), 1);
+//! assert_eq!(rt; sink.as_slice(), b"[1,2.50]\n{}\n".as_slice());
+//! ```
+#![tactic(auto)]
+
+mod change;
+mod change_error;
+mod document;
+mod document_error;
+mod edit_all;
+mod excerpt;
+mod get;
+mod hint;
+mod job;
+mod part;
+mod patches;
+mod report;
+mod run;
+mod value_stream;
+
+pub use change::{Change, Unchanged};
+pub use change_error::{ChangeCode, ChangeError};
+pub use document::Document;
+pub use document_error::DocumentError;
+pub use edit_all::EditAll;
+pub use get::{GetPath, GetPointer};
+pub use job::{InputForm, Job};
+pub use patches::{ApplyMerge, ApplyPatch};
+pub use report::{error_report, input_report};
+pub use run::print_documents;

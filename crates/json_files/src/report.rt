@@ -1,0 +1,327 @@
+// The reports of errors.
+ghost use Rattle.std.specs.Prelude.{◌≡◌, ◌≤◌, ◌<◌, ◌+◌, ◌^◌, ◌++◌, List, ℕ, Option, length, codes, decimal, IfOk, IfErr, OnOk, IfSome};
+ghost use Rattle.json_files.specs.Excerpts.{IsExcerpt};
+ghost use Rattle.json_files.specs.Parts.{part_of, whole_part as spec_whole_part};
+ghost use Rattle.json_files.specs.Reports.{IsReport, IsHeadline, IsExcerptAt, location, place_position, error_place, code_name, change_name, offset_in, position_of};
+ghost use Rattle.json_text.specs.Errors.{no_memory, name_of};
+
+use crate::change_error::ChangeError;
+use crate::document_error::DocumentError;
+use crate::excerpt::push_excerpt;
+use crate::hint::hint_of;
+use crate::part::{Part, Scope, whole_part};
+use itoa::Buffer;
+use json_text::{Error, ErrorCode, FaultText, Place, Result, fault_text, place_of};
+use std::alloc::Global;
+
+// A line and a column, counted from 1.
+#[derive(Clone, Copy)]
+pub(crate) struct Position {
+    pub(crate) line: usize,
+    pub(crate) column: usize,
+}
+
+// Returns the sentence of a code.
+fn sentence_of(code: ErrorCode) -> &'static str {
+    match code {
+        ErrorCode::NoMemory => "memory ran out",
+        ErrorCode::Io => "a read or a write failed",
+        ErrorCode::TooLarge => "the input has more than 4,294,967,295 bytes",
+        ErrorCode::InvalidUTF8 => "the input is not UTF-8",
+        ErrorCode::EofWhileParsing => "the input ends before its value does",
+        ErrorCode::InvalidLiteral => "only `null`, `true` and `false` are literals",
+        ErrorCode::InvalidNumber => "the number is not complete or has a leading zero",
+        ErrorCode::ExpectedColon => "a colon is expected after the key",
+        ErrorCode::ExpectedArrayCommaOrEnd => "a comma or `]` is expected after the element",
+        ErrorCode::ExpectedObjectCommaOrEnd => "a comma or `}` is expected after the member",
+        ErrorCode::ExpectObjectKeyOrEnd => "a key in double quotes or `}` is expected",
+        ErrorCode::TrailingComma => "a comma comes before `}`",
+        ErrorCode::InvalidJsonValue => "a value is expected",
+        ErrorCode::ControlCharacter => "a control character in a string has to be escaped",
+        ErrorCode::InvalidEscape => "the escape is not valid",
+        ErrorCode::InvalidSurrogate => "the escape of a surrogate is not part of a pair",
+        ErrorCode::TrailingCharacters => "only whitespace may follow the value",
+        ErrorCode::RecursionLimitExceeded => "the input has too many levels",
+        ErrorCode::NotFound => "a key or an index is not there",
+        ErrorCode::TypeUnmatched => "a key meets no object, or an index no array",
+        ErrorCode::NumberOutOfRange => "the number is out of range",
+        ErrorCode::SerExpectKeyIsStrOrNum => "the key is no string, number or boolean",
+        ErrorCode::ExpectedNumericKey => "the key is no number",
+        ErrorCode::BadWords => "the arguments are not valid",
+        ErrorCode::DuplicateKey => "the key occurs twice in its object",
+    }
+}
+
+// Appends a number in decimal.
+fn push_number(text: &mut Vec<u8>, n: usize) -> Result<()>
+    ensures ok { OnOk result (text.new.items ≡ text.old.items ++ decimal n) }
+    ensures only { IfErr result (λ e. e ≡ no_memory) }
+{
+    let mut buffer = Buffer::new();
+    text.extend_from_slice(buffer.format(n).as_bytes())?;
+    Ok(())
+}
+
+// Appends the line and the column, where they are known.
+fn push_position(text: &mut Vec<u8>, position: Option<Position>) -> Result<()>
+    ensures ok { OnOk result (text.new.items ≡ location text.old.items position) }
+    ensures only { IfErr result (λ e. e ≡ no_memory) }
+{
+    match position {
+        Some(position) => {
+            text.extend_from_slice(b":")?;
+            push_number(text, position.line)?;
+            text.extend_from_slice(b":")?;
+            push_number(text, position.column)?;
+            Ok(())
+        }
+        None => Ok(()),
+    }
+}
+
+// Returns the first line of a report.
+fn headline(
+    alloc: Global,
+    name: &str,
+    position: Option<Position>,
+    sentence: &[u8],
+    code: &[u8],
+) -> Result<Vec<u8>>
+    ensures ok { IfOk result (λ line. IsHeadline name.now position code.now line.items) }
+    ensures only { IfErr result (λ e. e ≡ no_memory) }
+{
+    let mut text = name.as_bytes().to_vec(alloc)?;
+    push_position(&mut text, position)?;
+    text.extend_from_slice(b": ")?;
+    text.extend_from_slice(sentence)?;
+    text.extend_from_slice(b" (")?;
+    text.extend_from_slice(code)?;
+    text.extend_from_slice(b")\n")?;
+    Ok(text)
+}
+
+// Returns the text of an error of this code without a place: the name of the code and a newline.
+fn name_line(code: ErrorCode) -> FaultText
+    ensures { result ≡ name_of code ++ codes "\n" }
+{
+    fault_text(&Error {
+        code,
+        place: Place::None,
+    })
+}
+
+// Returns the first line of the report of an input.
+fn input_headline(
+    alloc: Global,
+    name: &str,
+    position: Option<Position>,
+    code: ErrorCode,
+) -> Result<Vec<u8>>
+    ensures ok { IfOk result (λ line. IsHeadline name.now position (name_of code) line.items) }
+    ensures only { IfErr result (λ e. e ≡ no_memory) }
+{
+    let line = name_line(code);
+    let (name_of_code, _newline) = line.as_bytes().split_at(line.as_bytes().len() - 1);
+    headline(
+        alloc,
+        name,
+        position,
+        sentence_of(code).as_bytes(),
+        name_of_code,
+    )
+}
+
+// Appends a word, a number and `: `.
+fn push_count(text: &mut Vec<u8>, word: &str, n: usize) -> Result<()>
+    ensures only { IfErr result (λ e. e ≡ no_memory) }
+{
+    text.extend_from_slice(word.as_bytes())?;
+    text.extend_from_slice(b" ")?;
+    push_number(text, n)?;
+    text.extend_from_slice(b": ")?;
+    Ok(())
+}
+
+// Returns the sentence about a change: which value of the document, which part of the change, and
+// why it does not apply.
+fn change_sentence(
+    alloc: Global,
+    scope: Scope,
+    part_name: &str,
+    error: &ChangeError,
+) -> Result<Vec<u8>>
+    ensures only { IfErr result (λ e. e ≡ no_memory) }
+{
+    let mut text = Vec::new(alloc);
+    if let Scope::Value(number) = scope {
+        push_count(&mut text, "value", number)?;
+    }
+    if let Some(number) = error.number {
+        push_count(&mut text, part_name, number as usize)?;
+    }
+    text.extend_from_slice(error.code.sentence().as_bytes())?;
+    Ok(text)
+}
+
+// Returns the place of an error in a part of a document.
+fn place_of_error(scope: Scope, error: &DocumentError) -> Place
+    ensures { result ≡ error_place scope error.now }
+{
+    match (error, scope) {
+        (DocumentError::Input(error), _) => error.place,
+        (DocumentError::Change(_), Scope::Line) => Place::At {
+            offset: 0,
+            line: 1,
+            column: 1,
+        },
+        (DocumentError::Change(_), _) => Place::None,
+    }
+}
+
+// Returns the offset of a place in the bytes.
+fn find_offset(bytes: &[u8], place: Place) -> Option<usize>
+    ensures offset { result ≡ offset_in bytes.now place }
+    ensures within { IfSome result (λ offset. offset ≤ length bytes.now) }
+{
+    match place {
+        Place::At { offset, .. } if offset <= bytes.len() => Some(offset),
+        _ => None,
+    }
+}
+
+// Returns the line and the column of an offset.
+#[tactic(auto, unfolding(json_text::specs::Positions::place_at))]
+fn find_position(part: Part<'_>, offset: Option<usize>) -> Option<Position>
+    requires few { (part_of part).before + length (part_of part).bytes + 1 < 2 ^ 64 }
+    requires within { IfSome offset (λ offset. offset ≤ length (part_of part).bytes) }
+    ensures { result
+        ≡ position_of (part_of part.entry).before (part_of part.entry).bytes offset }
+{
+    match offset {
+        Some(offset) => match place_of(part.bytes, offset) {
+            Place::At { line, column, .. } => Some(Position {
+                line: part.before + line,
+                column,
+            }),
+            _ => unreachable!(),
+        },
+        None => None,
+    }
+}
+
+// Appends the excerpt at an offset, if there is one.
+fn push_excerpt_at(text: &mut Vec<u8>, bytes: &[u8], offset: Option<usize>) -> Result<()>
+    requires { IfSome offset (λ offset. offset ≤ length bytes.now) }
+    ensures ok { OnOk result ((excerpt : List ℕ) × IsExcerptAt bytes.now offset excerpt
+        × (text.new.items ≡ text.old.items ++ excerpt)) }
+    ensures only { IfErr result (λ e. e ≡ no_memory) }
+{
+    match offset {
+        Some(offset) => push_excerpt(text, bytes, offset),
+        None => Ok(()),
+    }
+}
+
+// Appends a hint, if there is one.
+fn push_hint(text: &mut Vec<u8>, hint: Option<&str>) -> Result<()>
+    ensures ok { OnOk result ((line : List ℕ) × (text.new.items ≡ text.old.items ++ line)) }
+    ensures only { IfErr result (λ e. e ≡ no_memory) }
+{
+    if let Some(hint) = hint {
+        text.extend_from_slice(b"hint: ")?;
+        text.extend_from_slice(hint.as_bytes())?;
+        text.extend_from_slice(b"\n")?;
+    }
+    Ok(())
+}
+
+// Returns the first line of the report of a document.
+fn document_headline(
+    alloc: Global,
+    part: Part<'_>,
+    position: Option<Position>,
+    error: &DocumentError,
+    part_name: &str,
+) -> Result<Vec<u8>>
+    ensures ok { IfOk result (λ line. IsHeadline (part_of part.entry).name position
+        (code_name error.now) line.items) }
+    ensures only { IfErr result (λ e. e ≡ no_memory) }
+{
+    match error {
+        DocumentError::Input(error) => input_headline(alloc, part.name, position, error.code),
+        DocumentError::Change(error) => {
+            let sentence = change_sentence(alloc, part.scope, part_name, error)?;
+            let code = error.code.name().as_bytes();
+            headline(alloc, part.name, position, &sentence, code)
+        }
+    }
+}
+
+/// Returns the report of an error of a part of a document. The parts of the change have this name.
+/// Fails with `NoMemory` if memory runs out.
+pub(crate) fn document_report(
+    alloc: Global,
+    part: Part<'_>,
+    error: &DocumentError,
+    part_name: &str,
+) -> Result<Vec<u8>>
+    requires few { (part_of part).before + length (part_of part).bytes + 1 < 2 ^ 64 }
+    ensures ok { IfOk result (λ report. IsReport (part_of part.entry) error.now report.items) }
+    ensures only { IfErr result (λ e. e ≡ no_memory) }
+{
+    let offset = find_offset(part.bytes, place_of_error(part.scope, error));
+    let position = find_position(part, offset);
+    let mut text = document_headline(alloc, part, position, error, part_name)?;
+    push_excerpt_at(&mut text, part.bytes, offset)?;
+    push_hint(&mut text, hint_of(part, error))?;
+    Ok(text)
+}
+
+/// Returns the first line of the report of an error of the document of this name:
+/// `NAME:LINE:COLUMN: sentence (CodeName)` and a newline, without a line and a column where the
+/// place has none. Fails with `NoMemory` if memory runs out.
+///
+/// ```
+/// use json_files::error_report;
+/// use json_text::{Error, ErrorCode, Place};
+/// let place = Place::At { offset: 9, line: 2, column: 4 };
+/// let error = Error { code: ErrorCode::ExpectedColon, place };
+/// let report = error_report(alloc, "a.json", &error)?;
+/// let expected = b"a.json:2:4: a colon is expected after the key (ExpectedColon)\n";
+/// assert_eq!(rt; report.as_slice(), expected.as_slice());
+/// ```
+pub fn error_report(alloc: Global, name: &str, error: &Error) -> Result<Vec<u8>>
+    ensures ok { IfOk result (λ line. IsHeadline name.now (place_position error.now.place)
+        (name_of error.now.code) line.items) }
+    ensures only { IfErr result (λ e. e ≡ no_memory) }
+{
+    let position = match error.place {
+        Place::At { line, column, .. } => Some(Position { line, column }),
+        _ => None,
+    };
+    input_headline(alloc, name, position, error.code)
+}
+
+/// Returns the report of an error of the document of this name and these bytes: the line of
+/// [`error_report`], and where the place has an offset in the bytes the line of the bytes there, cut
+/// to 76 bytes, a caret under the byte, and a hint at a usual cause. Fails with `NoMemory` if memory
+/// runs out.
+///
+/// ```
+/// use json_files::input_report;
+/// use json_text::{check_utf8, place_of, Error, ErrorCode};
+/// let place = place_of(b"[1,]", 3);
+/// let error = Error { code: ErrorCode::InvalidJsonValue, place };
+/// let report = input_report(alloc, "a.json", b"[1,]", &error)?;
+/// let expected = b"a.json:1:4: a value is expected (InvalidJsonValue)\n[1,]\n   ^\n\
+///     hint: JSON has no comma before a closing bracket\n";
+/// assert_eq!(rt; report.as_slice(), expected.as_slice());
+/// ```
+pub fn input_report(alloc: Global, name: &str, bytes: &[u8], error: &Error) -> Result<Vec<u8>>
+    ensures ok { IfOk result (λ report. IsReport (spec_whole_part name.now bytes.now)
+        (DocumentError.Input error.now) report.items) }
+    ensures only { IfErr result (λ e. e ≡ no_memory) }
+{
+    let part = whole_part(name, bytes);
+    document_report(alloc, part, &DocumentError::Input(*error), "")
+}

@@ -1,0 +1,87 @@
+// Documents that have a JSON text on each line.
+use json_files::{Document, InputForm, Job, Unchanged, print_documents};
+use json_print::Style;
+use json_text::{Rules, VecSink};
+use std::alloc::Global;
+use std::test::Fail;
+
+// An input, its output, its reports and its status.
+struct Row {
+    input: &'static [u8],
+    output: &'static [u8],
+    reports: &'static [u8],
+    status: u8,
+}
+
+const ROWS: &[Row] = &[
+    Row {
+        input: b"",
+        output: b"",
+        reports: b"",
+        status: 0,
+    },
+    Row {
+        input: b"\n \t\r\n",
+        output: b"",
+        reports: b"",
+        status: 0,
+    },
+    Row {
+        input: b" 1 \n[2,\t3]",
+        output: b"1\n[2,3]\n",
+        reports: b"",
+        status: 0,
+    },
+    Row {
+        input: b"1\r\n2\r\n",
+        output: b"1\n2\n",
+        reports: b"",
+        status: 0,
+    },
+    Row {
+        input: b"{\"a\":1}\n[1 2]\n\n3\n",
+        output: b"{\"a\":1}\n3\n",
+        reports: b"f:2:4: a comma or `]` is expected after the element \
+            (ExpectedArrayCommaOrEnd)\n[1 2]\n   ^\n",
+        status: 1,
+    },
+    Row {
+        input: b"1 2\n",
+        output: b"",
+        reports: b"f:1:3: only whitespace may follow the value (TrailingCharacters)\n\
+            1 2\n  ^\nhint: `--stream` reads documents one after another\n",
+        status: 1,
+    },
+    Row {
+        input: b"[1,\n2]\n",
+        output: b"",
+        reports: b"f:1:4: the input ends before its value does (EofWhileParsing)\n[1,\n   ^\n\
+            f:2:2: only whitespace may follow the value (TrailingCharacters)\n2]\n ^\n",
+        status: 1,
+    },
+    Row {
+        input: b"\"\xff\"\n\"\xc3\xa9\"",
+        output: b"\"\xc3\xa9\"\n",
+        reports: b"f:1:2: the input is not UTF-8 (InvalidUTF8)\n\"\xff\"\n ^\n",
+        status: 1,
+    },
+];
+
+// Returns whether the row's input has its output, its reports and its status.
+fn is_right(alloc: Global, row: &Row) -> json_text::Result<bool> {
+    let documents = vec![in alloc; Document::new(alloc, "f", row.input)?]?;
+    let mut job = Job::new(Unchanged, Style::new(None, false), Rules::usual());
+    job.input = InputForm::Lines;
+    let (mut sink, mut errs) = (VecSink::new(alloc), VecSink::new(alloc));
+    let status = print_documents(alloc, &documents, &job, &mut sink, &mut errs);
+    let same = status == row.status;
+    Ok(same && sink.as_slice() == row.output && errs.as_slice() == row.reports)
+}
+
+#[test]
+fn no_row_differs(rt: HostRuntime) -> Result<(), Fail> {
+    for (i, row) in ROWS.iter().enumerate() {
+        assert_eq!(rt; (i, is_right(rt.alloc(), row)?), (i, true));
+    }
+    Ok(())
+}

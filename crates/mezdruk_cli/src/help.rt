@@ -1,0 +1,68 @@
+// What the program says of itself.
+
+use json_command::About;
+
+/// What `--help` alone prints.
+const HELP: &str = "\
+mezdruk lays out, checks, reads and edits JSON documents. Without FILE, or for
+`-`, it reads standard input. Each document that is written has a newline after
+it. Numbers stay as they were written.
+
+Usage: mezdruk COMMAND [OPTION..] [OPERAND..] [FILE..]
+
+Commands:
+  fmt                      lay documents out, by two spaces
+  check                    print nothing; errors and the status tell
+  get PATH                 print the value at a JSON Pointer, as /tags/0, or at
+                           an array of steps, as '[\"tags\", 0]'
+  edit EDITS               apply an array of edits in turn
+  set PATH VALUE           put a value where the path leads
+  insert PATH KEY VALUE    put a member into the object there
+  push PATH VALUE          append an element to the array there
+  remove PATH STEP         take a key or an index out
+  patch PATCH              apply a JSON Patch (RFC 6902)
+  merge PATCH              apply a JSON Merge Patch (RFC 7396)
+
+PATH is a JSON array of steps, KEY a JSON string, VALUE any JSON text, and STEP
+a JSON string or an index from 0:
+  mezdruk set '[\"version\"]' '\"1.3.0\"' package.json
+EDITS are as in `reshape`: '[[\"set\", [\"version\"], \"1.3.0\"]]'.
+
+Options, in any order, each at most once:
+  --compact, --pretty, --indent=N, --tabs
+                           no whitespace; an indent of two spaces, of N spaces,
+                           0 to 8, or of a tab; compact where none is given, but
+                           for fmt
+  --sort-keys              sort the members of each object by their keys
+  --unique-keys            refuse an object with two members of one key
+  --depth=N                refuse more than N levels, 0 to 1024; 254 without it
+  --raw                    of get: print a string's content
+  --lines                  each line of the input is a document
+  --stream                 documents follow one another
+  -i, --in-place           write each FILE in place; not of check and get
+  --edits=FILE, --patch=FILE, --merge=FILE
+                           take EDITS or PATCH from a file, for edit, patch and
+                           merge; before operands and files
+  --                       after it no argument is an option
+  --help, --version        print this text or the version; each stands alone
+
+Status: the greatest of those of the documents
+  0  done
+  1  a document is not valid
+  2  the arguments are not valid
+  3  an edit or a patch does not apply
+  4  reading failed
+  5  writing failed, or nobody reads the output
+  6  memory ran out
+  8  the arguments could not be read, for example because one is not UTF-8
+";
+
+/// What `--version` alone prints.
+const VERSION: &str = "mezdruk 0.1.0\n";
+
+/// What the program says of itself.
+pub const ABOUT: About = About {
+    help: HELP,
+    version: VERSION,
+    hint: "Run `mezdruk --help` for usage.\n",
+};
