@@ -1,0 +1,359 @@
+/* Calls each function of the library on worked rows, on damaged texts and with memory that runs out.
+ * Run it under AddressSanitizer and UndefinedBehaviorSanitizer: ./tests ROWS. */
+#include "mezdruk.h"
+
+#include <stdio.h>
+#include <stdlib.h>
+#include <string.h>
+
+/* ---- memory that runs out: the linker hands each request of the library to these ---- */
+
+void *__real_malloc(size_t size);
+void *__real_realloc(void *block, size_t size);
+
+static long requests_left = -1; /* or how many requests still succeed */
+
+static bool refuses(void)
+{
+    if (requests_left < 0)
+        return false;
+    if (requests_left == 0)
+        return true;
+    requests_left--;
+    return false;
+}
+
+void *__wrap_malloc(size_t size) { return refuses() ? NULL : __real_malloc(size); }
+
+void *__wrap_realloc(void *block, size_t size)
+{
+    return refuses() ? NULL : __real_realloc(block, size);
+}
+
+/* ---- what the tests share ---- */
+
+static long failures;
+
+static void expect(bool holds, const char *what, long where)
+{
+    if (holds)
+        return;
+    failures++;
+    if (failures <= 20)
+        fprintf(stderr, "tests: %s (%ld)\n", what, where);
+}
+
+/* Bytes in a block of their own length, so that a read past them is seen. */
+typedef struct {
+    uint8_t *at;
+    size_t length;
+} bytes;
+
+static bytes copy_of(const void *from, size_t length)
+{
+    bytes copy = {__real_malloc(length ? length : 1), length};
+    if (!copy.at)
+        abort();
+    memcpy(copy.at, from, length);
+    return copy;
+}
+
+static bool same(const mezdruk_buffer *buffer, bytes text)
+{
+    return buffer->length == text.length
+        && (text.length == 0 || memcmp(buffer->bytes, text.at, text.length) == 0);
+}
+
+/* ---- worked rows ---- */
+
+typedef struct {
+    unsigned status, code;
+    long long offset, line, column, item;
+    mezdruk_options options;
+    bytes input, edits, output;
+} row;
+
+static bytes read_hex(FILE *rows)
+{
+    size_t length = 0, room = 64;
+    uint8_t *at = __real_malloc(room);
+    unsigned byte;
+    int c;
+    while ((c = fgetc(rows)) == ' ')
+        ;
+    while (c != ' ' && c != '\n' && c != EOF && c != '.') {
+        int d = fgetc(rows);
+        char pair[3] = {(char)c, (char)d, 0};
+        if (sscanf(pair, "%2x", &byte) != 1)
+            abort();
+        if (length == room)
+            at = __real_realloc(at, room *= 2);
+        at[length++] = (uint8_t)byte;
+        c = fgetc(rows);
+    }
+    bytes read = copy_of(at, length);
+    free(at);
+    return read;
+}
+
+static bool read_row(FILE *rows, row *r)
+{
+    unsigned depth, unique, sort, indent;
+    if (fscanf(rows, "%u %u %lld %lld %lld %lld %u %u %u %u", &r->status, &r->code, &r->offset,
+               &r->line, &r->column, &r->item, &depth, &unique, &sort, &indent) != 10)
+        return false;
+    r->options = (mezdruk_options){depth, (uint8_t)unique, (uint8_t)sort, (uint8_t)indent};
+    r->input = read_hex(rows);
+    r->edits = read_hex(rows);
+    r->output = read_hex(rows);
+    return true;
+}
+
+static bool is_fault(const row *r, const mezdruk_fault *fault)
+{
+    if (r->status == MEZDRUK_BAD_ARGUMENT)
+        return true;
+    return fault->code == r->code
+        && fault->offset == (r->offset < 0 ? MEZDRUK_NONE : (size_t)r->offset)
+        && fault->line == (size_t)r->line && fault->column == (size_t)r->column
+        && fault->item == (r->item < 0 ? MEZDRUK_NONE : (size_t)r->item);
+}
+
+static void try_row(const row *r, long number)
+{
+    mezdruk_buffer output = MEZDRUK_BUFFER_INIT, printed = MEZDRUK_BUFFER_INIT;
+    mezdruk_document document = MEZDRUK_DOCUMENT_INIT;
+    mezdruk_fault fault = {0, 0, 0, 0, 0};
+    mezdruk_status status = mezdruk_edit(r->input.at, r->input.length, r->edits.at,
+                                         r->edits.length, &r->options, &output, &fault);
+    expect(status == r->status, "the status of edit", number);
+    if (status == MEZDRUK_OK)
+        expect(same(&output, r->output), "the output of edit", number);
+    else
+        expect(output.length == 0 && is_fault(r, &fault), "the fault of edit", number);
+    status = mezdruk_check(r->input.at, r->input.length, &r->options, &fault);
+    if (r->status <= MEZDRUK_BAD_TEXT) {
+        expect(status == r->status, "the status of check", number);
+        expect(status == MEZDRUK_OK || is_fault(r, &fault), "the fault of check", number);
+    }
+    expect(mezdruk_parse(r->input.at, r->input.length, &r->options, &document, &fault) == status,
+           "the status of parse", number);
+    if (status == MEZDRUK_OK && r->status == MEZDRUK_OK && r->edits.length == 2) {
+        status = mezdruk_print(&document, document.root, &r->options, &printed, &fault);
+        expect(status == MEZDRUK_OK && same(&printed, r->output), "the output of print", number);
+    }
+    mezdruk_free(&output);
+    mezdruk_free(&printed);
+    mezdruk_free_document(&document);
+}
+
+static long try_rows(const char *path)
+{
+    FILE *rows = fopen(path, "r");
+    row r;
+    long number = 0;
+    if (!rows) {
+        perror(path);
+        exit(2);
+    }
+    while (read_row(rows, &r)) {
+        try_row(&r, ++number);
+        free(r.input.at);
+        free(r.edits.at);
+        free(r.output.at);
+    }
+    fclose(rows);
+    return number;
+}
+
+/* ---- all calls on a text ---- */
+
+static const char EDITS[] = "[[\"set\",[\"a\",0],{\"x\":[1.50]}],[\"remove\",[],\"b\"]]";
+static const char MORE[] =
+    "{\"a\":{\"z\":null,\"q\":[\"\\ud83d\\ude04\"]},\"b\":null, \"c\\/\": [[[-0]]]}";
+
+static const mezdruk_options PLAIN = MEZDRUK_OPTIONS_INIT;
+static const mezdruk_options SORTED = {20, 1, 1, MEZDRUK_SPACES(3)};
+
+/* Reads each node below one, and returns how many there are. */
+static long walk(mezdruk_document *document, uint32_t node, int levels)
+{
+    mezdruk_node shown;
+    uint8_t copy[8];
+    size_t length, i;
+    uint32_t child;
+    long count = 1;
+    if (!mezdruk_read(document, node, &shown))
+        return 0;
+    if (mezdruk_text(document, node, copy, sizeof copy, &length))
+        expect(length == shown.length, "the length of a text", (long)node);
+    for (i = 0; levels && i < shown.length; i++) {
+        if (shown.kind == MEZDRUK_ARRAY && mezdruk_element(document, node, i, &child))
+            count += walk(document, child, levels - 1);
+        if (shown.kind == MEZDRUK_OBJECT && mezdruk_member(document, node, i, &child)) {
+            expect(mezdruk_name(document, node, i, copy, sizeof copy, &length), "a name", (long)i);
+            count += 1 + walk(document, child, levels - 1);
+        }
+    }
+    expect(!mezdruk_element(document, node, shown.length, &child), "an element too many",
+           (long)node);
+    expect(!mezdruk_member(document, node, SIZE_MAX, &child), "a member too many", (long)node);
+    return count;
+}
+
+static void read_document(bytes text, mezdruk_status expected, long where)
+{
+    mezdruk_document document = MEZDRUK_DOCUMENT_INIT;
+    mezdruk_buffer output = MEZDRUK_BUFFER_INIT;
+    mezdruk_fault fault;
+    mezdruk_node shown;
+    mezdruk_status status = mezdruk_parse(text.at, text.length, &PLAIN, &document, &fault);
+    expect(status == expected || status == MEZDRUK_NO_MEMORY, "parse and check differ", where);
+    if (status == MEZDRUK_OK) {
+        expect(walk(&document, document.root, 300) > 0, "no root", where);
+        expect(!mezdruk_read(&document, UINT32_MAX, &shown), "a node too many", where);
+        if (mezdruk_print(&document, document.root, &SORTED, &output, &fault) == MEZDRUK_OK)
+            expect(output.length > 0, "an empty text", where);
+    } else
+        expect(!mezdruk_read(&document, 0, &shown), "a node of nothing", where);
+    mezdruk_free(&output);
+    mezdruk_free_document(&document);
+    mezdruk_free_document(&document);
+}
+
+/* A result is a JSON text, or the call tells why there is none. */
+static void expect_result(mezdruk_status status, mezdruk_buffer *output, long where)
+{
+    mezdruk_options deep = {1024, 0, 0, 0};
+    mezdruk_fault fault;
+    if (status == MEZDRUK_OK) {
+        status = mezdruk_check(output->bytes, output->length, &deep, &fault);
+        expect(status == MEZDRUK_OK || status == MEZDRUK_NO_MEMORY, "a result that is no text",
+               where);
+    } else
+        expect(status <= 3 || status == MEZDRUK_NO_MEMORY, "an unknown status", where);
+    mezdruk_free(output);
+}
+
+static void try_text(const void *from, size_t length, long where)
+{
+    bytes text = copy_of(from, length);
+    bytes edits = copy_of(EDITS, strlen(EDITS)), more = copy_of(MORE, strlen(MORE));
+    mezdruk_buffer output = MEZDRUK_BUFFER_INIT;
+    mezdruk_fault fault = {0, 0, 0, 0, 0};
+    mezdruk_status status = mezdruk_check(text.at, length, &PLAIN, &fault);
+    expect(status <= 1 || status == MEZDRUK_NO_MEMORY, "the status of a check", where);
+    if (status == MEZDRUK_BAD_TEXT && fault.offset != MEZDRUK_NONE)
+        expect(fault.offset <= length && fault.line > 0, "the place of a fault", where);
+    expect_result(mezdruk_edit(text.at, length, edits.at, edits.length, &PLAIN, &output, &fault),
+                  &output, where);
+    expect_result(mezdruk_edit(text.at, length, text.at, length, &SORTED, &output, &fault),
+                  &output, where);
+    expect_result(mezdruk_edit(more.at, more.length, text.at, length, &PLAIN, &output, &fault),
+                  &output, where);
+    if (status != MEZDRUK_NO_MEMORY)
+        read_document(text, status, where);
+    free(text.at);
+    free(edits.at);
+    free(more.at);
+}
+
+/* ---- damaged texts ---- */
+
+static const char *const TEXTS[] = {
+    "{\"a\": [1, -0, 1e400, {\"b\": null}], \"b\": \"\\ud83d\\ude04\\n\", \"\": true}",
+    EDITS,
+    MORE,
+    " [18446744073709551615, -9223372036854775808, 18446744073709551616, \"\xc3\xa9\"] ",
+};
+
+static const uint8_t DAMAGE[] = {0, '"', '\\', '[', '}', ',', '0', 'e', 0x80, 0xc3, 0xff};
+
+static long try_damaged(void)
+{
+    long count = 0;
+    size_t i, k, d;
+    for (i = 0; i < sizeof TEXTS / sizeof *TEXTS; i++) {
+        size_t length = strlen(TEXTS[i]);
+        uint8_t damaged[512];
+        for (k = 0; k <= length; k++, count++)
+            try_text(TEXTS[i], k, count);
+        for (k = 0; k < length; k++)
+            for (d = 0; d < sizeof DAMAGE; d++, count++) {
+                memcpy(damaged, TEXTS[i], length);
+                damaged[k] = DAMAGE[d];
+                try_text(damaged, length, count);
+            }
+    }
+    return count;
+}
+
+/* Texts of random pieces. */
+static long try_random(long count)
+{
+    static const char *const PIECES[] = {"{", "}", "[", "]", ",", ":", "\"a\"", "\"\\u00e9\"", "1",
+                                         "-0.5e3", "true", "null", " ", "\"", "\\ud800", "\xff"};
+    uint64_t seed = 20;
+    long i;
+    for (i = 0; i < count; i++) {
+        char text[256] = "";
+        int pieces = (int)(i % 24);
+        while (pieces--) {
+            seed = seed * 6364136223846793005u + 1442695040888963407u;
+            strcat(text, PIECES[(seed >> 33) % (sizeof PIECES / sizeof *PIECES)]);
+        }
+        try_text(text, strlen(text), i);
+    }
+    return count;
+}
+
+/* ---- memory that runs out at each request in turn ---- */
+
+static long try_refusals(void)
+{
+    const char *text = TEXTS[0];
+    long requests;
+    for (requests = 0; requests < 200; requests++) {
+        requests_left = requests;
+        try_text(text, strlen(text), requests);
+        requests_left = -1;
+    }
+    return requests;
+}
+
+/* ---- options ---- */
+
+static void try_options(void)
+{
+    mezdruk_options options = {1025, 0, 0, 0};
+    mezdruk_buffer output = MEZDRUK_BUFFER_INIT;
+    mezdruk_fault fault;
+    const uint8_t *text = (const uint8_t *)"[]";
+    expect(mezdruk_check(text, 2, &options, &fault) == MEZDRUK_BAD_ARGUMENT
+           && fault.code == MEZDRUK_CODE_BAD_OPTIONS, "too many levels", 0);
+    options = (mezdruk_options){254, 0, 0, 11};
+    expect(mezdruk_edit(text, 2, text, 2, &options, &output, &fault) == MEZDRUK_BAD_ARGUMENT
+           && fault.code == MEZDRUK_CODE_BAD_OPTIONS, "no such indent", 0);
+    options = (mezdruk_options){254, 255, 255, MEZDRUK_TABS};
+    expect(mezdruk_edit(text, 2, text, 2, &options, &output, &fault) == MEZDRUK_OK
+           && output.length == 2, "any number is true", 0);
+    mezdruk_free(&output);
+    expect(mezdruk_check(text, 0, &PLAIN, &fault) == MEZDRUK_BAD_TEXT && fault.offset == 0
+           && fault.code == MEZDRUK_CODE_EOF_WHILE_PARSING, "no bytes", 0);
+}
+
+int main(int count, char **arguments)
+{
+    if (count != 2) {
+        fprintf(stderr, "usage: tests ROWS\n");
+        return 2;
+    }
+    printf("%ld rows\n", try_rows(arguments[1]));
+    try_options();
+    printf("%ld damaged texts\n", try_damaged());
+    printf("%ld random texts\n", try_random(20000));
+    printf("%ld refusals of memory\n", try_refusals());
+    if (failures)
+        fprintf(stderr, "tests: %ld failures\n", failures);
+    return failures != 0;
+}

@@ -1,0 +1,204 @@
+/* mezdruk.h: JSON (RFC 8259) checked, edited and read by proved code.
+ *
+ * For C99 and later, and C++. Link with -lmezdruk.
+ *
+ * What a call does
+ * ----------------
+ * A text is a pointer and a length in bytes; it needs no zero at its end. A call returns its status,
+ * MEZDRUK_OK or why it failed, and after a failure the fault says what is wrong and where. The output
+ * of a failed call stays as it was.
+ *
+ * A result is a buffer: `length` bytes at `bytes`, with no zero after them. It stays until
+ * mezdruk_free, or until it is the output of another call that succeeds, which frees what it had.
+ *
+ * A document is a parsed text. Its nodes are numbered in the order of the text, from `root` on, and
+ * each name of an object is a node before its value. Calls that read a document change nothing that
+ * C can see, but they write to the struct while they run.
+ *
+ * What you owe
+ * ------------
+ * The proofs hold if the caller does what is said here. Nothing tests it.
+ *
+ * - A struct begins as MEZDRUK_BUFFER_INIT, MEZDRUK_DOCUMENT_INIT or zeros, and only these calls
+ *   write to it. Do not copy one and use both copies: free one of them, once.
+ * - A pointer is not null and leads to as many bytes as the length says, at most 2^63 - 1. A length
+ *   of 0 takes any pointer that is not null; "" will do.
+ * - While a call runs, no other thread writes to the memory that it is given, and none reads what
+ *   the call may write: the output, the fault, the document, the bytes. These do not overlap each
+ *   other or the texts. The bytes of a buffer are read only.
+ * - A document or a buffer is used by the thread that made it.
+ * - malloc, realloc and free are those of one allocator, and align as C says. No call is made from
+ *   a signal handler, nor in the child of a fork of a process with threads.
+ *
+ * No call keeps a pointer into the memory of the caller after it returns. No call writes to a global
+ * or a file, waits, or ends the process. If memory runs out, a call returns MEZDRUK_NO_MEMORY.
+ */
+#ifndef MEZDRUK_H
+#define MEZDRUK_H
+
+#include <stddef.h>
+#include <stdint.h>
+
+#ifdef __cplusplus
+extern "C" {
+#else
+#include <stdbool.h>
+#endif
+
+/* ---- statuses and faults ---- */
+
+typedef uint8_t mezdruk_status;
+
+enum {
+    MEZDRUK_OK = 0,
+    MEZDRUK_BAD_TEXT = 1,     /* the text is not valid */
+    MEZDRUK_BAD_ARGUMENT = 2, /* the options or the edits are not valid */
+    MEZDRUK_NOT_APPLIED = 3,  /* an edit does not apply to the text, or there is no such node */
+    MEZDRUK_NO_MEMORY = 6     /* memory ran out */
+};
+
+/* What a fault has in place of an offset or an item that is not known. */
+#define MEZDRUK_NONE SIZE_MAX
+
+typedef struct mezdruk_fault {
+    size_t offset; /* in bytes, of the text or of the argument, or MEZDRUK_NONE */
+    size_t line;   /* from 1, or 0 */
+    size_t column; /* in bytes, from 1, or 0 */
+    size_t item;   /* the edit that does not apply, from 0, or MEZDRUK_NONE */
+    uint8_t code;  /* one of those below */
+} mezdruk_fault;
+
+enum {
+    MEZDRUK_CODE_NO_MEMORY = 1,
+    MEZDRUK_CODE_TOO_LARGE = 3,
+    MEZDRUK_CODE_INVALID_UTF8 = 4,
+    MEZDRUK_CODE_EOF_WHILE_PARSING = 5,
+    MEZDRUK_CODE_INVALID_LITERAL = 6,
+    MEZDRUK_CODE_INVALID_NUMBER = 7,
+    MEZDRUK_CODE_EXPECTED_COLON = 8,
+    MEZDRUK_CODE_EXPECTED_ARRAY_COMMA_OR_END = 9,
+    MEZDRUK_CODE_EXPECTED_OBJECT_COMMA_OR_END = 10,
+    MEZDRUK_CODE_EXPECT_OBJECT_KEY_OR_END = 11,
+    MEZDRUK_CODE_TRAILING_COMMA = 12,
+    MEZDRUK_CODE_INVALID_JSON_VALUE = 13,
+    MEZDRUK_CODE_CONTROL_CHARACTER = 14,
+    MEZDRUK_CODE_INVALID_ESCAPE = 15,
+    MEZDRUK_CODE_INVALID_SURROGATE = 16,
+    MEZDRUK_CODE_TRAILING_CHARACTERS = 17,
+    MEZDRUK_CODE_RECURSION_LIMIT_EXCEEDED = 18,
+    MEZDRUK_CODE_NOT_FOUND = 19,
+    MEZDRUK_CODE_TYPE_UNMATCHED = 20,
+    MEZDRUK_CODE_NUMBER_OUT_OF_RANGE = 21,
+    MEZDRUK_CODE_DUPLICATE_KEY = 25,
+    MEZDRUK_CODE_BAD_OPTIONS = 32
+};
+
+/* ---- options ---- */
+
+typedef struct mezdruk_options {
+    uint32_t depth;      /* the most levels in the text, at most 1024; [] has 1 */
+    uint8_t unique_keys; /* 0 if names may repeat in an object */
+    uint8_t sort_keys;   /* 0 if members keep their order */
+    uint8_t indent;      /* MEZDRUK_COMPACT, MEZDRUK_SPACES(n) or MEZDRUK_TABS */
+} mezdruk_options;
+
+#define MEZDRUK_COMPACT 0
+#define MEZDRUK_SPACES(n) ((uint8_t)(1 + (n))) /* n from 0 to 8 */
+#define MEZDRUK_TABS 10
+
+/* 254 levels, names that may repeat, members in their order, no whitespace. */
+#define MEZDRUK_OPTIONS_INIT {254, 0, 0, MEZDRUK_COMPACT}
+
+/* ---- what calls hand out ---- */
+
+/* Private to the library. */
+typedef struct mezdruk_owner {
+    bool full;
+    void *held;
+} mezdruk_owner;
+
+typedef struct mezdruk_buffer {
+    const uint8_t *bytes; /* null if there are none */
+    size_t length;
+    mezdruk_owner owner;
+} mezdruk_buffer;
+
+#define MEZDRUK_BUFFER_INIT {0, 0, {0, 0}}
+
+typedef struct mezdruk_document {
+    uint32_t root; /* the node of the whole value */
+    mezdruk_owner owner;
+} mezdruk_document;
+
+#define MEZDRUK_DOCUMENT_INIT {0, {0, 0}}
+
+/* Frees the bytes of a buffer, or a document. Both are empty then; to free an empty one does nothing. */
+void mezdruk_free(mezdruk_buffer *buffer);
+void mezdruk_free_document(mezdruk_document *document);
+
+/* ---- texts ---- */
+
+/* Whether the bytes are a JSON text by the rules of the options. */
+mezdruk_status mezdruk_check(const uint8_t *text, size_t length, const mezdruk_options *options,
+                             mezdruk_fault *fault);
+
+/* Applies edits, such as [["set",["a",0],1],["remove",[],"b"]], in turn. */
+mezdruk_status mezdruk_edit(const uint8_t *text, size_t length, const uint8_t *edits,
+                            size_t edits_length, const mezdruk_options *options,
+                            mezdruk_buffer *output, mezdruk_fault *fault);
+
+/* ---- documents ---- */
+
+enum {
+    MEZDRUK_NULL = 0,
+    MEZDRUK_BOOLEAN = 1,
+    MEZDRUK_NUMBER = 2,
+    MEZDRUK_STRING = 3,
+    MEZDRUK_OBJECT = 4,
+    MEZDRUK_ARRAY = 5
+};
+
+enum {
+    MEZDRUK_LITERAL = 0, /* a number that is no integer of 64 bits: mezdruk_text has its literal */
+    MEZDRUK_NATURAL = 1, /* an integer from 0 to 2^64 - 1, in `natural` */
+    MEZDRUK_NEGATIVE = 2 /* an integer from -2^63 to -1, in `negative` */
+};
+
+typedef struct mezdruk_node {
+    uint8_t kind;     /* MEZDRUK_NULL .. MEZDRUK_ARRAY */
+    uint8_t boolean;  /* 1 for true */
+    uint8_t form;     /* of a number: MEZDRUK_LITERAL, MEZDRUK_NATURAL or MEZDRUK_NEGATIVE */
+    uint64_t natural;
+    int64_t negative;
+    size_t length;    /* elements, members, or bytes of a string or a literal */
+} mezdruk_node;
+
+/* Parses a text. The document has no pointer into it. */
+mezdruk_status mezdruk_parse(const uint8_t *text, size_t length, const mezdruk_options *options,
+                             mezdruk_document *document, mezdruk_fault *fault);
+
+/* Each returns false, and writes nothing, if there is no such node, element or member. */
+bool mezdruk_read(mezdruk_document *document, uint32_t node, mezdruk_node *shown);
+bool mezdruk_element(mezdruk_document *document, uint32_t node, size_t index, uint32_t *element);
+bool mezdruk_member(mezdruk_document *document, uint32_t node, size_t index, uint32_t *value);
+
+/* The bytes of a string, or of the literal of a number that is no integer of 64 bits, copied to
+ * `bytes`. Returns false if there is no such text. `*length` is the length of the text; the text is
+ * copied only if there is room for it. */
+bool mezdruk_text(mezdruk_document *document, uint32_t node, uint8_t *bytes, size_t room,
+                  size_t *length);
+
+/* The name of a member, copied in the same way. */
+bool mezdruk_name(mezdruk_document *document, uint32_t node, size_t index, uint8_t *bytes,
+                  size_t room, size_t *length);
+
+/* The text of the value at a node. Its status is MEZDRUK_NOT_APPLIED if there is no such node. */
+mezdruk_status mezdruk_print(mezdruk_document *document, uint32_t node,
+                             const mezdruk_options *options, mezdruk_buffer *output,
+                             mezdruk_fault *fault);
+
+#ifdef __cplusplus
+}
+#endif
+
+#endif

@@ -1,0 +1,103 @@
+"""Calls over texts."""
+
+from __future__ import annotations
+
+import json
+from typing import Any, Sequence, TypeVar, Union
+
+from mezdruk._errors import Error, fail
+from mezdruk._native import ffi, lib
+
+Text = TypeVar("Text", str, bytes)
+Indent = Union[None, int, str]
+
+
+def encoded(text: Union[str, bytes]) -> bytes:
+    """Returns the bytes of a text."""
+    return text.encode("utf-8", "surrogatepass") if isinstance(text, str) else text
+
+
+def options(
+    depth: int = 254,
+    unique_keys: bool = False,
+    sort_keys: bool = False,
+    indent: Indent = None,
+) -> Any:
+    """Returns the options of a call."""
+    if indent is None:
+        number = 0
+    elif indent == "\t":
+        number = 10
+    elif isinstance(indent, int) and 0 <= indent <= 8:
+        number = indent + 1
+    elif isinstance(indent, str) and len(indent) <= 8 and not indent.strip(" "):
+        number = len(indent) + 1
+    else:
+        raise ValueError("indent must be None, 0 to 8 spaces, or a tab")
+    if not 0 <= depth <= 1024:
+        raise ValueError("depth must be from 0 to 1024")
+    return ffi.new("mezdruk_options *", (depth, unique_keys, sort_keys, number))
+
+
+def _json(argument: Any) -> bytes:
+    if isinstance(argument, (str, bytes)):
+        return encoded(argument)
+    return json.dumps(argument, separators=(",", ":")).encode("ascii")
+
+
+def _changed(call: Any, text: Text, argument: bytes, asked: Any) -> Text:
+    source = encoded(text)
+    output = ffi.new("mezdruk_buffer *")
+    fault = ffi.new("mezdruk_fault *")
+    status = call(
+        ffi.from_buffer(source), len(source), ffi.from_buffer(argument), len(argument),
+        asked, output, fault,
+    )
+    if status:
+        fail(status, fault)
+    try:
+        result = bytes(ffi.buffer(output.bytes, output.length))
+    finally:
+        lib.mezdruk_free(output)
+    return result.decode() if isinstance(text, str) else result
+
+
+def check(text: Union[str, bytes], *, depth: int = 254, unique_keys: bool = False) -> None:
+    """Raises TextError unless the text is JSON of at most `depth` levels.
+
+    With `unique_keys` the names of each object have to differ.
+    """
+    source = encoded(text)
+    fault = ffi.new("mezdruk_fault *")
+    asked = options(depth, unique_keys)
+    status = lib.mezdruk_check(ffi.from_buffer(source), len(source), asked, fault)
+    if status:
+        fail(status, fault)
+
+
+def is_valid(text: Union[str, bytes], *, depth: int = 254, unique_keys: bool = False) -> bool:
+    """Returns whether the text is JSON of at most `depth` levels."""
+    try:
+        check(text, depth=depth, unique_keys=unique_keys)
+    except Error:
+        return False
+    return True
+
+
+def edit(
+    text: Text,
+    edits: Union[str, bytes, Sequence[Any]],
+    *,
+    indent: Indent = None,
+    sort_keys: bool = False,
+    depth: int = 254,
+    unique_keys: bool = False,
+) -> Text:
+    """Returns the text with the edits applied in turn.
+
+    An edit is `["set", path, value]`, `["insert", path, key, value]`, `["push", path, value]` or
+    `["remove", path, step]`; a path is a list of names and indexes. The edits may also be a JSON
+    text, in which the values keep their number literals. The result has the type of the text.
+    """
+    asked = options(depth, unique_keys, sort_keys, indent)
+    return _changed(lib.mezdruk_edit, text, _json(edits), asked)

@@ -1,0 +1,98 @@
+"""The errors of the package."""
+
+from __future__ import annotations
+
+from typing import Any, NoReturn, Optional
+
+from mezdruk._native import lib
+
+_NAMES = {
+    lib.MEZDRUK_CODE_NO_MEMORY: "NoMemory",
+    lib.MEZDRUK_CODE_TOO_LARGE: "TooLarge",
+    lib.MEZDRUK_CODE_INVALID_UTF8: "InvalidUTF8",
+    lib.MEZDRUK_CODE_EOF_WHILE_PARSING: "EofWhileParsing",
+    lib.MEZDRUK_CODE_INVALID_LITERAL: "InvalidLiteral",
+    lib.MEZDRUK_CODE_INVALID_NUMBER: "InvalidNumber",
+    lib.MEZDRUK_CODE_EXPECTED_COLON: "ExpectedColon",
+    lib.MEZDRUK_CODE_EXPECTED_ARRAY_COMMA_OR_END: "ExpectedArrayCommaOrEnd",
+    lib.MEZDRUK_CODE_EXPECTED_OBJECT_COMMA_OR_END: "ExpectedObjectCommaOrEnd",
+    lib.MEZDRUK_CODE_EXPECT_OBJECT_KEY_OR_END: "ExpectObjectKeyOrEnd",
+    lib.MEZDRUK_CODE_TRAILING_COMMA: "TrailingComma",
+    lib.MEZDRUK_CODE_INVALID_JSON_VALUE: "InvalidJsonValue",
+    lib.MEZDRUK_CODE_CONTROL_CHARACTER: "ControlCharacter",
+    lib.MEZDRUK_CODE_INVALID_ESCAPE: "InvalidEscape",
+    lib.MEZDRUK_CODE_INVALID_SURROGATE: "InvalidSurrogate",
+    lib.MEZDRUK_CODE_TRAILING_CHARACTERS: "TrailingCharacters",
+    lib.MEZDRUK_CODE_RECURSION_LIMIT_EXCEEDED: "RecursionLimitExceeded",
+    lib.MEZDRUK_CODE_NOT_FOUND: "NotFound",
+    lib.MEZDRUK_CODE_TYPE_UNMATCHED: "TypeUnmatched",
+    lib.MEZDRUK_CODE_NUMBER_OUT_OF_RANGE: "NumberOutOfRange",
+    lib.MEZDRUK_CODE_DUPLICATE_KEY: "DuplicateKey",
+    lib.MEZDRUK_CODE_BAD_OPTIONS: "BadOptions",
+}
+
+_NONE = 2**64 - 1
+
+
+class Error(ValueError):
+    """Why a call failed.
+
+    `code` is the name of the error. `offset`, `line` and `column` are the position in bytes, with
+    lines and columns counted from 1, or None. `item` is the index of the edit that does not apply,
+    or None.
+    """
+
+    def __init__(
+        self,
+        code: str,
+        offset: Optional[int] = None,
+        line: Optional[int] = None,
+        column: Optional[int] = None,
+        item: Optional[int] = None,
+    ) -> None:
+        self.code = code
+        self.offset = offset
+        self.line = line
+        self.column = column
+        self.item = item
+        super().__init__(code, offset, line, column, item)
+
+    def __str__(self) -> str:
+        if self.offset is not None:
+            return f"{self.code} at offset {self.offset}, line {self.line} column {self.column}"
+        if self.item is not None:
+            return f"{self.code} in item {self.item}"
+        return self.code
+
+
+class TextError(Error):
+    """The text is not valid JSON, or breaks the rules that were asked for."""
+
+
+class ArgumentError(Error):
+    """The options or the edits are not valid."""
+
+
+class ApplyError(Error):
+    """An edit does not apply to the text."""
+
+
+_CLASSES = {
+    lib.MEZDRUK_BAD_TEXT: TextError,
+    lib.MEZDRUK_BAD_ARGUMENT: ArgumentError,
+    lib.MEZDRUK_NOT_APPLIED: ApplyError,
+}
+
+
+def fail(status: int, fault: Any) -> NoReturn:
+    """Raises the error of a status and a fault."""
+    if status == lib.MEZDRUK_NO_MEMORY:
+        raise MemoryError
+    placed = fault.offset != _NONE
+    raise _CLASSES[status](
+        _NAMES.get(fault.code, str(fault.code)),
+        fault.offset if placed else None,
+        fault.line if placed else None,
+        fault.column if placed else None,
+        fault.item if fault.item != _NONE else None,
+    )

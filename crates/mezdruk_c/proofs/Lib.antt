@@ -1,0 +1,6 @@
+pub mod AsBox
+pub mod EditedTexts
+pub mod Indents
+pub mod Printed
+pub mod ReadTexts
+pub mod Settled

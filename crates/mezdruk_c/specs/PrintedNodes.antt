@@ -1,0 +1,30 @@
+-- What printing a node returns.
+use Rattle.std.specs.Prelude.{◌≡◌, ◌⊎◌, ℕ, List, Option, Some, None}
+use Rattle.json_grammar.specs.Tree.{Tree}
+use Rattle.json_print.specs.Styles.{printed}
+use Rattle.json_print.specs.declared.style.Style.{Style}
+use Rattle.json_text.specs.Errors.{no_memory, not_found}
+use Rattle.mezdruk_c.specs.declared.failure.Failure.{Failure}
+use Rattle.mezdruk_c.specs.declared.failure.Failure.TheVariants.{Options as bad_options, Text}
+use Rattle.mezdruk_c.specs.declared.options.Options.{Options}
+use Rattle.mezdruk_c.specs.Asked.{AreOptions, text_asked}
+
+-- there is a tree, and the output is its text in the style
+abbrev pub IsPrinted : Style → Option Tree → List ℕ → Type 0
+IsPrinted style (Some tree) output = output ≡ printed style tree
+IsPrinted style None output = ⊥
+
+-- memory ran out, or there is no tree
+abbrev pub FailsToPrint : Option Tree → Failure → Type 0
+FailsToPrint tree (Text e) = (e ≡ no_memory) ⊎ ((e ≡ not_found) × (tree ≡ None))
+FailsToPrint tree failure = ⊥
+
+-- there is a tree, and the output is its text in the layout of the options
+abbrev pub PrintsNode : Options → Option Tree → List ℕ → Type 0
+PrintsNode o (Some tree) output = text_asked o tree ≡ Some output
+PrintsNode o None output = ⊥
+
+-- the options are not valid, or there is no tree, or memory ran out
+abbrev pub PrintFails : Options → Option Tree → Failure → Type 0
+PrintFails o tree bad_options = ¬ (AreOptions o)
+PrintFails o tree failure = FailsToPrint tree failure

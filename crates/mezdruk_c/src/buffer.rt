@@ -1,0 +1,53 @@
+// The bytes of a result.
+ghost use Rattle.std.specs.Prelude.{◌≡◌, [], IfOk, IfErr};
+ghost use Rattle.mezdruk_c.specs.Shown.{shown_length, shown_at};
+
+use crate::owner::Owner;
+use crate::payload::Payload;
+use json_text::Result;
+use std::alloc::Global;
+use std::ptr::null;
+
+/// The bytes of a result: `length` bytes at `bytes`, which stay until the buffer is freed or takes
+/// another result. Memory of zeros is a buffer of no bytes.
+#[repr(C)]
+#[derive(Drop)]
+pub struct Buffer {
+    bytes: *const u8,
+    length: usize,
+    owner: Owner,
+    ghost counted: { length ≡ shown_length owner.held.full owner.held.value },
+    ghost pointed: { bytes ≡ shown_at owner.held.full owner.held.value },
+}
+
+impl Buffer {
+    ghost use Rattle.json_text.specs.Errors.{no_memory};
+    ghost use Rattle.mezdruk_c.specs.Buffers.{buffer_bytes};
+
+    /// A buffer of no bytes.
+    pub fn empty(alloc: Global) -> Buffer
+        ensures { buffer_bytes result ≡ [] }
+    {
+        Buffer {
+            bytes: null(),
+            length: 0,
+            owner: Owner::empty(alloc),
+        }
+    }
+
+    /// A buffer of the bytes. Fails with `NoMemory` if memory runs out.
+    pub fn of(alloc: Global, vec: Vec<u8>) -> Result<Buffer>
+        ensures ok { IfOk result (λ b. buffer_bytes b ≡ vec.items) }
+        ensures only { IfErr result (λ e. e ≡ no_memory) }
+    {
+        let (bytes, length) = (vec.as_ptr(), vec.len());
+        match Box::new(alloc, Payload::Bytes(vec)) {
+            Ok(payload) => Ok(Buffer {
+                bytes,
+                length,
+                owner: Owner::of(payload),
+            }),
+            Err(error) => Err(error.into()),
+        }
+    }
+}

@@ -1,0 +1,51 @@
+// A parsed document.
+ghost use Rattle.std.specs.Prelude.{◌≡◌, None, Some, IfOk, IfErr};
+
+use crate::owner::Owner;
+use crate::payload::Payload;
+use json_doc::Doc;
+use json_text::Result;
+use std::alloc::Global;
+use std::rc::Rc;
+
+/// A parsed document. Memory of zeros is an empty document.
+#[repr(C)]
+#[derive(Drop)]
+pub struct Document {
+    /// The node of the whole value.
+    pub root: u32,
+    pub(crate) owner: Owner,
+}
+
+impl Document {
+    ghost use Rattle.json_doc.specs.Docs.{doc_root};
+    ghost use Rattle.json_text.specs.Errors.{no_memory};
+    ghost use Rattle.mezdruk_c.specs.Owned.{owned};
+    ghost use Rattle.mezdruk_c.specs.declared.payload.Payload.TheVariants.{Document as a_document};
+
+    /// An empty document.
+    pub fn empty(alloc: Global) -> Document
+        ensures { owned result.owner ≡ None }
+    {
+        Document {
+            root: 0,
+            owner: Owner::empty(alloc),
+        }
+    }
+
+    /// A document of these contents. Fails with `NoMemory` if memory runs out.
+    pub fn of(alloc: Global, doc: Rc<Doc>) -> Result<Document>
+        ensures ok { IfOk result (λ d. owned d.owner ≡ Some (a_document doc)) }
+        ensures root { IfOk result (λ d. d.root ≡ doc_root doc.value) }
+        ensures only { IfErr result (λ e. e ≡ no_memory) }
+    {
+        let root = doc.root();
+        match Box::new(alloc, Payload::Document(doc)) {
+            Ok(payload) => Ok(Document {
+                root,
+                owner: Owner::of(payload),
+            }),
+            Err(error) => Err(error.into()),
+        }
+    }
+}

@@ -1,0 +1,95 @@
+// Editing a text.
+ghost use Rattle.std.specs.Prelude.{◌≡◌, ◌≢◌, ◌⊎◌, ◌<◌, ◌^◌, List, length, map, IfOk, IfErr};
+ghost use Rattle.json_model.specs.Edit.{Edit as TreeEdit};
+ghost use Rattle.json_text.specs.Ruled.{rules_of};
+ghost use Rattle.json_text.specs.declared.error.ErrorCode.TheVariants.{NoMemory};
+ghost use Rattle.json_value.specs.Edits.{edit_of};
+ghost use Rattle.json_print.specs.Styles.{printed};
+ghost use Rattle.reshape.specs.Words.{Spells};
+ghost use Rattle.mezdruk_c.specs.Buffers.{buffer_bytes};
+ghost use Rattle.mezdruk_c.specs.Editing.{EditedText, EditingFails, EditsText, EditFails};
+ghost use Rattle.mezdruk_c.specs.Faults.{Fails};
+
+use crate::buffer::Buffer;
+use crate::failure::Failure;
+use crate::fault::{Fault, give};
+use crate::options::Options;
+use json_data::from_slice;
+use json_print::Style;
+use json_text::{Result as TextResult, Rules, SliceSource, VecSink};
+use json_value::Edit;
+use reshape::reshape_with;
+use std::alloc::Global;
+
+// Returns the edits that a text spells.
+fn read_edits(alloc: Global, edits: &[u8]) -> TextResult<Vec<Edit>>
+    ensures ok { IfOk result (λ v. Spells edits.now (map edit_of v.items)) }
+    ensures failed { IfErr result (λ e. (e.code ≡ NoMemory)
+        ⊎ ((es : List TreeEdit) → ¬ (Spells edits.now es))) }
+{
+    match from_slice::<Vec<Edit>>(alloc, edits) {
+        Ok(list) => Ok(list),
+        Err(error) => Err(error),
+    }
+}
+
+// Returns the text of the edited tree.
+fn edit_text(
+    alloc: Global,
+    text: &[u8],
+    edits: &[Edit],
+    style: Style<'_>,
+    rules: Rules,
+) -> TextResult<Buffer>
+    requires { length edits.now < 2 ^ 32 }
+    ensures ok { IfOk result (λ b. EditedText (rules_of rules) (map edit_of edits.now)
+        (printed style.entry) text.now (buffer_bytes b)) }
+    ensures failed { IfErr result (λ e. EditingFails (rules_of rules) (map edit_of edits.now)
+        text.now e.code e.place) }
+{
+    let mut source = SliceSource::new(text);
+    let mut sink = VecSink::new(alloc);
+    match reshape_with(alloc, &mut source, &mut sink, edits, style, rules) {
+        Ok(()) => Buffer::of(alloc, sink.into_vec()),
+        Err(error) => Err(error),
+    }
+}
+
+// Returns the text of the edited tree, by the options.
+fn edit(alloc: Global, text: &[u8], edits: &[u8], options: &Options) -> Result<Buffer, Failure>
+    ensures done { IfOk result (λ b. EditsText options.now text.now edits.now (buffer_bytes b)) }
+    ensures failed { IfErr result (EditFails options.now text.now edits.now) }
+{
+    let Some(asked) = options.asked() else {
+        return Err(Failure::Options);
+    };
+    match read_edits(alloc, edits) {
+        Ok(list) => match edit_text(alloc, text, &list, asked.style, asked.rules) {
+            Ok(buffer) => Ok(buffer),
+            Err(error) => Err(Failure::Text(error)),
+        },
+        Err(error) => Err(Failure::Argument(error)),
+    }
+}
+
+/// Edits a JSON text: reads it and the edits, applies these in turn, and returns the text of the
+/// edited value in `output`. Returns 0, or else the status, and writes the fault: 1 for a text that
+/// is not valid, 2 for options or edits that are not, 3 for an edit that does not apply, and 6 if
+/// memory ran out. The output stays then.
+#[unsafe(no_mangle)]
+pub extern "C" fn mezdruk_edit(
+    alloc: Global,
+    text: &[u8],
+    edits: &[u8],
+    options: &Options,
+    output: &mut Buffer,
+    fault: &mut Fault,
+) -> u8
+    ensures done { result ≡ 0
+        → EditsText options.now text.now edits.now (buffer_bytes output.new) }
+    ensures failed { result ≢ 0
+        → Fails (EditFails options.now text.now edits.now) result fault.new }
+    ensures kept { result ≢ 0 → output.new ≡ output.old }
+{
+    give(edit(alloc, text, edits, options), output, fault)
+}

@@ -1,0 +1,51 @@
+// Why a call failed.
+ghost use Rattle.std.specs.Prelude.{◌≡◌};
+ghost use Rattle.mezdruk_c.specs.Failures.{argument_status_of, text_status_of, status_of};
+
+use json_text::{Error, ErrorCode};
+
+/// Why a call failed.
+#[derive(Clone, Copy)]
+pub enum Failure {
+    /// The options are not valid.
+    Options,
+    /// The edits or the patch are not valid, or memory ran out for them.
+    Argument(Error),
+    /// The text is not valid, an edit does not apply to it, or memory ran out.
+    Text(Error),
+}
+
+// Returns the status of an argument that could not be read.
+fn argument_status(code: ErrorCode) -> u8
+    ensures { result ≡ argument_status_of code }
+{
+    match code {
+        ErrorCode::NoMemory => 6,
+        _ => 2,
+    }
+}
+
+// Returns the status of a text that could not be read or changed.
+fn text_status(code: ErrorCode) -> u8
+    ensures { result ≡ text_status_of code }
+{
+    match code {
+        ErrorCode::NoMemory => 6,
+        ErrorCode::NotFound | ErrorCode::TypeUnmatched => 3,
+        _ => 1,
+    }
+}
+
+impl Failure {
+    /// Returns the status: 1 if the text is not valid, 2 if the options, the edits or the patch are
+    /// not, 3 if a change does not apply, and 6 if memory ran out.
+    pub fn status(&self) -> u8
+        ensures { result ≡ status_of self.now }
+    {
+        match self {
+            Failure::Options => 2,
+            Failure::Argument(error) => argument_status(error.code),
+            Failure::Text(error) => text_status(error.code),
+        }
+    }
+}

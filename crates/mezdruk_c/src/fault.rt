@@ -1,0 +1,118 @@
+// What C learns of a failure.
+ghost use Rattle.std.specs.Prelude.{◌≡◌};
+ghost use Rattle.mezdruk_c.specs.Faults.{fault_with, fault_at, fault_in, fault_of, Settles};
+ghost use Rattle.mezdruk_c.specs.Given.{Gives};
+
+use crate::buffer::Buffer;
+use crate::failure::Failure;
+use json_text::Place;
+
+/// The offset and the item of a fault that has none.
+const NONE: usize = usize::MAX;
+
+/// The code of options that are not valid.
+const BAD_OPTIONS: u8 = 32;
+
+/// What C learns of a failure.
+#[repr(C)]
+#[derive(Clone, Copy)]
+pub struct Fault {
+    /// The offset in bytes, or the greatest number of the type if no position is known.
+    pub offset: usize,
+    /// The line, counted from 1, or 0.
+    pub line: usize,
+    /// The column in bytes, counted from 1, or 0.
+    pub column: usize,
+    /// The number of the edit or operation that does not apply, counted from 0, or the greatest
+    /// number of the type.
+    pub item: usize,
+    /// The number of the error's code.
+    pub code: u8,
+}
+
+impl Fault {
+    // A fault without a position.
+    fn unplaced(code: u8, item: usize) -> Fault
+        ensures { result ≡ fault_with code item }
+    {
+        Fault {
+            offset: NONE,
+            line: 0,
+            column: 0,
+            item,
+            code,
+        }
+    }
+
+    // The fault of a code at a place.
+    fn at(code: u8, place: Place) -> Fault
+        ensures { result ≡ fault_at code place }
+    {
+        match place {
+            Place::At {
+                offset,
+                line,
+                column,
+            } => Fault {
+                offset,
+                line,
+                column,
+                item: NONE,
+                code,
+            },
+            Place::Edit(number) => Fault::unplaced(code, number as usize),
+            _ => Fault::unplaced(code, NONE),
+        }
+    }
+
+    // The fault of a code in an operation.
+    fn in_operation(code: u8, op: Option<u32>) -> Fault
+        ensures { result ≡ fault_in code op }
+    {
+        match op {
+            Some(number) => Fault::unplaced(code, number as usize),
+            None => Fault::unplaced(code, NONE),
+        }
+    }
+
+    /// The fault of a failure.
+    pub fn of(failure: &Failure) -> Fault
+        ensures { result ≡ fault_of failure.now }
+    {
+        match failure {
+            Failure::Options => Fault::unplaced(BAD_OPTIONS, NONE),
+            Failure::Argument(error) => Fault::at(error.code.number(), error.place),
+            Failure::Text(error) => Fault::at(error.code.number(), error.place),
+        }
+    }
+}
+
+/// Returns the status of an outcome, 0 for a success, and writes the buffer of a success or the fault
+/// of a failure.
+pub fn give(outcome: Result<Buffer, Failure>, output: &mut Buffer, fault: &mut Fault) -> u8
+    ensures { Gives outcome output.old output.new result fault.new }
+{
+    match outcome {
+        Ok(buffer) => {
+            *output = buffer;
+            0
+        }
+        Err(failure) => {
+            *fault = Fault::of(&failure);
+            failure.status()
+        }
+    }
+}
+
+/// Returns the status of an outcome, 0 for a success, and writes the fault of a failure.
+pub fn settle(outcome: Result<(), Failure>, fault: &mut Fault) -> u8
+    ensures { Settles outcome result fault.new }
+{
+    match outcome {
+        Ok(()) => 0,
+        Err(failure) => {
+            *fault = Fault::of(&failure);
+            failure.status()
+        }
+    }
+}

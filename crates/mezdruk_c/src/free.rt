@@ -1,0 +1,24 @@
+// What gives memory back.
+ghost use Rattle.std.specs.Prelude.{◌≡◌, [], None};
+ghost use Rattle.mezdruk_c.specs.Buffers.{buffer_bytes};
+ghost use Rattle.mezdruk_c.specs.Owned.{owned};
+
+use crate::buffer::Buffer;
+use crate::document::Document;
+use std::alloc::Global;
+
+/// Frees the bytes of a buffer, which has none then. A buffer of no bytes stays so.
+#[unsafe(no_mangle)]
+pub extern "C" fn mezdruk_free(alloc: Global, buffer: &mut Buffer)
+    ensures { buffer_bytes buffer.new ≡ [] }
+{
+    *buffer = Buffer::empty(alloc);
+}
+
+/// Frees a document, which is empty then. An empty document stays so.
+#[unsafe(no_mangle)]
+pub extern "C" fn mezdruk_free_document(alloc: Global, document: &mut Document)
+    ensures { owned document.new.owner ≡ None }
+{
+    *document = Document::empty(alloc);
+}

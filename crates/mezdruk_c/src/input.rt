@@ -1,0 +1,32 @@
+// Reading the caller's text.
+ghost use Rattle.std.specs.Prelude.{IfOk, IfErr};
+ghost use Rattle.json_doc.specs.Docs.{doc_root, doc_tree};
+ghost use Rattle.json_text.specs.Ruled.{rules_of};
+ghost use Rattle.json_command.specs.Input.{IsInput};
+ghost use Rattle.mezdruk_c.specs.Texts.{TextFails};
+
+use json_doc::{Doc, read_document_with};
+use json_text::{Error, ErrorCode, Place, Result, Rules, check_utf8};
+use std::alloc::Global;
+use std::rc::Rc;
+
+/// The greatest number of bytes that are read.
+const MAX_BYTES: usize = 4_294_967_295;
+
+/// Returns the document of a text (RFC 8259). Fails with `TooLarge` if it has more than
+/// 4,294,967,295 bytes, with `InvalidUTF8` or a fault of the grammar by the rules at its offset, and
+/// with `NoMemory` if memory runs out.
+pub fn read_text(alloc: Global, text: &[u8], rules: Rules) -> Result<Rc<Doc>>
+    ensures ok { IfOk result (λ d. IsInput (rules_of rules) text.now
+        (doc_tree d.value (doc_root d.value))) }
+    ensures failed { IfErr result (λ e. TextFails (rules_of rules) text.now e.code e.place) }
+{
+    if text.len() > MAX_BYTES {
+        return Err(Error {
+            code: ErrorCode::TooLarge,
+            place: Place::None,
+        });
+    }
+    let text = check_utf8(text)?;
+    read_document_with(alloc, text, rules)
+}

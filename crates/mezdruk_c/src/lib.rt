@@ -1,0 +1,24 @@
+//! The calls of the C library, over the library of this repository. `bindings/mezdruk.h` declares
+//! them.
+#![tactic(auto)]
+
+mod buffer;
+mod calls;
+mod check;
+mod document;
+mod edit;
+mod failure;
+mod fault;
+mod free;
+mod held;
+mod input;
+mod node;
+mod options;
+mod owner;
+mod parse;
+mod parts;
+mod payload;
+mod printer;
+mod printing;
+mod reading;
+mod values;

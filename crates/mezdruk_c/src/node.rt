@@ -1,0 +1,88 @@
+// What is read of a node at once.
+ghost use Rattle.std.specs.Prelude.{◌≡◌, ℕ, option_map};
+ghost use Rattle.json_doc.specs.Readings.{bool_of, integer_of};
+ghost use Rattle.json_doc.specs.Seen.{view_tree};
+ghost use Rattle.mezdruk_c.specs.Trees.{boolean_number, integer_shown, text_shown, length_shown};
+ghost use Rattle.mezdruk_c.specs.Nodes.{ShowsTree};
+
+use json_doc::DocView;
+use json_number::JsonNumberTrait;
+
+/// What a node of a document is, as C reads it.
+#[repr(C)]
+#[derive(Clone, Copy)]
+pub struct Node {
+    /// The kind: 0 null, 1 boolean, 2 number, 3 string, 4 object, 5 array.
+    pub kind: u8,
+    /// The boolean: 1 for true, and 0 for false and for every other kind.
+    pub boolean: u8,
+    /// Of a number: 1 for an integer in `natural`, 2 for one in `negative`, and 0 for a literal.
+    pub form: u8,
+    /// An integer from 0 to 2^64 - 1.
+    pub natural: u64,
+    /// An integer from -2^63 to -1.
+    pub negative: i64,
+    /// How many elements or members there are, or how many bytes a string or a literal has.
+    pub length: usize,
+}
+
+// Returns the number of a boolean.
+fn boolean_as(boolean: Option<bool>) -> u8
+    ensures { result ≡ boolean_number boolean }
+{
+    match boolean {
+        Some(true) => 1,
+        _ => 0,
+    }
+}
+
+// Returns the form of the integer of a number, and the integer.
+fn integer_as(view: DocView<'_>) -> (u8, u64, i64)
+    ensures { integer_shown result.0 result.1 result.2 ≡ integer_of (view_tree view.entry) }
+{
+    match view.as_number() {
+        Some(number) => match number.as_u64() {
+            Some(natural) => (1, natural, 0),
+            None => match number.as_i64() {
+                Some(negative) => (2, 0, negative),
+                None => unreachable!(),
+            },
+        },
+        None => (0, 0, 0),
+    }
+}
+
+/// Returns the bytes of a string, or the literal of a number that is no integer of 64 bits.
+pub fn text_of(view: DocView<'_>) -> Option<&str>
+    ensures { option_map (λ s. s.now) result ≡ text_shown (view_tree view.entry) }
+{
+    match view.text() {
+        Some(text) => Some(text),
+        None => view.literal(),
+    }
+}
+
+// Returns how many elements, members or bytes there are.
+fn length_of(view: DocView<'_>) -> usize
+    ensures { result ≡ length_shown (view_tree view.entry) }
+{
+    match text_of(view) {
+        Some(text) => text.len(),
+        None => view.len(),
+    }
+}
+
+/// Returns what a node is.
+pub fn node_of(view: DocView<'_>) -> Node
+    ensures { ShowsTree result (view_tree view.entry) }
+{
+    let (form, natural, negative) = integer_as(view);
+    Node {
+        kind: view.get_type() as u8,
+        boolean: boolean_as(view.as_bool()),
+        form,
+        natural,
+        negative,
+        length: length_of(view),
+    }
+}

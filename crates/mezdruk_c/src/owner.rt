@@ -1,0 +1,66 @@
+// What C keeps of a value.
+ghost use Rattle.std.specs.Prelude.{◌≡◌, None, Some, option_map};
+
+use crate::held::Held;
+use crate::payload::Payload;
+use std::alloc::Global;
+use std::mem::replace;
+
+/// A pointer to a value, and whether there is one. Memory of zeros is an owner of nothing.
+#[repr(C)]
+pub struct Owner {
+    full: bool,
+    held: Held,
+    ghost agrees: { full ≡ held.full },
+}
+
+impl Owner {
+    ghost use Rattle.mezdruk_c.specs.Owned.{owned};
+
+    /// An owner of nothing.
+    pub fn empty(alloc: Global) -> Owner
+        ensures { owned result ≡ None }
+    {
+        Owner {
+            full: false,
+            held: Held::none(alloc),
+        }
+    }
+
+    /// An owner of the value.
+    pub fn of(payload: Box<Payload>) -> Owner
+        ensures { owned result ≡ Some payload.value }
+    {
+        Owner {
+            full: true,
+            held: Held::of(payload),
+        }
+    }
+
+    /// Returns the value, or `None` if there is none.
+    pub fn into_box(self) -> Option<Box<Payload>>
+        ensures { option_map (λ b. b.value) result ≡ owned self }
+    {
+        let Owner { full, held } = self;
+        if full {
+            Some(held.into_box())
+        } else {
+            held.discard();
+            None
+        }
+    }
+
+    /// Takes the value out, and leaves nothing.
+    pub fn take(&mut self, alloc: Global) -> Option<Box<Payload>>
+        ensures value { option_map (λ b. b.value) result ≡ owned self.old }
+        ensures left { owned self.new ≡ None }
+    {
+        replace(self, Owner::empty(alloc)).into_box()
+    }
+}
+
+impl Drop for Owner {
+    fn drop(self) {
+        drop(self.into_box());
+    }
+}

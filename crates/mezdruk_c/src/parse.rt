@@ -1,0 +1,59 @@
+// Parsing a text into a document.
+ghost use Rattle.std.specs.Prelude.{◌≡◌, ◌≢◌, IfOk, IfErr};
+ghost use Rattle.mezdruk_c.specs.Checking.{CheckFails};
+ghost use Rattle.mezdruk_c.specs.Faults.{Fails};
+ghost use Rattle.mezdruk_c.specs.Parsing.{IsDocumentOf, Keeps};
+
+use crate::document::Document;
+use crate::failure::Failure;
+use crate::fault::{Fault, settle};
+use crate::input::read_text;
+use crate::options::Options;
+use std::alloc::Global;
+
+// Parses a text, and fails unless it is valid by the rules of the options.
+fn parse(alloc: Global, text: &[u8], options: &Options) -> Result<Document, Failure>
+    ensures done { IfOk result (IsDocumentOf options.now text.now) }
+    ensures failed { IfErr result (CheckFails options.now text.now) }
+{
+    let Some(rules) = options.rules() else {
+        return Err(Failure::Options);
+    };
+    match read_text(alloc, text, rules) {
+        Ok(doc) => match Document::of(alloc, doc) {
+            Ok(document) => Ok(document),
+            Err(error) => Err(Failure::Text(error)),
+        },
+        Err(error) => Err(Failure::Text(error)),
+    }
+}
+
+// Keeps the document of a success.
+fn keep(outcome: Result<Document, Failure>, document: &mut Document) -> Result<(), Failure>
+    ensures { Keeps outcome document.old document.new result }
+{
+    match outcome {
+        Ok(parsed) => {
+            *document = parsed;
+            Ok(())
+        }
+        Err(failure) => Err(failure),
+    }
+}
+
+/// Parses a JSON text. Returns 0, or else the status, and writes the fault: 1 for a text that is not
+/// valid, 2 for options that are not, and 6 if memory ran out. The document stays then.
+#[unsafe(no_mangle)]
+pub extern "C" fn mezdruk_parse(
+    alloc: Global,
+    text: &[u8],
+    options: &Options,
+    document: &mut Document,
+    fault: &mut Fault,
+) -> u8
+    ensures done { result ≡ 0 → IsDocumentOf options.now text.now document.new }
+    ensures failed { result ≢ 0 → Fails (CheckFails options.now text.now) result fault.new }
+    ensures kept { result ≢ 0 → document.new ≡ document.old }
+{
+    settle(keep(parse(alloc, text, options), document), fault)
+}

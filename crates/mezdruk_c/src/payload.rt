@@ -1,0 +1,15 @@
+// What C keeps behind a pointer.
+
+use json_doc::Doc;
+use std::rc::Rc;
+
+/// A value that one call hands out, for other calls to read and to free.
+#[derive(Drop)]
+pub enum Payload {
+    /// No value.
+    Nothing,
+    /// The bytes of a result.
+    Bytes(Vec<u8>),
+    /// A parsed document.
+    Document(Rc<Doc>),
+}

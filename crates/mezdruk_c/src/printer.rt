@@ -1,0 +1,128 @@
+// The text of a node of a document.
+ghost use Rattle.std.specs.Prelude.{◌≡◌, ◌≢◌, ◌<◌, length, IfOk, IfErr};
+ghost use Rattle.json_doc.specs.Docs.{doc_cells, doc_tree};
+ghost use Rattle.json_print.specs.Styles.{printed};
+ghost use Rattle.json_text.specs.Errors.{no_memory};
+ghost use Rattle.mezdruk_c.specs.Buffers.{buffer_bytes};
+ghost use Rattle.mezdruk_c.specs.Documents.{node_tree};
+ghost use Rattle.mezdruk_c.specs.Faults.{Fails};
+ghost use Rattle.mezdruk_c.specs.Owned.{owned};
+ghost use Rattle.mezdruk_c.specs.Payloads.{tree_in};
+ghost use Rattle.mezdruk_c.specs.PrintedNodes.{IsPrinted, FailsToPrint, PrintsNode, PrintFails};
+
+use crate::buffer::Buffer;
+use crate::document::Document;
+use crate::failure::Failure;
+use crate::fault::{Fault, give};
+use crate::options::Options;
+use crate::owner::Owner;
+use crate::payload::Payload;
+use crate::values::write_value;
+use json_doc::Doc;
+use json_print::Style;
+use json_text::{Error, ErrorCode, Place};
+use json_value::Value;
+use std::alloc::Global;
+use std::rc::Rc;
+
+/// The failure of a node that is not there.
+const NO_NODE: Failure = Failure::Text(Error {
+    code: ErrorCode::NotFound,
+    place: Place::None,
+});
+
+// Returns the text of the value at a place of a document.
+fn print_place(alloc: Global, doc: &Rc<Doc>, at: u32, style: Style<'_>) -> Result<Buffer, Failure>
+    requires { at < length (doc_cells doc.now.value) }
+    ensures done { IfOk result (λ b. buffer_bytes b
+        ≡ printed style.entry (doc_tree doc.now.value at)) }
+    ensures failed { IfErr result (λ f. f ≡ Failure.Text no_memory) }
+{
+    match Value::from_place(alloc, doc, at) {
+        Ok(value) => write_value(alloc, &value, style),
+        Err(error) => Err(Failure::Text(error)),
+    }
+}
+
+// Returns the text of the value at a node of what C holds.
+fn print_node(
+    alloc: Global,
+    payload: &Payload,
+    node: u32,
+    style: Style<'_>,
+) -> Result<Buffer, Failure>
+    ensures done { IfOk result (λ b. IsPrinted style.entry (tree_in payload.now node)
+        (buffer_bytes b)) }
+    ensures failed { IfErr result (FailsToPrint (tree_in payload.now node)) }
+{
+    match payload {
+        Payload::Document(doc) => {
+            if (node as usize) < doc.cells().len() {
+                print_place(alloc, doc, node, style)
+            } else {
+                Err(NO_NODE)
+            }
+        }
+        _ => Err(NO_NODE),
+    }
+}
+
+// Returns the text of the value at a node of a document.
+fn print(
+    alloc: Global,
+    document: &mut Document,
+    node: u32,
+    style: Style<'_>,
+) -> Result<Buffer, Failure>
+    ensures done { IfOk result (λ b. IsPrinted style.entry (node_tree document.old node)
+        (buffer_bytes b)) }
+    ensures failed { IfErr result (FailsToPrint (node_tree document.old node)) }
+    ensures kept { owned document.new.owner ≡ owned document.old.owner }
+{
+    let Some(payload) = document.owner.take(alloc) else {
+        return Err(NO_NODE);
+    };
+    let text = print_node(alloc, &payload, node, style);
+    document.owner = Owner::of(payload);
+    text
+}
+
+// Returns the text of the value at a node of a document, by the options.
+fn print_by(
+    alloc: Global,
+    document: &mut Document,
+    node: u32,
+    options: &Options,
+) -> Result<Buffer, Failure>
+    ensures done { IfOk result (λ b. PrintsNode options.now (node_tree document.old node)
+        (buffer_bytes b)) }
+    ensures failed { IfErr result (PrintFails options.now (node_tree document.old node)) }
+    ensures kept { owned document.new.owner ≡ owned document.old.owner }
+{
+    match options.asked() {
+        Some(asked) => print(alloc, document, node, asked.style),
+        None => Err(Failure::Options),
+    }
+}
+
+/// Returns the text of the value at a node of the document in `output`. Returns 0, or else the
+/// status, and writes the fault: 2 for options that are not valid, 3 if there is no such node, and
+/// 6 if memory ran out. The output stays then.
+#[unsafe(no_mangle)]
+pub extern "C" fn mezdruk_print(
+    alloc: Global,
+    document: &mut Document,
+    node: u32,
+    options: &Options,
+    output: &mut Buffer,
+    fault: &mut Fault,
+) -> u8
+    ensures done { result ≡ 0 → PrintsNode options.now (node_tree document.old node)
+        (buffer_bytes output.new) }
+    ensures failed { result ≢ 0
+        → Fails (PrintFails options.now (node_tree document.old node)) result fault.new }
+    ensures kept { owned document.new.owner ≡ owned document.old.owner }
+    ensures stays { result ≢ 0 → output.new ≡ output.old }
+{
+    give(print_by(alloc, document, node, options), output, fault)
+}

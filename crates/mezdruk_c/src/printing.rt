@@ -1,0 +1,36 @@
+// The text of a value, for C.
+ghost use Rattle.std.specs.Prelude.{◌≡◌, IfOk, IfErr};
+ghost use Rattle.json_print.specs.Styles.{printed};
+ghost use Rattle.json_text.specs.Errors.{no_memory};
+ghost use Rattle.json_value.specs.Denotes.{tree_of};
+ghost use Rattle.mezdruk_c.specs.Buffers.{buffer_bytes};
+
+use crate::buffer::Buffer;
+use json_command::print_value;
+use json_print::Style;
+use json_text::{Result, VecSink};
+use json_value::Value;
+use std::alloc::Global;
+
+// Returns the text of a value.
+fn text_of_value(alloc: Global, value: &Value, style: Style<'_>) -> Result<Vec<u8>>
+    ensures ok { IfOk result (λ v. v.items ≡ printed style.entry (tree_of value.now)) }
+    ensures only { IfErr result (λ e. e ≡ no_memory) }
+{
+    let mut sink = VecSink::new(alloc);
+    match print_value(alloc, value, style, &mut sink) {
+        Ok(()) => Ok(sink.into_vec()),
+        Err(error) => Err(error),
+    }
+}
+
+/// Returns the text of a value in a style. Fails with `NoMemory` if memory runs out.
+pub fn print_text(alloc: Global, value: &Value, style: Style<'_>) -> Result<Buffer>
+    ensures ok { IfOk result (λ b. buffer_bytes b ≡ printed style.entry (tree_of value.now)) }
+    ensures only { IfErr result (λ e. e ≡ no_memory) }
+{
+    match text_of_value(alloc, value, style) {
+        Ok(text) => Buffer::of(alloc, text),
+        Err(error) => Err(error),
+    }
+}

@@ -1,0 +1,121 @@
+// Reading what C holds.
+ghost use Rattle.std.specs.Prelude.{◌≡◌, None, MatchOption, IsSomeAnd, option_map};
+ghost use Rattle.std.specs.Option.{option_and_then};
+ghost use Rattle.json_doc.specs.Seen.{view_tree};
+ghost use Rattle.mezdruk_c.specs.Payloads.{tree_in, element_of, member_of, name_of};
+ghost use Rattle.mezdruk_c.specs.Copying.{CopiesText, CopiesFound};
+ghost use Rattle.mezdruk_c.specs.Nodes.{ShowsTree};
+ghost use Rattle.mezdruk_c.specs.Trees.{text_shown};
+
+use crate::node::{Node, node_of, text_of};
+use crate::payload::Payload;
+use json_doc::DocView;
+
+/// Returns the view of a node, or `None` if there is no document or it has no such node.
+pub fn view_in(payload: &Payload, node: u32) -> Option<DocView<'_>>
+    ensures { option_map view_tree result ≡ tree_in payload.now node }
+{
+    match payload {
+        Payload::Document(doc) => {
+            if (node as usize) < doc.cells().len() {
+                Some(doc.view_at(node))
+            } else {
+                None
+            }
+        }
+        _ => None,
+    }
+}
+
+/// Returns what a node is.
+pub fn node_in(payload: &Payload, node: u32) -> Option<Node>
+    ensures { MatchOption (tree_in payload.now node) (result ≡ None)
+        (λ t. IsSomeAnd result (λ n. ShowsTree n t)) }
+{
+    match view_in(payload, node) {
+        Some(view) => Some(node_of(view)),
+        None => None,
+    }
+}
+
+/// Returns the node of an element of an array.
+pub fn element_in(payload: &Payload, node: u32, index: usize) -> Option<u32>
+    ensures { option_and_then (tree_in payload.now) result
+        ≡ element_of (tree_in payload.now node) index }
+{
+    match payload {
+        Payload::Document(doc) => {
+            if (node as usize) < doc.cells().len() {
+                match doc.view_at(node).element(index) {
+                    Some(element) => Some(element.place()),
+                    None => None,
+                }
+            } else {
+                None
+            }
+        }
+        _ => None,
+    }
+}
+
+/// Returns the node of the value of a member of an object.
+pub fn member_in(payload: &Payload, node: u32, index: usize) -> Option<u32>
+    ensures { option_and_then (tree_in payload.now) result
+        ≡ member_of (tree_in payload.now node) index }
+{
+    match payload {
+        Payload::Document(doc) => {
+            if (node as usize) < doc.cells().len() {
+                match doc.view_at(node).pair_value(index) {
+                    Some(value) => Some(value.place()),
+                    None => None,
+                }
+            } else {
+                None
+            }
+        }
+        _ => None,
+    }
+}
+
+/// Returns the name of a member of an object.
+pub fn name_in(payload: &Payload, node: u32, index: usize) -> Option<&str>
+    ensures { option_map (λ s. s.now) result ≡ name_of (tree_in payload.now node) index }
+{
+    match view_in(payload, node) {
+        Some(view) => view.key(index),
+        None => None,
+    }
+}
+
+/// Returns the bytes of a string, or the literal of a number that is no integer of 64 bits.
+pub fn text_in(payload: &Payload, node: u32) -> Option<&str>
+    ensures { option_map (λ s. s.now) result
+        ≡ option_and_then text_shown (tree_in payload.now node) }
+{
+    match view_in(payload, node) {
+        Some(view) => text_of(view),
+        None => None,
+    }
+}
+
+// Copies a text to the beginning of the bytes if there is room, and returns its length.
+fn copy_text(text: &str, bytes: &mut [u8]) -> usize
+    ensures { CopiesText bytes.old bytes.new result text.now }
+{
+    let length = text.len();
+    if length <= bytes.len() {
+        bytes[..length].copy_from_slice(text.as_bytes());
+    }
+    length
+}
+
+/// Copies a text that was found, and returns its length.
+pub fn copy_found(text: Option<&str>, bytes: &mut [u8]) -> Option<usize>
+    ensures { CopiesFound bytes.old bytes.new result (option_map (λ s. s.now) text.entry) }
+{
+    match text {
+        Some(text) => Some(copy_text(text, bytes)),
+        None => None,
+    }
+}

@@ -1,0 +1,58 @@
+// The values of the caller's texts.
+ghost use Rattle.std.specs.Prelude.{◌≡◌, IfOk, IfErr};
+ghost use Rattle.json_command.specs.Input.{IsInput};
+ghost use Rattle.json_doc.specs.Docs.{doc_root, doc_tree};
+ghost use Rattle.json_print.specs.Styles.{printed};
+ghost use Rattle.json_text.specs.Errors.{no_memory};
+ghost use Rattle.json_text.specs.Ruled.{rules_of, usual_rules};
+ghost use Rattle.json_value.specs.Denotes.{tree_of};
+ghost use Rattle.mezdruk_c.specs.Buffers.{buffer_bytes};
+ghost use Rattle.mezdruk_c.specs.Checking.{IsArgumentFailure, IsTextFailure};
+
+use crate::buffer::Buffer;
+use crate::failure::Failure;
+use crate::input::read_text;
+use crate::printing::print_text;
+use json_doc::Doc;
+use json_print::Style;
+use json_text::Rules;
+use json_value::Value;
+use std::alloc::Global;
+use std::rc::Rc;
+
+/// Returns the document of a patch, by the usual rules.
+pub fn read_patch(alloc: Global, patch: &[u8]) -> Result<Rc<Doc>, Failure>
+    ensures ok { IfOk result (λ d. IsInput usual_rules patch.now
+        (doc_tree d.value (doc_root d.value))) }
+    ensures failed { IfErr result (IsArgumentFailure patch.now) }
+{
+    match read_text(alloc, patch, Rules::usual()) {
+        Ok(doc) => Ok(doc),
+        Err(error) => Err(Failure::Argument(error)),
+    }
+}
+
+/// Returns the value of a text.
+pub fn read_value(alloc: Global, text: &[u8], rules: Rules) -> Result<Value, Failure>
+    ensures ok { IfOk result (λ v. IsInput (rules_of rules) text.now (tree_of v)) }
+    ensures failed { IfErr result (IsTextFailure (rules_of rules) text.now) }
+{
+    match read_text(alloc, text, rules) {
+        Ok(doc) => match Value::from_place(alloc, &doc, doc.root()) {
+            Ok(value) => Ok(value),
+            Err(error) => Err(Failure::Text(error)),
+        },
+        Err(error) => Err(Failure::Text(error)),
+    }
+}
+
+/// Returns the text of a value.
+pub fn write_value(alloc: Global, value: &Value, style: Style<'_>) -> Result<Buffer, Failure>
+    ensures ok { IfOk result (λ b. buffer_bytes b ≡ printed style.entry (tree_of value.now)) }
+    ensures failed { IfErr result (λ f. f ≡ Failure.Text no_memory) }
+{
+    match print_text(alloc, value, style) {
+        Ok(buffer) => Ok(buffer),
+        Err(error) => Err(Failure::Text(error)),
+    }
+}
