@@ -1,0 +1,2 @@
+pub mod Fields
+pub use Rattle.json_model.specs.Datum

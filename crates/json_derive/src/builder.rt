@@ -1,0 +1,137 @@
+// A struct that is read member by member.
+ghost use Rattle.std.specs.Prelude.{◌≡◌, ℕ, List, None, Some, OnOk, IfOk, IfErr, IfSome};
+ghost use Rattle.json_model.specs.Datum.{Datum, Data, list_datum};
+ghost use Rattle.json_text.specs.declared.error.ErrorCode.TheVariants as ErrorCode;
+ghost use Rattle.json_data.specs.Reader.{Reads, Finds, Misses, Stops};
+ghost use Rattle.json_data.specs.Reading.{gives};
+ghost use Rattle.json_data.specs.Refusals.{refusal as spec_refusal};
+ghost use Rattle.json_data.specs.Stand.{NotWhole, WantsValue};
+ghost use Rattle.json_derive.specs.Fields.{Struct, struct_step, no_members, made_struct, struct_datum, read_struct as spec_read_struct, BuildFails};
+
+use json_data::{Lent, Members, Tokens, find_members, read_members, refusal};
+use json_text::{ErrorCode, Result};
+use std::alloc::Global;
+
+/// The members of a struct, as far as they were read. `tools/derive` writes the impls.
+///
+/// ```
+/// use json_data::from_str;
+/// use json_derive_vectors::person::Person;
+/// let ada = from_str::<Person>(alloc, "{\"age\": 36, \"name\": \"Ada\"}")?;
+/// assert_eq!(rt; (ada.name.as_str(), ada.age), ("Ada", 36));
+/// assert!(rt; ada.phones.is_empty());
+/// ```
+pub trait Builder<S: Lent>: Sized {
+    /// The struct.
+    type Built;
+
+    /// Its fields.
+    ghost shape: { Struct };
+
+    /// What was read of each field so far.
+    ghost so_far: { Self → Data };
+
+    /// What the fields of the struct mean.
+    ghost values: { Self.Built → List Datum };
+
+    /// Returns a builder of which no member was read.
+    fn new() -> Self
+        ensures { so_far result ≡ no_members shape.fields };
+
+    /// Takes the value of the member of that name. A refusal comes after the whole value was taken.
+    fn member<T: Tokens<S>>(&mut self, alloc: Global, name: &str, tokens: &mut T) -> Result<()>
+        requires { WantsValue (T.stand tokens.old) }
+        ensures ok { OnOk result (Reads T.taken T.stand
+            (struct_step shape (list_datum (so_far self.old)) name.now)
+            tokens.old tokens.new (gives (list_datum (so_far self.new)))) }
+        ensures err { IfErr result (λ e. Stops T.taken T.stand
+            (struct_step shape (list_datum (so_far self.old)) name.now) tokens.old tokens.new e) };
+
+    /// Returns the struct. Fails with `TypeUnmatched` if a member that must be there is missing, and
+    /// with `NoMemory` if memory for a default runs out.
+    fn build(self, alloc: Global) -> Result<Self::Built>
+        ensures ok { IfOk result (λ v. made_struct shape (list_datum (so_far self))
+            ≡ gives (struct_datum shape (values v))) }
+        ensures err { IfErr result (λ e.
+            BuildFails (made_struct shape (list_datum (so_far self))) e) };
+}
+
+// A builder as the members that `read_members` reads.
+#[derive(Drop)]
+struct Building<B> {
+    builder: B,
+}
+
+impl<S: Lent, B: Builder<S>> Members<S> for Building<B> {
+    ghost so_far = { λ b. list_datum (B.so_far b.builder) };
+
+    ghost step = { struct_step B.shape };
+
+    fn member<T: Tokens<S>>(&mut self, alloc: Global, name: &str, tokens: &mut T) -> Result<()> {
+        self.builder.member(alloc, name, tokens)
+    }
+}
+
+/// Returns the value of a field whose member must be there. Fails with `TypeUnmatched` if it is
+/// missing.
+pub fn required<V>(value: Option<V>) -> Result<V>
+    ensures ok { IfOk result (λ v. value ≡ Some v) }
+    ensures err { IfErr result (λ e.
+        (e ≡ spec_refusal ErrorCode.TypeUnmatched) × (value ≡ None)) }
+{
+    match value {
+        Some(value) => Ok(value),
+        None => Err(refusal(ErrorCode::TypeUnmatched)),
+    }
+}
+
+/// Takes an object and returns the struct of its members. `TypeUnmatched` comes if another value
+/// comes or a member is missing; a refusal of a member, after the whole object was taken.
+pub fn read_struct<S: Lent, B: Builder<S> + Drop, T: Tokens<S>>(
+    alloc: Global,
+    tokens: &mut T,
+) -> Result<B::Built>
+    requires { WantsValue (T.stand tokens.old) }
+    ensures ok { IfOk result (λ v. Reads T.taken T.stand (spec_read_struct B.shape)
+        tokens.old tokens.new (gives (struct_datum B.shape (B.values v)))) }
+    ensures err { IfErr result (λ e.
+        Stops T.taken T.stand (spec_read_struct B.shape) tokens.old tokens.new e) }
+{
+    let mut members = Building { builder: B::new() };
+    match read_members(alloc, &mut members, tokens) {
+        Ok(()) => {}
+        Err(error) => return Err(error),
+    }
+    let Building { builder } = members;
+    match builder.build(alloc) {
+        Ok(built) => Ok(built),
+        Err(error) => Err(error),
+    }
+}
+
+/// Takes an object as `read_struct` does where its beginning is found at once. Else nothing is taken,
+/// and the result is `None`.
+pub fn find_struct<S: Lent, B: Builder<S> + Drop, T: Tokens<S>>(
+    alloc: Global,
+    tokens: &mut T,
+) -> Result<Option<B::Built>>
+    requires { NotWhole (T.stand tokens.old) }
+    ensures none { IfOk result (λ o. o ≡ None → tokens.new ≡ tokens.old) }
+    ensures ok { IfOk result (λ o. IfSome o (λ v.
+        Finds T.taken T.stand (spec_read_struct B.shape)
+        tokens.old tokens.new (gives (struct_datum B.shape (B.values v))))) }
+    ensures err { IfErr result (λ e.
+        Misses T.taken T.stand (spec_read_struct B.shape) tokens.old tokens.new e) }
+{
+    let mut members = Building { builder: B::new() };
+    match find_members(alloc, &mut members, tokens) {
+        Ok(true) => {}
+        Ok(false) => return Ok(None),
+        Err(error) => return Err(error),
+    }
+    let Building { builder } = members;
+    match builder.build(alloc) {
+        Ok(built) => Ok(Some(built)),
+        Err(error) => Err(error),
+    }
+}

@@ -1,0 +1,32 @@
+//! What the code uses that `tools/derive` writes: how a struct is read from an object, member by
+//! member, and what it means.
+//!
+//! A struct is marked by a comment. `tools/derive crates/NAME` writes its impls of
+//! [`DeserializeFrom`] and [`Serialize`] into the module `json` beside it:
+//!
+//! ```text
+//! mod json;
+//!
+//! // json: derive
+//! #[derive(Drop)]
+//! pub struct Server {
+//!     pub host: String,
+//!     // json: default 8080
+//!     pub port: u16,
+//!     // json: name "log-file"
+//!     pub log_file: Option<String>,
+//! }
+//! ```
+//!
+//! The members may come in any order, and the last one of a name counts. A field of the type
+//! `Option` is `None` where its member is missing. Members of other names are skipped, or refused
+//! under `// json: derive strict`.
+#![tactic(auto)]
+
+mod builder;
+
+pub use builder::{Builder, find_struct, read_struct, required};
+pub use json_data::{DeserializeFrom, Lent, Tokens, refusal};
+pub use json_print::Events;
+pub use json_text::{ErrorCode, Result};
+pub use json_write::{Field, KeyRoom, Serialize, give_fields};

@@ -1,0 +1,6 @@
+//! Tests alone: structs whose impls `tools/derive` wrote, to copy from.
+#![tactic(auto)]
+
+pub mod person;
+#[cfg(test)]
+mod rows;

@@ -1,0 +1,285 @@
+// Written by tools/derive from the structs of the file above: edit those and run it again.
+ghost use Rattle.std.specs.Prelude.{[], ◌∷◌, codes, false, pos, true};
+ghost use Rattle.json_derive.specs.Datum.{boolean_datum, integer_datum, list_data, list_datum, no_data, null_datum, text_datum};
+ghost use Rattle.json_derive.specs.Fields.{field_datum, or_default, read_struct as spec_read_struct, required as needed, struct_datum};
+
+use super::{Account, Person};
+use json_derive::{
+    Builder, DeserializeFrom, ErrorCode, Events, Field, KeyRoom, Lent, Result, Serialize, Tokens,
+    find_struct, give_fields, read_struct, refusal, required,
+};
+use std::alloc::Global;
+
+// What was read of the members of `Person` so far.
+#[derive(Drop)]
+struct PersonBuilder {
+    name: Option<String>,
+    age: Option<u8>,
+    phones: Option<Vec<String>>,
+}
+
+impl<S: Lent> Builder<S> for PersonBuilder {
+    type Built = Person;
+
+    ghost shape = { record {
+      fields = needed (codes "name") ⟦<String as DeserializeFrom<S>>⟧.from_tree
+          ∷ needed (codes "age") ⟦<u8 as DeserializeFrom<S>>⟧.from_tree
+          ∷ or_default (codes "phones") ⟦<Vec<String> as DeserializeFrom<S>>⟧.from_tree (list_datum no_data)
+          ∷ [];
+      strict = false;
+    } };
+
+    ghost so_far = { λ b. list_data (field_datum ⟦<String as DeserializeFrom<S>>⟧.datum b.name
+        ∷ field_datum ⟦<u8 as DeserializeFrom<S>>⟧.datum b.age
+        ∷ field_datum ⟦<Vec<String> as DeserializeFrom<S>>⟧.datum b.phones
+        ∷ []) };
+
+    ghost values = { λ v. ⟦<String as DeserializeFrom<S>>⟧.datum v.name
+        ∷ ⟦<u8 as DeserializeFrom<S>>⟧.datum v.age
+        ∷ ⟦<Vec<String> as DeserializeFrom<S>>⟧.datum v.phones
+        ∷ [] };
+
+    fn new() -> Self {
+        PersonBuilder {
+            name: None,
+            age: None,
+            phones: None,
+        }
+    }
+
+    fn member<T: Tokens<S>>(&mut self, alloc: Global, name: &str, tokens: &mut T) -> Result<()> {
+        match name {
+            "name" => {
+                let value = <String as DeserializeFrom<S>>::deserialize(alloc, tokens)?;
+                self.name = Some(value);
+            }
+            "age" => {
+                let value = <u8 as DeserializeFrom<S>>::deserialize(alloc, tokens)?;
+                self.age = Some(value);
+            }
+            "phones" => {
+                let value = <Vec<String> as DeserializeFrom<S>>::deserialize(alloc, tokens)?;
+                self.phones = Some(value);
+            }
+            _ => tokens.skip()?,
+        }
+        Ok(())
+    }
+
+    fn build(self, alloc: Global) -> Result<Person> {
+        let PersonBuilder { name, age, phones } = self;
+        Ok(Person {
+            name: required(name)?,
+            age: required(age)?,
+            phones: match phones {
+                Some(phones) => phones,
+                None => Vec::new(alloc),
+            },
+        })
+    }
+}
+
+impl<S: Lent> DeserializeFrom<S> for Person {
+    ghost datum = { λ v. struct_datum ⟦<PersonBuilder as Builder<S>>⟧.shape (⟦<PersonBuilder as Builder<S>>⟧.values v) };
+
+    ghost from_tree = { spec_read_struct ⟦<PersonBuilder as Builder<S>>⟧.shape };
+
+    fn deserialize<T: Tokens<S>>(alloc: Global, tokens: &mut T) -> Result<Person> {
+        read_struct::<S, PersonBuilder, T>(alloc, tokens)
+    }
+
+    fn found<T: Tokens<S>>(alloc: Global, tokens: &mut T) -> Result<Option<Person>> {
+        find_struct::<S, PersonBuilder, T>(alloc, tokens)
+    }
+}
+
+impl Serialize for Person {
+    ghost datum = { ⟦<Person as DeserializeFrom<&'static str>>⟧.datum };
+
+    fn serialize<E: Events>(&self, out: &mut E) -> Result<()> {
+        let fields = (
+            Field {
+                name: "name",
+                value: &self.name,
+            },
+            (
+                Field {
+                    name: "age",
+                    value: &self.age,
+                },
+                Field {
+                    name: "phones",
+                    value: &self.phones,
+                },
+            ),
+        );
+        give_fields(&fields, out)
+    }
+
+    fn key<'k>(&'k self, room: &'k mut KeyRoom) -> Option<&'k str> {
+        let _ = room;
+        None
+    }
+}
+
+// What was read of the members of `Account` so far.
+#[derive(Drop)]
+struct AccountBuilder {
+    owner: Option<Person>,
+    balance: Option<i64>,
+    style: Option<String>,
+    active: Option<bool>,
+    note: Option<Option<String>>,
+}
+
+impl<S: Lent> Builder<S> for AccountBuilder {
+    type Built = Account;
+
+    ghost shape = { record {
+      fields = needed (codes "owner") ⟦<Person as DeserializeFrom<S>>⟧.from_tree
+          ∷ or_default (codes "balance-cents") ⟦<i64 as DeserializeFrom<S>>⟧.from_tree (integer_datum (pos 0))
+          ∷ or_default (codes "style") ⟦<String as DeserializeFrom<S>>⟧.from_tree (text_datum (codes "plain"))
+          ∷ or_default (codes "active") ⟦<bool as DeserializeFrom<S>>⟧.from_tree (boolean_datum true)
+          ∷ or_default (codes "note") ⟦<Option<String> as DeserializeFrom<S>>⟧.from_tree (null_datum)
+          ∷ [];
+      strict = true;
+    } };
+
+    ghost so_far = { λ b. list_data (field_datum ⟦<Person as DeserializeFrom<S>>⟧.datum b.owner
+        ∷ field_datum ⟦<i64 as DeserializeFrom<S>>⟧.datum b.balance
+        ∷ field_datum ⟦<String as DeserializeFrom<S>>⟧.datum b.style
+        ∷ field_datum ⟦<bool as DeserializeFrom<S>>⟧.datum b.active
+        ∷ field_datum ⟦<Option<String> as DeserializeFrom<S>>⟧.datum b.note
+        ∷ []) };
+
+    ghost values = { λ v. ⟦<Person as DeserializeFrom<S>>⟧.datum v.owner
+        ∷ ⟦<i64 as DeserializeFrom<S>>⟧.datum v.balance
+        ∷ ⟦<String as DeserializeFrom<S>>⟧.datum v.style
+        ∷ ⟦<bool as DeserializeFrom<S>>⟧.datum v.active
+        ∷ ⟦<Option<String> as DeserializeFrom<S>>⟧.datum v.note
+        ∷ [] };
+
+    fn new() -> Self {
+        AccountBuilder {
+            owner: None,
+            balance: None,
+            style: None,
+            active: None,
+            note: None,
+        }
+    }
+
+    fn member<T: Tokens<S>>(&mut self, alloc: Global, name: &str, tokens: &mut T) -> Result<()> {
+        match name {
+            "owner" => {
+                let value = <Person as DeserializeFrom<S>>::deserialize(alloc, tokens)?;
+                self.owner = Some(value);
+            }
+            "balance-cents" => {
+                let value = <i64 as DeserializeFrom<S>>::deserialize(alloc, tokens)?;
+                self.balance = Some(value);
+            }
+            "style" => {
+                let value = <String as DeserializeFrom<S>>::deserialize(alloc, tokens)?;
+                self.style = Some(value);
+            }
+            "active" => {
+                let value = <bool as DeserializeFrom<S>>::deserialize(alloc, tokens)?;
+                self.active = Some(value);
+            }
+            "note" => {
+                let value = <Option<String> as DeserializeFrom<S>>::deserialize(alloc, tokens)?;
+                self.note = Some(value);
+            }
+            _ => {
+                tokens.skip()?;
+                return Err(refusal(ErrorCode::TypeUnmatched));
+            }
+        }
+        Ok(())
+    }
+
+    fn build(self, alloc: Global) -> Result<Account> {
+        let AccountBuilder {
+            owner,
+            balance,
+            style,
+            active,
+            note,
+        } = self;
+        Ok(Account {
+            owner: required(owner)?,
+            balance: match balance {
+                Some(balance) => balance,
+                None => 0,
+            },
+            style: match style {
+                Some(style) => style,
+                None => String::from_str(alloc, "plain")?,
+            },
+            active: match active {
+                Some(active) => active,
+                None => true,
+            },
+            note: match note {
+                Some(note) => note,
+                None => None,
+            },
+        })
+    }
+}
+
+impl<S: Lent> DeserializeFrom<S> for Account {
+    ghost datum = { λ v. struct_datum ⟦<AccountBuilder as Builder<S>>⟧.shape (⟦<AccountBuilder as Builder<S>>⟧.values v) };
+
+    ghost from_tree = { spec_read_struct ⟦<AccountBuilder as Builder<S>>⟧.shape };
+
+    fn deserialize<T: Tokens<S>>(alloc: Global, tokens: &mut T) -> Result<Account> {
+        read_struct::<S, AccountBuilder, T>(alloc, tokens)
+    }
+
+    fn found<T: Tokens<S>>(alloc: Global, tokens: &mut T) -> Result<Option<Account>> {
+        find_struct::<S, AccountBuilder, T>(alloc, tokens)
+    }
+}
+
+impl Serialize for Account {
+    ghost datum = { ⟦<Account as DeserializeFrom<&'static str>>⟧.datum };
+
+    fn serialize<E: Events>(&self, out: &mut E) -> Result<()> {
+        let fields = (
+            Field {
+                name: "owner",
+                value: &self.owner,
+            },
+            (
+                Field {
+                    name: "balance-cents",
+                    value: &self.balance,
+                },
+                (
+                    Field {
+                        name: "style",
+                        value: &self.style,
+                    },
+                    (
+                        Field {
+                            name: "active",
+                            value: &self.active,
+                        },
+                        Field {
+                            name: "note",
+                            value: &self.note,
+                        },
+                    ),
+                ),
+            ),
+        );
+        give_fields(&fields, out)
+    }
+
+    fn key<'k>(&'k self, room: &'k mut KeyRoom) -> Option<&'k str> {
+        let _ = room;
+        None
+    }
+}
