@@ -24,6 +24,7 @@ use std::alloc::Global;
 ///
 /// ```
 /// use json_data::{Lent, Members, TextTokens, Tokens, read_members};
+/// use json_text::Result;
 /// #[derive(Drop)]
 /// struct Count(u64);
 /// impl<S: Lent> Members<S> for Count {
@@ -31,12 +32,7 @@ use std::alloc::Global;
 ///     ghost use Rattle.json_data.specs.Reading.{gives};
 ///     ghost so_far = { λ _. null_datum };
 ///     ghost step = { λ _ _ _. gives null_datum };
-///     fn member<T: Tokens<S>>(
-///         &mut self,
-///         _: Global,
-///         _: &str,
-///         tokens: &mut T,
-///     ) -> json_text::Result<()> {
+///     fn member<T: Tokens<S>>(&mut self, _: Global, _: &str, tokens: &mut T) -> Result<()> {
 ///         self.0 = self.0.wrapping_add(1);
 ///         tokens.skip()
 ///     }
