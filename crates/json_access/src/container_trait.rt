@@ -8,7 +8,8 @@ ghost use Rattle.json_access.specs.Trees.{result_value};
 use crate::value_trait::JsonValueTrait;
 use json_value::{Array, Object, Value};
 
-/// What stands for a JSON value and lends the container that the value is. What is missing and what was refused are none.
+/// What denotes a JSON value and lends the container that the value is. What is missing and what was
+/// refused are none.
 ///
 /// ```
 /// use json_access::JsonContainerTrait;
@@ -19,7 +20,7 @@ use json_value::{Array, Object, Value};
 /// assert!(rt; found.as_object().is_none());
 /// ```
 pub trait JsonContainerTrait: JsonValueTrait {
-    /// The value that it stands for, where there is one.
+    /// The value that it denotes, where there is one.
     ghost value_there: { Self → Option Value };
 
     /// The array; none exactly for another kind.

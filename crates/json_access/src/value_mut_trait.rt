@@ -19,7 +19,7 @@ use json_text::Result;
 use json_value::{Array, Index, Object, PointerNode, Value};
 use std::alloc::Global;
 
-/// What stands for a JSON value and lends the places in it to be changed. What the caller leaves at a place is put there, and
+/// What denotes a JSON value and lends the places in it to be changed. What the caller leaves at a place is put there, and
 /// nothing else of the tree changes; a copy of one level is made of each packed container on the way, and nothing more changes on
 /// None and on a refusal.
 ///

@@ -16,7 +16,7 @@ use json_number::{JsonNumberTrait, Number, RawNumber};
 use json_value::{Value, View};
 use std::alloc::Global;
 
-/// What stands for a JSON value. What is missing and what was refused count as null.
+/// What denotes a JSON value. What is missing and what was refused count as null.
 ///
 /// ```
 /// use json_access::JsonValueTrait;
@@ -29,7 +29,7 @@ use std::alloc::Global;
 /// assert!(rt; value.is_object() && value.get("name").is_null());
 /// ```
 pub trait JsonValueTrait {
-    /// The tree that it stands for.
+    /// The tree that it denotes.
     ghost tree: { Self → Tree };
 
     /// The kind of the value.

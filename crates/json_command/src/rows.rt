@@ -2,7 +2,7 @@
 //! that the program comes to.
 //!
 //! A row is a line of fields, each closed by `|`: the input, the status, the output, the errors
-//! without their last line break, and then the arguments. `«N PIECE»` stands for N times the piece;
+//! without their last line break, and then the arguments. `«N PIECE»` means N times the piece;
 //! of the first, third and fourth field `%XX` is a byte. A line that begins with `#` says what
 //! follows. Where the status is that of invalid arguments the source fails at its first call, so a
 //! program that reads it comes to another status.

@@ -297,7 +297,7 @@ pub trait ArrayCalls {
         ensures free { (IsPlace (held self.old) → ⊥) → IsOk result }
         ensures only { IfErr result (λ e. e ≡ no_memory) };
 
-    /// Cut to this length, or filled up with what `f` answers, in order.
+    /// Truncates to this length, or appends what `f` returns up to it, in order.
     fn resize_with<F: FnMut() -> Value>(
         &mut self,
         alloc: Global,

@@ -136,7 +136,7 @@ impl<'a> OccupiedEntry<'a> {
         value_at(self.object, at)
     }
 
-    /// Sets the value, and answers the old one.
+    /// Sets the value, and returns the old one.
     pub fn insert(&mut self, val: Value) -> Value
         ensures old { entry_value (Occupied self.old) ≡ Some result }
         ensures written { IsWritten (Occupied self.old) val (Occupied self.new) }
@@ -239,7 +239,7 @@ impl<'a> Entry<'a> {
         }
     }
 
-    /// The value there, or what `default` answers, appended. It is called for a missing key alone.
+    /// Returns the value there, or inserts what `default` returns. It is called for a missing key alone.
     pub fn or_insert_with<F: FnOnce() -> Value>(self, default: F) -> &'a mut Value
         requires { entry_value self ≡ None → F.pre default }
         ensures* writes_back { sem 𝓛 (entry_lends self.entry result) }

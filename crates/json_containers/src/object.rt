@@ -255,7 +255,7 @@ pub trait ObjectCalls {
         ensures free { (IsPlace (held self.old) → ⊥) → IsOk result }
         ensures only { IfErr result (λ e. e ≡ no_memory) };
 
-    /// Sets the value of the first member of the key, and answers the old one; or appends such a
+    /// Sets the value of the first member of the key, and returns the old one; or appends such a
     /// member.
     fn insert(&mut self, alloc: Global, key: &str, value: Value) -> Result<Option<Value>>
         ensures ok { OnOk result (list_pairs (pairs_in (held self.new))

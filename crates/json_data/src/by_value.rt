@@ -11,7 +11,7 @@ use json_number::{Number, integer_of};
 /// So many digits are always an integer of 64 bits.
 const MOST_DIGITS: usize = 19;
 
-/// The number that digits write, where no other byte stands among them.
+/// Returns the number that digits denote, if there is no other byte among them.
 #[inline(always)]
 fn digits_value(digits: &[u8]) -> Option<u64>
     requires { length digits.now ≤ 19 }
@@ -30,7 +30,7 @@ fn digits_value(digits: &[u8]) -> Option<u64>
     Some(value)
 }
 
-/// The integer that a number's literal stands for by value, as `integer_of` answers it.
+/// Returns the integer that a number's literal denotes, as `integer_of` does.
 #[inline(always)]
 pub(crate) fn literal_integer(literal: &str) -> Option<Number>
     requires { number literal.now }

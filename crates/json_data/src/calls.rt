@@ -76,11 +76,12 @@ fn read_text<'a, T: Deserialize<'a> + Drop>(alloc: Global, text: &'a str, depth:
     }
 }
 
-/// The value of a JSON text of at most 254 levels.
+/// Reads a value of the type from a JSON text of at most 254 levels (RFC 8259).
 ///
-/// `TooLarge` comes exactly above 4,294,967,295 bytes, and then the fault of the whole text, if it has one. Only of a
-/// text that has none a refusal of its tree is told, at the beginning of its value: `TypeUnmatched`,
-/// `NumberOutOfRange`, `ExpectedNumericKey`. Or memory runs out.
+/// Fails with `TooLarge` exactly above 4,294,967,295 bytes, else with the error of the whole text, if it
+/// has one. Only for a text that is valid it fails because its tree is no value of the type, at the
+/// beginning of the value: with `TypeUnmatched`, `NumberOutOfRange` or `ExpectedNumericKey`. Fails with
+/// `NoMemory` if memory runs out.
 pub fn from_str<'a, T: Deserialize<'a> + Drop>(alloc: Global, s: &'a str) -> Result<T>
     ensures ok { IfOk result (λ v. ReadsText 254 T.from_tree s.now (gives (T.datum v))) }
     ensures place { IfOk result (T.placed IsPacked) }
@@ -144,9 +145,10 @@ fn read_unique<'a, T: Deserialize<'a> + Drop>(
     read_text(alloc, text, rules.depth())
 }
 
-/// The value of the bytes of a JSON text that fits the rules, as [`from_slice`]: it has no more levels, and where the
-/// names of each object have to differ none repeats (RFC 8259, sections 9 and 4). Of a bracket that opens a level too
-/// many and a name that repeats the one that comes first is told, and either before every other fault.
+/// Reads a value from the bytes of a JSON text by rules, as [`from_slice`] does: the text has no more
+/// levels than they allow, and where they ask for unique names no object has a name twice (RFC 8259,
+/// sections 9 and 4). Of a bracket that opens a level too many and a name that repeats the first is
+/// reported, and either before every other error.
 pub fn from_slice_with<'a, T: Deserialize<'a> + Drop>(
     alloc: Global,
     json: &'a [u8],

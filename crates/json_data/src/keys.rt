@@ -34,10 +34,11 @@ pub trait FromKey<S: Lent>: Sized + Ord {
     /// What a key means.
     ghost key_datum: { Self → Datum };
 
-    /// What is answered of a text.
+    /// What the reading of a text returns.
     ghost from_text: { List ℕ → Reading };
 
-    /// The key of a text. A refusal of it tells no place; or memory runs out.
+    /// Reads the key from a text. Fails without a place if the text is no such key, and with `NoMemory`
+    /// if memory runs out.
     fn from_key(alloc: Global, key: &Piece<S>) -> Result<Self>
         ensures ok { IfOk result (λ k. (s : List ℕ) → Says s key.now.escaped (S.bytes key.now.text)
             → from_text s ≡ gives (key_datum k)) }

@@ -24,7 +24,6 @@ use std::alloc::Global;
 ///
 /// ```
 /// use json_data::{Lent, Members, TextTokens, Tokens, read_members};
-/// use json_text::Result;
 /// #[derive(Drop)]
 /// struct Count(u64);
 /// impl<S: Lent> Members<S> for Count {
@@ -32,7 +31,12 @@ use std::alloc::Global;
 ///     ghost use Rattle.json_data.specs.Reading.{gives};
 ///     ghost so_far = { λ _. null_datum };
 ///     ghost step = { λ _ _ _. gives null_datum };
-///     fn member<T: Tokens<S>>(&mut self, _: Global, _: &str, tokens: &mut T) -> Result<()> {
+///     fn member<T: Tokens<S>>(
+///         &mut self,
+///         _: Global,
+///         _: &str,
+///         tokens: &mut T,
+///     ) -> json_text::Result<()> {
 ///         self.0 = self.0.wrapping_add(1);
 ///         tokens.skip()
 ///     }
@@ -46,7 +50,7 @@ pub trait Members<S: Lent>: Sized {
     /// What it means.
     ghost so_far: { Self → Datum };
 
-    /// What is read behind that, of a name and its value.
+    /// What is read after that, of a name and its value.
     ghost step: { Datum → List ℕ → Tree → Reading };
 
     /// Takes the value of the member of that name: it is read, or skipped where the name is unknown. A refusal of the
@@ -125,8 +129,8 @@ pub fn read_members<S: Lent, M: Members<S>, T: Tokens<S>>(
     read_rest(alloc, members, tokens)
 }
 
-/// Takes an object as `read_members` does where its beginning is found at once, and answers whether it was. Else nothing is
-/// taken, and the members are as they were.
+/// Takes an object as `read_members` does if its beginning is found at once, and returns whether it
+/// was. Otherwise nothing is taken, and the members are as they were.
 #[inline(always)]
 pub fn find_members<S: Lent, M: Members<S>, T: Tokens<S>>(
     alloc: Global,

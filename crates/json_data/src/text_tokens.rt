@@ -27,7 +27,7 @@ use json_value::Value;
 use std::alloc::Global;
 use std::marker::Model;
 
-/// The tokens of a text that begins with a value. What stands behind the value is not looked at.
+/// The tokens of a text that begins with a value. What follows the value is not looked at.
 ///
 /// ```
 /// use json_data::{TextTokens, TokenKind, Tokens};
@@ -71,8 +71,8 @@ impl<'a> TextTokens<'a> {
         }
     }
 
-    /// Stands at a place of the text, in bytes, where a value must come, with the limit of `new`. Places are told as in
-    /// the whole text.
+    /// Returns the tokens of the value at this offset of the text, in bytes, with the limit of `new`.
+    /// Errors have their places in the whole text.
     pub fn at(text: &'a str, index: usize) -> TextTokens<'a>
         requires { IsCharBoundary text.now index }
         ensures text { result.parser.text ≡ text.now }
@@ -87,8 +87,8 @@ impl<'a> TextTokens<'a> {
         }
     }
 
-    /// The same tokens, where a value of so many levels at most is read, which are at most 1,024. None was told, taken or
-    /// refused.
+    /// Returns the same tokens with another limit of levels, at most 1,024. To be called before the
+    /// first token.
     pub fn depth(self, depth: u32) -> TextTokens<'a>
         requires most { depth ≤ 1024 }
         requires fresh { IsFresh self }
@@ -105,8 +105,8 @@ impl<'a> TextTokens<'a> {
         }
     }
 
-    /// The same tokens in the lossy mode, where no surrogate is refused: the escape of one that stands alone is U+FFFD
-    /// (RFC 8259, section 8.2). None was told, taken or refused.
+    /// Returns the same tokens in the lossy mode, in which no surrogate is an error: the escape of one
+    /// that is alone is U+FFFD (RFC 8259, section 8.2). To be called before the first token.
     pub fn lossy(self) -> TextTokens<'a>
         requires { IsFresh self }
         ensures text { result.parser.text ≡ self.entry.parser.text }
@@ -122,8 +122,8 @@ impl<'a> TextTokens<'a> {
         }
     }
 
-    /// What was answered in the place of a token: `NoMemory`, or a fault of the value, which comes at the first token
-    /// that needs the byte of its place.
+    /// Returns the error that was returned in place of a token: `NoMemory`, or the error of the value,
+    /// which comes at the first token that needs the byte at its place.
     pub fn failure(&self) -> Option<Error>
         ensures same { result ≡ self.now.failed }
         ensures cause { IfSome self.now.failed (TextFails self.now.parser) }
@@ -131,7 +131,8 @@ impl<'a> TextTokens<'a> {
         self.failed
     }
 
-    /// The place right behind the value, which was taken, in bytes from the beginning of the text.
+    /// Returns the offset right after the value, which was taken, in bytes from the beginning of the
+    /// text.
     pub fn index(&self) -> usize
         requires over { (text_stand self.now).spot ≡ over }
         requires told { (text_stand self.now).told ≡ None }
@@ -142,7 +143,7 @@ impl<'a> TextTokens<'a> {
         self.parser.index()
     }
 
-    /// Whether only whitespace is left behind the value, which was taken.
+    /// Fails if more than whitespace follows the value, which was taken.
     pub(crate) fn finish(self) -> Result<()>
         requires over { (text_stand self).spot ≡ over }
         requires told { (text_stand self).told ≡ None }
@@ -156,7 +157,7 @@ impl<'a> TextTokens<'a> {
         parser.end()
     }
 
-    /// What was answered in the place of a token.
+    /// Returns the error that was returned in place of a token.
     #[inline(always)]
     fn refusal(&self) -> Error
         requires { IsSome self.now.failed }
@@ -242,7 +243,7 @@ impl<'a> TextTokens<'a> {
         }
     }
 
-    /// Takes the tokens of one tree, and answers a value of it.
+    /// Takes the tokens of one tree, and returns a value of it.
     fn keep(&mut self, alloc: Global) -> Result<Value>
         requires { WantsValue (text_stand self.old) }
         ensures ok { IfOk result (λ v.

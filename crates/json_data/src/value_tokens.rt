@@ -21,7 +21,7 @@ use json_value::{Value, View};
 use std::alloc::Global;
 use std::mem;
 
-/// The tokens of a value. Its calls answer no error but `NoMemory`.
+/// The tokens of a value. Its calls fail with no error but `NoMemory`.
 ///
 /// ```
 /// use json_data::{Token, Tokens, ValueTokens};

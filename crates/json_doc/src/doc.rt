@@ -7,7 +7,7 @@ use crate::view::DocView;
 
 /// A packed document: one cell for each node and each key, and the texts, keys and literals in a row.
 ///
-/// The cells stand in the order of the JSON text, each container's before those of its elements or its
+/// The cells are in the order of the JSON text, each container's before those of its elements or its
 /// keys and values. Each literal is a number (RFC 8259, section 6).
 ///
 /// ```
@@ -40,7 +40,7 @@ impl Doc {
         &self.cells
     }
 
-    /// The texts, keys and literals in the order in which they stand in the JSON text, unescaped.
+    /// Returns the texts, keys and literals in the order of the JSON text, unescaped.
     #[inline]
     pub fn text(&self) -> &str
         ensures { result.now ≡ doc_text self.now }
@@ -67,7 +67,7 @@ impl Doc {
         self.view_at(self.root)
     }
 
-    /// What stands at a place, which has to be below the number of cells.
+    /// Returns the cell at a position, which has to be below the number of cells.
     #[inline]
     pub fn view_at(&self, at: u32) -> DocView<'_>
         requires { at < length (doc_cells self.now) }

@@ -3,12 +3,12 @@ ghost use Rattle.json_doc.specs.Laws.{OneTree, TreeAtRoot, TreesAreProper, Readi
 
 use crate::doc::Doc;
 
-/// A document stands for at most one tree.
+/// A document denotes at most one tree.
 pub fn one_tree()
     ensures { OneTree }
 {}
 
-/// The tree that a document stands for is the one at its root.
+/// The tree that a document denotes is the one at its root.
 pub fn tree_at_root()
     ensures { TreeAtRoot }
 {}

@@ -27,8 +27,8 @@ fn byte_at(bytes: &[u8], at: usize) -> u8
     }
 }
 
-/// The number of a name's first eight bytes, the first byte the highest, with zeros behind the name's end. Of two names
-/// whose numbers differ the one of the lower number has the lower bytes.
+/// Returns the number of a name's first eight bytes, the first byte the highest, with zeros after the
+/// name's end. Of two names whose numbers differ the one of the lower number has the lower bytes.
 ///
 /// ```
 /// use json_doc::front_number;
@@ -60,10 +60,10 @@ pub struct OuterKeys<'a> {
     many: BTreeSet<(u64, CowStr<'a>)>,
 }
 
-/// The names so far of each open container. The first names of an object stand in a row and are compared one by one;
-/// all others stand in an ordered set, so that a name of an object of n members takes no more than some log n comparisons.
-/// There it stands behind the number of its first bytes, so that few comparisons look at it, and it is lent by the text,
-/// unless escapes stand in it.
+/// The names so far of each open container. The first names of an object are in a list and are
+/// compared one by one; all others are in an ordered set, so that a name of an object of n members
+/// takes no more than some log n comparisons. There the number of its first bytes comes before it, so
+/// that few comparisons look at the name itself, and it is lent by the text, unless it has escapes.
 #[derive(Drop)]
 pub struct OpenKeys<'a> {
     alloc: Global,
@@ -182,7 +182,8 @@ impl<'a> OpenKeys<'a> {
         self.take_into_set(CowStr::Owned(name))
     }
 
-    /// Takes the next name of the text, and answers whether its object has it already. Memory may run out.
+    /// Adds the next name of the text, and returns whether its object has it already. Fails with
+    /// `NoMemory` if memory runs out.
     pub fn take_key(&mut self, name: Span<'a>) -> Result<bool>
         requires some { HasSomeNames self.old }
         requires spelled { (s : List ℕ) × chars name.lossy s name.raw.now }

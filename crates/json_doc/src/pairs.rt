@@ -56,7 +56,7 @@ impl<'a> DocPairs<'a> {
         self.left
     }
 
-    /// The key of the next pair, as a string of its own; none behind the last.
+    /// Returns the key of the next member, as a string of its own; `None` after the last.
     #[inline]
     pub fn key(&self) -> Option<DocView<'a>>
         ensures tree { option_map view_tree result

@@ -169,10 +169,11 @@ fn check_names<'a>(
     refuse_repeated(keys, event, text, end)
 }
 
-/// The document of a JSON text of at most 4,294,967,295 bytes that fits the rules: it has no more levels, and where the
-/// names of each object have to differ none repeats (RFC 8259, sections 9 and 4). Each fault of the text by the rules is
-/// told with its place: of a bracket that opens a level too many and a name that repeats the one that comes first, and
-/// either before all else. Or memory runs out.
+/// Reads the document of a JSON text of at most 4,294,967,295 bytes by rules: it has no more levels
+/// than they allow, and where they ask for unique names no object has a name twice (RFC 8259, sections
+/// 9 and 4). Fails with the first error of the text by the rules, at its place: of a bracket that opens
+/// a level too many and a name that repeats, the one that comes first, and either before all other
+/// errors. Fails with `NoMemory` if memory runs out.
 ///
 /// ```
 /// use json_doc::read_document_with;
@@ -212,8 +213,9 @@ pub fn read_document_with(alloc: Global, text: &str, rules: Rules) -> Result<Rc<
     visitor.finish(alloc)
 }
 
-/// The document of a JSON text of at most 4,294,967,295 bytes and 254 levels (RFC 8259, section 9, lets
-/// a reader set such limits). Each fault of the text is told with its place; or memory runs out.
+/// Reads the document of a JSON text of at most 4,294,967,295 bytes and 254 levels (RFC 8259, section
+/// 9, lets a reader set such limits). Fails with the error of the text at its place, and with
+/// `NoMemory` if memory runs out.
 pub fn read_document(alloc: Global, text: &str) -> Result<Rc<Doc>>
     requires { length text.now < 2 ^ 32 }
     ensures ok { IfOk result (λ d. (t : Tree) × is_text false t text.now × (depth t ≤ 254)
@@ -223,10 +225,11 @@ pub fn read_document(alloc: Global, text: &str) -> Result<Rc<Doc>>
     read_document_with(alloc, text, Rules::usual())
 }
 
-/// The document of one value, whatever follows it: the parser, which has handed out no event, goes on to the end of the
-/// value and stands right behind it, done. It reads in its mode, strict or lossy. Each fault of what it reads, as a value,
-/// is told with its place in the text, and each later call of the parser's `next` returns it again. Or memory runs out,
-/// and then the parser may stand within the value.
+/// Reads the document of one value, whatever follows it: the parser, which has returned no event, goes
+/// on to the end of the value and is right after it, done. It reads in its mode, strict or lossy. Fails
+/// with the error of the value at its place in the text, and each later call of the parser's `next`
+/// returns that error again. Fails with `NoMemory` if memory runs out, and then the parser may be
+/// within the value.
 ///
 /// ```
 /// use json_doc::read_front;

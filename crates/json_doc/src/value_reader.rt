@@ -83,8 +83,9 @@ pub(crate) fn record_value<'a>(
     }
 }
 
-/// The document of the value whose first event the parser handed out last, whatever follows it: the parser goes on to
-/// the end of the value and stands right behind it. What it refuses comes as the parser tells it; or memory runs out.
+/// Reads the document of the value whose first event the parser returned last, whatever follows it: the
+/// parser goes on to the end of the value and is right after it. Fails with the parser's error, and
+/// with `NoMemory` if memory runs out.
 ///
 /// ```
 /// use json_doc::read_value;

@@ -15,7 +15,7 @@ use crate::node::DocNode;
 use crate::pairs::DocPairs;
 use json_number::Number;
 
-/// A place of a document, which stands for the tree there. Nothing of a view takes memory.
+/// A value in a document, seen at its position. No call of a view allocates.
 ///
 /// ```
 /// use json_doc::read_document;

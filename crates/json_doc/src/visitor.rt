@@ -13,7 +13,7 @@ use json_text::Span;
 
 /// Takes the events of one tree in turn.
 ///
-/// Each call answers whether the event was recorded. None is recorded where the room is full, nor after
+/// Each call returns whether the event was recorded. None is recorded where the room is full, nor after
 /// one that was not. While all were recorded, the events so far and this one begin the events of a tree.
 /// No event takes memory.
 ///
@@ -86,7 +86,7 @@ pub trait JsonVisitor {
             (HoldsMore (holds self.old) (holds self.new) (num_token literal.now)) }
         ensures memory { keeps_memory self.old self.new };
 
-    /// A string by what stands between its quotes.
+    /// A string by what is between its quotes.
     fn visit_str(&mut self, s: Span<'_>) -> bool
         requires { (state self.old).full ≡ false
             → (t : List ℕ) × chars s.lossy t s.raw.now × MayCome (holds self.old) (text_token t) }
@@ -97,7 +97,7 @@ pub trait JsonVisitor {
             → HoldsMore (holds self.old) (holds self.new) (text_token t)) }
         ensures memory { keeps_memory self.old self.new };
 
-    /// A key by what stands between its quotes.
+    /// A key by what is between its quotes.
     fn visit_key(&mut self, s: Span<'_>) -> bool
         requires { (state self.old).full ≡ false
             → (t : List ℕ) × chars s.lossy t s.raw.now × MayCome (holds self.old) (key_token t) }

@@ -37,7 +37,7 @@ pub fn value_of(alloc: Global, json: &str) -> Result<Value> {
     whole(alloc, &doc)
 }
 
-/// The value of a whole document behind a change, and what the change answers.
+/// Returns the value of a whole document after a change, and what the change returns.
 pub fn changed<F: FnOnce(&mut Value, Global) -> Result<bool>>(
     alloc: Global,
     doc: &Rc<Doc>,
@@ -50,7 +50,8 @@ pub fn changed<F: FnOnce(&mut Value, Global) -> Result<bool>>(
     Ok((value, answer))
 }
 
-/// Whether the change answers that it was done, and the value of the text then has this compact text.
+/// Returns whether the change returns that it was done, and the value of the text then has this compact
+/// text.
 pub fn becomes<F: FnOnce(&mut Value, Global) -> Result<bool>>(
     alloc: Global,
     json: &str,
@@ -104,7 +105,7 @@ pub fn object_in(value: &mut Value) -> Option<&mut Object> {
     }
 }
 
-/// The list of the array that a value is, behind its first write.
+/// Returns the list of the array that a value is, after its first write.
 pub fn list_in(value: &mut Value, alloc: Global) -> Result<Option<&mut Vec<Value>>> {
     match array_in(value) {
         Some(array) => Ok(Some(array.list_mut(alloc)?)),
@@ -112,7 +113,7 @@ pub fn list_in(value: &mut Value, alloc: Global) -> Result<Option<&mut Vec<Value
     }
 }
 
-/// The members of the object that a value is, behind its first write.
+/// Returns the members of the object that a value is, after its first write.
 pub fn pairs_in(value: &mut Value, alloc: Global) -> Result<Option<&mut Vec<Pair>>> {
     match object_in(value) {
         Some(object) => Ok(Some(object.pairs_mut(alloc)?)),

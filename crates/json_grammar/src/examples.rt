@@ -11,7 +11,7 @@ pub fn numbers_text()
     ensures { NumbersText }
 {}
 
-/// `"\ud83d\ude04\u0041\/\u0000"` stands for U+1F604, `A`, `/` and U+0000 (section 7).
+/// `"\ud83d\ude04\u0041\/\u0000"` denotes U+1F604, `A`, `/` and U+0000 (section 7).
 pub fn escapes_text()
     ensures { EscapesText }
 {}
@@ -121,7 +121,7 @@ pub fn small_tree_told()
     ensures { SmallTreeTold }
 {}
 
-/// `[] x` reads as an empty array up to the offset 2, whatever stands behind it.
+/// `[] x` reads as an empty array up to the offset 2, whatever follows it.
 pub fn value_read()
     ensures { ValueRead }
 {}

@@ -31,7 +31,7 @@ pub fn opens_is_depth()
     ensures { OpensIsDepth }
 {}
 
-/// Some text begins with what stands at a place.
+/// Some text begins with each prefix that is at a place.
 pub fn place_is_viable()
     ensures { PlaceIsViable }
 {}
@@ -41,7 +41,7 @@ pub fn token_is_viable()
     ensures { TokenIsViable }
 {}
 
-/// A prefix stands at one place at most.
+/// A prefix is at one place at most.
 pub fn one_place()
     ensures { OnePlace }
 {}

@@ -26,12 +26,13 @@ pub fn faulty_is_fault()
     ensures { FaultyIsFault }
 {}
 
-/// Where nothing is open behind a last byte that is no whitespace, a value was read.
+/// Where nothing is open after a last byte that is no whitespace, a value was read.
 pub fn given_reads()
     ensures { GivenReads }
 {}
 
-/// A fault of an input is its fault as a value, but for the end of the input and for what stands behind a whole value.
+/// A fault of an input is its fault as a value, but for the end of the input and for what follows a
+/// whole value.
 pub fn faulty_is_value_fault()
     ensures { FaultyIsValueFault }
 {}

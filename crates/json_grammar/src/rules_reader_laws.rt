@@ -16,7 +16,7 @@ pub fn open_keys_inside()
     ensures { OpenKeysInside }
 {}
 
-/// What stands at a place repeats a name exactly where its tokens do.
+/// A prefix repeats a name exactly where its tokens do.
 pub fn place_repeats()
     ensures { PlaceRepeats }
 {}
@@ -31,12 +31,14 @@ pub fn key_refused()
     ensures { KeyRefused }
 {}
 
-/// A fault by the limit of levels is one by the rules, where each name that is whole before it was told and none repeats.
+/// A fault by the limit of levels is one by the rules, where each name that is whole before it was
+/// returned and none repeats.
 pub fn fault_stands()
     ensures { FaultStands }
 {}
 
-/// Each name that is whole was told, where only whitespace, a comma or a colon was passed since, and a part of one token.
+/// Each name that is whole was returned, where only whitespace, a comma or a colon was passed since,
+/// and a part of one token.
 pub fn names_are_told()
     ensures { NamesAreTold }
 {}

@@ -46,12 +46,12 @@ pub fn empty_past_or_future()
     ensures { EmptyPastOrFuture }
 {}
 
-/// After every list of calls the change log is valid and stands for the history.
+/// After every list of calls the change log is valid and denotes the history.
 pub fn log_represents_history()
     ensures { LogRepresentsHistory }
 {}
 
-/// A valid change log stands for a history, and after a call for the history after it.
+/// A valid change log denotes a history, and after a call the history after it.
 pub fn log_follows_call()
     ensures { LogFollowsCall }
 {}

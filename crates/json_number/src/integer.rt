@@ -6,7 +6,7 @@ ghost use Rattle.json_number.specs.Numbers.{value_of};
 
 use crate::number::Number;
 
-/// The bytes of the longest literals that stand for an integer: those of 2^64 - 1 and of -2^63.
+/// The bytes of the longest literals that denote an integer: those of 2^64 - 1 and of -2^63.
 const LONGEST: usize = 20;
 
 fn has_minus(literal: &str) -> bool
@@ -37,8 +37,8 @@ fn from_zero<const USE: u8>(literal: &str) -> Option<Number>
     }
 }
 
-/// The integer that a number's literal stands for by value: none for `-0`, for a fraction or an exponent, and for
-/// what lies neither in `i64` nor in `u64`.
+/// Returns the integer that a number's literal denotes: `None` for `-0`, for a fraction or an exponent,
+/// and for what lies neither in `i64` nor in `u64`.
 pub fn integer_of(literal: &str) -> Option<Number>
     requires { number literal.now }
     ensures { option_map value_of result ≡ integer_in literal.now }

@@ -7,7 +7,7 @@ ghost use Rattle.json_number.specs.Literals.{raw_literal};
 use crate::number::{Form, Number};
 use crate::raw_number::RawNumber;
 
-/// What stands for a number, and maybe for an integer by value.
+/// What denotes a number, which may be an integer by value.
 ///
 /// ```
 /// use json_number::{JsonNumberTrait, RawNumber};
@@ -20,14 +20,14 @@ pub trait JsonNumberTrait {
     // The integer that it stands for, if any.
     ghost integer: { Self → Option ℤ };
 
-    /// Whether it stands for an integer that lies in `i64`.
+    /// Returns whether it denotes an integer that lies in `i64`.
     fn is_i64(&self) -> bool
         ensures { result ≡ is_some (option_and_then in_i64 (integer self.now)) }
     {
         self.as_i64().is_some()
     }
 
-    /// Whether it stands for an integer that lies in `u64`.
+    /// Returns whether it denotes an integer that lies in `u64`.
     fn is_u64(&self) -> bool
         ensures { result ≡ is_some (option_and_then in_u64 (integer self.now)) }
     {

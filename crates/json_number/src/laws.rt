@@ -6,7 +6,7 @@ pub fn prints_its_literal()
     ensures { PrintsItsLiteral }
 {}
 
-/// The text of a number is the literal of a number, which stands for the same integer.
+/// The text of a number is the literal of a number, which denotes the same integer.
 pub fn reads_back()
     ensures { ReadsBack }
 {}

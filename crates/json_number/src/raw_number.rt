@@ -71,7 +71,7 @@ impl RawNumber {
         self.literal
     }
 
-    /// The integer that the literal stands for by value, if any.
+    /// Returns the integer that the literal denotes, if any.
     pub fn to_number(&self) -> Option<Number>
         ensures { option_map value_of result ≡ integer_in (raw_literal self.now) }
     {

@@ -11,11 +11,12 @@ ghost use Rattle.json_print.specs.Taking.{Takes};
 
 use json_text::Result;
 
-/// What comes next of a value's parts. The contracts of [`Events`] say by it which call may come; no call answers it.
+/// What comes next of a value's parts. The contracts of [`Events`] say by it which call may come; no
+/// call returns it.
 ///
 /// ```
 /// use json_print::Turn;
-/// // behind the beginning of an array the first element may come, or the end
+/// // after the beginning of an array the first element may come, or the end
 /// let turn = Turn::Element(true);
 /// assert!(rt; matches!(turn, Turn::Element(first) if first));
 /// ```
@@ -27,7 +28,7 @@ pub enum Turn {
     Element(bool),
     /// A key, which is the first or not, or the end.
     Key(bool),
-    /// The value behind a key.
+    /// The value after a key.
     Member,
     /// Nothing.
     Done,
@@ -36,7 +37,8 @@ pub enum Turn {
 /// Takes the parts of one value from left to right, a call for each. An integer is given by its value, all else as a
 /// token. What is taken does not depend on a hint of how many elements or members come.
 ///
-/// A call that meets an error answers it, and each later call answers it again and changes nothing.
+/// Errors are sticky: a call that meets an error returns it, and each later call returns it again and
+/// changes nothing.
 ///
 /// ```
 /// use json_print::{Events, Serializer};
@@ -54,7 +56,7 @@ pub trait Events {
     /// Computed from what it holds.
     ghost state: { Self → State };
 
-    /// The state behind what is given.
+    /// The state after what is given.
     ghost after: { State → Given → State };
 
     /// What may come.
@@ -63,7 +65,7 @@ pub trait Events {
     /// What a call that meets an error at what is given may leave.
     ghost stopped: { State → Given → State → Error → Type 0 };
 
-    /// The error that was answered.
+    /// The error that was returned.
     ghost failed: { Self → Option Error };
 
     /// Takes a null.

@@ -21,7 +21,7 @@ use json_text::{Result, Sink};
 /// assert_eq!(rt; sink.as_slice(), b"\"a\\tb\": ".as_slice());
 /// ```
 pub trait Formatter {
-    /// The piece that each call writes, and the formatter behind it.
+    /// The piece that each call writes, and the formatter after it.
     ghost form: { Form Self };
 
     /// The first state, in which nothing was written yet.
@@ -130,7 +130,7 @@ pub trait Formatter {
             (form.piece self.old begin_string) result }
         ensures next { OnOk result (self.new ≡ form.next self.old begin_string) };
 
-    /// Writes the quote behind a string.
+    /// Writes the quote after a string.
     fn end_string<W: Sink>(&mut self, writer: &mut W) -> Result<()>
         ensures puts { Puts (W.state writer.old) (W.state writer.new)
             (form.piece self.old end_string) result }
@@ -142,19 +142,19 @@ pub trait Formatter {
             (form.piece self.old (begin_call array)) result }
         ensures next { OnOk result (self.new ≡ form.next self.old (begin_call array)) };
 
-    /// Writes what stands before the end of an array, and `]`.
+    /// Writes what comes before the end of an array, and `]`.
     fn end_array<W: Sink>(&mut self, writer: &mut W) -> Result<()>
         ensures puts { Puts (W.state writer.old) (W.state writer.new)
             (form.piece self.old (end_call array)) result }
         ensures next { OnOk result (self.new ≡ form.next self.old (end_call array)) };
 
-    /// Writes what stands before an element: a comma unless it is the first, and the layout.
+    /// Writes what comes before an element: a comma unless it is the first, and the layout.
     fn begin_array_value<W: Sink>(&mut self, writer: &mut W, first: bool) -> Result<()>
         ensures puts { Puts (W.state writer.old) (W.state writer.new)
             (form.piece self.old (begin_element first)) result }
         ensures next { OnOk result (self.new ≡ form.next self.old (begin_element first)) };
 
-    /// Writes what stands behind an element.
+    /// Writes what comes after an element.
     fn end_array_value<W: Sink>(&mut self, writer: &mut W) -> Result<()>
         ensures puts { Puts (W.state writer.old) (W.state writer.new)
             (form.piece self.old end_element) result }
@@ -166,19 +166,19 @@ pub trait Formatter {
             (form.piece self.old (begin_call object)) result }
         ensures next { OnOk result (self.new ≡ form.next self.old (begin_call object)) };
 
-    /// Writes what stands before the end of an object, and `}`.
+    /// Writes what comes before the end of an object, and `}`.
     fn end_object<W: Sink>(&mut self, writer: &mut W) -> Result<()>
         ensures puts { Puts (W.state writer.old) (W.state writer.new)
             (form.piece self.old (end_call object)) result }
         ensures next { OnOk result (self.new ≡ form.next self.old (end_call object)) };
 
-    /// Writes what stands before a key: a comma unless it is the first, and the layout.
+    /// Writes what comes before a key: a comma unless it is the first, and the layout.
     fn begin_object_key<W: Sink>(&mut self, writer: &mut W, first: bool) -> Result<()>
         ensures puts { Puts (W.state writer.old) (W.state writer.new)
             (form.piece self.old (begin_key first)) result }
         ensures next { OnOk result (self.new ≡ form.next self.old (begin_key first)) };
 
-    /// Writes what stands behind a key.
+    /// Writes what comes after a key.
     fn end_object_key<W: Sink>(&mut self, writer: &mut W) -> Result<()>
         ensures puts { Puts (W.state writer.old) (W.state writer.new)
             (form.piece self.old end_key) result }
@@ -190,7 +190,7 @@ pub trait Formatter {
             (form.piece self.old begin_member) result }
         ensures next { OnOk result (self.new ≡ form.next self.old begin_member) };
 
-    /// Writes what stands behind a value of an object.
+    /// Writes what comes after a value of an object.
     fn end_object_value<W: Sink>(&mut self, writer: &mut W) -> Result<()>
         ensures puts { Puts (W.state writer.old) (W.state writer.new)
             (form.piece self.old end_member) result }

@@ -90,7 +90,7 @@ fn add_long_break<W: Sink>(writer: &mut W, indent: Indent<'_>, level: usize, fir
     add_indents(writer, indent, level)
 }
 
-/// A comma but before the first, and a new line with so many indents behind it.
+/// A comma except before the first, and a new line followed by this number of indents.
 #[inline(always)]
 pub(crate) fn add_break<W: Sink>(
     writer: &mut W,

@@ -9,7 +9,7 @@ use crate::escape::add_number;
 use crate::indent::{Indent, add_break};
 use json_text::Sink;
 
-/// What stands before an element or a key.
+/// What comes before an element or a key.
 #[inline(always)]
 pub(crate) fn add_start<W: Sink>(
     writer: &mut W,
@@ -40,7 +40,7 @@ fn add_end_line<W: Sink>(
     add(writer, &[bracket])
 }
 
-/// A closing bracket, on a line of its own behind a member.
+/// A closing bracket, on a line of its own after a member.
 #[inline]
 pub(crate) fn add_end<W: Sink>(
     writer: &mut W,

@@ -9,8 +9,8 @@ use crate::indent::Indent;
 use crate::layout::{add_byte_array, add_end, add_start};
 use json_text::{Result, Sink};
 
-/// A formatter that writes each element and each key on a line of its own, behind one indent for each container around
-/// it. An empty container is `[]` or `{}`, and `: ` stands behind a key.
+/// A formatter that writes each element and each key on a line of its own, after one indent for each
+/// container around it. An empty container is `[]` or `{}`, and `: ` follows a key.
 ///
 /// ```
 /// use json_print::{Events, PrettyFormatter, Serializer};

@@ -27,8 +27,8 @@ type Step = std::result::Result<(), Halted>;
 
 /// Writes the text of a value (RFC 8259) from its parts, by the calls of a formatter.
 ///
-/// `Io` at `Writing` comes where the writer failed, and `NoMemory` where memory ran out. After an error each call answers that error and
-/// writes nothing.
+/// Calls fail with `Io` at `Writing` where the writer fails, and with `NoMemory` where memory runs out.
+/// Errors are sticky: after an error each call returns the same error and writes nothing.
 ///
 /// ```
 /// use json_print::{Events, Serializer};
@@ -111,10 +111,10 @@ impl<W: Sink, F: Formatter> Serializer<W, F> {
         self
     }
 
-    /// The writer. Where the calls were those of the tokens of a tree, it has gained the text of the tree in the layout of the formatter;
-    /// where they were the first of them, a prefix of that text, and also where an error was answered behind them.
-    /// Of any formatter it has gained the pieces of the calls that reached it, in order.
-    /// `Io` at `Writing` was answered exactly where a call of the writer failed.
+    /// Returns the writer. If the calls were those of the tokens of a tree, it has gained the text of the
+    /// tree in the layout of the formatter; if they were the first of these, or an error was returned
+    /// after them, a prefix of that text. Of any formatter it has gained the pieces of the calls that
+    /// reached it, in order. `Io` at `Writing` was returned exactly if a call of the writer failed.
     pub fn into_inner(self) -> W
     where
         F: Drop,

@@ -15,7 +15,8 @@ use crate::escape::{add_number, add_quoted, add_unsigned};
 use crate::indent::{Indent, add_break};
 use json_text::{Result, Sink};
 
-/// How the parts of a text are laid out: what stands before elements and keys, behind keys, and before closing brackets.
+/// How the parts of a text are laid out: what comes before elements and keys, after keys, and before
+/// closing brackets.
 ///
 /// ```
 /// use json_print::{BufferedWriter, Layout, ManyLines, answered, show_unsigned};
@@ -32,12 +33,12 @@ pub trait Layout: Copy {
     /// The indent, or none for no whitespace.
     ghost indent: { Self → Option (List ℕ) };
 
-    /// Writes what stands before an element that is no string.
+    /// Writes what comes before an element that is no string.
     fn lead<W: Sink>(self, out: &mut BufferedWriter<W>, level: usize, first: bool) -> Added
         ensures { Adds (⟦<BufferedWriter<W> as Sink>⟧.state out.old)
             (⟦<BufferedWriter<W> as Sink>⟧.state out.new) (lead (indent self) level first) result };
 
-    /// Writes an element that is a string, and what stands before it.
+    /// Writes an element that is a string, and what comes before it.
     fn element<W: Sink>(
         self,
         out: &mut BufferedWriter<W>,
@@ -49,7 +50,7 @@ pub trait Layout: Copy {
             (⟦<BufferedWriter<W> as Sink>⟧.state out.new)
             (text_shown (indent self) level first text.now) result };
 
-    /// Writes a key, and what stands before it and behind it.
+    /// Writes a key, and what comes before and after it.
     fn key<W: Sink>(
         self,
         out: &mut BufferedWriter<W>,
@@ -61,12 +62,13 @@ pub trait Layout: Copy {
             (⟦<BufferedWriter<W> as Sink>⟧.state out.new)
             (key_shown (indent self) level first key.now) result };
 
-    /// Writes what stands behind a key.
+    /// Writes what comes after a key.
     fn colon<W: Sink>(self, out: &mut BufferedWriter<W>) -> Added
         ensures { Adds (⟦<BufferedWriter<W> as Sink>⟧.state out.old)
             (⟦<BufferedWriter<W> as Sink>⟧.state out.new) (colon_bytes (indent self)) result };
 
-    /// Writes a closing bracket, and what stands before it. `empty` says that no element and no member came.
+    /// Writes a closing bracket, and what comes before it. `empty` says that no element and no member
+    /// came.
     fn close<W: Sink>(
         self,
         out: &mut BufferedWriter<W>,
@@ -172,7 +174,7 @@ impl Layout for OneLine {
     }
 }
 
-/// Each element and each member on a line of its own, behind one indent for each container around it.
+/// Each element and each member on a line of its own, after one indent for each container around it.
 ///
 /// ```
 /// use json_print::{BufferedWriter, Layout, ManyLines, answered};
@@ -291,7 +293,8 @@ pub fn show_signed<W: Sink>(out: &mut BufferedWriter<W>, number: i64) -> Added
     add_number(out, number)
 }
 
-/// The answer to a caller: why a call of the sink failed, or that memory was lacking.
+/// Returns the error of a write: `Io` at `Writing` where a call of the sink failed, and `NoMemory` where
+/// memory ran out.
 pub fn answered(shown: Added) -> Result<()>
     ensures text { (level : ℕ) (old new : SinkState) (text : List ℕ)
         → Shows level old new text shown → WritesText old new text result }

@@ -5,8 +5,8 @@ ghost use Rattle.json_print.specs.Indents.{IsIndent-prop};
 
 use json_text::ws_run;
 
-/// How a JSON text is laid out: an indent of whitespace, or none for no whitespace between the tokens, and whether the members of
-/// each object stand in the order of their keys.
+/// How a JSON text is laid out: an indent of whitespace, or none for no whitespace between the tokens,
+/// and whether the members of each object are sorted by their keys.
 ///
 /// ```
 /// use json_print::Style;

@@ -14,8 +14,8 @@ use json_text::{Parser, Repaired, Result, check_utf8};
 use std::alloc::Global;
 use std::marker::Model;
 
-/// Reads the values of one input one after another. Nothing but whitespace need stand between them, and what follows a
-/// value is not looked at. Places are told as in the whole input.
+/// Reads the values of one input one after another. There need be no whitespace between them, and what
+/// follows a value is not looked at. Errors have their places in the whole input.
 ///
 /// ```
 /// use json_stream::Deserializer;
@@ -78,8 +78,8 @@ impl<'a> Deserializer<'a> {
         Deserializer::of_text(s, false, None)
     }
 
-    /// Stands at the beginning of the repaired text, which has at most 4,294,967,295 bytes, in the lossy mode. Offsets, lines
-    /// and columns are told as in the input that was repaired.
+    /// Returns a reader of the repaired text, which has at most 4,294,967,295 bytes, in the lossy mode.
+    /// Offsets, lines and columns are those of the input that was repaired.
     pub fn from_repaired(r: &'a Repaired) -> Deserializer<'a>
         requires { length r.now.text < 2 ^ 32 }
         ensures state { result ≡ record {
@@ -114,8 +114,8 @@ impl<'a> Deserializer<'a> {
         self
     }
 
-    /// The same in the lossy mode, where no surrogate is refused: the escape of one that stands alone is U+FFFD (RFC 8259,
-    /// section 8.2). Bytes that are no UTF-8 are refused as before.
+    /// Returns the same reader in the lossy mode, in which no surrogate is an error: the escape of one
+    /// that is alone is U+FFFD (RFC 8259, section 8.2). Bytes that are no UTF-8 are an error as before.
     pub fn utf8_lossy(self) -> Deserializer<'a>
         ensures { result ≡ record self.entry { lossy = true } }
     {
@@ -125,7 +125,8 @@ impl<'a> Deserializer<'a> {
         }
     }
 
-    /// Where it stands, in bytes from the beginning of the input; of a repaired text, where that place comes from.
+    /// Returns its offset in bytes from the beginning of the input; of a repaired text, where that place
+    /// comes from.
     pub fn index(&self) -> usize
         ensures { result ≡ offset_in self.now.repaired self.now.index }
     {
@@ -135,13 +136,14 @@ impl<'a> Deserializer<'a> {
         }
     }
 
-    /// The value that comes next.
+    /// Reads the value that comes next.
     ///
-    /// `InvalidUTF8` comes exactly where the whole input is no UTF-8. A code from `EofWhileParsing` to
-    /// `InvalidSurrogate` or `RecursionLimitExceeded` tells the fault of what is left, as a value of at most 254 levels.
-    /// Else the tree of the value may be refused, at its first byte: `TypeUnmatched`, `NumberOutOfRange`,
-    /// `ExpectedNumericKey`. Or memory runs out. It then stands behind the value where the value was given or its tree
-    /// refused, and else where it stood.
+    /// Fails with `InvalidUTF8` exactly if the whole input is no UTF-8, and with a code from
+    /// `EofWhileParsing` to `InvalidSurrogate` or `RecursionLimitExceeded` for the error of what is left,
+    /// as a value of at most 254 levels. Else it fails if the tree is no value of the type, at the first
+    /// byte of the value: with `TypeUnmatched`, `NumberOutOfRange` or `ExpectedNumericKey`. Fails with
+    /// `NoMemory` if memory runs out. After a value, or an error of its tree, the reader is after that
+    /// value; after any other error it is where it was.
     pub fn deserialize<T: Deserialize<'a>>(&mut self, alloc: Global) -> Result<T>
         ensures ok { IfOk result (λ v.
             TakesValue T.from_tree self.old (gives (T.datum v)) self.new) }

@@ -23,8 +23,8 @@ fn tokens_at<'a>(text: &'a str, lossy: bool, from: usize) -> TextTokens<'a>
     if lossy { tokens.lossy() } else { tokens }
 }
 
-/// The value that comes next in the text from `at` on, in either mode, which becomes the place behind it where it was taken.
-/// A text that was repaired is read so too, and what is refused in it is told by the input.
+/// Reads the value that comes next in the text from `at` on, in either mode. `at` becomes the offset after
+/// it if it was taken. A text that was repaired is read so too, and its errors have places of the input.
 pub(crate) fn read_value<'a, T: Deserialize<'a>>(
     alloc: Global,
     text: &'a str,

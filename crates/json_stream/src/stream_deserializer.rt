@@ -37,7 +37,7 @@ impl<'a, T> Model for StreamDeserializer<'a, T> {
 }
 
 impl<'a, T: Deserialize<'a>> StreamDeserializer<'a, T> {
-    /// The values of the input from where it stands.
+    /// Returns the values of the input from where its reader is.
     pub(crate) fn new(input: Deserializer<'a>) -> StreamDeserializer<'a, T>
         ensures { result ≡ record { input = input.entry; ended = false } }
     {
@@ -48,8 +48,9 @@ impl<'a, T: Deserialize<'a>> StreamDeserializer<'a, T> {
         }
     }
 
-    /// The next value, or why there is none, as [`Deserializer::deserialize`]: where only whitespace is left
-    /// `EofWhileParsing` comes, at the length of the input. `None` comes exactly behind an `Err`, and again.
+    /// Returns the next value, or why there is none, as [`Deserializer::deserialize`] does: where only
+    /// whitespace is left `EofWhileParsing`, at the length of the input. Returns `None` exactly after an
+    /// `Err`, and again.
     pub fn next(&mut self, alloc: Global) -> Option<Result<T>>
         ensures none { MatchOption result (self.old.ended ≡ true) (λ _. self.old.ended ≡ false) }
         ensures after { result ≡ None → self.new ≡ self.old }

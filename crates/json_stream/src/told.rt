@@ -36,7 +36,7 @@ fn origin_of(repaired: &Repaired, place: Place) -> Place
     }
 }
 
-/// What is told of an error of the text that is read: the same, at its place in the input.
+/// Returns an error of the text that is read as it is reported: the same, at its place in the input.
 pub(crate) fn told(repaired: Option<&Repaired>, error: Error) -> Error
     requires { IfSome repaired (λ r. IsWithin r.now.text error.place) }
     ensures { result ≡ record error {

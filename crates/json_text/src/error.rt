@@ -26,7 +26,7 @@ pub enum ErrorCode {
     EofWhileParsing = 5,
     /// A `null`, `true` or `false` breaks off (section 3).
     InvalidLiteral = 6,
-    /// A number breaks off, or has a digit behind a leading zero (section 6).
+    /// A number breaks off, or has a digit after a leading zero (section 6).
     InvalidNumber = 7,
     /// A name is not followed by a colon (section 4).
     ExpectedColon = 8,
@@ -36,15 +36,15 @@ pub enum ErrorCode {
     ExpectedObjectCommaOrEnd = 10,
     /// A name or the object's end must come (section 4).
     ExpectObjectKeyOrEnd = 11,
-    /// The object ends behind a comma (section 4).
+    /// The object ends after a comma (section 4).
     TrailingComma = 12,
     /// A value must come (section 3).
     InvalidJsonValue = 13,
-    /// A byte below 20 (hexadecimal) stands in a string (section 7).
+    /// A string has a byte below 20 (hexadecimal) (section 7).
     ControlCharacter = 14,
     /// An escape breaks off (section 7).
     InvalidEscape = 15,
-    /// The escape of a surrogate stands outside a pair (section 8.2).
+    /// The escape of a surrogate is not part of a pair (section 8.2).
     InvalidSurrogate = 16,
     /// The value is followed by more than whitespace (section 2).
     TrailingCharacters = 17,
@@ -139,7 +139,7 @@ pub struct Error {
     pub place: Place,
 }
 
-/// The answer of a call that can be refused.
+/// The result of a call that can fail with an [`Error`].
 ///
 /// ```
 /// use json_text::check_utf8;
@@ -195,7 +195,7 @@ impl ErrorCode {
         }
     }
 
-    /// Its name, as it stands in the enum.
+    /// Returns its name, as it is written in the enum.
     pub(crate) fn name(self) -> &'static str
         ensures { result.now ≡ name_of self }
     {

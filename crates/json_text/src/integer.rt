@@ -19,7 +19,7 @@ const WORD: usize = 8;
 /// A word of the digit 0.
 const ZEROS: u64 = 0x3030_3030_3030_3030;
 
-/// The number that digits write, and the place behind them.
+/// The number that digits denote, and the offset after them.
 #[derive(Clone, Copy)]
 pub(crate) struct Digits {
     pub value: u64,
@@ -125,7 +125,7 @@ fn few_digits(bytes: &[u8], from: usize) -> Digits
     first
 }
 
-/// Whether a number that has come behind digits may go on with the byte there.
+/// Returns whether a number that was read up to the end of digits may go on with the byte there.
 #[inline(always)]
 fn goes_on(bytes: &[u8], at: usize) -> bool
     ensures digit { result ≡ false → NoDigit bytes.now at }

@@ -107,8 +107,9 @@ impl<'a> Parser<'a> {
         }
     }
 
-    /// Stands at a place of the text, in bytes, where a value must come, with the limit of `new`. Nothing is said of
-    /// what stands before it. Places are told as in the whole text.
+    /// Returns a parser that begins at this offset of the text, in bytes, where a value must come,
+    /// with the limit of `new`. What is before the offset is not looked at. Errors have their places
+    /// in the whole text.
     ///
     /// ```
     /// use json_text::{Event, Parser};
@@ -162,10 +163,10 @@ impl<'a> Parser<'a> {
         }
     }
 
-    /// The same parser in the lossy mode, where no surrogate is refused (RFC 8259, section 8.2): the escape of one that
-    /// stands alone, of a low one or of a high one behind which no low one is escaped at once, is U+FFFD, and reading
-    /// goes on behind that escape. All else is read and refused as before. It has handed out no event and refused
-    /// nothing.
+    /// Returns the parser in the lossy mode, in which no surrogate is an error (RFC 8259, section 8.2):
+    /// the escape of a low surrogate that is alone, or of a high one that no escape of a low one
+    /// follows at once, is U+FFFD, and reading goes on after that escape. All else is as before. To be
+    /// called before the first event.
     ///
     /// ```
     /// use json_text::{Event, Parser};
@@ -187,8 +188,9 @@ impl<'a> Parser<'a> {
         }
     }
 
-    /// The place behind what was taken, in bytes from the beginning of the text. After an event it is right behind
-    /// the event's token: neither the colon behind a name nor the comma or the whitespace behind a value is taken.
+    /// Returns the offset after what was taken, in bytes from the beginning of the text. After an event
+    /// it is right after the event's token: neither the colon after a name nor the comma or the
+    /// whitespace after a value is taken.
     #[inline(always)]
     pub fn index(&self) -> usize
         ensures { result ≡ self.now.index }
@@ -196,7 +198,7 @@ impl<'a> Parser<'a> {
         self.start + self.at
     }
 
-    /// How many bytes stand from where the parser began up to the end of the text, taken or not.
+    /// Returns the number of bytes from where the parser began up to the end of the text, taken or not.
     pub fn input_len(&self) -> usize
         ensures length { result ≡ length (input self.now) }
         ensures within { (self.now.start ≤ self.now.index)
@@ -279,13 +281,14 @@ impl<'a> Parser<'a> {
         }
     }
 
-    /// The next event. `End` comes where the value is whole and only whitespace is left, and comes again.
+    /// Returns the next event: `End` once the value is whole and only whitespace is left, and from then
+    /// on at each call.
     ///
-    /// A refusal has one of the codes from `EofWhileParsing` to `RecursionLimitExceeded`, at the place behind the
-    /// longest prefix with which some text begins; or, of the last code, at the bracket that opens a level too many.
-    /// It comes at the event that needs the byte at that place, and at none before, and again at each later call.
-    /// While the value is not whole, it is its refusal as a value, whatever would follow it; when it is whole, the
-    /// parser stands right behind it.
+    /// Fails with one of the codes from `EofWhileParsing` to `RecursionLimitExceeded`, at the offset
+    /// after the longest prefix that some text begins with; with the last code, at the bracket that
+    /// opens a level too many. The error comes at the event that needs the byte at that offset, at none
+    /// before, and again at each later call. While the value is not whole, it is the error of the value,
+    /// whatever would follow it; once it is whole, the parser is right after it.
     #[inline(always)]
     pub fn next(&mut self) -> Result<Event<'a>>
         ensures same { SameInput self.old self.new }
@@ -335,7 +338,7 @@ impl<'a> Parser<'a> {
         }
     }
 
-    /// Moves behind whitespace.
+    /// Moves past whitespace.
     pub fn skip_ws(&mut self)
         ensures moves { self.new ≡ record self.old { index = self.new.index } }
         ensures order { (self.old.index ≤ self.new.index)
@@ -382,7 +385,7 @@ impl<'a> Parser<'a> {
         }
     }
 
-    /// Takes whitespace and the bracket that closes a container of the kind, and begins anew behind it.
+    /// Takes whitespace and the bracket that closes a container of this kind, and begins anew after it.
     fn end_of(&mut self, kind: Kind) -> Result<()>
         ensures ok { OnOk result (TakesEnd self.old kind self.new) }
         ensures err { IfErr result (LacksEnd self.old kind) }

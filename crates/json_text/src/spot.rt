@@ -119,7 +119,7 @@ pub fn closing(kind: Kind) -> u8
     }
 }
 
-/// Why no other byte may come behind a value.
+/// Returns why no other byte may follow a value.
 #[cold]
 pub fn misplaced(kind: Option<Kind>) -> ErrorCode
     ensures { result ≡ spec_misplaced kind }

@@ -29,7 +29,7 @@ pub(crate) fn is_whole(spot: Spot, kind: Option<Kind>) -> bool
 /// itself. Where the caller knows what may come, no choice by it is left. Each use has a copy of its own.
 ///
 /// `End` comes where the value is whole and only whitespace is left. A fault has one of the codes from
-/// `EofWhileParsing` to `RecursionLimitExceeded`, as `Parser::next` tells it, at its offset in the text.
+/// `EofWhileParsing` to `RecursionLimitExceeded`, as `Parser::next` returns it, at its offset.
 ///
 /// ```
 /// use json_grammar::Spot;

@@ -59,7 +59,7 @@ fn begin_of(byte: u8) -> Begin
     }
 }
 
-/// A string or a name, and the offset in bytes behind its closing quote, where the parser goes on.
+/// A string or a name, and the offset in bytes after its closing quote, where the parser goes on.
 #[derive(Clone, Copy)]
 pub(crate) struct Quote<'a> {
     pub span: Span<'a>,
@@ -87,7 +87,8 @@ pub(crate) fn string_at<'a>(text: &'a str, at: usize, lossy: bool) -> Result<Quo
     }
 }
 
-/// One more part of a text, the offset in bytes behind it, and what may come there. The parser hands out the event.
+/// One more part of a text, the offset in bytes after it, and what may come there. The parser returns
+/// the event.
 ///
 /// ```
 /// use json_grammar::Spot;
@@ -354,7 +355,7 @@ fn close<'a>(kind: Kind, at: usize, kinds: &mut Kinds) -> Read<'a>
     }
 }
 
-/// What may begin at `at` behind the bracket of an array: an element, or the array's end.
+/// Reads what begins at `at` after the bracket of an array: an element, or the array's end.
 #[inline(always)]
 fn first<'a>(
     text: &'a str,
@@ -383,7 +384,7 @@ fn first<'a>(
     }
 }
 
-/// What may begin at `at` behind the bracket of an object: a name, or the object's end.
+/// Reads what begins at `at` after the bracket of an object: a name, or the object's end.
 #[inline(always)]
 fn key_or_end<'a>(
     text: &'a str,
@@ -411,7 +412,8 @@ fn key_or_end<'a>(
     }
 }
 
-/// The end of the innermost container, which alone may come at `at` behind a value where no comma stands.
+/// Reads the end of the innermost container, which alone may come at `at` after a value that no comma
+/// follows.
 #[inline(always)]
 fn behind_value<'a>(text: &'a str, at: usize, kinds: &mut Kinds) -> Result<Read<'a>, Fault>
     requires within { at < length text.now }
@@ -446,7 +448,7 @@ fn behind_value<'a>(text: &'a str, at: usize, kinds: &mut Kinds) -> Result<Read<
     }
 }
 
-/// The part that begins at `at`, where neither whitespace nor a comma or a colon that must come stands.
+/// Reads the part that begins at `at`, where there is neither whitespace nor a comma or a colon.
 #[inline(always)]
 pub fn take_event<'a>(
     text: &'a str,

@@ -27,8 +27,9 @@ use json_doc::JsonType;
 use json_number::Number;
 
 /// Scalars are equal where their content is, numbers by their literals; arrays element by element; and objects of as many
-/// members where the first values of each key are, in any order of the keys. Takes no memory. Where the keys of two objects
-/// stand in another order each is searched for from the left, so the time grows with the square of the members.
+/// members where the first values of each key are, in any order of the keys. Allocates nothing. Where the
+/// keys of two objects come in another order each is searched for from the left, so the time grows with
+/// the square of the members.
 impl PartialEq for Value {
     ghost eq = { on tree_of same };
 

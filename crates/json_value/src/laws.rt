@@ -13,19 +13,21 @@ pub fn values_are_proper(_value: &Value)
     ensures { IsProper (tree_of _value.now) }
 {}
 
-/// The first write to a container that stands in a document makes values that are read from the places of its children.
+/// The first write to a container that is a place of a document makes values that are read from the
+/// places of its children.
 pub fn first_write_reads_places()
     ensures elements { FirstElementsAreRead }
     ensures members { FirstMembersAreRead }
 {}
 
-/// The first write to a container that stands nowhere leaves its list.
+/// The first write to a container that is no place leaves its list.
 pub fn first_write_keeps_own_list()
     ensures elements { FirstElementsStay }
     ensures members { FirstMembersStay }
 {}
 
-/// A container that is a place of a document stands there, if something is in it, and no other container stands anywhere.
+/// A container that is a place of a document is at that place if it has elements or members, and no
+/// other container is a place.
 pub fn packed_containers_stand()
     ensures array { PackedArrayStands }
     ensures object { PackedObjectStands }
@@ -33,7 +35,8 @@ pub fn packed_containers_stand()
     ensures object_only { ObjectStandsAsPlace }
 {}
 
-/// A container with a list of its own is no place of a document, and its parts stand where those of its children stand.
+/// A container with a list of its own is no place of a document, and its parts are where those of its
+/// children are.
 pub fn own_lists_are_no_places()
     ensures array { OwnArrayIsNoPlace }
     ensures object { OwnObjectIsNoPlace }

@@ -276,7 +276,7 @@ impl<'a> View<'a> {
     }
 
     /// Gives the tokens of the tree that is seen to `out`, an integer by value as that, up to the first
-    /// that meets an error, which is answered. Where the events had answered an error it is answered
+    /// that meets an error, which is returned. Where the events had returned an error it is returned
     /// again, and nothing changes; else a value may come there.
     pub fn emit<E: Events>(self, out: &mut E) -> Result<()>
         requires { E.failed out.old ≡ None → TakesValue (E.stand (E.state out.old)).turn }
@@ -291,8 +291,9 @@ impl<'a> View<'a> {
         }
     }
 
-    /// Writes the text of the tree that is seen, in the layout. Fails as the writer's inner sink does; a front of the
-    /// text was written then. `NoMemory` comes where the sink finds none, or of a text of 2^64 - 1 bytes or more.
+    /// Writes the text of the tree that is seen, in the layout. Fails as the writer's inner sink does; a
+    /// prefix of the text was written then. Fails with `NoMemory` where the sink finds none, or for a
+    /// text of 2^64 - 1 bytes or more.
     pub fn print<W: Sink, L: Layout>(self, layout: L, out: &mut BufferedWriter<W>) -> Result<()>
         ensures text { WritesText (⟦<BufferedWriter<W> as Sink>⟧.state out.old)
             (⟦<BufferedWriter<W> as Sink>⟧.state out.new)
@@ -306,9 +307,10 @@ impl<'a> View<'a> {
     }
 
     /// Gives the tokens of the tree that is seen, with the members of each object in the order of their
-    /// keys and those of one key in the order in which they stand, to `out`, as `emit` does. Takes memory
-    /// for an object whose keys fall: 16 bytes a member, until its end was given. Where that is lacking
-    /// `NoMemory` is answered; then the events have taken the first of these tokens, and no error.
+    /// keys and those of one key in the order of the text, to `out`, as `emit` does. Allocates for an
+    /// object whose keys are not in order: 16 bytes a member, until its end was given. Fails with
+    /// `NoMemory` where memory runs out; then the events have taken the first of these tokens, and no
+    /// error.
     pub fn emit_sorted<E: Events>(self, alloc: Global, out: &mut E) -> Result<()>
         requires { E.failed out.old ≡ None → TakesValue (E.stand (E.state out.old)).turn }
         ensures given { EmitsOrLacks E.after E.stopped (E.state out.old) (E.state out.new)

@@ -44,7 +44,7 @@ impl AskedStyle {
         }
     }
 
-    /// The indent, and whether the members of each object stand in the order of their keys.
+    /// Returns the indent, and whether the members of each object are sorted by their keys.
     pub fn style(&self) -> Style<'static>
         ensures { layout_of result ≡ layout_asked self.now }
     {

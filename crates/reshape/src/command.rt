@@ -27,7 +27,7 @@ use json_value::Edit;
 /// ```
 #[derive(Drop)]
 pub enum Asked {
-    /// The text of the tree that is read by these rules, behind these edits and in this style.
+    /// The text of the tree that is read by these rules, after these edits and in this style.
     Reshape(Edits, AskedStyle),
     /// A summary of made input of so many records, 100,000 at most, and of what is printed of it.
     Made(u32),

@@ -115,8 +115,9 @@ fn summary(alloc: Global, records: u32) -> Result<Vec<u8>>
     Ok(text)
 }
 
-/// Makes an array of so many records, prints it compact and sorted, and writes how many bytes both have and what these sum up to, a
-/// line each, flushed. Where the sink failed or memory ran out it gained a front of this at most. There are at most 100,000 records.
+/// Makes an array of this number of records, at most 100,000, prints it compact and sorted, and writes
+/// how many bytes both have and their sums, a line each, flushed. Fails where the sink fails or memory
+/// runs out, and then the sink gained a prefix of this at most.
 pub fn write_summary<K: Sink>(alloc: Global, records: u32, sink: &mut K) -> Result<()>
     requires { records ≤ 100000 }
     ensures ok { OnOk result (GainsSummary records (K.state sink.old) (K.state sink.new)) }

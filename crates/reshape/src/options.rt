@@ -76,7 +76,8 @@ fn made_of(word: &str) -> Option<u32>
     option_number(word, "--make", 100_000)
 }
 
-/// So many records of made input as the words ask for, where one word asks for them and stands alone. They are 100,000 at most.
+/// Returns the number of records of made input that the words ask for, if there is one word and it asks
+/// for them: 100,000 at most.
 pub fn made_asked(words: &Words) -> Option<u32>
     ensures asks { MatchOption result (¬ (IsMaking words.now)) (AsksMade words.now) }
     ensures few { IfSome result (λ n. n ≤ 100000) }
@@ -154,8 +155,9 @@ impl<'a> Options<'a> {
     }
 }
 
-/// The options and the edits word among the words. None where an option is unknown or stands twice, with the same number or
-/// another, where two options ask for an indent, or where two words are no options.
+/// Returns the options and the edits word among the words. `None` if an option is unknown or occurs
+/// twice, with the same number or another, if two options ask for an indent, or if two words are no
+/// options.
 pub fn gather(words: &Words) -> Option<Options<'_>>
     ensures { MatchOption result (¬ (IsReshaping words.now)) (Gathered words.now) }
 {

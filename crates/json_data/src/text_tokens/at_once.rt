@@ -13,7 +13,7 @@ use json_grammar::Kind;
 use json_text::Event;
 
 impl<'a> TextTokens<'a> {
-    /// Whether neither an event waits nor an error was answered.
+    /// Returns whether no event waits and no error was returned.
     #[inline(always)]
     fn is_clear(&self) -> bool
         ensures ahead { result ≡ true → self.now.ahead ≡ None }

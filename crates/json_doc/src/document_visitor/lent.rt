@@ -11,7 +11,7 @@ use super::DocumentVisitor;
 use json_text::Span;
 
 impl DocumentVisitor {
-    /// `visit_str`, of a string that stands in the input from `from` on.
+    /// `visit_str`, of a string that is in the input from `from` on.
     #[inline(always)]
     pub(crate) fn take_str(&mut self, s: Span<'_>, input: &[u8], from: usize) -> bool
         requires come { (visitor_state self.old).full ≡ false
@@ -33,7 +33,7 @@ impl DocumentVisitor {
         true
     }
 
-    /// `visit_key`, of a key that stands in the input from `from` on.
+    /// `visit_key`, of a key that is in the input from `from` on.
     #[inline(always)]
     pub(crate) fn take_key(&mut self, s: Span<'_>, input: &[u8], from: usize) -> bool
         requires come { (visitor_state self.old).full ≡ false
