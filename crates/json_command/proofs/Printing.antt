@@ -1,5 +1,5 @@
 -- A text printed through a buffered writer over a borrowed sink.
-use Rattle.std.proofs.Common.{◌≡◌, ℕ, List, [], ◌∷◌, ◌++◌, refl, sym, ap, subst, ◌∙◌, arith, Bool, false, ◌||◌, Option, None, Result, Ok, Err, inl, inr}
+use Rattle.std.proofs.Common.{◌≡◌, ◌⊎◌, ℕ, ◌-◌, ◌^◌, ◌<◌, ◌≤◌, List, [], ◌∷◌, ◌++◌, length, refl, sym, ap, subst, ◌∙◌, arith, Bool, false, ◌||◌, Option, None, Result, Ok, Err, IfErr, IsErrOf, inl, inr}
 use Rattle.std.specs.Borrow.{GName}
 use Rattle.json_grammar.specs.Tree.{Tree, tokens}
 use Rattle.json_text.specs.declared.error.Error.{Error}
@@ -25,7 +25,7 @@ use Rattle.json_print.specs.Written.{Written}
 use Rattle.json_print.proofs.Taking.{took_all, tokens_append}
 use Rattle.json_value.specs.EmittingSorted.{EmitsOrLacks, StopsOrLacks}
 use Rattle.json_print.proofs.TextWriting.{all_written, stopped_written, front_gained, same_name, grown, sent_back}
-use Rattle.json_command.specs.Printing.{PrintingFails, Prints, WritesFlushed}
+use Rattle.json_command.specs.Printing.{HasRunOut, PrintingFails, Prints, RunsOutOnlyWith, WritesFlushed}
 
 -- ---- the tokens of a tree, given to a serializer
 
@@ -63,6 +63,35 @@ in_style old new r i j s z t e f h = subst (λ x. WritesText old new (shown_as j
 -- ... of an equal tree
 pub of_tree : (old new : SinkState) (r : Result (Unit {0}) Error) (i : Option (List ℕ)) (t u : Tree) → t ≡ u → WritesText old new (shown_as i false t) r → WritesText old new (shown_as i false u) r
 of_tree old new r i t u e h = subst (λ x. WritesText old new (shown_as i false x) r) e h
+
+-- ---- why memory ran out
+
+risen : (m n : ℕ) → Rose m n → 0 < n
+risen m n h = omega (arith, h)
+
+abbrev RunOut : ℕ → ℕ → Type 0
+RunOut lacks size = (0 < lacks) ⊎ (2 ^ 64 - 1 ≤ size)
+
+ran_out : (before lacks size : ℕ) → Rose before lacks ⊎ (2 ^ 64 - 1 ≤ size) → RunOut lacks size
+ran_out before lacks size (inl h) = inl (risen before lacks h)
+ran_out before lacks size (inr h) = inr h
+
+-- ... of an equal tree
+pub tree_ran_out : (before lacks : ℕ) (i : Option (List ℕ)) (t u : Tree) → t ≡ u → Rose before lacks ⊎ (2 ^ 64 - 1 ≤ length (shown_as i false t)) → RunOut lacks (length (shown_as i false u))
+tree_ran_out before lacks i t u e h = subst (λ x. RunOut lacks (length (shown_as i false x))) e (ran_out before lacks _ h)
+
+-- ... with the indent and the order that the style has
+pub style_ran_out : (lacks : ℕ) (i j : Option (List ℕ)) (s z : Bool) (t : Tree) → i ≡ j → s ≡ z → RunOut lacks (length (shown_as i s t)) → RunOut lacks (length (shown_as j z t))
+style_ran_out lacks i j s z t e f h = subst (λ x. RunOut lacks (length (shown_as j x t))) f (subst (λ x. RunOut lacks (length (shown_as x s t))) e h)
+
+pub flush_ran_out : (old new : SinkState) (size : ℕ) (r : Result (Unit {0}) Error) → FlushesAll old new r → IsErrOf r no_memory → HasRunOut new size
+flush_ran_out old new size r h e = inl (risen old.lacks new.lacks (subst (λ x. IfErr x (λ y. WritingCause old new y.code y.place)) e h.cause))
+
+-- the sink that comes back is the one that ran out
+pub lent_ran_out : (old now sent lent : SinkState) (name : GName) (held : List ℕ) (size : ℕ) (r : Result (Unit {0}) Error) → sent ≡ held_behind lent held → ComesBack lent now name → (IsErrOf r no_memory → HasRunOut sent size) → RunsOutOnlyWith old now size r
+lent_ran_out old now sent lent name held size r s back h e =
+    let lacks : sent.lacks ≡ now.lacks = ap (λ (x : SinkState). x.lacks) s ∙ ap (λ (x : SinkState). x.lacks) back.as_lent in
+    inr (subst (λ n. RunOut n size) lacks (h e))
 
 -- ---- a flush behind it
 

@@ -1,11 +1,11 @@
 -- What becomes of a sink to which a text is written and which is then flushed.
-use Rattle.std.specs.Prelude.{◌≡◌, ◌⊎◌, ℕ, ◌<◌, List, false, Result, OnOk, OnErr, IfErr, IsErrOf}
+use Rattle.std.specs.Prelude.{◌≡◌, ◌⊎◌, ℕ, ◌-◌, ◌^◌, ◌<◌, ◌≤◌, List, false, Result, OnOk, OnErr, IfErr, IsErrOf}
 use Rattle.json_text.specs.declared.error.Error.{Error}
 use Rattle.json_text.specs.declared.error.ErrorCode.{ErrorCode}
 use Rattle.json_text.specs.declared.error.ErrorCode.TheVariants.{NoMemory, Io}
 use Rattle.json_text.specs.declared.error.Place.{Place}
 use Rattle.json_text.specs.declared.error.Place.TheVariants.{None as nowhere, Writing}
-use Rattle.json_text.specs.Errors.{writing_failed}
+use Rattle.json_text.specs.Errors.{no_memory, writing_failed}
 use Rattle.json_text.specs.Known.{Appends, append_known}
 use Rattle.json_text.specs.Outside.{SinkState, Rose}
 use Rattle.json_text.specs.Transfer.{AppendsFront}
@@ -36,3 +36,11 @@ pub record Prints (old new : SinkState) (text : List ℕ) (result : Result (Unit
 -- a write or a flush that failed is returned as that error
 abbrev pub ReturnsWriteError : {A : Type 0} → SinkState → SinkState → Result A Error → Type 0
 ReturnsWriteError sink sink' result = sink.faults < sink'.faults → IsErrOf result writing_failed
+
+-- the sink counts a call that found no memory, or a text of so many bytes has as many as a usize counts
+abbrev pub HasRunOut : SinkState → ℕ → Type 0
+HasRunOut sink size = (0 < sink.lacks) ⊎ (2 ^ 64 - 1 ≤ size)
+
+-- where memory runs out the sink is as it was, or has run out of it
+abbrev pub RunsOutOnlyWith : {A : Type 0} → SinkState → SinkState → ℕ → Result A Error → Type 0
+RunsOutOnlyWith old new size result = IsErrOf result no_memory → (new ≡ old) ⊎ HasRunOut new size

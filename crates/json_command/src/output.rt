@@ -1,12 +1,13 @@
 // The text of a value's tree, written to a sink.
-ghost use Rattle.std.specs.Prelude.{◌≡◌, ℕ, List, Option, true, false};
+ghost use Rattle.std.specs.Prelude.{◌≡◌, ℕ, List, Option, length, true, false, IsErrOf};
 ghost use Rattle.json_print.specs.Layouts.{LaidOut};
 ghost use Rattle.json_print.specs.Shown.{shown_as};
 ghost use Rattle.json_print.specs.Styles.{is_sorted, printed};
 ghost use Rattle.json_print.specs.TextWriting.{WritesText};
-ghost use Rattle.json_text.specs.Outside.{SinkState};
+ghost use Rattle.json_text.specs.Errors.{no_memory};
+ghost use Rattle.json_text.specs.Outside.{SinkState, Rose};
 ghost use Rattle.json_value.specs.Denotes.{tree_of};
-ghost use Rattle.json_command.specs.Printing.{Prints, WritesFlushed};
+ghost use Rattle.json_command.specs.Printing.{HasRunOut, Prints, RunsOutOnlyWith, WritesFlushed};
 
 use json_print::{
     Buffer, BufferedWriter, CompactFormatter, Formatter, Layout, ManyLines, OneLine,
@@ -43,6 +44,9 @@ fn as_it_stands<W: Sink, L: Layout>(
     ensures text { WritesText (⟦<BufferedWriter<W> as Sink>⟧.state writer)
         (⟦<BufferedWriter<W> as Sink>⟧.state result.0)
         (shown_as (L.indent layout) false (tree_of value.now)) result.1 }
+    ensures ran_out { IsErrOf result.1 no_memory
+        → HasRunOut (⟦<BufferedWriter<W> as Sink>⟧.state result.0)
+        (length (shown_as (L.indent layout) false (tree_of value.now))) }
 {
     let mut out = writer;
     let went = value.view().print(layout, &mut out);
@@ -79,6 +83,9 @@ fn styled_as_it_stands<W: Sink>(
     ensures text { WritesText (⟦<BufferedWriter<W> as Sink>⟧.state writer)
         (⟦<BufferedWriter<W> as Sink>⟧.state result.0)
         (printed style.entry (tree_of value.now)) result.1 }
+    ensures ran_out { IsErrOf result.1 no_memory
+        → HasRunOut (⟦<BufferedWriter<W> as Sink>⟧.state result.0)
+        (length (printed style.entry (tree_of value.now))) }
 {
     match style.indent() {
         None => as_it_stands(value, OneLine, writer),
@@ -96,6 +103,9 @@ fn styled<W: Sink>(
     ensures text { WritesText (⟦<BufferedWriter<W> as Sink>⟧.state writer)
         (⟦<BufferedWriter<W> as Sink>⟧.state result.0)
         (printed style.entry (tree_of value.now)) result.1 }
+    ensures ran_out { is_sorted style.entry ≡ false → IsErrOf result.1 no_memory
+        → HasRunOut (⟦<BufferedWriter<W> as Sink>⟧.state result.0)
+        (length (printed style.entry (tree_of value.now))) }
 {
     if style.sorted() {
         styled_in_order(alloc, value, style, writer)
@@ -106,8 +116,10 @@ fn styled<W: Sink>(
 
 // Flushes the writer where the text was written.
 fn flushed<W: Sink>(writer: W, written: Result<()>) -> (W, Result<()>)
-    ensures { (old : SinkState) (text : List ℕ) → WritesText old (W.state writer) text written
+    ensures text { (old : SinkState) (text : List ℕ) → WritesText old (W.state writer) text written
         → WritesFlushed old (W.state result.0) text result.1 }
+    ensures ran_out { (size : ℕ) → (IsErrOf written no_memory → HasRunOut (W.state writer) size)
+        → IsErrOf result.1 no_memory → HasRunOut (W.state result.0) size }
 {
     match written {
         Ok(()) => {
@@ -129,6 +141,9 @@ fn sent<W: Sink>(
     ensures text { WritesFlushed (⟦<BufferedWriter<W> as Sink>⟧.state writer)
         (⟦<BufferedWriter<W> as Sink>⟧.state result.0)
         (printed style.entry (tree_of value.now)) result.1 }
+    ensures ran_out { is_sorted style.entry ≡ false → IsErrOf result.1 no_memory
+        → HasRunOut (⟦<BufferedWriter<W> as Sink>⟧.state result.0)
+        (length (printed style.entry (tree_of value.now))) }
 {
     let (writer, written) = styled(alloc, value, style, writer);
     flushed(writer, written)
@@ -136,15 +151,18 @@ fn sent<W: Sink>(
 
 /// Writes the text of the value's tree in the style by pieces of at most 8,192 bytes, and flushes
 /// the sink. Fails with `Io` at `Writing` where the sink fails, and with `NoMemory` where memory
-/// runs out; the sink gained a prefix of the text then.
+/// runs out; the sink gained a prefix of the text then. If members are not sorted, memory runs out
+/// only before anything is written, in the sink, or for a text of 2^64 - 1 bytes or more.
 pub fn print_value<K: Sink>(
     alloc: Global,
     value: &Value,
     style: Style<'_>,
     sink: &mut K,
 ) -> Result<()>
-    ensures { Prints (K.state sink.old) (K.state sink.new) (printed style.entry (tree_of value.now))
-        result }
+    ensures prints { Prints (K.state sink.old) (K.state sink.new)
+        (printed style.entry (tree_of value.now)) result }
+    ensures ran_out { is_sorted style.entry ≡ false → RunsOutOnlyWith (K.state sink.old)
+        (K.state sink.new) (length (printed style.entry (tree_of value.now))) result }
 {
     let buffer = Buffer::new(alloc)?;
     let writer = BufferedWriter::with_buffer(buffer, LentSink::new(sink));
@@ -156,7 +174,9 @@ pub fn print_value<K: Sink>(
 /// Writes a text and flushes the sink. Fails with `Io` at `Writing` where the sink fails, and with
 /// `NoMemory` where it finds no memory; the sink gained a prefix of the text then.
 pub fn write_text<K: Sink>(sink: &mut K, text: &[u8]) -> Result<()>
-    ensures { Prints (K.state sink.old) (K.state sink.new) text.now result }
+    ensures prints { Prints (K.state sink.old) (K.state sink.new) text.now result }
+    ensures ran_out { IsErrOf result no_memory
+        → Rose (K.state sink.old).lacks (K.state sink.new).lacks }
 {
     put_all(sink, text)?;
     flush_all(sink)

@@ -1,5 +1,5 @@
 -- From the bytes of a source to a document.
-use Rattle.std.proofs.Common.{Bool, true, cond, ◌≡◌, inl, inr, ℕ, List, false, Ok, Err, Result, OnOk, refl, sym, ◌∙◌, ap}
+use Rattle.std.proofs.Common.{Bool, true, cond, ◌≡◌, ◌⊎◌, inl, inr, ℕ, List, length, false, Ok, Err, Result, OnOk, IfErr, refl, sym, ◌∙◌, ap}
 use Rattle.json_grammar.specs.Tree.{Tree}
 use Rattle.json_grammar.specs.Rules.{Rules}
 use Rattle.json_grammar.specs.Proper.{IsProper}
@@ -22,7 +22,7 @@ use Rattle.json_value.specs.declared.value.Value.{Value}
 use Rattle.json_value.specs.Denotes.{tree_of}
 use Rattle.json_command.proofs.Inputs.{no_io, no_not_found, no_type_unmatched}
 use Rattle.json_command.specs.Reading.{ReadsInput, InputFails}
-use Rattle.json_command.specs.Printing.{PrintingFails}
+use Rattle.json_command.specs.Printing.{HasRunOut, PrintingFails, Prints, RunsOutOnlyWith}
 use Rattle.reshape.specs.Reshape.{Layout, laid_out, ordered, EditingRefuses, Reshapes, Refuses}
 
 module _ (rules : Rules) where
@@ -71,10 +71,25 @@ module _ (rules : Rules) where
   editing_refused es l source source' sink tree TypeUnmatched (in_edit n) r h = (record { tree = tree; reads = r; refused = h }, refl)
   editing_refused es l source source' sink tree code place r h = absurd h
 
+  -- what holds where members are not sorted, by cases on whether they are
+  unless_sorted : (s : Bool) (A B : Type 0) → (s ≡ false → A ⊎ B) → A ⊎ (s ≡ false → B)
+  unless_sorted true A B h = inr (λ e. absurd (cc))
+  unless_sorted false A B h = elim (h refl) [ inl a ↦ inl a | inr b ↦ inr (λ e. b) ]
+
   -- the text was not written whole
-  pub printing_refused : (es : List Edit) (l : Layout) (source source' : SourceState) (sink sink' : SinkState) (tree changed : Tree) (code : ErrorCode) (place : Place) → ReadsInput rules source source' tree → edited es tree ≡ Ok changed
+  printing_refused : (es : List Edit) (l : Layout) (source source' : SourceState) (sink sink' : SinkState) (tree changed : Tree) (code : ErrorCode) (place : Place) → ReadsInput rules source source' tree → edited es tree ≡ Ok changed
+      → (l.sorts ≡ false → RunsOutOnlyWith {A = Unit {0}} sink sink' (length (laid_out l changed)) (Err (record { code = code; place = place })))
       → PrintingFails sink sink' (laid_out l changed) code place → Refuses rules es l source source' sink sink' code place
-  printing_refused es l source source' sink sink' tree changed NoMemory nowhere r a (inl same) = inl same
-  printing_refused es l source source' sink sink' tree changed NoMemory nowhere r a (inr gains) = inr (record { tree = tree; reads = r; changed = changed; applied = a; gains = gains })
-  printing_refused es l source source' sink sink' tree changed Io Writing r a h = (h.0, record { tree = tree; reads = r; changed = changed; applied = a; gains = h.1 })
-  printing_refused es l source source' sink sink' tree changed code place r a h = absurd h
+  printing_refused es l source source' sink sink' tree changed NoMemory nowhere r a k (inl same) = inl same
+  printing_refused es l source source' sink sink' tree changed NoMemory nowhere r a k (inr gains) =
+      elim (unless_sorted l.sorts (sink' ≡ sink) (HasRunOut sink' (length (laid_out l changed))) (λ s. k s refl)) [
+        | inl same ↦ inl same
+        | inr out ↦ inr (record { front = record { tree = tree; reads = r; changed = changed; applied = a; gains = gains }; cause = out })
+      ]
+  printing_refused es l source source' sink sink' tree changed Io Writing r a k h = (h.0, record { tree = tree; reads = r; changed = changed; applied = a; gains = h.1 })
+  printing_refused es l source source' sink sink' tree changed code place r a k h = absurd h
+
+  pub print_refused : (es : List Edit) (l : Layout) (source source' : SourceState) (sink sink' : SinkState) (tree changed : Tree) (r : Result (Unit {0}) Error) → ReadsInput rules source source' tree → edited es tree ≡ Ok changed → Prints sink sink' (laid_out l changed) r
+      → (l.sorts ≡ false → RunsOutOnlyWith sink sink' (length (laid_out l changed)) r) → IfErr r (λ e. Refuses rules es l source source' sink sink' e.code e.place)
+  print_refused es l source source' sink sink' tree changed (Ok u) read a p k = tt
+  print_refused es l source source' sink sink' tree changed (Err e) read a p k = printing_refused es l source source' sink sink' tree changed e.code e.place read a k p.err

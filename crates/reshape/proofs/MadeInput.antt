@@ -1,5 +1,5 @@
 -- Made input is a short text of two levels, record by record.
-use Rattle.std.proofs.Common.{◌≡◌, inl, ℕ, zero, suc, ◌+◌, ◌*◌, ◌^◌, ◌<◌, ◌≤◌, List, [], ◌∷◌, ◌++◌, length, false, refl, sym, subst, ap, ◌∙◌, arith, append_assoc, append-nil, length-append, codes, decimal, Option, Some, Result, Ok, Err, IfErr}
+use Rattle.std.proofs.Common.{◌≡◌, inl, inr, ℕ, zero, suc, ◌+◌, ◌*◌, ◌^◌, ◌<◌, ◌≤◌, List, [], ◌∷◌, ◌++◌, length, false, refl, sym, subst, ap, ◌∙◌, arith, append_assoc, append-nil, length-append, codes, decimal, Option, Some, Result, Ok, Err, IfErr, IsErrOf}
 use Rattle.std.specs.List.{flat_map, range_with_len}
 use Rattle.std.specs.Char.{encode_utf8}
 use Rattle.std.proofs.lemmas.Fmt.{length-decimal-le}
@@ -14,6 +14,7 @@ use Rattle.json_text.specs.Known.{Appends, append_known}
 use Rattle.json_text.specs.Outside.{SourceState, SinkState, Rose}
 use Rattle.json_text.specs.Ruled.{usual_rules}
 use Rattle.json_command.specs.Input.{max_bytes, IsInput}
+use Rattle.json_command.specs.Printing.{Prints}
 use Rattle.reshape.specs.Reshape.{Layout, laid_out, Reshapes}
 use Rattle.reshape.specs.Known.{KnownFit}
 use Rattle.json_command.proofs.KnownBytes.{input_known}
@@ -282,4 +283,9 @@ no_rise h = omega (arith, h)
 pub no_summary : (n : ℕ) (sink : SinkState) (r : Result (Unit {0}) Error) → n ≤ 100000 → IfErr r (λ e. e ≡ no_memory) → IfErr r (λ e. SummaryFails n sink sink e.code e.place)
 no_summary n sink (Ok x) h lacks = tt
 no_summary n sink (Err e) h lacks =
-    subst (λ e. SummaryFails n sink sink e.code e.place) (sym lacks) (record { text = summary (made n) (laid_out sorted_compact (made_tree n)); summary_is = made_summary n h; fails = inl refl })
+    subst (λ e. SummaryFails n sink sink e.code e.place) (sym lacks) (record { text = summary (made n) (laid_out sorted_compact (made_tree n)); summary_is = made_summary n h; fails = inl refl; ran_out = λ same. inl refl })
+
+-- where the summary was made, and not written whole
+pub not_written : (n : ℕ) (sink sink' : SinkState) (bytes : List ℕ) (r : Result (Unit {0}) Error) → IsSummary n bytes → Prints sink sink' bytes r → (IsErrOf r no_memory → Rose sink.lacks sink'.lacks) → IfErr r (λ e. SummaryFails n sink sink' e.code e.place)
+not_written n sink sink' bytes (Ok x) is p lacks = tt
+not_written n sink sink' bytes (Err e) is p lacks = record { text = bytes; summary_is = is; fails = p.err; ran_out = λ same. inr (lacks (ap Err same)) }

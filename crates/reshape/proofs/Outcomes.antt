@@ -18,7 +18,7 @@ use Rattle.reshape.specs.declared.edits.Edits.{Edits}
 use Rattle.reshape.specs.declared.asked_style.AskedStyle.{AskedStyle}
 use Rattle.reshape.specs.declared.command.Asked.{Asked}
 use Rattle.reshape.specs.declared.command.Asked.TheVariants.{Reshape, Made}
-use Rattle.reshape.specs.Reshape.{Layout, GainsFront, Reshapes, Refuses}
+use Rattle.reshape.specs.Reshape.{Layout, RunsOut, Reshapes, Refuses}
 use Rattle.json_command.specs.Statuses.{status_of}
 use Rattle.json_command.specs.Reporting.{Reports}
 use Rattle.reshape.specs.Run.{WithCommand, RunRefuses, Did, Fails, IsGood, IsBad, IsUnfit}
@@ -38,7 +38,7 @@ so_of words c P asked h = subst P (one_asked words h.command c h.asked asked) h.
 run_cause : (words : List (List ℕ)) (c : Command) (source source' : SourceState) (sink sink' : SinkState) (code : ErrorCode) (place : Place) → Asks words c → RunRefuses words source source' sink sink' code place
     → Refuses c.rules c.es c.layout source source' sink sink' code place
 run_cause words c source source' sink sink' NoMemory nowhere asked (inl same) = inl same
-run_cause words c source source' sink sink' NoMemory nowhere asked (inr h) = inr (so_of words c (λ c. GainsFront c.rules c.es c.layout source source' sink sink') asked h)
+run_cause words c source source' sink sink' NoMemory nowhere asked (inr h) = inr (so_of words c (λ c. RunsOut c.rules c.es c.layout source source' sink sink') asked h)
 run_cause words c source source' sink sink' BadWords nowhere asked h = absurd (h.0 (inl (c, asked)))
 run_cause words c source source' sink sink' code place asked h = so_of words c (λ c. Refuses c.rules c.es c.layout source source' sink sink' code place) asked h
 

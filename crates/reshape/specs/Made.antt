@@ -1,10 +1,12 @@
 -- A large input that is made from a number, and what is told of it and of its text.
-use Rattle.std.specs.Prelude.{◌≡◌, ℕ, zero, suc, List, [], ◌∷◌, ◌++◌, length, sum, decimal, codes, None, true, false}
+use Rattle.std.specs.Prelude.{◌≡◌, ◌⊎◌, ℕ, zero, suc, List, [], ◌∷◌, ◌++◌, length, sum, decimal, codes, None, true, false}
 use Rattle.std.specs.List.{join_by, range_with_len}
 use Rattle.json_grammar.specs.Tree.{Tree}
 use Rattle.json_grammar.specs.Grammar.{is_text}
+use Rattle.json_text.specs.Errors.{no_memory}
 use Rattle.json_text.specs.Known.{Appends}
-use Rattle.json_text.specs.Outside.{SinkState}
+use Rattle.json_text.specs.Outside.{SinkState, Rose}
+use Rattle.json_text.specs.declared.error.Error.{Error}
 use Rattle.json_text.specs.declared.error.ErrorCode.{ErrorCode}
 use Rattle.json_text.specs.declared.error.Place.{Place}
 use Rattle.reshape.specs.Reshape.{Layout, laid_out}
@@ -58,8 +60,9 @@ pub record GainsSummary (n : ℕ) (sink sink' : SinkState) : Type 0 where
   pub gains : Appends sink.gained sink'.gained text
   pub flushed : sink'.unflushed ≡ false
 
--- why the summary was not written, and that no more than a front of it was gained
+-- why the summary was not written, and that no more than a front of it was gained. Memory runs out before anything is written, or in the sink
 pub record SummaryFails (n : ℕ) (sink sink' : SinkState) (code : ErrorCode) (place : Place) : Type 0 where
   pub text : List ℕ
   pub summary_is : IsSummary n text
   pub fails : PrintingFails sink sink' text code place
+  pub ran_out : ◌≡◌ {A = Error} (record { code = code; place = place }) no_memory → (sink' ≡ sink) ⊎ Rose sink.lacks sink'.lacks

@@ -16,6 +16,7 @@ use Rattle.json_text.specs.declared.error.ErrorCode.TheVariants.{NoMemory, Io, T
 use Rattle.json_text.specs.declared.error.Place.{Place}
 use Rattle.json_text.specs.declared.error.Place.TheVariants.{None as nowhere, Reading, Writing, Edit as in_edit}
 use Rattle.json_command.specs.Input.{max_bytes}
+use Rattle.json_command.specs.Printing.{HasRunOut}
 use Rattle.json_command.specs.Reading.{ReadsInput, ReadsFault}
 
 -- how a text is laid out: the indent, or none for no whitespace between the tokens, and whether the members of each object are sorted by their keys
@@ -60,6 +61,11 @@ pub record GainsFront (rules : Rules) (es : List Edit) (l : Layout) (source sour
   pub applied : edited es tree ≡ Ok changed
   pub gains : AppendsFront sink.gained sink'.gained (laid_out l changed)
 
+-- ... before memory ran out: to sort the members, in the sink, or for a text of as many bytes as a usize counts
+pub record RunsOut (rules : Rules) (es : List Edit) (l : Layout) (source source' : SourceState) (sink sink' : SinkState) : Type 0 where
+  pub front : GainsFront rules es l source source' sink sink'
+  pub cause : l.sorts ≡ false → HasRunOut sink' (length (laid_out l front.changed))
+
 -- the place of the refusal of an edit with this number: want of memory has none
 abbrev pub place_numbered : ErrorCode → Place → ℕ → Place
 place_numbered NoMemory place number = place
@@ -74,7 +80,7 @@ EditingRefuses es tree code place = ⊥
 
 -- why it was refused, and what that left in the sink: one row for each answer
 abbrev pub Refuses : Rules → List Edit → Layout → SourceState → SourceState → SinkState → SinkState → ErrorCode → Place → Type 0
-Refuses rules es l source source' sink sink' NoMemory nowhere = (sink' ≡ sink) ⊎ GainsFront rules es l source source' sink sink'
+Refuses rules es l source source' sink sink' NoMemory nowhere = (sink' ≡ sink) ⊎ RunsOut rules es l source source' sink sink'
 Refuses rules es l source source' sink sink' Io Reading = Rose source.faults source'.faults × (sink' ≡ sink)
 Refuses rules es l source source' sink sink' TooLarge nowhere = RoseBy (max_bytes + 1) source.given source'.given × IfSome source.left (λ b. max_bytes < length b) × (sink' ≡ sink)
 Refuses rules es l source source' sink sink' NotFound (in_edit number) = ReadsUnfit rules es source source' number not_found × (sink' ≡ sink)

@@ -10,7 +10,7 @@ use Rattle.json_text.specs.FaultText.{text_of}
 use Rattle.json_model.specs.Edit.{Refusal}
 use Rattle.reshape.specs.Options.{Command, Asks, AsksMade, IsAsked}
 use Rattle.reshape.specs.Made.{GainsSummary, SummaryFails}
-use Rattle.reshape.specs.Reshape.{Reshapes, GainsFront, Refuses}
+use Rattle.reshape.specs.Reshape.{Reshapes, RunsOut, Refuses}
 use Rattle.reshape.specs.Known.{KnownFit, KnownUnfit}
 use Rattle.json_command.specs.Reading.{KnownFault}
 use Rattle.json_command.specs.Statuses.{status_of}
@@ -24,7 +24,7 @@ pub record WithCommand (words : List (List ℕ)) (holds : Command → Type 0) : 
 
 -- why a command was refused: the words are looked at before anything is read
 abbrev pub RunRefuses : List (List ℕ) → SourceState → SourceState → SinkState → SinkState → ErrorCode → Place → Type 0
-RunRefuses words source source' sink sink' NoMemory nowhere = (sink' ≡ sink) ⊎ WithCommand words (λ c. GainsFront c.rules c.es c.layout source source' sink sink')
+RunRefuses words source source' sink sink' NoMemory nowhere = (sink' ≡ sink) ⊎ WithCommand words (λ c. RunsOut c.rules c.es c.layout source source' sink sink')
 RunRefuses words source source' sink sink' BadWords nowhere = (¬ IsAsked words) × (source' ≡ source) × (sink' ≡ sink)
 RunRefuses words source source' sink sink' code place = WithCommand words (λ c. Refuses c.rules c.es c.layout source source' sink sink' code place)
 

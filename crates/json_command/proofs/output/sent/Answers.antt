@@ -1,4 +1,8 @@
 use Rattle.json_command.proofs.output.sent.Goals as goal
 
 pub returns : goal.returns
-returns g c = record { text = c.flushed.ensures _ _ c.styled-writer.ensures.text }
+returns g c =
+    record {
+      text = c.flushed.ensures.text _ _ c.styled-writer.ensures.text;
+      ran_out = λ s. c.flushed.ensures.ran_out _ (c.styled-writer.ensures.ran_out s);
+    }
