@@ -8,3 +8,5 @@ pub use Rattle.json_model.specs.Same
 pub use Rattle.json_model.specs.Sort
 pub use Rattle.json_value.specs.Denotes
 pub use Rattle.json_value.specs.Edits
+pub use Rattle.json_derive.specs.Fields
+pub use Rattle.json_explain.specs.Refused

@@ -47,6 +47,23 @@
 //! assert_eq!(rt; (error.line(), error.column()), (Some(1), Some(8)));
 //! ```
 //!
+//! # Structs, and errors that name the value
+//!
+//! A struct is read and written by a comment above it, `// json: derive`: `tools/derive` writes its
+//! impls. [`explain::from_str`] reads as [`from_str`] does. If the type refuses a value within the text,
+//! its error names the value by its path, its line and its column, or the member that is missing.
+//!
+//! ```
+//! use mezdruk_json::explain::from_str;
+//! use std::collections::BTreeMap;
+//! let text = "{\"a\": [1,\n 300]}";
+//! let read = from_str::<BTreeMap<String, Vec<u8>>>(alloc, text);
+//! let error = read.err().ok_or("no error")?;
+//! assert_eq!(rt; (error.line(), error.column()), (Some(2), Some(2)));
+//! let path = error.refusal().ok_or("no refusal")?;
+//! assert_eq!(rt; format!(in alloc; "{path}")?.as_str(), "/a/1");
+//! ```
+//!
 //! # Patches, lines, histories, services
 //!
 //! They are the modules [`patch`], [`lines`], [`history`] and [`rpc`].
@@ -68,7 +85,9 @@ pub use json_data::{
     ValueTokens, find_members, from_reader, from_slice, from_slice_unchecked, from_slice_with,
     from_str, from_value, read_members, refusal,
 };
+pub use json_derive as derive;
 pub use json_doc::{Doc, DocView, JsonType, read_document, read_document_with};
+pub use json_explain as explain;
 pub use json_history as history;
 pub use json_lines as lines;
 pub use json_number::{JsonNumberTrait, Number, RawNumber};

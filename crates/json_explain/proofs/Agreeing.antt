@@ -1,0 +1,64 @@
+-- A type refuses a tree exactly where it says where.
+use Rattle.std.proofs.Common.{refl, ℕ, suc, List, [], Option, Some, None}
+use Rattle.json_grammar.specs.Tree.{Tree, null, boolean, num, text, list, pairs, Trees, no_trees, tree_and, Pairs, no_pairs, pair_and}
+use Rattle.json_model.specs.Datum.{Rows, no_rows}
+use Rattle.json_model.specs.Edit.{Step, key_step, index_step}
+use Rattle.json_data.specs.Reading.{Reading, gives, refuses, Series, gives_all, stops, and_then, as_list, each, row_step, rows_from, put}
+use Rattle.json_explain.specs.Laws.{Agrees, Explained, WholeExplained, OptionExplained, ListExplained, MapExplained}
+use Rattle.json_explain.specs.Refused.{Refused, map_reading, reading_refused, first_refused, part_refused, elements_refused, members_refused}
+
+at_reading : (r : Reading) → Agrees r (reading_refused r)
+at_reading (gives d) = tt
+at_reading (refuses c) = refl
+
+pub whole_explained : WholeExplained
+whole_explained f t = at_reading (f t)
+
+pub option_explained : OptionExplained
+option_explained f r h null = tt
+option_explained f r h (boolean b) = h (boolean b)
+option_explained f r h (num l) = h (num l)
+option_explained f r h (text s) = h (text s)
+option_explained f r h (list ts) = h (list ts)
+option_explained f r h (pairs ps) = h (pairs ps)
+
+one_more : (x : Reading) (y : Option Refused) (s : Series) (o : Option Refused) (p : Step) → Agrees x y → Agrees (as_list s) o → Agrees (as_list (and_then x s)) (first_refused (part_refused p y) o)
+one_more (gives d) None (gives_all ds) None p h k = tt
+one_more (gives d) None (gives_all ds) (Some r) p h k = absurd k
+one_more (gives d) None (stops c) None p h k = absurd k
+one_more (gives d) None (stops c) (Some r) p h k = k
+one_more (gives d) (Some r) s o p h k = absurd h
+one_more (refuses c) None s o p h k = absurd h
+one_more (refuses c) (Some r) s o p h k = h
+
+each_explained : (f : Tree → Reading) (r : Tree → Option Refused) → Explained f r → (i : ℕ) (ts : Trees) → Agrees (as_list (each f ts)) (elements_refused r i ts)
+each_explained f r h i no_trees = tt
+each_explained f r h i (tree_and t ts) = one_more (f t) (r t) (each f ts) (elements_refused r (suc i) ts) (index_step i) (h t) (each_explained f r h (suc i) ts)
+
+pub list_explained : ListExplained
+list_explained f r h null = refl
+list_explained f r h (boolean b) = refl
+list_explained f r h (num l) = refl
+list_explained f r h (text s) = refl
+list_explained f r h (list ts) = each_explained f r h 0 ts
+list_explained f r h (pairs ps) = refl
+
+row_more : (x y : Reading) (z : Option Refused) (g : Rows → Reading) (rs : Rows) (o : Option Refused) (p : Step) → Agrees y z → ((qs : Rows) → Agrees (g qs) o)
+    → Agrees (row_step x y g rs) (first_refused (part_refused p (first_refused (reading_refused x) z)) o)
+row_more (refuses c) y z g rs o p h k = refl
+row_more (gives d) (refuses c) None g rs o p h k = absurd h
+row_more (gives d) (refuses c) (Some r) g rs o p h k = h
+row_more (gives d) (gives v) None g rs o p h k = k (put d v rs)
+row_more (gives d) (gives v) (Some r) g rs o p h k = absurd h
+
+rows_explained : (k : List ℕ → Reading) (f : Tree → Reading) (r : Tree → Option Refused) → Explained f r → (ps : Pairs) (rs : Rows) → Agrees (rows_from k f rs ps) (members_refused (map_reading k r) [] ps)
+rows_explained k f r h no_pairs rs = tt
+rows_explained k f r h (pair_and n t ps) rs = row_more (k n) (f t) (r t) (λ qs. rows_from k f qs ps) rs (members_refused (map_reading k r) [] ps) (key_step n) (h t) (λ qs. rows_explained k f r h ps qs)
+
+pub map_explained : MapExplained
+map_explained k f r h null = refl
+map_explained k f r h (boolean b) = refl
+map_explained k f r h (num l) = refl
+map_explained k f r h (text s) = refl
+map_explained k f r h (list ts) = refl
+map_explained k f r h (pairs ps) = rows_explained k f r h ps no_rows

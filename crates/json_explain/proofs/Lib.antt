@@ -1,0 +1,5 @@
+pub mod Parts
+pub mod Texts
+pub mod Agreeing
+pub mod Taken
+pub mod Trails

@@ -1,0 +1,17 @@
+use Rattle.json_grammar.specs.declared.Kind.TheVariants.{Array as array}
+use Rattle.json_grammar.specs.Tree.{Trees, begin}
+use Rattle.json_data.specs.Spots.{InArray}
+use Rattle.json_data.specs.Stand.{TakesOne}
+use Rattle.json_data.proofs.Lists.{InList}
+use Rattle.json_explain.proofs.Parts.{Passed}
+use Rattle.json_explain.proofs.containers.explain_elements.Given as goal
+
+-- the elements so far, behind any place from which on the beginning was taken
+abbrev pub invariant-each : goal.invariant-each
+invariant-each g l = (ts : Trees)
+    × ((a : _) → TakesOne g.T.Tokens.taken g.T.Tokens.stand a l.fn.tokens (begin array) → InList g.T.Tokens.taken g.T.Tokens.stand a l.tokens ts)
+    × InArray (g.T.Tokens.stand l.tokens).spot
+    × Passed g.V.Explain.refused ts l.index
+
+abbrev pub decreases-each : goal.decreases-each
+decreases-each g l = (g.T.Tokens.stand l.tokens).left

@@ -1,0 +1,17 @@
+use Rattle.json_grammar.specs.declared.Kind.TheVariants.{Object as object}
+use Rattle.json_grammar.specs.Tree.{Pairs, begin}
+use Rattle.json_data.specs.Spots.{InObject}
+use Rattle.json_data.specs.Stand.{TakesOne}
+use Rattle.json_data.proofs.Pairs.{InPairs}
+use Rattle.json_explain.proofs.Parts.{PassedMembers}
+use Rattle.json_explain.proofs.containers.explain_rest.Given as goal
+
+-- the members so far, behind any place from which on the beginning was taken
+abbrev pub invariant-each : goal.invariant-each
+invariant-each g l = (ps : Pairs)
+    × ((a : _) → TakesOne g.T.Tokens.taken g.T.Tokens.stand a l.fn.tokens (begin object) → InPairs g.T.Tokens.taken g.T.Tokens.stand a l.tokens ps)
+    × InObject (g.T.Tokens.stand l.tokens).spot
+    × PassedMembers g.M.ExplainMembers.reading (g.M.ExplainMembers.seen l.fn.members) ps (g.M.ExplainMembers.seen l.members)
+
+abbrev pub decreases-each : goal.decreases-each
+decreases-each g l = (g.T.Tokens.stand l.tokens).left

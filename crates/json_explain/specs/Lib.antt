@@ -1,0 +1,4 @@
+pub mod Refused
+pub mod Explaining
+pub mod Paths
+pub mod Laws

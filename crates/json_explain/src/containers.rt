@@ -1,0 +1,208 @@
+// Arrays and objects, part by part.
+ghost use Rattle.std.specs.Prelude.{◌≡◌, ℕ, List, Bool, Some, true, OnOk, IfOk, IfErr};
+ghost use Rattle.json_grammar.specs.declared.Kind.TheVariants.{Array as array, Object as object};
+ghost use Rattle.json_grammar.specs.Tree.{begin as begin_token};
+ghost use Rattle.json_text.specs.Errors.{no_memory};
+ghost use Rattle.json_data.specs.Pieces.{Says};
+ghost use Rattle.json_data.specs.Reader.{GivesUp};
+ghost use Rattle.json_data.specs.Spots.{IsOpen, InArray, InObject};
+ghost use Rattle.json_data.specs.Stand.{WantsValue, TakesOne, Leaves};
+ghost use Rattle.json_explain.specs.Refused.{ObjectReading, list_refused, object_refused, within as spec_within};
+ghost use Rattle.json_explain.specs.Explaining.{Explains, refused_in, refused_of, step_of};
+
+use crate::brackets::{next_name, open, pass};
+use crate::explain::Explain;
+use crate::refusal::{Refusal, Step, Wanted};
+use json_data::{Lent, Piece, TokenKind, Tokens, refusal};
+use json_grammar::Kind;
+use json_text::{ErrorCode, Result};
+use std::alloc::Global;
+
+/// The members of an object, explained one after another.
+///
+/// ```
+/// use json_data::{Lent, TextTokens, Tokens};
+/// use json_explain::{ExplainMembers, Piece, Refusal, explain_members};
+/// use json_text::ErrorCode;
+/// #[derive(Drop)]
+/// struct NoMembers(bool);
+/// impl<S: Lent> ExplainMembers<S> for NoMembers {
+///     ghost use Rattle.std.specs.Prelude.{[], true};
+///     ghost use Rattle.json_explain.specs.Refused.{struct_reading};
+///     ghost reading = { struct_reading true [] };
+///     ghost seen = { λ _. [] };
+///     fn member<T: Tokens<S>>(
+///         &mut self,
+///         alloc: Global,
+///         _: &Piece<S>,
+///         _: &str,
+///         tokens: &mut T,
+///     ) -> json_text::Result<Option<Refusal>> {
+///         tokens.skip()?;
+///         Ok(Some(Refusal::key(alloc, ErrorCode::TypeUnmatched)))
+///     }
+///     fn missing(&self, _: Global) -> json_text::Result<Option<Refusal>> {
+///         Ok(None)
+///     }
+/// }
+/// let mut members = NoMembers(true);
+/// let mut tokens = TextTokens::new("{\"a\": 1}");
+/// let refusal = explain_members(alloc, &mut members, &mut tokens)?.ok_or("no refusal")?;
+/// assert_eq!(rt; format!(in alloc; "{refusal}")?.as_str(), "/a");
+/// ```
+pub trait ExplainMembers<S: Lent>: Sized {
+    /// How the members are read.
+    ghost reading: { ObjectReading };
+
+    /// Which fields were seen.
+    ghost seen: { Self → List Bool };
+
+    /// Takes the value of the member of that key, whose text is `name`, and returns where it is refused,
+    /// or `None` if it is read.
+    fn member<T: Tokens<S>>(
+        &mut self,
+        alloc: Global,
+        key: &Piece<S>,
+        name: &str,
+        tokens: &mut T,
+    ) -> Result<Option<Refusal>>
+        requires wants { WantsValue (T.stand tokens.old) }
+        requires says { Says name.now key.now.escaped (S.bytes key.now.text) }
+        ensures ok { IfOk result (λ o. Explains T.taken T.stand (reading.member name.now)
+            tokens.old tokens.new (refused_in o)) }
+        ensures seen { OnOk result (seen self.new ≡ reading.seen (seen self.old) name.now) }
+        ensures err { IfErr result (λ e. GivesUp (T.stand tokens.old) (T.stand tokens.new) e) };
+
+    /// Returns the refusal of the object in which no member is left, if a member is missing. Fails with
+    /// `NoMemory` if memory runs out.
+    fn missing(&self, alloc: Global) -> Result<Option<Refusal>>
+        ensures ok { IfOk result (λ o. refused_in o ≡ reading.missing (seen self.now)) }
+        ensures only { IfErr result (λ e. e ≡ no_memory) };
+}
+
+// The refusal of a part, as seen from the container, whose rest is taken.
+fn leave_within<S: Lent, T: Tokens<S>>(
+    tokens: &mut T,
+    refused: Refusal,
+    step: Step,
+) -> Result<Option<Refusal>>
+    requires { IsOpen (T.stand tokens.old).spot }
+    ensures leaves { OnOk result (Leaves T.taken T.stand tokens.old tokens.new) }
+    ensures refused { IfOk result (λ o.
+        refused_in o ≡ Some (spec_within (step_of step) (refused_of refused))) }
+    ensures err { IfErr result (λ e. GivesUp (T.stand tokens.old) (T.stand tokens.new) e) }
+{
+    match tokens.leave() {
+        Ok(()) => {}
+        Err(error) => return Err(error),
+    }
+    match refused.within(step) {
+        Ok(refused) => Ok(Some(refused)),
+        Err(error) => Err(error),
+    }
+}
+
+// What is left of an array whose beginning was taken.
+fn explain_elements<S: Lent, V: Explain<S>, T: Tokens<S>>(
+    alloc: Global,
+    tokens: &mut T,
+) -> Result<Option<Refusal>>
+    requires { InArray (T.stand tokens.old).spot }
+    ensures ok { (a : T) → TakesOne T.taken T.stand a tokens.old (begin_token array)
+        → IfOk result (λ o. Explains T.taken T.stand (list_refused V.refused) a tokens.new
+        (refused_in o)) }
+    ensures err { (a : T) → TakesOne T.taken T.stand a tokens.old (begin_token array)
+        → IfErr result (λ e. GivesUp (T.stand a) (T.stand tokens.new) e) }
+{
+    let mut index: usize = 0;
+    'each: loop {
+        let kind = match tokens.peek() {
+            Ok(kind) => kind,
+            Err(error) => return Err(error),
+        };
+        if kind == TokenKind::EndArray {
+            match pass(tokens) {
+                Ok(()) => return Ok(None),
+                Err(error) => return Err(error),
+            }
+        }
+        let refused = match V::explain(alloc, tokens) {
+            Ok(refused) => refused,
+            Err(error) => return Err(error),
+        };
+        if let Some(refused) = refused {
+            return leave_within(tokens, refused, Step::Index(index));
+        }
+        index = match index.checked_add(1) {
+            Some(next) => next,
+            None => return Err(refusal(ErrorCode::NoMemory)),
+        };
+    }
+}
+
+// What is left of an object whose beginning was taken.
+fn explain_rest<S: Lent, M: ExplainMembers<S>, T: Tokens<S>>(
+    alloc: Global,
+    members: &mut M,
+    tokens: &mut T,
+) -> Result<Option<Refusal>>
+    requires { InObject (T.stand tokens.old).spot }
+    ensures ok { (a : T) → TakesOne T.taken T.stand a tokens.old (begin_token object)
+        → IfOk result (λ o. Explains T.taken T.stand
+        (object_refused M.reading (M.seen members.old)) a tokens.new (refused_in o)) }
+    ensures err { (a : T) → TakesOne T.taken T.stand a tokens.old (begin_token object)
+        → IfErr result (λ e. GivesUp (T.stand a) (T.stand tokens.new) e) }
+{
+    'each: loop {
+        let next = match next_name(tokens) {
+            Ok(next) => next,
+            Err(error) => return Err(error),
+        };
+        let key = match next {
+            Some(key) => key,
+            None => return members.missing(alloc),
+        };
+        let name = match key.copy(alloc) {
+            Ok(name) => name,
+            Err(error) => return Err(error),
+        };
+        let refused = match members.member(alloc, &key, name.as_str(), tokens) {
+            Ok(refused) => refused,
+            Err(error) => return Err(error),
+        };
+        if let Some(refused) = refused {
+            return leave_within(tokens, refused, Step::Key(name));
+        }
+    }
+}
+
+/// Takes one tree and returns where it is refused as an object with these members, or `None` if it is
+/// read.
+pub fn explain_members<S: Lent, M: ExplainMembers<S>, T: Tokens<S>>(
+    alloc: Global,
+    members: &mut M,
+    tokens: &mut T,
+) -> Result<Option<Refusal>>
+    requires { WantsValue (T.stand tokens.old) }
+    ensures ok { IfOk result (λ o. Explains T.taken T.stand
+        (object_refused M.reading (M.seen members.old)) tokens.old tokens.new (refused_in o)) }
+    ensures err { IfErr result (λ e. GivesUp (T.stand tokens.old) (T.stand tokens.new) e) }
+{
+    match open(tokens, Kind::Object) {
+        Ok(true) => explain_rest(alloc, members, tokens),
+        Ok(false) => Ok(Some(Refusal::here(alloc, ErrorCode::TypeUnmatched, Wanted::Object))),
+        Err(error) => Err(error),
+    }
+}
+
+impl<S: Lent, V: Explain<S>> Explain<S> for Vec<V> {
+    ghost refused = { list_refused V.refused };
+
+    fn explain<T: Tokens<S>>(alloc: Global, tokens: &mut T) -> Result<Option<Refusal>> {
+        match open(tokens, Kind::Array) {
+            Ok(true) => explain_elements::<S, V, T>(alloc, tokens),
+            Ok(false) => Ok(Some(Refusal::here(alloc, ErrorCode::TypeUnmatched, Wanted::Array))),
+            Err(error) => Err(error),
+        }
+    }
+}

@@ -1,0 +1,68 @@
+// Values whose refusals can be explained.
+ghost use Rattle.std.specs.Prelude.{◌≡◌, Option, true, IfOk, IfErr};
+ghost use Rattle.json_grammar.specs.Tree.{Tree};
+ghost use Rattle.json_data.specs.Reader.{GivesUp};
+ghost use Rattle.json_data.specs.Stand.{WantsValue};
+ghost use Rattle.json_explain.specs.Refused.{Refused, whole_refused};
+ghost use Rattle.json_explain.specs.Explaining.{Explains, refused_in};
+
+use crate::refusal::{Refusal, Wanted};
+use json_data::{DeserializeFrom, Lent, Tokens, is_refusal};
+use json_text::Result;
+use std::alloc::Global;
+
+/// A type of which it can be said where its reading refuses a tree.
+///
+/// ```
+/// use json_data::TextTokens;
+/// use json_explain::Explain;
+/// let mut tokens = TextTokens::new("[1, 300]");
+/// let refusal = <Vec<u8> as Explain<&str>>::explain(alloc, &mut tokens)?.ok_or("no refusal")?;
+/// assert_eq!(rt; format!(in alloc; "{refusal}")?.as_str(), "/1");
+/// ```
+///
+/// `tools/derive` writes the impl of a struct. A type that refuses whole values alone needs one call:
+///
+/// ```text
+/// impl<S: Lent> Explain<S> for Colour {
+///     ghost refused = { whole_refused ⟦<Colour as DeserializeFrom<S>>⟧.from_tree };
+///
+///     fn explain<T: Tokens<S>>(alloc: Global, tokens: &mut T) -> Result<Option<Refusal>> {
+///         explain_whole::<S, Colour, T>(alloc, tokens, Wanted::String)
+///     }
+/// }
+/// ```
+pub trait Explain<S: Lent>: DeserializeFrom<S> + Drop {
+    /// Where the reading of a tree refuses it, if it does.
+    ghost refused: { Tree → Option Refused };
+
+    /// Takes one tree and returns where it is refused, or `None` if it is read.
+    fn explain<T: Tokens<S>>(alloc: Global, tokens: &mut T) -> Result<Option<Refusal>>
+        requires { WantsValue (T.stand tokens.old) }
+        ensures ok { IfOk result (λ o.
+            Explains T.taken T.stand refused tokens.old tokens.new (refused_in o)) }
+        ensures err { IfErr result (λ e. GivesUp (T.stand tokens.old) (T.stand tokens.new) e) };
+}
+
+/// Takes one tree and returns its refusal as a whole, or `None` if it is read: the body of
+/// [`Explain::explain`] of a type whose values have no parts. `wanted` says what is read.
+pub fn explain_whole<S: Lent, V: DeserializeFrom<S> + Drop, T: Tokens<S>>(
+    alloc: Global,
+    tokens: &mut T,
+    wanted: Wanted,
+) -> Result<Option<Refusal>>
+    requires { WantsValue (T.stand tokens.old) }
+    ensures ok { IfOk result (λ o. Explains T.taken T.stand (whole_refused V.from_tree)
+        tokens.old tokens.new (refused_in o)) }
+    ensures err { IfErr result (λ e. GivesUp (T.stand tokens.old) (T.stand tokens.new) e) }
+{
+    match V::deserialize(alloc, tokens) {
+        Ok(_) => Ok(None),
+        Err(error) => {
+            if is_refusal(error.code) {
+                return Ok(Some(Refusal::here(alloc, error.code, wanted)));
+            }
+            Err(error)
+        }
+    }
+}

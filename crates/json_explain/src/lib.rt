@@ -1,0 +1,28 @@
+//! Typed reading whose errors say where: the path to the innermost value that is refused, its line and
+//! column, what was wanted there and what was found, or which member is missing.
+//!
+//! ```
+//! use json_explain::from_str;
+//! let error = from_str::<Vec<bool>>(alloc, "[true, 1]").err().ok_or("no error")?;
+//! let shown = format!(in alloc; "{error}")?;
+//! assert_eq!(rt; shown.as_str(), "line 1 column 8, path \"/1\": a number, where true or false is wanted");
+//! ```
+#![tactic(auto)]
+
+mod brackets;
+mod calls;
+mod containers;
+mod explain;
+mod integers;
+pub mod laws;
+mod maps;
+mod options;
+mod place;
+mod refusal;
+mod scalars;
+
+pub use calls::{Explanation, from_str};
+pub use containers::{ExplainMembers, explain_members};
+pub use explain::{Explain, explain_whole};
+pub use json_data::Piece;
+pub use refusal::{Refusal, Step, Wanted};

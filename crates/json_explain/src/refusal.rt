@@ -1,0 +1,241 @@
+// Where a value is refused.
+ghost use Rattle.std.specs.Prelude.{◌≡◌, Some, None, IfOk, IfErr, option_map};
+ghost use Rattle.json_text.specs.Errors.{no_memory};
+ghost use Rattle.json_explain.specs.Refused.{here as spec_here, lacks_member, within as spec_within};
+ghost use Rattle.json_explain.specs.Explaining.{step_of, refused_of};
+
+use json_text::{ErrorCode, Result};
+use std::alloc::Global;
+use std::fmt;
+
+/// A step from a container to one of its values.
+///
+/// ```
+/// use json_explain::{Step, from_str};
+/// let error = from_str::<Vec<bool>>(alloc, "[true, 1]").err().ok_or("no error")?;
+/// let refusal = error.refusal().ok_or("no refusal")?;
+/// assert!(rt; matches!(refusal.steps(), [Step::Index(1)]));
+/// ```
+#[derive(Drop)]
+pub enum Step {
+    /// To the member with this key.
+    Key(String),
+    /// To the element with this index, counted from 0.
+    Index(usize),
+}
+
+/// What a type reads.
+///
+/// ```
+/// use json_explain::Wanted;
+/// assert_eq!(rt; format!(in alloc; "{}", Wanted::U8)?.as_str(), "an integer from 0 to 255");
+/// ```
+#[derive(Clone, Copy, Debug, PartialEq, Eq)]
+pub enum Wanted {
+    /// `null`.
+    Null,
+    /// `true` or `false`.
+    Boolean,
+    /// An integer of the type of that name.
+    U8,
+    U16,
+    U32,
+    U64,
+    U128,
+    I8,
+    I16,
+    I32,
+    I64,
+    I128,
+    /// An integer that lies in `i64` or in `u64`.
+    Number,
+    /// A number, or a string that is one.
+    Literal,
+    /// A string of one character.
+    Character,
+    /// A string.
+    String,
+    /// An array.
+    Array,
+    /// An object.
+    Object,
+    /// An array of keys and indexes.
+    Path,
+    /// An edit.
+    Edit,
+    /// A value of a type of the program's own.
+    Other,
+}
+
+impl Wanted {
+    // The text of it.
+    fn text(self) -> &'static str {
+        match self {
+            Wanted::Null => "null",
+            Wanted::Boolean => "true or false",
+            Wanted::U8 => "an integer from 0 to 255",
+            Wanted::U16 => "an integer from 0 to 65535",
+            Wanted::U32 => "an integer from 0 to 4294967295",
+            Wanted::U64 => "an integer from 0 to 18446744073709551615",
+            Wanted::U128 => "an integer from 0 to 2^128 - 1",
+            Wanted::I8 => "an integer from -128 to 127",
+            Wanted::I16 => "an integer from -32768 to 32767",
+            Wanted::I32 => "an integer from -2147483648 to 2147483647",
+            Wanted::I64 => "an integer from -9223372036854775808 to 9223372036854775807",
+            Wanted::I128 => "an integer from -2^127 to 2^127 - 1",
+            Wanted::Number => "an integer from -9223372036854775808 to 18446744073709551615",
+            Wanted::Literal => "a number",
+            Wanted::Character => "a string of one character",
+            Wanted::String => "a string",
+            Wanted::Array => "an array",
+            Wanted::Object => "an object",
+            Wanted::Path => "an array of keys and indexes",
+            Wanted::Edit => "an edit",
+            Wanted::Other => "another value",
+        }
+    }
+}
+
+impl fmt::Display for Wanted {
+    fn fmt<W: fmt::Write>(&self, f: &mut fmt::Formatter<W>) -> fmt::Result {
+        f.write_str(self.text())
+    }
+}
+
+/// Where a value is refused: the path to the innermost value that is refused, why, and what is wanted
+/// there. It is displayed as a JSON Pointer (RFC 6901).
+///
+/// ```
+/// use json_explain::{Wanted, from_str};
+/// let error = from_str::<Vec<u8>>(alloc, "[1,\n 300]").err().ok_or("no error")?;
+/// let refusal = error.refusal().ok_or("no refusal")?;
+/// assert_eq!(rt; format!(in alloc; "{refusal}")?.as_str(), "/1");
+/// assert_eq!(rt; refusal.wanted(), Some(Wanted::U8));
+/// ```
+#[derive(Drop)]
+pub struct Refusal {
+    // the innermost first
+    steps: Vec<Step>,
+    code: ErrorCode,
+    member: Option<String>,
+    wanted: Option<Wanted>,
+}
+
+impl Refusal {
+    /// Returns the refusal of a whole value, where `wanted` says what is read there.
+    pub fn here(alloc: Global, code: ErrorCode, wanted: Wanted) -> Refusal
+        ensures { refused_of result ≡ spec_here code }
+    {
+        Refusal {
+            steps: Vec::new(alloc),
+            code,
+            member: None,
+            wanted: Some(wanted),
+        }
+    }
+
+    /// Returns the refusal of a member because of its key.
+    pub fn key(alloc: Global, code: ErrorCode) -> Refusal
+        ensures { refused_of result ≡ spec_here code }
+    {
+        Refusal {
+            steps: Vec::new(alloc),
+            code,
+            member: None,
+            wanted: None,
+        }
+    }
+
+    /// Returns the refusal of an object in which the member of that name is missing. Fails with
+    /// `NoMemory` if memory runs out.
+    pub fn lacks(alloc: Global, member: &str) -> Result<Refusal>
+        ensures ok { IfOk result (λ r. refused_of r ≡ lacks_member member.now) }
+        ensures only { IfErr result (λ e. e ≡ no_memory) }
+    {
+        let member = String::from_str(alloc, member)?;
+        Ok(Refusal {
+            steps: Vec::new(alloc),
+            code: ErrorCode::TypeUnmatched,
+            member: Some(member),
+            wanted: None,
+        })
+    }
+
+    /// Returns the refusal as seen from the container around it. Fails with `NoMemory` if memory runs
+    /// out.
+    pub fn within(self, step: Step) -> Result<Refusal>
+        ensures ok { IfOk result (λ r. refused_of r ≡ spec_within (step_of step) (refused_of self)) }
+        ensures only { IfErr result (λ e. e ≡ no_memory) }
+    {
+        let Refusal {
+            mut steps,
+            code,
+            member,
+            wanted,
+        } = self;
+        steps.push(step)?;
+        Ok(Refusal {
+            steps,
+            code,
+            member,
+            wanted,
+        })
+    }
+
+    /// Returns the steps of the path, the innermost first.
+    pub fn steps(&self) -> &[Step]
+        ensures { result.now ≡ self.now.steps.items }
+    {
+        self.steps.as_slice()
+    }
+
+    /// Returns why the value is refused.
+    pub fn code(&self) -> ErrorCode
+        ensures { result ≡ (refused_of self.now).code }
+    {
+        self.code
+    }
+
+    /// Returns the name of the member that is missing, if the refusal is of an object without it.
+    pub fn member(&self) -> Option<&str>
+        ensures { option_map (λ s. s.now) result ≡ (refused_of self.now).member }
+    {
+        match &self.member {
+            Some(member) => Some(member.as_str()),
+            None => None,
+        }
+    }
+
+    /// Returns what is wanted in place of the value. It is `None` if the key of the value is refused, or
+    /// if a member is missing.
+    pub fn wanted(&self) -> Option<Wanted>
+        ensures { result ≡ self.now.wanted }
+    {
+        self.wanted
+    }
+}
+
+// Writes the text of a step of a JSON Pointer (RFC 6901, section 3).
+fn write_key<W: fmt::Write>(f: &mut fmt::Formatter<W>, key: &str) -> fmt::Result {
+    f.write_str("/")?;
+    for character in key.chars() {
+        match character {
+            '~' => f.write_str("~0")?,
+            '/' => f.write_str("~1")?,
+            _ => f.write_char(character)?,
+        }
+    }
+    Ok(())
+}
+
+impl fmt::Display for Refusal {
+    fn fmt<W: fmt::Write>(&self, f: &mut fmt::Formatter<W>) -> fmt::Result {
+        for step in self.steps.iter().rev() {
+            match step {
+                Step::Key(key) => write_key(f, key.as_str())?,
+                Step::Index(index) => write!(f, "/{index}")?,
+            }
+        }
+        Ok(())
+    }
+}
