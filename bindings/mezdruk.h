@@ -1,12 +1,12 @@
-/* mezdruk.h: JSON (RFC 8259) checked, edited and read by proved code.
+/* mezdruk.h: JSON (RFC 8259) checked, edited, patched and read by proved code.
  *
  * For C99 and later, and C++. Link with -lmezdruk.
  *
  * What a call does
  * ----------------
- * A text is a pointer and a length in bytes; it needs no zero at its end. A call returns its status,
- * MEZDRUK_OK or why it failed, and after a failure the fault says what is wrong and where. The output
- * of a failed call stays as it was.
+ * A text is a pointer and a length in bytes; it needs no zero at its end. A call returns its
+ * status, MEZDRUK_OK or why it failed, and after a failure the fault says what is wrong and where.
+ * The output of a failed call stays as it was.
  *
  * A result is a buffer: `length` bytes at `bytes`, with no zero after them. It stays until
  * mezdruk_free, or until it is the output of another call that succeeds, which frees what it had.
@@ -30,8 +30,9 @@
  * - malloc, realloc and free are those of one allocator, and align as C says. No call is made from
  *   a signal handler, nor in the child of a fork of a process with threads.
  *
- * No call keeps a pointer into the memory of the caller after it returns. No call writes to a global
- * or a file, waits, or ends the process. If memory runs out, a call returns MEZDRUK_NO_MEMORY.
+ * No call keeps a pointer into the memory of the caller after it returns. No call writes to a
+ * global or a file, waits, or ends the process. If memory runs out, a call returns
+ * MEZDRUK_NO_MEMORY.
  */
 #ifndef MEZDRUK_H
 #define MEZDRUK_H
@@ -52,8 +53,8 @@ typedef uint8_t mezdruk_status;
 enum {
     MEZDRUK_OK = 0,
     MEZDRUK_BAD_TEXT = 1,     /* the text is not valid */
-    MEZDRUK_BAD_ARGUMENT = 2, /* the options or the edits are not valid */
-    MEZDRUK_NOT_APPLIED = 3,  /* an edit does not apply to the text, or there is no such node */
+    MEZDRUK_BAD_ARGUMENT = 2, /* the options are not valid, or an argument cannot be read */
+    MEZDRUK_NOT_APPLIED = 3,  /* edits, a patch or a pointer do not apply, or no such node */
     MEZDRUK_NO_MEMORY = 6     /* memory ran out */
 };
 
@@ -64,7 +65,7 @@ typedef struct mezdruk_fault {
     size_t offset; /* in bytes, of the text or of the argument, or MEZDRUK_NONE */
     size_t line;   /* from 1, or 0 */
     size_t column; /* in bytes, from 1, or 0 */
-    size_t item;   /* the edit that does not apply, from 0, or MEZDRUK_NONE */
+    size_t item;   /* the edit or the operation that does not apply, from 0, or MEZDRUK_NONE */
     uint8_t code;  /* one of those below */
 } mezdruk_fault;
 
@@ -90,6 +91,9 @@ enum {
     MEZDRUK_CODE_TYPE_UNMATCHED = 20,
     MEZDRUK_CODE_NUMBER_OUT_OF_RANGE = 21,
     MEZDRUK_CODE_DUPLICATE_KEY = 25,
+    MEZDRUK_CODE_BAD_POINTER = 29,
+    MEZDRUK_CODE_BAD_PATCH = 30,
+    MEZDRUK_CODE_TEST_FAILED = 31,
     MEZDRUK_CODE_BAD_OPTIONS = 32
 };
 
@@ -132,7 +136,8 @@ typedef struct mezdruk_document {
 
 #define MEZDRUK_DOCUMENT_INIT {0, {0, 0}}
 
-/* Frees the bytes of a buffer, or a document. Both are empty then; to free an empty one does nothing. */
+/* Frees the bytes of a buffer, or a document. Both are empty then; to free an empty one does
+ * nothing. */
 void mezdruk_free(mezdruk_buffer *buffer);
 void mezdruk_free_document(mezdruk_document *document);
 
@@ -142,10 +147,34 @@ void mezdruk_free_document(mezdruk_document *document);
 mezdruk_status mezdruk_check(const uint8_t *text, size_t length, const mezdruk_options *options,
                              mezdruk_fault *fault);
 
-/* Applies edits, such as [["set",["a",0],1],["remove",[],"b"]], in turn. */
+/* Each of these returns the text of a result in `output`, laid out as the options ask. */
+
+/* Applies edits, such as [["set",["a",0],1],["remove",[],"b"]], in turn. The status is
+ * MEZDRUK_BAD_ARGUMENT if they are not edits, and MEZDRUK_NOT_APPLIED, with the number of the
+ * edit, if one does not apply. */
 mezdruk_status mezdruk_edit(const uint8_t *text, size_t length, const uint8_t *edits,
                             size_t edits_length, const mezdruk_options *options,
                             mezdruk_buffer *output, mezdruk_fault *fault);
+
+/* Applies a JSON Patch (RFC 6902). The status is MEZDRUK_BAD_ARGUMENT if the patch is not a JSON
+ * text, and MEZDRUK_NOT_APPLIED if it is no patch, or, with the number of the operation, if one is
+ * not valid or does not apply. */
+mezdruk_status mezdruk_patch(const uint8_t *text, size_t length, const uint8_t *patch,
+                             size_t patch_length, const mezdruk_options *options,
+                             mezdruk_buffer *output, mezdruk_fault *fault);
+
+/* Applies a JSON Merge Patch (RFC 7396). The status is MEZDRUK_BAD_ARGUMENT if it is not a JSON
+ * text; every other one applies. */
+mezdruk_status mezdruk_merge(const uint8_t *text, size_t length, const uint8_t *patch,
+                             size_t patch_length, const mezdruk_options *options,
+                             mezdruk_buffer *output, mezdruk_fault *fault);
+
+/* The text of the value that a JSON Pointer (RFC 6901) references. The status is
+ * MEZDRUK_BAD_ARGUMENT if the pointer is not UTF-8, and MEZDRUK_NOT_APPLIED if it is not a pointer
+ * (MEZDRUK_CODE_BAD_POINTER) or references nothing (MEZDRUK_CODE_NOT_FOUND). */
+mezdruk_status mezdruk_get(const uint8_t *text, size_t length, const uint8_t *pointer,
+                           size_t pointer_length, const mezdruk_options *options,
+                           mezdruk_buffer *output, mezdruk_fault *fault);
 
 /* ---- documents ---- */
 
@@ -177,7 +206,8 @@ typedef struct mezdruk_node {
 mezdruk_status mezdruk_parse(const uint8_t *text, size_t length, const mezdruk_options *options,
                              mezdruk_document *document, mezdruk_fault *fault);
 
-/* Each returns false, and writes nothing, if there is no such node, element or member. */
+/* Each returns false, and writes nothing, if there is no such node, element or member. An element
+ * or a member takes `index` steps: to go through all of a value, read its nodes in turn. */
 bool mezdruk_read(mezdruk_document *document, uint32_t node, mezdruk_node *shown);
 bool mezdruk_element(mezdruk_document *document, uint32_t node, size_t index, uint32_t *element);
 bool mezdruk_member(mezdruk_document *document, uint32_t node, size_t index, uint32_t *value);

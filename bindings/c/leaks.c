@@ -8,6 +8,11 @@
 static const char TEXT[] = "{\"a\": [1, -0, 1e400, {\"b\": null}], \"b\": \"\\n\", \"\": true}";
 static const char EDITS[] = "[[\"set\",[\"a\",0],{\"x\":[1.50]}]]";
 static const char UNFIT[] = "[[\"set\",[\"c\",0],1]]";
+static const char PATCH[] = "[{\"op\":\"copy\",\"from\":\"/a\",\"path\":\"/c\"}]";
+static const char FAILS[] = "[{\"op\":\"test\",\"path\":\"/a/0\",\"value\":2}]";
+static const char MERGE[] = "{\"a\":{\"z\":[1.50]},\"b\":null}";
+
+static const uint8_t *bytes(const char *text) { return (const uint8_t *)text; }
 
 static void calls(int count)
 {
@@ -15,15 +20,19 @@ static void calls(int count)
     mezdruk_buffer output = MEZDRUK_BUFFER_INIT;
     mezdruk_document document = MEZDRUK_DOCUMENT_INIT;
     mezdruk_fault fault;
-    const uint8_t *text = (const uint8_t *)TEXT;
+    const uint8_t *text = bytes(TEXT);
+    size_t length = strlen(TEXT);
     int i;
-    for (i = 0; i < count; i += 5) {
-        mezdruk_check(text, strlen(TEXT) - (size_t)(i % 2), &options, &fault);
-        mezdruk_edit(text, strlen(TEXT), (const uint8_t *)EDITS, strlen(EDITS), &options, &output,
-                     &fault);
-        mezdruk_edit(text, strlen(TEXT), (const uint8_t *)UNFIT, strlen(UNFIT), &options, &output,
-                     &fault);
-        mezdruk_parse(text, strlen(TEXT), &options, &document, &fault);
+    for (i = 0; i < count; i += 10) {
+        mezdruk_check(text, length - (size_t)(i / 10 % 2), &options, &fault);
+        mezdruk_edit(text, length, bytes(EDITS), strlen(EDITS), &options, &output, &fault);
+        mezdruk_edit(text, length, bytes(UNFIT), strlen(UNFIT), &options, &output, &fault);
+        mezdruk_patch(text, length, bytes(PATCH), strlen(PATCH), &options, &output, &fault);
+        mezdruk_patch(text, length, bytes(FAILS), strlen(FAILS), &options, &output, &fault);
+        mezdruk_merge(text, length, bytes(MERGE), strlen(MERGE), &options, &output, &fault);
+        mezdruk_get(text, length, bytes("/a/3"), 4, &options, &output, &fault);
+        mezdruk_get(text, length, bytes("/c"), 2, &options, &output, &fault);
+        mezdruk_parse(text, length, &options, &document, &fault);
         mezdruk_print(&document, document.root, &options, &output, &fault);
     }
     mezdruk_free(&output);

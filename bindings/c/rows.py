@@ -1,4 +1,7 @@
-"""Writes the worked rows of the program in the form that tests.c reads: numbers, and bytes in hex."""
+"""Writes worked rows of the programs, and of pointers, in the form that tests.c reads.
+
+A line has the name of the call, numbers, and bytes in hex.
+"""
 
 import re
 import sys
@@ -16,6 +19,30 @@ CODES = {
     )
 }
 
+PATCH_CODES = {"NotFound": 19, "TypeUnmatched": 20, "BadPointer": 29, "BadPatch": 30, "TestFailed": 31}
+
+# The document of RFC 6901, section 5, and pointers with what they reference in it.
+POINTED = (
+    '{"foo": ["bar", "baz"], "": 0, "a/b": 1, "c%d": 2, "e^f": 3, "g|h": 4, "i\\\\j": 5, '
+    '"k\\"l": 6, " ": 7, "m~n": 8}'
+)
+POINTERS = {
+    "": '{"foo":["bar","baz"],"":0,"a/b":1,"c%d":2,"e^f":3,"g|h":4,"i\\\\j":5,"k\\"l":6," ":7,"m~n":8}',
+    "/foo": '["bar","baz"]',
+    "/foo/0": '"bar"',
+    "/": "0",
+    "/a~1b": "1",
+    "/c%d": "2",
+    "/e^f": "3",
+    "/g|h": "4",
+    "/i\\j": "5",
+    '/k"l': "6",
+    "/ ": "7",
+    "/m~0n": "8",
+}
+NO_POINTERS = ["foo", "/foo/~", "/~2", "//~"]
+NOWHERE = ["/foo/2", "/foo/-", "/foo/01", "/foo/0/x", "/bar", "/foo/", "//", "/m~01n"]
+
 
 def repeated(field):
     """Returns a field with each piece as often as it says."""
@@ -30,7 +57,10 @@ def place_of(error):
     edit = re.fullmatch(r"(\w+) in edit (\d+)", error)
     if edit:
         return CODES[edit.group(1)], -1, 0, 0, int(edit.group(2))
-    return CODES.get(error, 0), -1, 0, 0, -1
+    operation = re.fullmatch(r"(\w+) in operation (\d+)", error)
+    if operation:
+        return PATCH_CODES[operation.group(1)], -1, 0, 0, int(operation.group(2))
+    return CODES.get(error, PATCH_CODES.get(error, 0)), -1, 0, 0, -1
 
 
 def options_of(words):
@@ -72,15 +102,49 @@ def rows_of(path):
             yield [repeated(field) for field in line.split("|")[:-1]]
 
 
+def call_of(words):
+    """Returns the call, its options and its argument, or None if C has no such call."""
+    request = re.fullmatch("--(patch|merge)=(.*)", words[0], re.S) if len(words) == 1 else None
+    if request:
+        return request.group(1), (254, 0, 0, 0), request.group(2).encode()
+    asked = options_of(words)
+    return asked and ("edit", asked[:4], asked[4])
+
+
+def write(call, status, place, options, *fields):
+    """Writes a row."""
+    print(call, status, *place, *options, *(field.hex() + "." for field in fields))
+
+
+def write_rows(path, calls):
+    """Writes the rows of a table that are of these calls."""
+    for text, status, output, error, *words in rows_of(path):
+        asked = call_of(words)
+        if asked and asked[0] in calls:
+            call, options, argument = asked
+            fields = (unquote_to_bytes(text), argument, unquote_to_bytes(output))
+            write(call, int(status), place_of(error), options, *fields)
+
+
+def write_pointers():
+    """Writes the rows of pointers."""
+    plain, text = (254, 0, 0, 0), POINTED.encode()
+    for pointer, output in POINTERS.items():
+        write("get", 0, (0, -1, 0, 0, -1), plain, text, pointer.encode(), output.encode())
+    for code, pointers in (("BadPointer", NO_POINTERS), ("NotFound", NOWHERE)):
+        for pointer in pointers:
+            write("get", 3, place_of(code), plain, text, pointer.encode(), b"")
+    write("get", 2, (CODES["InvalidUTF8"], 1, 1, 2, -1), plain, text, b"/\xff", b"")
+    write("get", 1, (CODES["EofWhileParsing"], 1, 1, 2, -1), plain, b"[", b"/0", b"")
+    write("get", 0, (0, -1, 0, 0, -1), (254, 0, 1, 3), b'[{"b":1e2,"a":-0}]', b"/0",
+          b'{\n  "a": -0,\n  "b": 1e2\n}')
+
+
 def main():
-    for path in sys.argv[1:]:
-        for text, status, output, error, *words in rows_of(path):
-            asked = options_of(words)
-            if asked is None:
-                continue
-            numbers = (int(status), *place_of(error), *asked[:4])
-            fields = (unquote_to_bytes(text), asked[4], unquote_to_bytes(output))
-            print(*numbers, *(field.hex() + "." for field in fields))
+    edits, patches = sys.argv[1:]
+    write_rows(edits, ("edit",))
+    write_rows(patches, ("patch", "merge"))
+    write_pointers()
 
 
 main()

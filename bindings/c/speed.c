@@ -1,5 +1,5 @@
-/* Times of the calls over a file: ./speed FILE EDITS prints the processor seconds of each call, the
- * least of several. */
+/* The time of a call over a file: ./speed CALL FILE EDITS TIMES prints the processor seconds, the
+ * least of so many calls. CALL is check, edit or parse. */
 #include "mezdruk.h"
 
 #include <stdio.h>
@@ -14,44 +14,59 @@ static double now(void)
     return (double)t.tv_sec + (double)t.tv_nsec * 1e-9;
 }
 
-static double least(double a, double b) { return a < b ? a : b; }
+/* Reads a file, or ends the process. */
+static uint8_t *read_file(const char *path, size_t *length)
+{
+    FILE *file = fopen(path, "rb");
+    uint8_t *text;
+    long end;
+    if (!file || fseek(file, 0, SEEK_END) || (end = ftell(file)) < 0)
+        exit(2);
+    rewind(file);
+    text = malloc((size_t)end + 1);
+    *length = (size_t)end;
+    if (!text || fread(text, 1, *length, file) != *length)
+        exit(2);
+    fclose(file);
+    return text;
+}
+
+static mezdruk_status call(char which, const uint8_t *text, size_t length, const char *edits)
+{
+    mezdruk_options options = MEZDRUK_OPTIONS_INIT;
+    mezdruk_buffer output = MEZDRUK_BUFFER_INIT;
+    mezdruk_document document = MEZDRUK_DOCUMENT_INIT;
+    mezdruk_fault fault;
+    mezdruk_status status;
+    if (which == 'c')
+        return mezdruk_check(text, length, &options, &fault);
+    if (which == 'p')
+        status = mezdruk_parse(text, length, &options, &document, &fault);
+    else
+        status = mezdruk_edit(text, length, (const uint8_t *)edits, strlen(edits), &options,
+                              &output, &fault);
+    mezdruk_free(&output);
+    mezdruk_free_document(&document);
+    return status;
+}
 
 int main(int count, char **arguments)
 {
-    mezdruk_options options = MEZDRUK_OPTIONS_INIT;
-    double check = 1e9, edit = 1e9, parse = 1e9, start;
-    mezdruk_fault fault;
+    double least = 1e9, start, spent;
     uint8_t *text;
-    long length;
-    FILE *file;
-    int i;
-    if (count != 3 || !(file = fopen(arguments[1], "rb")))
+    size_t length;
+    int times;
+    if (count != 5)
         return 2;
-    fseek(file, 0, SEEK_END);
-    length = ftell(file);
-    rewind(file);
-    text = malloc((size_t)length);
-    if (fread(text, 1, (size_t)length, file) != (size_t)length)
-        return 2;
-    for (i = 0; i < 7; i++) {
-        mezdruk_buffer output = MEZDRUK_BUFFER_INIT;
-        mezdruk_document document = MEZDRUK_DOCUMENT_INIT;
+    text = read_file(arguments[2], &length);
+    for (times = atoi(arguments[4]); times > 0; times--) {
         start = now();
-        if (mezdruk_check(text, (size_t)length, &options, &fault))
+        if (call(arguments[1][0], text, length, arguments[3]))
             return 1;
-        check = least(check, now() - start);
-        start = now();
-        if (mezdruk_edit(text, (size_t)length, (const uint8_t *)arguments[2],
-                         strlen(arguments[2]), &options, &output, &fault))
-            return 1;
-        edit = least(edit, now() - start);
-        start = now();
-        if (mezdruk_parse(text, (size_t)length, &options, &document, &fault))
-            return 1;
-        parse = least(parse, now() - start);
-        mezdruk_free(&output);
-        mezdruk_free_document(&document);
+        spent = now() - start;
+        least = spent < least ? spent : least;
     }
-    printf("%.6f %.6f %.6f\n", check, edit, parse);
+    printf("%.6f\n", least);
+    free(text);
     return 0;
 }

@@ -66,11 +66,30 @@ static bool same(const mezdruk_buffer *buffer, bytes text)
 
 /* ---- worked rows ---- */
 
+/* A call that changes a text, or takes a part of it. */
+typedef mezdruk_status change(const uint8_t *text, size_t length, const uint8_t *argument,
+                              size_t argument_length, const mezdruk_options *options,
+                              mezdruk_buffer *output, mezdruk_fault *fault);
+
+static const struct {
+    const char *name;
+    change *call;
+} CHANGES[] = {
+    {"edit", mezdruk_edit},
+    {"patch", mezdruk_patch},
+    {"merge", mezdruk_merge},
+    {"get", mezdruk_get},
+};
+
+enum { CHANGE_COUNT = sizeof CHANGES / sizeof *CHANGES };
+
 typedef struct {
+    char name[8];
+    change *call;
     unsigned status, code;
     long long offset, line, column, item;
     mezdruk_options options;
-    bytes input, edits, output;
+    bytes input, argument, output;
 } row;
 
 static bytes read_hex(FILE *rows)
@@ -99,12 +118,19 @@ static bytes read_hex(FILE *rows)
 static bool read_row(FILE *rows, row *r)
 {
     unsigned depth, unique, sort, indent;
-    if (fscanf(rows, "%u %u %lld %lld %lld %lld %u %u %u %u", &r->status, &r->code, &r->offset,
-               &r->line, &r->column, &r->item, &depth, &unique, &sort, &indent) != 10)
+    size_t i;
+    if (fscanf(rows, "%7s %u %u %lld %lld %lld %lld %u %u %u %u", r->name, &r->status, &r->code,
+               &r->offset, &r->line, &r->column, &r->item, &depth, &unique, &sort, &indent) != 11)
         return false;
+    r->call = NULL;
+    for (i = 0; i < CHANGE_COUNT; i++)
+        if (!strcmp(CHANGES[i].name, r->name))
+            r->call = CHANGES[i].call;
+    if (!r->call)
+        abort();
     r->options = (mezdruk_options){depth, (uint8_t)unique, (uint8_t)sort, (uint8_t)indent};
     r->input = read_hex(rows);
-    r->edits = read_hex(rows);
+    r->argument = read_hex(rows);
     r->output = read_hex(rows);
     return true;
 }
@@ -119,32 +145,41 @@ static bool is_fault(const row *r, const mezdruk_fault *fault)
         && fault->item == (r->item < 0 ? MEZDRUK_NONE : (size_t)r->item);
 }
 
-static void try_row(const row *r, long number)
+/* A text is checked and parsed as it is read before it is changed. */
+static void try_input(const row *r, long number)
 {
-    mezdruk_buffer output = MEZDRUK_BUFFER_INIT, printed = MEZDRUK_BUFFER_INIT;
     mezdruk_document document = MEZDRUK_DOCUMENT_INIT;
+    mezdruk_buffer printed = MEZDRUK_BUFFER_INIT;
     mezdruk_fault fault = {0, 0, 0, 0, 0};
-    mezdruk_status status = mezdruk_edit(r->input.at, r->input.length, r->edits.at,
-                                         r->edits.length, &r->options, &output, &fault);
-    expect(status == r->status, "the status of edit", number);
-    if (status == MEZDRUK_OK)
-        expect(same(&output, r->output), "the output of edit", number);
-    else
-        expect(output.length == 0 && is_fault(r, &fault), "the fault of edit", number);
-    status = mezdruk_check(r->input.at, r->input.length, &r->options, &fault);
+    mezdruk_status status = mezdruk_check(r->input.at, r->input.length, &r->options, &fault);
     if (r->status <= MEZDRUK_BAD_TEXT) {
         expect(status == r->status, "the status of check", number);
         expect(status == MEZDRUK_OK || is_fault(r, &fault), "the fault of check", number);
     }
     expect(mezdruk_parse(r->input.at, r->input.length, &r->options, &document, &fault) == status,
            "the status of parse", number);
-    if (status == MEZDRUK_OK && r->status == MEZDRUK_OK && r->edits.length == 2) {
+    if (status == MEZDRUK_OK && r->status == MEZDRUK_OK && r->call == mezdruk_edit
+        && r->argument.length == 2) {
         status = mezdruk_print(&document, document.root, &r->options, &printed, &fault);
         expect(status == MEZDRUK_OK && same(&printed, r->output), "the output of print", number);
     }
-    mezdruk_free(&output);
     mezdruk_free(&printed);
     mezdruk_free_document(&document);
+}
+
+static void try_row(const row *r, long number)
+{
+    mezdruk_buffer output = MEZDRUK_BUFFER_INIT;
+    mezdruk_fault fault = {0, 0, 0, 0, 0};
+    mezdruk_status status = r->call(r->input.at, r->input.length, r->argument.at,
+                                    r->argument.length, &r->options, &output, &fault);
+    expect(status == r->status, r->name, number);
+    if (status == MEZDRUK_OK)
+        expect(same(&output, r->output), "the output of a change", number);
+    else
+        expect(output.length == 0 && is_fault(r, &fault), "the fault of a change", number);
+    try_input(r, number);
+    mezdruk_free(&output);
 }
 
 static long try_rows(const char *path)
@@ -159,7 +194,7 @@ static long try_rows(const char *path)
     while (read_row(rows, &r)) {
         try_row(&r, ++number);
         free(r.input.at);
-        free(r.edits.at);
+        free(r.argument.at);
         free(r.output.at);
     }
     fclose(rows);
@@ -169,8 +204,17 @@ static long try_rows(const char *path)
 /* ---- all calls on a text ---- */
 
 static const char EDITS[] = "[[\"set\",[\"a\",0],{\"x\":[1.50]}],[\"remove\",[],\"b\"]]";
-static const char MORE[] =
-    "{\"a\":{\"z\":null,\"q\":[\"\\ud83d\\ude04\"]},\"b\":null, \"c\\/\": [[[-0]]]}";
+static const char PATCH[] =
+    "[{\"op\":\"add\",\"path\":\"/a/0\",\"value\":{\"y\":-0}},"
+    "{\"op\":\"move\",\"from\":\"/b\",\"path\":\"/c~1d\"},{\"op\":\"copy\",\"from\":\"/a\","
+    "\"path\":\"/e\"},{\"op\":\"test\",\"path\":\"/a/0/y\",\"value\":-0}]";
+static const char MERGE[] =
+    "{\"a\":{\"z\":null,\"q\":[\"\\ud83d\\ude04\"]},\"b\":null}";
+static const char POINTER[] = "/a/0";
+
+static const char *const ARGUMENTS[] = {EDITS, PATCH, MERGE, POINTER};
+
+enum { ARGUMENT_COUNT = sizeof ARGUMENTS / sizeof *ARGUMENTS };
 
 static const mezdruk_options PLAIN = MEZDRUK_OPTIONS_INIT;
 static const mezdruk_options SORTED = {20, 1, 1, MEZDRUK_SPACES(3)};
@@ -235,27 +279,38 @@ static void expect_result(mezdruk_status status, mezdruk_buffer *output, long wh
     mezdruk_free(output);
 }
 
+/* Changes a text by an argument in each way, compact and laid out. */
+static void try_changes(bytes text, bytes argument, long where)
+{
+    const mezdruk_options *const options[] = {&PLAIN, &SORTED};
+    mezdruk_buffer output = MEZDRUK_BUFFER_INIT;
+    mezdruk_fault fault;
+    size_t i, k;
+    for (i = 0; i < CHANGE_COUNT; i++)
+        for (k = 0; k < 2; k++)
+            expect_result(CHANGES[i].call(text.at, text.length, argument.at, argument.length,
+                                          options[k], &output, &fault), &output, where);
+}
+
 static void try_text(const void *from, size_t length, long where)
 {
     bytes text = copy_of(from, length);
-    bytes edits = copy_of(EDITS, strlen(EDITS)), more = copy_of(MORE, strlen(MORE));
-    mezdruk_buffer output = MEZDRUK_BUFFER_INIT;
     mezdruk_fault fault = {0, 0, 0, 0, 0};
     mezdruk_status status = mezdruk_check(text.at, length, &PLAIN, &fault);
+    size_t i;
     expect(status <= 1 || status == MEZDRUK_NO_MEMORY, "the status of a check", where);
     if (status == MEZDRUK_BAD_TEXT && fault.offset != MEZDRUK_NONE)
         expect(fault.offset <= length && fault.line > 0, "the place of a fault", where);
-    expect_result(mezdruk_edit(text.at, length, edits.at, edits.length, &PLAIN, &output, &fault),
-                  &output, where);
-    expect_result(mezdruk_edit(text.at, length, text.at, length, &SORTED, &output, &fault),
-                  &output, where);
-    expect_result(mezdruk_edit(more.at, more.length, text.at, length, &PLAIN, &output, &fault),
-                  &output, where);
+    for (i = 0; i < ARGUMENT_COUNT; i++) {
+        bytes argument = copy_of(ARGUMENTS[i], strlen(ARGUMENTS[i]));
+        try_changes(text, argument, where);
+        try_changes(argument, text, where);
+        free(argument.at);
+    }
+    try_changes(text, text, where);
     if (status != MEZDRUK_NO_MEMORY)
         read_document(text, status, where);
     free(text.at);
-    free(edits.at);
-    free(more.at);
 }
 
 /* ---- damaged texts ---- */
@@ -263,7 +318,8 @@ static void try_text(const void *from, size_t length, long where)
 static const char *const TEXTS[] = {
     "{\"a\": [1, -0, 1e400, {\"b\": null}], \"b\": \"\\ud83d\\ude04\\n\", \"\": true}",
     EDITS,
-    MORE,
+    PATCH,
+    MERGE,
     " [18446744073709551615, -9223372036854775808, 18446744073709551616, \"\xc3\xa9\"] ",
 };
 
@@ -309,16 +365,43 @@ static long try_random(long count)
 
 /* ---- memory that runs out at each request in turn ---- */
 
+/* Calls until no request is refused, and returns how often. */
+static long try_refused(change *call, bytes text, bytes argument, long where)
+{
+    mezdruk_buffer output = MEZDRUK_BUFFER_INIT;
+    mezdruk_fault fault = {0, 0, 0, 0, 0};
+    mezdruk_status status = MEZDRUK_NO_MEMORY;
+    long requests;
+    for (requests = 0; status == MEZDRUK_NO_MEMORY && requests < 1000; requests++) {
+        requests_left = requests;
+        status = call(text.at, text.length, argument.at, argument.length, &SORTED, &output, &fault);
+        requests_left = -1;
+        if (status == MEZDRUK_NO_MEMORY)
+            expect(fault.code == MEZDRUK_CODE_NO_MEMORY && output.length == 0, "a refusal", where);
+    }
+    expect(status != MEZDRUK_NO_MEMORY, "memory that never suffices", where);
+    expect_result(status, &output, where);
+    return requests;
+}
+
 static long try_refusals(void)
 {
-    const char *text = TEXTS[0];
-    long requests;
-    for (requests = 0; requests < 200; requests++) {
+    bytes text = copy_of(TEXTS[0], strlen(TEXTS[0]));
+    long count = 0, requests;
+    size_t i, k;
+    for (i = 0; i < CHANGE_COUNT; i++)
+        for (k = 0; k < ARGUMENT_COUNT; k++) {
+            bytes argument = copy_of(ARGUMENTS[k], strlen(ARGUMENTS[k]));
+            count += try_refused(CHANGES[i].call, text, argument, (long)(10 * i + k));
+            free(argument.at);
+        }
+    for (requests = 0; requests < 60; requests++, count++) {
         requests_left = requests;
-        try_text(text, strlen(text), requests);
+        read_document(text, MEZDRUK_OK, requests);
         requests_left = -1;
     }
-    return requests;
+    free(text.at);
+    return count;
 }
 
 /* ---- options ---- */

@@ -7,58 +7,22 @@ from cffi import FFI
 
 here = os.path.dirname(os.path.abspath(__file__))
 
-# Reads nodes many at a time, so that Python makes few calls.
-READER = r"""
+SOURCE = r"""
 #include "mezdruk.h"
 
-/* What tells how to make a Python value of a node. */
-enum { TAG_NULL, TAG_FALSE, TAG_TRUE, TAG_NATURAL, TAG_NEGATIVE, TAG_LITERAL, TAG_STRING,
-       TAG_OBJECT, TAG_ARRAY };
-
-static uint8_t tag_of(const mezdruk_node *node)
+/* Returns the node after the value at a node and all that is below it. */
+static uint32_t mezdruk_after(mezdruk_document *document, uint32_t node)
 {
-    switch (node->kind) {
-    case MEZDRUK_NULL: return TAG_NULL;
-    case MEZDRUK_BOOLEAN: return node->boolean ? TAG_TRUE : TAG_FALSE;
-    case MEZDRUK_STRING: return TAG_STRING;
-    case MEZDRUK_OBJECT: return TAG_OBJECT;
-    case MEZDRUK_ARRAY: return TAG_ARRAY;
+    mezdruk_node shown;
+    uint64_t left = 1;
+    for (; left && mezdruk_read(document, node, &shown); node++) {
+        left--;
+        if (shown.kind == MEZDRUK_ARRAY)
+            left += shown.length;
+        else if (shown.kind == MEZDRUK_OBJECT)
+            left += 2 * (uint64_t)shown.length;
     }
-    return node->form == MEZDRUK_NATURAL ? TAG_NATURAL
-        : node->form == MEZDRUK_NEGATIVE ? TAG_NEGATIVE : TAG_LITERAL;
-}
-
-/* Reads at most `count` nodes from `first` on, and returns how many there are. A number, or a
- * length, goes to `values`; `*texts` is how many bytes the strings and literals have. */
-static size_t mezdruk_nodes(mezdruk_document *document, uint32_t first, size_t count,
-                            uint8_t *tags, uint64_t *values, size_t *texts)
-{
-    mezdruk_node node;
-    size_t i;
-    *texts = 0;
-    for (i = 0; i < count; i++) {
-        if (!mezdruk_read(document, first + (uint32_t)i, &node))
-            break;
-        tags[i] = tag_of(&node);
-        values[i] = tags[i] == TAG_NATURAL ? node.natural
-            : tags[i] == TAG_NEGATIVE ? (uint64_t)node.negative : node.length;
-        if (tags[i] == TAG_LITERAL || tags[i] == TAG_STRING)
-            *texts += node.length;
-    }
-    return i;
-}
-
-/* Copies the bytes of the strings and literals among `count` nodes, one after the other. */
-static void mezdruk_texts(mezdruk_document *document, uint32_t first, size_t count,
-                          const uint8_t *tags, uint8_t *bytes, size_t room)
-{
-    size_t i, length;
-    for (i = 0; i < count; i++)
-        if (tags[i] == TAG_LITERAL || tags[i] == TAG_STRING) {
-            mezdruk_text(document, first + (uint32_t)i, bytes, room, &length);
-            bytes += length;
-            room -= length;
-        }
+    return node;
 }
 """
 
@@ -70,17 +34,14 @@ def declarations():
     text = re.sub(r"/\*.*?\*/", "", text, flags=re.S)
     text = re.sub(r"#ifdef __cplusplus\n.*?#e(lse|ndif)\n", "", text, flags=re.S)
     text = re.sub(r"^#.*$", "", text, flags=re.M)
-    return text + """
-size_t mezdruk_nodes(mezdruk_document *, uint32_t, size_t, uint8_t *, uint64_t *, size_t *);
-void mezdruk_texts(mezdruk_document *, uint32_t, size_t, const uint8_t *, uint8_t *, size_t);
-"""
+    return text + "uint32_t mezdruk_after(mezdruk_document *, uint32_t);"
 
 
 builder = FFI()
 builder.cdef(declarations())
 builder.set_source(
     "mezdruk._native",
-    READER,
+    SOURCE,
     include_dirs=[here],
     extra_objects=[os.path.join(here, "libmezdruk.a")],
 )

@@ -1,86 +1,105 @@
-"""Processor times of the C library beside the program, and of `loads` beside json and ujson."""
+"""Compares the C library with the programs, and `loads` with json and ujson.
 
-import decimal
+Usage: speed.py SPEED RESHAPE MEZDRUK, the built speed.c and the built programs. It prints processor
+times, and with valgrind also instructions, which other work on the machine does not change.
+"""
+
 import json
 import os
+import random
 import resource
+import shutil
 import subprocess
 import sys
 import tempfile
 
-import mezdruk
-
-EDITS = '[["set",[0,"name"],"Ada"]]'
-
-
-def records(count):
-    """Returns a text of records."""
-    row = {"id": 0, "name": "Grace Hopper", "score": 1.5, "tags": ["a", "b"], "on": True, "no": None}
-    return json.dumps([dict(row, id=i, score=i / 8) for i in range(count)])
+EDITS = {"records": '[["set",[0,"name"],"Ada"]]', "words": '[["set",[0,0],"Ada"]]'}
+SMALL = {"records": '[{"name":1}]', "words": '[[1]]'}
+READERS = {"mezdruk": "import mezdruk as m", "json": "import json as m", "ujson": "import ujson as m"}
+WORDS = "amber birch cedar dune ember fjord grove heath inlet juniper knoll lagoon".split()
 
 
-def spent():
-    """Returns the processor time of this process and of those that it waited for."""
-    spans = map(resource.getrusage, (resource.RUSAGE_SELF, resource.RUSAGE_CHILDREN))
-    return sum(span.ru_utime + span.ru_stime for span in spans)
+def records(source, size):
+    """Returns a text of records of about this size."""
+    made = []
+    for number in range(size // 165):
+        made.append({
+            "id": number, "guid": "%032x" % source.getrandbits(128), "active": source.random() < 0.5,
+            "balance": round(source.uniform(-1e6, 1e6), 2), "note": None,
+            "name": " ".join(source.choice(WORDS) for _ in range(3)),
+            "tags": [source.choice(WORDS) for _ in range(source.randrange(4))],
+        })
+    return json.dumps(made)
 
 
-def least(call, times):
-    """Returns the least time of several calls."""
-    best = float("inf")
-    for _ in range(times):
-        start = spent()
-        call()
-        best = min(best, spent() - start)
-    return best
+def words(source, size):
+    """Returns a text of lists of short strings of about this size."""
+    return json.dumps([[source.choice(WORDS)[:source.randrange(1, 8)] for _ in range(12)]
+                       for _ in range(size // 78)], separators=(",", ":"))
 
 
-def program_time(program, path):
-    """Returns the time of the program on a file, without its start."""
+def run(command, stdin=None):
+    """Runs a command, and returns its processor time and what it printed."""
+    before = resource.getrusage(resource.RUSAGE_CHILDREN)
+    with open(stdin or os.devnull, "rb") as source:
+        ran = subprocess.run(command, stdin=source, stdout=subprocess.PIPE, check=True,
+                             stderr=subprocess.DEVNULL)
+    after = resource.getrusage(resource.RUSAGE_CHILDREN)
+    return after.ru_utime + after.ru_stime - before.ru_utime - before.ru_stime, ran.stdout
 
-    def run(source, *words):
-        with open(source, "rb") as stdin:
-            subprocess.run([program, *words], stdin=stdin, stdout=subprocess.DEVNULL, check=True)
 
-    with tempfile.NamedTemporaryFile("w") as small:
-        small.write('[{"name":1}]')
-        small.flush()
-        start = least(lambda: run(small.name, EDITS), 15)
-    return least(lambda: run(path, EDITS), 7) - start
+def instructions(command, stdin=None):
+    """Returns how many instructions a command takes."""
+    with tempfile.NamedTemporaryFile("r") as counted:
+        run(["valgrind", "--tool=callgrind", f"--callgrind-out-file={counted.name}", *command], stdin)
+        return sum(int(line.split()[1]) for line in counted if line.startswith(("totals:",)))
+
+
+def beside_program(speed, call, command, path, small, edits):
+    """Prints a call beside the program, both without their start."""
+    least = min(run(command(path), path)[0] for _ in range(9)) \
+        - min(run(command(small), small)[0] for _ in range(9))
+    took = float(run([speed, call, path, edits, "9"])[1])
+    print(f"{call} {took * 1e3:.2f} ms, the program {least * 1e3:.2f} ms: {took / least:.2f}")
+    if shutil.which("valgrind"):
+        once, twice = (instructions([speed, call, path, edits, n]) for n in "12")
+        program = instructions(command(path), path) - instructions(command(small), small)
+        print(f"{call} {twice - once} instructions, the program {program}: "
+              f"{(twice - once) / program:.3f}")
+
+
+def beside_readers(path, size):
+    """Prints the time of each reader on a file."""
+    program = ("import sys, time\n{}\ntext = open(sys.argv[1], encoding='utf-8').read()\n"
+               "least = 9e9\nfor _ in range(int(sys.argv[2])):\n    start = time.process_time()\n"
+               "    read = m.loads(text)\n    least = min(least, time.process_time() - start)\n"
+               "    del read\nprint(least)")
+    for name, imported in READERS.items():
+        command = [sys.executable, "-I", "-c", program.format(imported), path]
+        took = float(run([*command, "15"])[1])
+        print(f"{name}.loads {took * 1e3:.2f} ms", end="")
+        if shutil.which("valgrind"):
+            once, twice = (instructions([*command, n]) for n in "12")
+            print(f", {(twice - once) / size:.1f} instructions a byte", end="")
+        print()
 
 
 def main():
-    speed, program = sys.argv[1:]
-    text = records(200_000)
-    with tempfile.NamedTemporaryFile("w") as file:
-        file.write(text)
-        file.flush()
-        size = os.path.getsize(file.name)
-        check, edit, parse = map(
-            float, subprocess.check_output([speed, file.name, EDITS], text=True).split()
-        )
-        print(f"{size} bytes: check {check * 1e3:.1f} ms, parse {parse * 1e3:.1f} ms, "
-              f"edit {edit * 1e3:.1f} ms")
-        if os.access(program, os.X_OK):
-            beside = program_time(program, file.name)
-            print(f"the program's edit without its start {beside * 1e3:.1f} ms: "
-                  f"the call takes {edit / beside:.2f} of it")
-    part = records(20_000)
-    readers = {
-        "mezdruk.loads": lambda: mezdruk.loads(part),
-        "mezdruk.loads, decimals": lambda: mezdruk.loads(part, parse_float=decimal.Decimal),
-        "json.loads": lambda: json.loads(part),
-        "json.loads, decimals": lambda: json.loads(part, parse_float=decimal.Decimal),
-    }
-    try:
-        import ujson
-
-        readers["ujson.loads"] = lambda: ujson.loads(part)
-    except ImportError:
-        pass
-    print(f"{len(part)} bytes")
-    for name, call in readers.items():
-        print(f"{name:26} {least(call, 5) * 1e3:8.1f} ms")
+    speed, reshape, mezdruk = sys.argv[1:]
+    for name, make in (("records", records), ("words", words)):
+        with tempfile.TemporaryDirectory() as room:
+            path, small = os.path.join(room, "text.json"), os.path.join(room, "small.json")
+            with open(path, "w", encoding="utf-8") as file:
+                file.write(make(random.Random(5), 2_000_000))
+            with open(small, "w", encoding="utf-8") as file:
+                file.write(SMALL[name])
+            size = os.path.getsize(path)
+            print(f"== {name}, {size} bytes")
+            if os.access(reshape, os.X_OK):
+                beside_program(speed, "edit", lambda _: [reshape, EDITS[name]], path, small, EDITS[name])
+            if os.access(mezdruk, os.X_OK):
+                beside_program(speed, "check", lambda p: [mezdruk, "check", p], path, small, "")
+            beside_readers(path, size)
 
 
 main()

@@ -1,12 +1,15 @@
-"""Tests of the Python package, beside json."""
+"""Tests of the Python package, beside json, jsonpatch and jsonpointer."""
 
 import decimal
 import gc
 import json
+import os
 import random
 import resource
 import threading
 
+import jsonpatch
+import jsonpointer
 import mezdruk
 import pytest
 
@@ -59,9 +62,116 @@ def test_loads_of_random_values():
         assert mezdruk.loads(text) == json.loads(text)
 
 
-def test_loads_goes_on_past_a_batch():
-    value = [{"name": str(i), "values": [i, i / 2]} for i in range(40_000)]
+def test_loads_of_many_values():
+    value = [{"name": str(i), "values": [i, i / 2], str(i % 300): None} for i in range(20_000)]
     assert mezdruk.loads(json.dumps(value)) == value
+
+
+@pytest.mark.parametrize("width", ["a", "\u00e9", "\u20ac", "\U0001f604"])
+def test_loads_of_strings_and_names_of_each_length(width):
+    for length in [*range(80), 1_000, 100_000]:
+        for string in (width * length, "b" * length + width, width + "b" * length):
+            value = {string: [string, string]}
+            for ascii_only in (True, False):
+                assert mezdruk.loads(json.dumps(value, ensure_ascii=ascii_only)) == value
+
+
+def test_equal_names_are_one_object():
+    text = json.dumps([{str(i % 1_000): 1, "n" * 50: 2, "é": 3} for i in range(3_000)])
+    names = {}
+    for made in mezdruk.loads(text):
+        for name in made:
+            assert names.setdefault(name, name) is name
+    assert len(names) == 1_002
+
+
+def test_loads_of_deep_arrays():
+    read = mezdruk.loads("[" * 1_023 + '{"a":1}' + "]" * 1_023, depth=1_024)
+    for _ in range(1_023):
+        (read,) = read
+    assert read == {"a": 1}
+
+
+def test_loads_takes_what_holds_bytes():
+    for text in (b"[1]", bytearray(b"[1]"), memoryview(b"x[1]x")[1:4]):
+        assert mezdruk.loads(text) == [1]
+    for wrong in (None, 1, [b"1"]):
+        with pytest.raises(TypeError):
+            mezdruk.loads(wrong)
+    with pytest.raises(TypeError):
+        mezdruk.loads("1", depth="1")
+    with pytest.raises(ValueError):
+        mezdruk.loads("1", depth=-1)
+
+
+def test_a_string_that_is_no_unicode():
+    with pytest.raises(mezdruk.TextError) as caught:
+        mezdruk.loads('["\ud800"]')
+    assert (caught.value.code, caught.value.offset) == ("InvalidUTF8", 2)
+
+
+def test_an_error_of_a_callback_is_raised():
+    def refuse(literal):
+        raise KeyError(literal)
+
+    text = '{"a": [1, {"b": [[], 2.5, -3, 1e400]}]}'
+    for choice, literal in (("parse_int", "1"), ("parse_float", "2.5")):
+        with pytest.raises(KeyError) as caught:
+            mezdruk.loads(text, **{choice: refuse})
+        assert caught.value.args == (literal,)
+    with pytest.raises(ValueError):
+        mezdruk.loads("9" * 5_000)
+
+
+def test_what_is_read_is_dropped():
+    class Kept:
+        count = 0
+
+        def __init__(self, literal):
+            Kept.count += 1
+            if literal == "13":
+                raise KeyError(literal)
+
+        def __del__(self):
+            Kept.count -= 1
+
+    for numbers in (10, 20):
+        text = json.dumps([{"a": [i, {"b": i}]} for i in range(numbers)])
+        try:
+            read = mezdruk.loads(text, parse_int=Kept)
+            assert Kept.count == 2 * numbers
+            del read
+        except KeyError:
+            assert numbers == 20
+        gc.collect()
+        assert Kept.count == 0
+
+
+def test_memory_that_runs_out():
+    testcapi = pytest.importorskip("_testcapi")
+    value = [{"a": [1, 2.5, "abc", "é", {}], "b": {"c": None, "n" * 50: [-1, 2**70]}}]
+    text, read = json.dumps(value), None
+    for requests in range(1_000):
+        try:
+            testcapi.set_nomemory(requests, 0)
+            read = mezdruk.loads(text)
+            break
+        except MemoryError:
+            continue
+        finally:
+            testcapi.remove_mem_hooks()
+    assert read == value
+
+
+def test_threads_read_at_once():
+    value = [{"a": i, "b": str(i)} for i in range(5_000)]
+    text, read = json.dumps(value), []
+    threads = [threading.Thread(target=lambda: read.append(mezdruk.loads(text))) for _ in range(8)]
+    for thread in threads:
+        thread.start()
+    for thread in threads:
+        thread.join()
+    assert read == [value] * 8
 
 
 def test_numbers_keep_their_literals():
@@ -136,6 +246,115 @@ def test_edit_prints_what_json_prints():
             == mezdruk.edit(mezdruk.edit(text, []), [], indent=3, sort_keys=True)
 
 
+def test_patch_is_what_jsonpatch_makes():
+    source = random.Random(7)
+    for _ in range(200):
+        before, after = random_value(source), random_value(source)
+        if not isinstance(before, (list, dict)) or not isinstance(after, (list, dict)):
+            continue
+        operations = jsonpatch.make_patch(before, after).patch
+        try:
+            wanted = jsonpatch.apply_patch(before, operations)
+        except jsonpatch.JsonPatchException:  # some patches that make_patch returns do not apply
+            with pytest.raises(mezdruk.ApplyError):
+                mezdruk.patch(json.dumps(before), operations)
+        else:
+            assert json.loads(mezdruk.patch(json.dumps(before), operations)) == wanted
+
+
+def test_a_patch_keeps_literals_and_the_layout_is_asked_for():
+    operations = '[{"op":"add","path":"/b","value":1.50},{"op":"move","from":"/a","path":"/c"}]'
+    assert mezdruk.patch('{"a": 1e400}', operations) == '{"b":1.50,"c":1e400}'
+    assert mezdruk.patch(b'{"a": 1}', operations.encode(), indent=1) == b'{\n "b": 1.50,\n "c": 1\n}'
+    assert mezdruk.merge_patch('{"b": -0, "a": 1}', '{"c": 1.50}', sort_keys=True) \
+        == '{"a":1,"b":-0,"c":1.50}'
+
+
+@pytest.mark.parametrize("operations, code, item", [
+    ([{"op": "test", "path": "/a", "value": 2}], "TestFailed", 0),
+    ([{"op": "add", "path": "/b", "value": 2}, {"op": "remove", "path": "/c"}], "NotFound", 1),
+    ([{"op": "remove", "path": "/a/b"}], "TypeUnmatched", 0),
+    ([{"op": "add", "path": "a", "value": 2}], "BadPatch", 0),
+    ([{"op": "other", "path": ""}], "BadPatch", 0),
+    ({}, "BadPatch", None),
+])
+def test_patches_that_do_not_apply(operations, code, item):
+    with pytest.raises(mezdruk.ApplyError) as caught:
+        mezdruk.patch('{"a":1}', operations)
+    assert (caught.value.code, caught.value.item) == (code, item)
+
+
+def test_texts_and_patches_that_are_no_json():
+    for call in (mezdruk.patch, mezdruk.merge_patch):
+        with pytest.raises(mezdruk.ArgumentError) as caught:
+            call("{}", "[\n")
+        assert (caught.value.code, caught.value.line) == ("EofWhileParsing", 2)
+        with pytest.raises(mezdruk.TextError):
+            call("{", "[]")
+        with pytest.raises(mezdruk.TextError):
+            call('{"a":1,"a":2}', "[]", unique_keys=True)
+        with pytest.raises(mezdruk.TextError):
+            call("[[]]", "[]", depth=1)
+
+
+def merged(target, patch):
+    """Returns what RFC 7396, section 2, makes of a target and a patch."""
+    if not isinstance(patch, dict):
+        return patch
+    target = dict(target) if isinstance(target, dict) else {}
+    for name, value in patch.items():
+        if value is None:
+            target.pop(name, None)
+        else:
+            target[name] = merged(target.get(name), value)
+    return target
+
+
+def test_merge_patch_is_that_of_the_rfc():
+    source = random.Random(8)
+    for _ in range(300):
+        target, patch = random_value(source), random_value(source)
+        made = mezdruk.merge_patch(json.dumps(target), json.dumps(patch))
+        assert json.loads(made) == merged(target, patch)
+
+
+def test_get():
+    text = '{"a/b": [10, {"m~n": 1.50}]}'
+    assert mezdruk.get(text, "/a~1b/1/m~0n") == "1.50"
+    assert mezdruk.get(text, "") == '{"a/b":[10,{"m~n":1.50}]}'
+    with pytest.raises(mezdruk.ApplyError) as caught:
+        mezdruk.get(text, "/c")
+    assert caught.value.code == "NotFound"
+    with pytest.raises(mezdruk.ApplyError) as caught:
+        mezdruk.get(text, "a")
+    assert caught.value.code == "BadPointer"
+    with pytest.raises(mezdruk.ArgumentError) as caught:
+        mezdruk.get(text, "/\udc80")
+    assert caught.value.code == "InvalidUTF8"
+
+
+def pointers_of(value, above=()):
+    """Yields the tokens of each value."""
+    yield above
+    members = value.items() if isinstance(value, dict) else enumerate(value) \
+        if isinstance(value, list) else ()
+    for step, below in members:
+        yield from pointers_of(below, (*above, str(step)))
+
+
+def test_get_is_what_jsonpointer_resolves():
+    source = random.Random(9)
+    for _ in range(100):
+        value = random_value(source)
+        text = json.dumps(value)
+        for tokens in pointers_of(value):
+            pointer = jsonpointer.JsonPointer.from_parts(tokens).path
+            assert json.loads(mezdruk.get(text, pointer)) \
+                == jsonpointer.resolve_pointer(value, pointer)
+            with pytest.raises(mezdruk.ApplyError):
+                mezdruk.get(text, pointer + "/none")
+
+
 def test_documents():
     document = mezdruk.Document('{"name": "Ada", "born": 1815, "é": [1.50, -7, true, null]}')
     root = document.root
@@ -156,6 +375,18 @@ def test_documents():
         len(root["born"])
     with pytest.raises(TypeError):
         root["born"].text
+
+
+def test_views_go_through_long_arrays_and_objects():
+    value = {str(i): [i, {"a": [None]}] for i in range(30_000)}
+    root = mezdruk.Document(json.dumps(value)).root
+    assert [name for name in root] == list(value)
+    assert [int(pair[0].literal) for _, pair in root.items()] == list(range(30_000))
+    assert sum(len(element) for element in mezdruk.Document("[" + "[[1],{}]," * 30_000 + "[]]").root) \
+        == 60_000
+    assert root["29999"].value() == value["29999"]
+    with pytest.raises(TypeError):
+        list(root["0"].items())
 
 
 def test_a_document_outlives_its_text():
@@ -183,15 +414,36 @@ def test_a_document_stays_in_its_thread():
     assert len(caught) == 1
 
 
+@pytest.mark.skipif("asan" in os.environ.get("LD_PRELOAD", ""), reason="freed memory is kept")
 def test_memory_stays_flat():
+    text = '{"a": [1, 2.50, "\\u00e9", {"b": null}], "a": 12345678901234567890123}'
+
+    def refuse(literal):
+        raise KeyError(literal)
+
     def calls(count):
         for _ in range(count):
-            mezdruk.edit('{"a": [1, 2.50]}', '[["set",["a",0],null]]')
-            mezdruk.loads('{"a": [1, 2.50]}')
+            mezdruk.edit(text, '[["set",["a"],null]]')
+            mezdruk.patch(text, '[{"op":"remove","path":"/a"}]')
+            mezdruk.merge_patch(text, '{"a":null,"b":[1]}')
+            mezdruk.get(text, "/a/3")
+            mezdruk.loads(text)
             mezdruk.is_valid("[1")
-            mezdruk.Document("[1]").root[0]
+            mezdruk.Document(text).root["a"]
+            try:
+                mezdruk.loads(text, parse_float=refuse)
+            except KeyError:
+                pass
+            try:
+                mezdruk.get(text, "/b")
+            except mezdruk.ApplyError:
+                pass
+            try:
+                mezdruk.loads(text[1:])
+            except mezdruk.TextError:
+                pass
 
-    calls(2_000)
+    calls(5_000)
     before = resource.getrusage(resource.RUSAGE_SELF).ru_maxrss
-    calls(20_000)
-    assert resource.getrusage(resource.RUSAGE_SELF).ru_maxrss - before < 4_096
+    calls(100_000)
+    assert resource.getrusage(resource.RUSAGE_SELF).ru_maxrss - before < 2_048

@@ -1,4 +1,4 @@
-"""JSON (RFC 8259) checked, edited and read by proved code.
+"""JSON (RFC 8259) checked, edited, patched and read by proved code.
 
 >>> import mezdruk
 >>> mezdruk.edit('{"a": 1, "b": 1.50}', [["set", ["a"], 2]])
@@ -12,7 +12,7 @@ mezdruk.TextError: InvalidJsonValue at offset 4, line 1 column 5
 
 from __future__ import annotations
 
-from mezdruk._calls import check, edit, is_valid
+from mezdruk._calls import check, edit, get, is_valid, merge_patch, patch
 from mezdruk._document import Document, View
 from mezdruk._errors import ApplyError, ArgumentError, Error, TextError
 from mezdruk._loads import loads
@@ -28,6 +28,9 @@ __all__ = [
     "View",
     "check",
     "edit",
+    "get",
     "is_valid",
     "loads",
+    "merge_patch",
+    "patch",
 ]

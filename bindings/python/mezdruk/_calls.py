@@ -13,8 +13,17 @@ Indent = Union[None, int, str]
 
 
 def encoded(text: Union[str, bytes]) -> bytes:
-    """Returns the bytes of a text."""
-    return text.encode("utf-8", "surrogatepass") if isinstance(text, str) else text
+    """Returns the bytes of a text. Those of a `bytearray`, which may change, are copied."""
+    if isinstance(text, str):
+        return text.encode("utf-8", "surrogatepass")
+    return text if type(text) is bytes else bytes(memoryview(text))
+
+
+def checked_depth(depth: int) -> int:
+    """Returns the depth, if texts of so many levels can be read."""
+    if not 0 <= depth <= 1024:
+        raise ValueError("depth must be from 0 to 1024")
+    return depth
 
 
 def options(
@@ -34,9 +43,8 @@ def options(
         number = len(indent) + 1
     else:
         raise ValueError("indent must be None, 0 to 8 spaces, or a tab")
-    if not 0 <= depth <= 1024:
-        raise ValueError("depth must be from 0 to 1024")
-    return ffi.new("mezdruk_options *", (depth, unique_keys, sort_keys, number))
+    asked = (checked_depth(depth), unique_keys, sort_keys, number)
+    return ffi.new("mezdruk_options *", asked)
 
 
 def _json(argument: Any) -> bytes:
@@ -101,3 +109,48 @@ def edit(
     """
     asked = options(depth, unique_keys, sort_keys, indent)
     return _changed(lib.mezdruk_edit, text, _json(edits), asked)
+
+
+def patch(
+    text: Text,
+    operations: Union[str, bytes, Sequence[Any]],
+    *,
+    indent: Indent = None,
+    sort_keys: bool = False,
+    depth: int = 254,
+    unique_keys: bool = False,
+) -> Text:
+    """Returns the text with a JSON Patch (RFC 6902) applied."""
+    asked = options(depth, unique_keys, sort_keys, indent)
+    return _changed(lib.mezdruk_patch, text, _json(operations), asked)
+
+
+def merge_patch(
+    text: Text,
+    patch: Any,
+    *,
+    indent: Indent = None,
+    sort_keys: bool = False,
+    depth: int = 254,
+    unique_keys: bool = False,
+) -> Text:
+    """Returns the text with a JSON Merge Patch (RFC 7396) applied.
+
+    A patch that is a `str` or `bytes` is taken as a JSON text.
+    """
+    asked = options(depth, unique_keys, sort_keys, indent)
+    return _changed(lib.mezdruk_merge, text, _json(patch), asked)
+
+
+def get(
+    text: Text,
+    pointer: str,
+    *,
+    indent: Indent = None,
+    sort_keys: bool = False,
+    depth: int = 254,
+    unique_keys: bool = False,
+) -> Text:
+    """Returns the text of the value that a JSON Pointer (RFC 6901) references."""
+    asked = options(depth, unique_keys, sort_keys, indent)
+    return _changed(lib.mezdruk_get, text, encoded(pointer), asked)

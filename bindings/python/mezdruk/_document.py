@@ -3,7 +3,7 @@
 from __future__ import annotations
 
 import threading
-from typing import Any, Callable, Iterator, Tuple, Union
+from typing import Any, Iterator, Tuple, Union
 
 from mezdruk._calls import Indent, encoded, options
 from mezdruk._errors import fail
@@ -77,9 +77,9 @@ class View:
 
     def __getitem__(self, step: Union[int, str]) -> View:
         if isinstance(step, str):
-            for name, value in self.items():
+            for name, node in self._members():
                 if name == step:
-                    return value
+                    return View(self._document, node)
             raise KeyError(step)
         index = step + len(self) if step < 0 else step
         node = ffi.new("uint32_t *")
@@ -89,16 +89,26 @@ class View:
 
     def __iter__(self) -> Iterator[Any]:
         if self._shown.kind == lib.MEZDRUK_OBJECT:
-            return iter([self._name(i) for i in range(len(self))])
-        return (self[i] for i in range(len(self)))
+            return (name for name, _ in self._members())
+        return self._elements()
 
     def items(self) -> Iterator[Tuple[str, View]]:
         """The names and values of an object, in their order."""
-        node = ffi.new("uint32_t *")
-        for i in range(len(self)):
-            if not lib.mezdruk_member(self._document.handle(), self._node, i, node):
-                raise TypeError(f"a value of kind {self.kind} has no members")
-            yield self._name(i), View(self._document, node[0])
+        return ((name, View(self._document, node)) for name, node in self._members())
+
+    def _elements(self) -> Iterator[View]:
+        node = self._node + 1
+        for _ in range(len(self)):
+            yield View(self._document, node)
+            node = lib.mezdruk_after(self._document.handle(), node)
+
+    def _members(self) -> Iterator[Tuple[str, int]]:
+        if self._shown.kind != lib.MEZDRUK_OBJECT:
+            raise TypeError(f"a value of kind {self.kind} has no members")
+        node = self._node + 1
+        for _ in range(len(self)):
+            yield self._copied(node), node + 1
+            node = lib.mezdruk_after(self._document.handle(), node + 1)
 
     @property
     def literal(self) -> str:
@@ -109,14 +119,14 @@ class View:
             return str(self._shown.negative)
         if self._shown.kind != lib.MEZDRUK_NUMBER:
             raise TypeError(f"a value of kind {self.kind} has no literal")
-        return self._copied(lib.mezdruk_text, self._node)
+        return self._copied(self._node)
 
     @property
     def text(self) -> str:
         """The string."""
         if self._shown.kind != lib.MEZDRUK_STRING:
             raise TypeError(f"a value of kind {self.kind} is no string")
-        return self._copied(lib.mezdruk_text, self._node)
+        return self._copied(self._node)
 
     def value(self, **choices: Any) -> Any:
         """Returns the value as Python objects; the choices are those of `loads`."""
@@ -140,17 +150,14 @@ class View:
     def __str__(self) -> str:
         return self.print()
 
-    def _name(self, index: int) -> str:
-        return self._copied(lib.mezdruk_name, self._node, index)
-
-    def _copied(self, call: Callable[..., bool], *where: int) -> str:
+    def _copied(self, node: int) -> str:
         handle = self._document.handle()
         length = ffi.new("size_t *")
         room = 64
         while True:
             copy = ffi.new("uint8_t[]", room)
-            if not call(handle, *where, copy, room, length):
-                raise IndexError(where)
+            if not lib.mezdruk_text(handle, node, copy, room, length):
+                raise IndexError(node)
             if length[0] <= room:
                 return bytes(ffi.buffer(copy, length[0])).decode()
             room = length[0]

@@ -28,6 +28,9 @@ _NAMES = {
     lib.MEZDRUK_CODE_TYPE_UNMATCHED: "TypeUnmatched",
     lib.MEZDRUK_CODE_NUMBER_OUT_OF_RANGE: "NumberOutOfRange",
     lib.MEZDRUK_CODE_DUPLICATE_KEY: "DuplicateKey",
+    lib.MEZDRUK_CODE_BAD_POINTER: "BadPointer",
+    lib.MEZDRUK_CODE_BAD_PATCH: "BadPatch",
+    lib.MEZDRUK_CODE_TEST_FAILED: "TestFailed",
     lib.MEZDRUK_CODE_BAD_OPTIONS: "BadOptions",
 }
 
@@ -38,8 +41,8 @@ class Error(ValueError):
     """Why a call failed.
 
     `code` is the name of the error. `offset`, `line` and `column` are the position in bytes, with
-    lines and columns counted from 1, or None. `item` is the index of the edit that does not apply,
-    or None.
+    lines and columns counted from 1, or None. `item` is the index of the edit or the operation that
+    does not apply, or None.
     """
 
     def __init__(
@@ -70,11 +73,11 @@ class TextError(Error):
 
 
 class ArgumentError(Error):
-    """The options or the edits are not valid."""
+    """The options, the edits, the patch or the pointer are not valid."""
 
 
 class ApplyError(Error):
-    """An edit does not apply to the text."""
+    """An edit, a patch or a pointer does not apply to the text."""
 
 
 _CLASSES = {
@@ -86,13 +89,20 @@ _CLASSES = {
 
 def fail(status: int, fault: Any) -> NoReturn:
     """Raises the error of a status and a fault."""
+    fail_with(status, fault.code, fault.offset, fault.line, fault.column, fault.item)
+
+
+def fail_with(
+    status: int, code: int, offset: int, line: int, column: int, item: int
+) -> NoReturn:
+    """Raises the error of a status and of what a fault has."""
     if status == lib.MEZDRUK_NO_MEMORY:
         raise MemoryError
-    placed = fault.offset != _NONE
+    placed = offset != _NONE
     raise _CLASSES[status](
-        _NAMES.get(fault.code, str(fault.code)),
-        fault.offset if placed else None,
-        fault.line if placed else None,
-        fault.column if placed else None,
-        fault.item if fault.item != _NONE else None,
+        _NAMES.get(code, str(code)),
+        offset if placed else None,
+        line if placed else None,
+        column if placed else None,
+        item if item != _NONE else None,
     )

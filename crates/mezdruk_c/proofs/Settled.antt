@@ -1,18 +1,20 @@
 -- What a status and a fault tell of an outcome.
 use Rattle.std.proofs.Common.{◌≡◌, ◌≢◌, ◌⊎◌, inl, inr, ℕ, List, Result, Ok, Err, OnOk, IfErr, refl, sym, subst, ap, ◌∙◌, arith}
 use Rattle.json_grammar.specs.Rules.{Rules}
+use Rattle.json_patch.specs.declared.error.PatchCode.{PatchCode}
+use Rattle.json_patch.specs.declared.error.PatchCode.TheVariants as patch
 use Rattle.json_text.specs.Errors.{number_of}
 use Rattle.json_text.specs.declared.error.ErrorCode.{ErrorCode}
 use Rattle.json_text.specs.declared.error.ErrorCode.TheVariants.{NoMemory, NotFound, TypeUnmatched}
 use Rattle.json_text.specs.declared.error.Place.{Place}
 use Rattle.json_text.specs.declared.error.Place.TheVariants.{None as nowhere}
 use Rattle.mezdruk_c.specs.declared.failure.Failure.{Failure}
-use Rattle.mezdruk_c.specs.declared.failure.Failure.TheVariants.{Options as bad_options, Argument, Text}
+use Rattle.mezdruk_c.specs.declared.failure.Failure.TheVariants.{Options as bad_options, Argument, Text, Patch}
 use Rattle.mezdruk_c.specs.declared.fault.Fault.{Fault}
 use Rattle.mezdruk_c.specs.declared.options.Options.{Options}
 use Rattle.mezdruk_c.specs.Asked.{HasRules, rules_asked}
 use Rattle.mezdruk_c.specs.Checking.{CheckFails}
-use Rattle.mezdruk_c.specs.Failures.{argument_status_of, text_status_of, status_of}
+use Rattle.mezdruk_c.specs.Failures.{argument_status_of, text_status_of, patch_status_of, status_of}
 use Rattle.mezdruk_c.specs.Faults.{Fails, Settles, fault_at}
 use Rattle.json_command.specs.Input.{IsValid, InputFault}
 use Rattle.mezdruk_c.specs.Texts.{TextFails}
@@ -30,10 +32,15 @@ text_some NotFound e = omega (arith, e)
 text_some TypeUnmatched e = omega (arith, e)
 text_some c e = omega (arith, e)
 
+patch_some : (c : PatchCode) → patch_status_of c ≢ 0
+patch_some patch.NoMemory e = omega (arith, e)
+patch_some c e = omega (arith, e)
+
 pub status_some : (f : Failure) → status_of f ≢ 0
 status_some bad_options e = omega (arith, e)
 status_some (Argument x) e = argument_some x.code e
 status_some (Text x) e = text_some x.code e
+status_some (Patch x) e = patch_some x.code e
 
 -- ---- a success and a failure
 
@@ -56,6 +63,7 @@ valid_check : (o : Options) (b : List ℕ) (f : Failure) → HasRules o → IsVa
 valid_check o b bad_options has valid why = absurd (why has)
 valid_check o b (Text e) has valid why = valid_fails (rules_asked o) b e.code e.place valid why.1
 valid_check o b (Argument e) has valid why = absurd why
+valid_check o b (Patch e) has valid why = absurd why
 
 pub check_complete : (r : Result (Unit {0}) Failure) (n : ℕ) (fault : Fault) (o : Options) (b : List ℕ) → Settles r n fault → IfErr r (CheckFails o b) → HasRules o → IsValid (rules_asked o) b → (n ≡ 0) ⊎ (n ≡ 6)
 check_complete (Ok x) n fault o b s why has valid = inl s
@@ -87,6 +95,7 @@ told_check : (o : Options) (b : List ℕ) (f : Failure) (n : ℕ) (fault : Fault
 told_check o b bad_options n fault code place has s why h = absurd (why has)
 told_check o b (Text e) n fault code place has s why h = told_text (rules_asked o) b n fault code e.code place e.place s.0 s.1 h why.1
 told_check o b (Argument e) n fault code place has s why h = absurd why
+told_check o b (Patch e) n fault code place has s why h = absurd why
 
 pub check_exact : (r : Result (Unit {0}) Failure) (n : ℕ) (fault : Fault) (o : Options) (b : List ℕ) (code : ErrorCode) (place : Place) → Settles r n fault → OnOk r (HasRules o × IsValid (rules_asked o) b) → IfErr r (CheckFails o b) → HasRules o
     → InputFault (rules_asked o) b code place → Told code place n fault

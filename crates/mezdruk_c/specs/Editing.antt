@@ -56,3 +56,4 @@ abbrev pub EditFails : Options → List ℕ → List ℕ → Failure → Type 0
 EditFails o text edits bad_options = ¬ (AreOptions o)
 EditFails o text edits (Argument e) = (e.code ≡ NoMemory) ⊎ ((es : List Edit) → ¬ (Spells edits es))
 EditFails o text edits (Text e) = FailsOnText o text edits e.code e.place
+EditFails o text edits failure = ⊥

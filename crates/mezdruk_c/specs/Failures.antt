@@ -2,8 +2,10 @@
 use Rattle.std.specs.Prelude.{ℕ}
 use Rattle.json_text.specs.declared.error.ErrorCode.{ErrorCode}
 use Rattle.json_text.specs.declared.error.ErrorCode.TheVariants.{NoMemory, NotFound, TypeUnmatched}
+use Rattle.json_patch.specs.declared.error.PatchCode.{PatchCode}
+use Rattle.json_patch.specs.declared.error.PatchCode.TheVariants as patch
 use Rattle.mezdruk_c.specs.declared.failure.Failure.{Failure}
-use Rattle.mezdruk_c.specs.declared.failure.Failure.TheVariants.{Options, Argument, Text}
+use Rattle.mezdruk_c.specs.declared.failure.Failure.TheVariants.{Options, Argument, Text, Patch}
 
 -- of an argument that could not be read
 abbrev pub argument_status_of : ErrorCode → ℕ
@@ -17,8 +19,14 @@ text_status_of NotFound = 3
 text_status_of TypeUnmatched = 3
 text_status_of code = 1
 
+-- of a patch that does not apply
+abbrev pub patch_status_of : PatchCode → ℕ
+patch_status_of patch.NoMemory = 6
+patch_status_of code = 3
+
 -- of a failure
 abbrev pub status_of : Failure → ℕ
 status_of Options = 2
 status_of (Argument e) = argument_status_of e.code
 status_of (Text e) = text_status_of e.code
+status_of (Patch e) = patch_status_of e.code

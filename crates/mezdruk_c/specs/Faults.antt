@@ -3,8 +3,9 @@ use Rattle.std.specs.Prelude.{◌≡◌, ℕ, ◌-◌, ◌^◌, Option, Some, No
 use Rattle.json_text.specs.Errors.{number_of}
 use Rattle.json_text.specs.declared.error.Place.{Place}
 use Rattle.json_text.specs.declared.error.Place.TheVariants.{At, Edit}
+use Rattle.json_patch.specs.Errors.{number_of as patch_number}
 use Rattle.mezdruk_c.specs.declared.failure.Failure.{Failure}
-use Rattle.mezdruk_c.specs.declared.failure.Failure.TheVariants.{Options, Argument, Text}
+use Rattle.mezdruk_c.specs.declared.failure.Failure.TheVariants.{Options, Argument, Text, Patch}
 use Rattle.mezdruk_c.specs.declared.fault.Fault.{Fault}
 use Rattle.mezdruk_c.specs.Failures.{status_of}
 
@@ -32,6 +33,7 @@ abbrev pub fault_of : Failure → Fault
 fault_of Options = fault_with 32 no_number
 fault_of (Argument e) = fault_at (number_of e.code) e.place
 fault_of (Text e) = fault_at (number_of e.code) e.place
+fault_of (Patch e) = fault_in (patch_number e.code) e.op
 
 -- a status and a fault tell an outcome
 abbrev pub Settles : Result (Unit {0}) Failure → ℕ → Fault → Type 0

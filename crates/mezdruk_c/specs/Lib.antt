@@ -12,7 +12,9 @@ pub mod Layouts
 pub mod Nodes
 pub mod Owned
 pub mod Parsing
+pub mod Patching
 pub mod Payloads
+pub mod Pointing
 pub mod PrintedNodes
 pub mod Shown
 pub mod Texts

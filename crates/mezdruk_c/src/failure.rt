@@ -1,7 +1,8 @@
 // Why a call failed.
 ghost use Rattle.std.specs.Prelude.{◌≡◌};
-ghost use Rattle.mezdruk_c.specs.Failures.{argument_status_of, text_status_of, status_of};
+ghost use Rattle.mezdruk_c.specs.Failures.{argument_status_of, text_status_of, patch_status_of, status_of};
 
+use json_patch::{PatchCode, PatchError};
 use json_text::{Error, ErrorCode};
 
 /// Why a call failed.
@@ -13,6 +14,8 @@ pub enum Failure {
     Argument(Error),
     /// The text is not valid, an edit does not apply to it, or memory ran out.
     Text(Error),
+    /// The pointer is not valid, or the patch or the pointer does not apply, or memory ran out.
+    Patch(PatchError),
 }
 
 // Returns the status of an argument that could not be read.
@@ -36,6 +39,16 @@ fn text_status(code: ErrorCode) -> u8
     }
 }
 
+// Returns the status of a patch that does not apply.
+fn patch_status(code: PatchCode) -> u8
+    ensures { result ≡ patch_status_of code }
+{
+    match code {
+        PatchCode::NoMemory => 6,
+        _ => 3,
+    }
+}
+
 impl Failure {
     /// Returns the status: 1 if the text is not valid, 2 if the options, the edits or the patch are
     /// not, 3 if a change does not apply, and 6 if memory ran out.
@@ -46,6 +59,7 @@ impl Failure {
             Failure::Options => 2,
             Failure::Argument(error) => argument_status(error.code),
             Failure::Text(error) => text_status(error.code),
+            Failure::Patch(error) => patch_status(error.code),
         }
     }
 }

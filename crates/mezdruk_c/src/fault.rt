@@ -83,6 +83,7 @@ impl Fault {
             Failure::Options => Fault::unplaced(BAD_OPTIONS, NONE),
             Failure::Argument(error) => Fault::at(error.code.number(), error.place),
             Failure::Text(error) => Fault::at(error.code.number(), error.place),
+            Failure::Patch(error) => Fault::in_operation(error.code.number(), error.op),
         }
     }
 }

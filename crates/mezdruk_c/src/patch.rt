@@ -1,0 +1,103 @@
+// Patching a text.
+ghost use Rattle.std.specs.Prelude.{◌≡◌, ◌≢◌, IfOk, IfErr};
+ghost use Rattle.mezdruk_c.specs.Buffers.{buffer_bytes};
+ghost use Rattle.mezdruk_c.specs.Patching.{PatchesText, PatchFails, MergesText, MergeFails};
+ghost use Rattle.mezdruk_c.specs.Faults.{Fails};
+
+use crate::buffer::Buffer;
+use crate::failure::Failure;
+use crate::fault::{Fault, give};
+use crate::options::Options;
+use crate::values::{read_patch, read_value, write_value};
+use json_patch::{apply_merge, apply_patch};
+use json_value::View;
+use std::alloc::Global;
+
+// Returns the text of what a patch makes of a text.
+#[tactic(auto, using(crate::proofs::PatchedTexts::argument_not_patched, crate::proofs::PatchedTexts::text_not_patched, crate::proofs::PatchedTexts::patch_no_memory))]
+fn patched(alloc: Global, text: &[u8], patch: &[u8], options: &Options) -> Result<Buffer, Failure>
+    ensures done { IfOk result (λ b. PatchesText options.now text.now patch.now (buffer_bytes b)) }
+    ensures failed { IfErr result (PatchFails options.now text.now patch.now) }
+{
+    let Some(asked) = options.asked() else {
+        return Err(Failure::Options);
+    };
+    let doc = match read_patch(alloc, patch) {
+        Ok(doc) => doc,
+        Err(failure) => return Err(failure),
+    };
+    let mut value = match read_value(alloc, text, asked.rules) {
+        Ok(value) => value,
+        Err(failure) => return Err(failure),
+    };
+    match apply_patch(alloc, &mut value, View::packed(doc.view())) {
+        Ok(()) => write_value(alloc, &value, asked.style),
+        Err(error) => Err(Failure::Patch(error)),
+    }
+}
+
+// Returns the text of what a merge patch makes of a text.
+#[tactic(auto, using(crate::proofs::PatchedTexts::argument_not_merged, crate::proofs::PatchedTexts::text_not_merged, crate::proofs::PatchedTexts::merge_no_memory))]
+fn merged(alloc: Global, text: &[u8], patch: &[u8], options: &Options) -> Result<Buffer, Failure>
+    ensures done { IfOk result (λ b. MergesText options.now text.now patch.now (buffer_bytes b)) }
+    ensures failed { IfErr result (MergeFails options.now text.now patch.now) }
+{
+    let Some(asked) = options.asked() else {
+        return Err(Failure::Options);
+    };
+    let doc = match read_patch(alloc, patch) {
+        Ok(doc) => doc,
+        Err(failure) => return Err(failure),
+    };
+    let mut value = match read_value(alloc, text, asked.rules) {
+        Ok(value) => value,
+        Err(failure) => return Err(failure),
+    };
+    match apply_merge(alloc, &mut value, View::packed(doc.view())) {
+        Ok(()) => write_value(alloc, &value, asked.style),
+        Err(error) => Err(Failure::Patch(error)),
+    }
+}
+
+/// Patches a JSON text (RFC 6902): returns the text of what the patch makes of its value in
+/// `output`. Returns 0, or else the status, and writes the fault: 1 for a text that is not valid, 2
+/// for options or a patch that are not JSON texts, 3 for a patch that does not apply, and 6 if
+/// memory ran out. The output stays then.
+#[unsafe(no_mangle)]
+pub extern "C" fn mezdruk_patch(
+    alloc: Global,
+    text: &[u8],
+    operations: &[u8],
+    options: &Options,
+    output: &mut Buffer,
+    fault: &mut Fault,
+) -> u8
+    ensures done { result ≡ 0
+        → PatchesText options.now text.now operations.now (buffer_bytes output.new) }
+    ensures failed { result ≢ 0
+        → Fails (PatchFails options.now text.now operations.now) result fault.new }
+    ensures kept { result ≢ 0 → output.new ≡ output.old }
+{
+    give(patched(alloc, text, operations, options), output, fault)
+}
+
+/// Merges a patch into a JSON text (RFC 7396): returns the text of what the merge patch makes of
+/// its value in `output`. Returns 0, or else the status, and writes the fault: 1 for a text that is
+/// not valid, 2 for options or a patch that are not, and 6 if memory ran out. The output stays then.
+#[unsafe(no_mangle)]
+pub extern "C" fn mezdruk_merge(
+    alloc: Global,
+    text: &[u8],
+    patch: &[u8],
+    options: &Options,
+    output: &mut Buffer,
+    fault: &mut Fault,
+) -> u8
+    ensures done { result ≡ 0
+        → MergesText options.now text.now patch.now (buffer_bytes output.new) }
+    ensures failed { result ≢ 0
+        → Fails (MergeFails options.now text.now patch.now) result fault.new }
+    ensures kept { result ≢ 0 → output.new ≡ output.old }
+{
+    give(merged(alloc, text, patch, options), output, fault)
+}

@@ -1,0 +1,81 @@
+// The value that a pointer references in a text.
+ghost use Rattle.std.specs.Prelude.{◌≡◌, ◌≢◌, IfOk, IfErr};
+ghost use Rattle.mezdruk_c.specs.Buffers.{buffer_bytes};
+ghost use Rattle.mezdruk_c.specs.Pointing.{GetsText, GetFails, IsPointed, PointingFails};
+ghost use Rattle.mezdruk_c.specs.Faults.{Fails};
+ghost use Rattle.json_value.specs.Denotes.{tree_of};
+
+use crate::buffer::Buffer;
+use crate::failure::Failure;
+use crate::fault::{Fault, give};
+use crate::options::Options;
+use crate::values::{read_value, write_value};
+use json_patch::{PatchCode, PatchError, Pointer};
+use json_text::check_utf8;
+use json_value::Value;
+use std::alloc::Global;
+
+// Returns the value that the pointer references.
+fn value_at(alloc: Global, value: &Value, pointer: &str) -> Result<Value, Failure>
+    ensures found { IfOk result (λ v. IsPointed (tree_of value.now) pointer.now (tree_of v)) }
+    ensures failed { IfErr result (PointingFails (tree_of value.now) pointer.now) }
+{
+    let pointer = match Pointer::parse(alloc, pointer) {
+        Ok(pointer) => pointer,
+        Err(error) => return Err(Failure::Patch(error)),
+    };
+    match pointer.find(value.view()) {
+        Some(view) => match view.to_value(alloc) {
+            Ok(part) => Ok(part),
+            Err(error) => Err(Failure::Text(error)),
+        },
+        None => Err(Failure::Patch(PatchError {
+            code: PatchCode::NotFound,
+            op: None,
+        })),
+    }
+}
+
+// Returns the text of the value that the pointer references in a text.
+fn get(alloc: Global, text: &[u8], pointer: &[u8], options: &Options) -> Result<Buffer, Failure>
+    ensures done { IfOk result (λ b. GetsText options.now text.now pointer.now (buffer_bytes b)) }
+    ensures failed { IfErr result (GetFails options.now text.now pointer.now) }
+{
+    let Some(asked) = options.asked() else {
+        return Err(Failure::Options);
+    };
+    let pointer = match check_utf8(pointer) {
+        Ok(pointer) => pointer,
+        Err(error) => return Err(Failure::Argument(error)),
+    };
+    let value = match read_value(alloc, text, asked.rules) {
+        Ok(value) => value,
+        Err(failure) => return Err(failure),
+    };
+    match value_at(alloc, &value, pointer) {
+        Ok(part) => write_value(alloc, &part, asked.style),
+        Err(failure) => Err(failure),
+    }
+}
+
+/// Returns the text of the value that a pointer (RFC 6901) references in a JSON text in `output`.
+/// Returns 0, or else the status, and writes the fault: 1 for a text that is not valid, 2 for
+/// options that are not or a pointer that is not UTF-8, 3 for a pointer that is not valid or that
+/// references no value, and 6 if memory ran out. The output stays then.
+#[unsafe(no_mangle)]
+pub extern "C" fn mezdruk_get(
+    alloc: Global,
+    text: &[u8],
+    pointer: &[u8],
+    options: &Options,
+    output: &mut Buffer,
+    fault: &mut Fault,
+) -> u8
+    ensures done { result ≡ 0
+        → GetsText options.now text.now pointer.now (buffer_bytes output.new) }
+    ensures failed { result ≢ 0
+        → Fails (GetFails options.now text.now pointer.now) result fault.new }
+    ensures kept { result ≢ 0 → output.new ≡ output.old }
+{
+    give(get(alloc, text, pointer, options), output, fault)
+}
