@@ -1,5 +1,5 @@
 # Completion of the arguments of `mezdruk lines` for bash; `tools/mezdruk.bash` sources it.
-_lines() {
+_mezdruk_lines() {
     local word=${COMP_WORDS[COMP_CWORD]} given=" ${COMP_WORDS[*]:1:COMP_CWORD-1} " words=""
     COMPREPLY=()
     # --has=PATH comes as three words, since bash breaks words at an equals sign.
@@ -10,4 +10,4 @@ _lines() {
     mapfile -t COMPREPLY < <(compgen -W "$words" -- "$word")
     [[ ${COMPREPLY[*]} == --has= ]] && compopt -o nospace
 }
-complete -o default -F _lines mezdruk-lines
+complete -o default -F _mezdruk_lines mezdruk-lines

@@ -1,15 +1,16 @@
-# Completion of `mezdruk` for bash: `source tools/mezdruk.bash` completes `./mezdruk` too.
-# A program joins with a file PROGRAM.bash beside this one that defines `_PROGRAM` for its arguments.
-_mezdruk_tools=$(cd "$(dirname "${BASH_SOURCE[0]}")" && pwd)
-_mezdruk_programs=""
-for _mezdruk_file in "$_mezdruk_tools"/*.bash; do
-    _mezdruk_name=$(basename "$_mezdruk_file" .bash)
-    [[ $_mezdruk_name == mezdruk || $_mezdruk_name == '*' ]] && continue
-    source "$_mezdruk_file"
-    _mezdruk_programs+=" $_mezdruk_name"
-done
-unset _mezdruk_tools _mezdruk_file _mezdruk_name
+# Completion of `mezdruk` for bash, and of the script: `source tools/mezdruk.bash` completes `./mezdruk`.
+# The arguments of a program are completed by its own file beside this one.
 _mezdruk_commands="fmt check get edit set insert push remove patch merge"
+_mezdruk_programs="reshape lines rpc history"
+_mezdruk_folder=$(dirname "${BASH_SOURCE[0]}")
+for _mezdruk_name in $_mezdruk_programs json_patch; do
+    for _mezdruk_file in "$_mezdruk_name.bash" "mezdruk-$_mezdruk_name" "$_mezdruk_name"; do
+        [[ -f $_mezdruk_folder/$_mezdruk_file ]] || continue
+        source "$_mezdruk_folder/$_mezdruk_file"
+        break
+    done
+done
+unset _mezdruk_folder _mezdruk_file _mezdruk_name
 # The options of a command. Where none is offered, bash completes the names of files.
 _mezdruk_command() {
     local word=${COMP_WORDS[COMP_CWORD]} given=" ${COMP_WORDS[*]:2:COMP_CWORD-2} " words=""
@@ -26,9 +27,10 @@ _mezdruk_command() {
             words+=" --compact --pretty --indent= --tabs"
         [[ $given =~ \ --sort-keys\  ]] || words+=" --sort-keys"
     fi
-    [[ $given =~ \ --unique-keys\  ]] || words+=" --unique-keys"
-    [[ $given =~ \ --depth[\ =] ]] || words+=" --depth="
-    [[ $given =~ \ --(lines|stream)\  ]] || words+=" --lines --stream"
+    [[ $given =~ \ --(unique-keys|stream)\  ]] || words+=" --unique-keys"
+    [[ $given =~ \ --(depth|stream)[\ =] ]] || words+=" --depth="
+    [[ $given =~ \ --(lines|stream)\  ]] || words+=" --lines"
+    [[ $given =~ \ --(lines|stream|unique-keys|depth)[\ =] ]] || words+=" --stream"
     [[ $command != get || $given =~ \ --raw\  ]] || words+=" --raw"
     [[ $command == check || $command == get || $given =~ \ (-i|--in-place)\  ]] ||
         words+=" --in-place"
@@ -41,21 +43,22 @@ _mezdruk_command() {
     [[ ${#COMPREPLY[@]} == 1 && ${COMPREPLY[0]} == *= ]] && compopt -o nospace
 }
 _mezdruk() {
-    local word=${COMP_WORDS[COMP_CWORD]} words=$_mezdruk_programs
-    local first=${COMP_WORDS[1]}
+    local word=${COMP_WORDS[COMP_CWORD]} first=${COMP_WORDS[1]} programs=$_mezdruk_programs words=""
+    # A path leads to the script, which also builds the programs.
+    local script=""
+    [[ ${COMP_WORDS[0]} == */* ]] && script=yes programs+=" json_patch"
     COMPREPLY=()
     if ((COMP_CWORD == 1)); then
-        words+=" $_mezdruk_commands --help --version"
-        [[ -z $_mezdruk_programs ]] || words+=" --build"
-    elif [[ " $_mezdruk_programs " == *" $first "* ]]; then
+        words="$programs $_mezdruk_commands --help --version${script:+ --build}"
+    elif [[ $script && $first == --build ]]; then
+        words="$programs mezdruk"
+    elif [[ " $programs " == *" $first "* ]]; then
         COMP_WORDS=("${COMP_WORDS[@]:1}")
         ((COMP_CWORD -= 1))
-        "_$first"
+        "_mezdruk_$first"
         return
     elif [[ " $_mezdruk_commands " == *" $first "* ]]; then
         _mezdruk_command
-        return
-    elif [[ $first != --build ]]; then
         return
     fi
     mapfile -t COMPREPLY < <(compgen -W "$words" -- "$word" | sort -u)

@@ -1,5 +1,5 @@
 # Completion of the arguments of `reshape` for bash; `tools/mezdruk.bash` sources it too.
-_reshape() {
+_mezdruk_reshape() {
     local word=${COMP_WORDS[COMP_CWORD]} given=" ${COMP_WORDS[*]:1:COMP_CWORD-1} " words=""
     COMPREPLY=()
     # --indent=N, --depth=N and --make=N come as three words, since bash breaks words at an equals sign.
@@ -19,4 +19,4 @@ _reshape() {
         compopt -o nospace
     fi
 }
-complete -o default -F _reshape reshape
+complete -o default -F _mezdruk_reshape reshape

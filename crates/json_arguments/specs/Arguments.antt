@@ -114,3 +114,14 @@ with_setting s (setting.Depth n) = cond (is_some s.depth) None (Some (record s {
 with_setting s setting.Raw = cond s.raw None (Some (record s { raw = true }))
 with_setting s setting.InPlace = cond s.in_place None (Some (record s { in_place = true }))
 with_setting s (setting.Input f) = cond (is_some s.input) None (Some (record s { input = Some f }))
+
+-- the documents of an input follow one another
+abbrev pub reads_stream : Settings → Bool
+reads_stream s = elim s.input [ Some f ↦ elim f [ Stream ↦ true | Lines ↦ false ] | None ↦ false ]
+
+-- a stream is read by the usual rules, and options ask for others
+abbrev pub rules_of_stream : Settings → Setting → Bool
+rules_of_stream s setting.UniqueKeys = reads_stream s
+rules_of_stream s (setting.Depth n) = reads_stream s
+rules_of_stream s (setting.Input Stream) = s.unique || is_some s.depth
+rules_of_stream s _ = false

@@ -8,7 +8,7 @@ use Rattle.json_arguments.specs.declared.setting.Setting.TheVariants.{InPlace}
 use Rattle.json_arguments.specs.declared.setting.Settings.{Settings}
 use Rattle.json_arguments.specs.declared.line.Role.{Role}
 use Rattle.json_arguments.specs.declared.line.Role.TheVariants as role
-use Rattle.json_arguments.specs.Arguments.{verb_in, setting_in, takes, source_in, operands_of, is_option, is_standard_input, no_settings, with_setting}
+use Rattle.json_arguments.specs.Arguments.{verb_in, setting_in, takes, source_in, operands_of, is_option, is_standard_input, no_settings, with_setting, rules_of_stream}
 use Rattle.json_arguments.specs.Operands.{IsOperand}
 
 -- what the arguments so far ask for
@@ -70,9 +70,9 @@ in_place_and_input _ files = false
 abbrev pub has_no_operands : Asked → Bool
 has_no_operands s = length s.operands == 0 && length s.files == 0
 
--- each option is asked for once; a file for the operand comes before operands and files
+-- each option is asked for once, and none for rules of a stream; a file for the operand comes before operands and files
 abbrev pub allows : Asked → List ℕ → Role → Bool
-allows s w (role.Setting x) = is_some (with_setting s.settings x) && not (in_place_and_input x s.files)
+allows s w (role.Setting x) = is_some (with_setting s.settings x) && (not (in_place_and_input x s.files) && not (rules_of_stream s.settings x))
 allows s w role.Source = is_some (source_named s w) && (not (is_some s.source) && has_no_operands s)
 allows s w role.File = not (is_standard_input w && s.settings.in_place)
 allows s w role.Unknown = false
@@ -106,7 +106,7 @@ after s w = add s w (role_in s w)
 
 -- ---- all arguments
 
--- there is a command, no operand is missing, and there is a file where files are changed in place
+-- there is a command, no operand is missing, and there is a file if files are changed in place
 abbrev pub is_complete : Asked → Bool
 is_complete s = is_some s.verb && not (is_some (missing_operand s)) && not (length s.files == 0 && s.settings.in_place)
 

@@ -18,7 +18,7 @@ indent_text Compact = None
 indent_text (Spaces n) = Some (spaces_up_to_8 n)
 indent_text Tab = Some (9 ∷ [])
 
--- the layout where no option asks for one: two spaces for fmt, and compact for the other commands
+-- the layout if no option asks for one: two spaces for fmt, and compact for the other commands
 abbrev pub usual_layout : Verb → Layout
 usual_layout Fmt = Spaces 2
 usual_layout _ = Compact

@@ -30,7 +30,7 @@ pub struct Arguments<'a> {
     pub verb: Verb,
     /// What the options ask for.
     pub settings: Settings,
-    /// The file that has the edits or the patch, where an option names one.
+    /// The file that has the edits or the patch, if an option names one.
     pub source: Option<&'a str>,
     /// The values of the operands.
     pub operands: Vec<Value>,
@@ -40,8 +40,8 @@ pub struct Arguments<'a> {
 
 /// Returns what the arguments ask for: a command, options and operands of it in any order, and files;
 /// after `--` no argument is an option. Fails with `Invalid` at the first argument with which no list
-/// of arguments is valid, with `Incomplete` where more arguments would make the list valid, and with
-/// `OutOfMemory` where memory runs out.
+/// of arguments is valid, with `Incomplete` if more arguments would make the list valid, and with
+/// `OutOfMemory` if memory runs out.
 pub fn read_arguments(alloc: Global, words: &Words) -> Result<Arguments<'_>, ArgumentsError>
     ensures ok { IfOk result (λ a. Asks words.now a) }
     ensures err { IfErr result (λ e. Refuses words.now e) }

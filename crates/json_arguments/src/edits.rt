@@ -38,8 +38,8 @@ fn edits_value(alloc: Global, verb: Verb, operands: Vec<Value>) -> Result<Value>
 }
 
 /// Returns the edits that a command with these operands asks for: of `edit` those of its operand, and
-/// of `set`, `insert`, `push` and `remove` the one edit of that name. Fails with `TypeUnmatched` where
-/// they are no edits, and with `NoMemory` where memory runs out.
+/// of `set`, `insert`, `push` and `remove` the one edit of that name. Fails with `TypeUnmatched` if
+/// they are no edits, and with `NoMemory` if memory runs out.
 ///
 /// ```
 /// use json_arguments::{Verb, edits_of};

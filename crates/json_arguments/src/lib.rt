@@ -12,6 +12,7 @@
 //! let arguments = read_arguments(alloc, &words).map_err(|_| "not valid")?;
 //! assert_eq!(rt; arguments.verb, Verb::Set);
 //! assert_eq!(rt; arguments.files.as_slice(), ["package.json"].as_slice());
+//! drop(arguments);
 //! words.push("--indet=4")?;
 //! let error = read_arguments(alloc, &words).err().ok_or("valid")?;
 //! assert!(rt; matches!(error, ArgumentsError::Invalid { index: 4, .. }));

@@ -109,7 +109,7 @@ impl<'a> Line<'a> {
         }
     }
 
-    // The operand that comes next, where the command has one more.
+    // The operand that comes next, if the command has one more.
     fn missing_operand(&self) -> Option<OperandKind>
         ensures { (s : Asked) → Holds self.now s → result ≡ missing_operand s }
     {
@@ -148,7 +148,7 @@ impl<'a> Line<'a> {
         }
     }
 
-    // Adds an option, unless there is one of its kind.
+    // Adds an option, unless it does not go with those before it.
     fn take_setting(&mut self, setting: Setting) -> Result<(), Refusal>
         ensures ok { OnOk result ((s : Asked) (w : List ℕ) → Holds self.old s
             → Takes self.new s w (Role.Setting setting)) }
@@ -158,6 +158,9 @@ impl<'a> Line<'a> {
     {
         if self.changes_input(setting) {
             return Err(Refusal::Invalid(Problem::StandardInput));
+        }
+        if self.settings.has_stream_rules_with(setting) {
+            return Err(Refusal::Invalid(Problem::StreamRules));
         }
         match self.settings.with(setting) {
             Some(settings) => {

@@ -145,8 +145,8 @@ fn has_form(alloc: Global, kind: OperandKind, value: &Value) -> Result<bool, Ref
 }
 
 /// Returns the value that the text of an operand spells: of a JSON Pointer a string, and else the
-/// value of the JSON text. Fails where the text is no JSON text by the usual rules, or the value has
-/// not the form of the operand, and where memory runs out.
+/// value of the JSON text. Fails if the text is no JSON text by the usual rules, or the value has
+/// not the form of the operand, and if memory runs out.
 ///
 /// ```
 /// use json_arguments::{OperandKind, read_operand};

@@ -22,6 +22,8 @@ pub enum Problem {
     Repeated,
     /// Standard input cannot be changed in place.
     StandardInput,
+    /// A stream is read by the usual rules, and options ask for others.
+    StreamRules,
     /// It names the file of an operand after an operand or a file.
     Late,
     /// It is no JSON text.
@@ -35,7 +37,7 @@ pub enum Problem {
     WrongForm {
         /// The operand.
         kind: OperandKind,
-        /// The number of the first element that is no edit or no step, from 0, where there is one.
+        /// The number of the first element that is no edit or no step, from 0, if there is one.
         element: Option<usize>,
     },
 }

@@ -30,7 +30,7 @@ const OPTIONS: [&str; 14] = [
     "--merge=",
 ];
 
-// Returns the word of a list that is nearest, where it is near: at most 2 letters differ.
+// Returns the word of a list that is nearest, if it is near: at most 2 letters differ.
 fn nearest<'a>(alloc: Global, word: &str, list: &[&'a str]) -> Result<Option<&'a str>, AllocError> {
     let mut found = None;
     let mut least = 3;
@@ -56,7 +56,7 @@ fn suggest(text: &mut String, near: Option<&str>) -> Result<(), AllocError> {
     }
 }
 
-// Returns the name of an option with the equals sign, where it has one.
+// Returns the name of an option with the equals sign, if it has one.
 fn name_of(word: &str) -> &str {
     match word.split_once('=') {
         Some((name, _)) => name,
@@ -64,7 +64,7 @@ fn name_of(word: &str) -> &str {
     }
 }
 
-// Returns what the value of an option has to be, where the option has one.
+// Returns what the value of an option has to be, if the option has one.
 fn value_wanted(name: &str) -> Option<&'static str> {
     match name {
         "--indent" => Some("takes a number from 0 to 8"),
@@ -105,7 +105,7 @@ fn unknown_command(alloc: Global, word: &str) -> Result<String, AllocError> {
     Ok(text)
 }
 
-// Returns what is wrong with an option where one of its kind was there.
+// Returns what is wrong with an option if one of its kind was there.
 fn repeated_option(alloc: Global, word: &str) -> Result<String, AllocError> {
     match Setting::of_word(word) {
         Some(Setting::Layout(_)) => format!(in alloc; "`{word}` asks for a second layout"),
@@ -163,6 +163,9 @@ fn problem_text(alloc: Global, word: &str, problem: &Problem) -> Result<String, 
         Problem::StandardInput => {
             format!(in alloc; "`{word}`: standard input cannot be changed in place")
         }
+        Problem::StreamRules => {
+            format!(in alloc; "`{word}`: --stream goes with no --unique-keys and no --depth=N")
+        }
         Problem::Late => {
             format!(in alloc; "`{word}`: the option has to come before operands and files")
         }
@@ -180,7 +183,7 @@ fn missing_text(alloc: Global, missing: Missing) -> Result<String, AllocError> {
     }
 }
 
-// Returns the word of an index, or an empty one where there is none.
+// Returns the word of an index, or an empty one if there is none.
 fn word_at(words: &Words, index: usize) -> &str {
     if index < words.len() {
         words.word(index)
@@ -189,7 +192,7 @@ fn word_at(words: &Words, index: usize) -> &str {
     }
 }
 
-// Adds the name of the program, that of the command where it is one, and a newline.
+// Adds the name of the program, that of the command if it is one, and a newline.
 fn report_of(alloc: Global, words: &Words, text: &str) -> Result<String, AllocError> {
     match Verb::of_word(word_at(words, 0)) {
         Some(verb) => format!(in alloc; "mezdruk {}: {text}\n", verb.name()),
@@ -198,7 +201,7 @@ fn report_of(alloc: Global, words: &Words, text: &str) -> Result<String, AllocEr
 }
 
 /// Returns the report of arguments that are refused: the program, the command, and what is wrong with
-/// the argument that the error names, or what is missing; and a newline. Fails where memory runs out.
+/// the argument that the error names, or what is missing; and a newline. Fails if memory runs out.
 ///
 /// ```
 /// use json_arguments::{arguments_report, read_arguments};
@@ -228,7 +231,7 @@ pub fn arguments_report(
 }
 
 /// Returns the report of a file in which an operand was looked for: the program, the command, the
-/// file and what is wrong with it; and a newline. Fails where memory runs out.
+/// file and what is wrong with it; and a newline. Fails if memory runs out.
 ///
 /// ```
 /// use json_arguments::{OperandKind, Problem, file_report};

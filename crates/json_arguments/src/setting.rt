@@ -1,6 +1,6 @@
 // The options of the commands.
 ghost use Rattle.std.specs.Prelude.{◌≡◌, option_map};
-ghost use Rattle.json_arguments.specs.Arguments.{width_in, layout_in, depth_in, setting_in, setting_with_value as value_setting, with_setting, no_settings};
+ghost use Rattle.json_arguments.specs.Arguments.{width_in, layout_in, depth_in, setting_in, setting_with_value as value_setting, with_setting, no_settings, reads_stream as is_stream, rules_of_stream};
 
 use json_command::option_number;
 
@@ -77,19 +77,19 @@ pub enum Setting {
 /// ```
 #[derive(Clone, Copy, Debug, PartialEq, Eq)]
 pub struct Settings {
-    /// The layout, where one is asked for.
+    /// The layout, if one is asked for.
     pub layout: Option<Layout>,
     /// Whether members are sorted by their keys.
     pub sorted: bool,
     /// Whether the keys of each object have to differ.
     pub unique: bool,
-    /// The greatest number of levels, where one is asked for.
+    /// The greatest number of levels, if one is asked for.
     pub depth: Option<u32>,
     /// Whether a string is printed by its content.
     pub raw: bool,
     /// Whether files are changed in place.
     pub in_place: bool,
-    /// Which documents each input has, where that is asked for.
+    /// Which documents each input has, if that is asked for.
     pub input: Option<InputForm>,
 }
 
@@ -137,7 +137,7 @@ fn setting_with_value(word: &str) -> Option<Setting>
 }
 
 impl Setting {
-    /// Returns what an option asks for, or `None` where it is unknown.
+    /// Returns what an option asks for, or `None` if it is unknown.
     pub(crate) fn of_word(word: &str) -> Option<Setting>
         ensures { result ≡ setting_in word.now }
     {
@@ -169,7 +169,7 @@ impl Settings {
         }
     }
 
-    /// Returns the settings with one more option, or `None` where there is such an option.
+    /// Returns the settings with one more option, or `None` if there is such an option.
     pub(crate) fn with(self, setting: Setting) -> Option<Settings>
         ensures { result ≡ with_setting self setting }
     {
@@ -200,6 +200,25 @@ impl Settings {
                 ..self
             }),
             _ => None,
+        }
+    }
+
+    // Whether the documents of an input follow one another.
+    fn reads_stream(self) -> bool
+        ensures { result ≡ is_stream self }
+    {
+        self.input == Some(InputForm::Stream)
+    }
+
+    /// Returns whether there would be a stream, and an option that asks for other rules than the
+    /// usual ones, by which a stream is read.
+    pub(crate) fn has_stream_rules_with(self, setting: Setting) -> bool
+        ensures { result ≡ rules_of_stream self setting }
+    {
+        match setting {
+            Setting::UniqueKeys | Setting::Depth(_) => self.reads_stream(),
+            Setting::Input(InputForm::Stream) => self.unique || self.depth.is_some(),
+            _ => false,
         }
     }
 }

@@ -41,7 +41,7 @@ impl Layout {
 }
 
 impl Settings {
-    /// Returns the layout for a command: two spaces for `fmt` and compact for the others where no
+    /// Returns the layout for a command: two spaces for `fmt` and compact for the others if no
     /// option asks for one.
     pub fn layout_for(self, verb: Verb) -> Layout
         ensures { result ≡ layout_asked self verb }
@@ -67,8 +67,8 @@ impl Settings {
         }
     }
 
-    /// Returns the rules by which documents are read: 254 levels at most where no option asks for
-    /// another number, which is 1,024 at most, and keys that may repeat where none forbids it.
+    /// Returns the rules by which documents are read: 254 levels at most if no option asks for
+    /// another number, which is 1,024 at most, and keys that may repeat if none forbids it.
     pub fn rules(self) -> Rules
         ensures { rules_of result ≡ rules_asked self }
     {

@@ -69,7 +69,7 @@ fn is_edit(alloc: Global, view: View<'_>) -> bool {
     }
 }
 
-/// Returns the number of the first element, from 0, that is no edit or no step, or `None` where the
+/// Returns the number of the first element, from 0, that is no edit or no step, or `None` if the
 /// value is no array or the operand is none.
 pub(crate) fn first_unspelled(alloc: Global, kind: OperandKind, value: &Value) -> Option<usize> {
     let array = value.view().as_array()?;

@@ -38,7 +38,7 @@ pub enum Verb {
     Merge,
 }
 
-// The text after the first equals sign, where the text before it is the name and it is not empty.
+// The text after the first equals sign, if the text before it is the name and it is not empty.
 fn text_after<'a>(word: &'a str, name: &str) -> Option<&'a str>
     ensures { option_map (λ s. s.now) result ≡ file_in name.now word.entry.now }
 {
@@ -68,7 +68,7 @@ impl Verb {
         }
     }
 
-    /// Returns the command of a word, or `None` where it is the name of none.
+    /// Returns the command of a word, or `None` if it is the name of none.
     pub(crate) fn of_word(word: &str) -> Option<Verb>
         ensures { result ≡ verb_in word.now }
     {
@@ -102,7 +102,7 @@ impl Verb {
         }
     }
 
-    /// Returns the file that an option names for the operand, or `None` where it names none.
+    /// Returns the file that an option names for the operand, or `None` if it names none.
     pub(crate) fn source_file<'a>(self, word: &'a str) -> Option<&'a str>
         ensures { option_map (λ s. s.now) result ≡ source_in self word.entry.now }
     {

@@ -1,4 +1,4 @@
-//! Tests alone: worked examples of arguments, each with its whole report. They stand here and not in
+//! Tests alone: worked examples of arguments, each with its whole report. They are here and not in
 //! `json_arguments`, since a library with tests is proved twice.
 #![tactic(auto)]
 

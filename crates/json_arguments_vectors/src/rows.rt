@@ -44,8 +44,16 @@ pub const ROWS: &str = r#"# valid
 |2||mezdruk fmt: `--sort-keys`: the option occurs twice|fmt|--sort-keys|a|--sort-keys|
 |2||mezdruk fmt: `-i`: the option occurs twice|fmt|--in-place|-i|
 |2||mezdruk fmt: `--stream`: at most one of --lines and --stream is taken, once|fmt|--lines|--stream|
+|2||mezdruk fmt: `--lines`: at most one of --lines and --stream is taken, once|fmt|--stream|--lines|
 |2||mezdruk edit: `--edits=b` names a second file|edit|--edits=a|--edits=b|
 |2||mezdruk edit: `--edits=a`: the option has to come before operands and files|edit|[]|--edits=a|
+# options that a stream does not have
+|0|||check|--lines|--unique-keys|--depth=3|
+|2||mezdruk check: `--unique-keys`: --stream goes with no --unique-keys and no --depth=N|check|--stream|--unique-keys|
+|2||mezdruk fmt: `--depth=3`: --stream goes with no --unique-keys and no --depth=N|fmt|--stream|a.json|--depth=3|
+|2||mezdruk fmt: `--stream`: --stream goes with no --unique-keys and no --depth=N|fmt|--depth=254|--stream|
+|2||mezdruk get: `--stream`: --stream goes with no --unique-keys and no --depth=N|get|--unique-keys||--stream|
+|2||mezdruk fmt: `--unique-keys`: the option occurs twice|fmt|--unique-keys|--unique-keys|--stream|
 # in place
 |2||mezdruk fmt: `-`: standard input cannot be changed in place|fmt|-i|-|
 |2||mezdruk fmt: `-i`: standard input cannot be changed in place|fmt|-|-i|

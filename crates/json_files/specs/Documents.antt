@@ -8,7 +8,7 @@ use Rattle.json_files.specs.Outcomes.{Task, Outcome, HasOutcome, LineOutcome, Is
 use Rattle.json_files.specs.Parts.{whole_part, line_parts, lines_of}
 use Rattle.json_files.specs.Streams.{ValuesHave}
 
--- the bytes of a document, where they could be read
+-- the bytes of a document, if they could be read
 abbrev pub bytes_of : Document → Option (List ℕ)
 bytes_of d = option_map (λ v. v.items) d.bytes
 

@@ -17,7 +17,7 @@ shown_byte x = cond (nat_lt x 32 || x == 127) 32 x
 abbrev pub space_under : ℕ → List ℕ
 space_under x = cond (nat_le 128 x && nat_lt x 192) [] (32 ∷ [])
 
--- at most so many of the first bytes, or of the last ones: all where there are no more
+-- at most so many of the first bytes, or of the last ones: all if there are no more
 pub record IsFront (bytes : List ℕ) (max : ℕ) (front : List ℕ) : Type 0 where
   pub rest : List ℕ
   pub whole : bytes ≡ front ++ rest
@@ -30,7 +30,7 @@ pub record IsBack (bytes : List ℕ) (max : ℕ) (back : List ℕ) : Type 0 wher
   pub few : length back ≤ max
   pub all : length bytes ≤ max → rest ≡ []
 
--- at most 76 bytes of the line, which are all where it has no more, and below them a caret under the byte at the offset
+-- at most 76 bytes of the line, which are all if it has no more, and below them a caret under the byte at the offset
 pub record IsExcerpt (bytes : List ℕ) (offset : ℕ) (excerpt : List ℕ) : Type 0 where
   pub cut_before : List ℕ
   pub before : List ℕ

@@ -32,7 +32,7 @@ abbrev pub text_in : Bool → Style → Tree → List ℕ
 text_in false style tree = printed style tree
 text_in true style tree = unwrap_or (string_of tree) (printed style tree)
 
--- the line of a tree in the output: its text and a newline; nothing where no style is asked for
+-- the line of a tree in the output: its text and a newline; nothing if no style is asked for
 abbrev pub line_in : Bool → Option Style → Tree → List ℕ
 line_in raw None tree = []
 line_in raw (Some style) tree = text_in raw style tree ++ 10 ∷ []
@@ -45,7 +45,7 @@ pub record Task : Type 0 where
   pub changed : Tree → Result Tree ChangeError
   pub line : Tree → List ℕ
 
--- what a job asks for, where its change makes this of a tree
+-- what a job asks for, if its change makes this of a tree
 abbrev pub task_of : {C : Type 0} → (C → Tree → Result Tree ChangeError) → Job C → Task
 task_of changed job = record { form = job.input; rules = rules_of job.rules; changed = changed job.change; line = line_in job.raw job.style }
 

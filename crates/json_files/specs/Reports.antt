@@ -18,7 +18,7 @@ use Rattle.json_files.specs.Parts.{Part}
 
 -- ---- the first line
 
--- the line and the column, where they are known
+-- the line and the column, if they are known
 abbrev pub location : List ℕ → Option Position → List ℕ
 location name None = name
 location name (Some p) = name ++ codes ":" ++ decimal p.line ++ codes ":" ++ decimal p.column
@@ -61,7 +61,7 @@ abbrev pub offset_in : List ℕ → Place → Option ℕ
 offset_in bytes (At offset line column) = cond (nat_le offset (length bytes)) (Some offset) None
 offset_in bytes _ = None
 
--- its line and its column, where so many lines come before the bytes
+-- its line and its column, if so many lines come before the bytes
 abbrev pub position_of : ℕ → List ℕ → Option ℕ → Option Position
 position_of before bytes None = None
 position_of before bytes (Some offset) = Some (record { line = before + line_at bytes offset; column = column_at bytes offset })

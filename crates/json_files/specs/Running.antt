@@ -92,7 +92,7 @@ pub record Stops (Has : List Outcome → Type 0) (old new : Tally) (sink sink' e
 -- ---- of the top call
 
 -- status 0 to 4: the output is the lines of the changed trees, in order; each error was reported, or a prefix of the
--- reports where that sink failed or memory ran out; the status is the greatest
+-- reports if that sink failed or memory ran out; the status is the greatest
 pub record PrintsAll (task : Task) (documents : List Document) (sink sink' errs errs' : SinkState) (status : ℕ) : Type 0 where
   pub outcomes : List Outcome
   pub have : DocumentsHave true task documents outcomes

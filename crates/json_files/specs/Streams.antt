@@ -48,7 +48,7 @@ pub record ValuePlace : Type 0 where
 abbrev pub place_of : StreamPlace → ValuePlace
 place_of p = record { name = p.name.now; text = p.text.now; offset = p.offset; number = p.number }
 
--- the outcome of what follows a place: of a value that ends at j, or the fault where none can be read
+-- the outcome of what follows a place: of a value that ends at j, or the fault if none can be read
 abbrev pub ValueHas : Task → ValuePlace → Option ℕ → List Outcome → Type 0
 ValueHas task p None outcomes = (e : Error) × (report : List ℕ) × ValueFaultFrom false 254 p.offset p.text e.code e.place × IsReport (whole_part p.name p.text) (Input e) report × (outcomes ≡ Refused (Input e) report ∷ [])
 ValueHas task p (Some j) outcomes = (tree : Tree) × (outcome : Outcome) × ReadsAt p.text p.offset tree j × TreeOutcome task (value_part p.name p.text p.number) tree outcome × (outcomes ≡ outcome ∷ [])

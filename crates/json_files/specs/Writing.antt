@@ -22,14 +22,14 @@ WritingFails old new text NoMemory nowhere = AppendsFront old.gained new.gained 
 WritingFails old new text Io Writing = AppendsFront old.gained new.gained text × CallFails old new text
 WritingFails old new text code place = ⊥
 
--- the text was written, and nothing waits for a flush where nothing waited before, or writing failed
+-- the text was written, and nothing waits for a flush if nothing waited before, or writing failed
 pub record WritesText (old new : SinkState) (text : List ℕ) (result : Result (Unit {0}) Error) : Type 0 where
   pub ok : OnOk result (Appends old.gained new.gained text)
   pub flushed : OnOk result (old.unflushed ≡ false → new.unflushed ≡ false)
   pub err : IfErr result (λ e. WritingFails old new text e.code e.place)
   pub told : old.faults < new.faults → IsErrOf result writing_failed
 
--- this text was reported, unless reports were given up, as they are where a call fails
+-- this text was reported, unless reports were given up, as they are if a call fails
 abbrev pub ReportsUnlessMuted : Bool → Bool → SinkState → SinkState → List ℕ → Type 0
 ReportsUnlessMuted false false old new text = Puts old new text (Ok tt)
 ReportsUnlessMuted false true old new text = (error : Error) × Puts old new text (Err error)

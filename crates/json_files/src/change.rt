@@ -24,7 +24,7 @@ pub trait Change {
     /// What becomes of a tree: the changed tree, or why the change does not apply to it.
     ghost changed: { Self → Tree → Result Tree ChangeError };
 
-    /// Changes the value. Fails where the change does not apply, and with `NoMemory` if memory runs
+    /// Changes the value. Fails if the change does not apply, and with `NoMemory` if memory runs
     /// out.
     fn apply(&self, alloc: Global, value: &mut Value) -> Result<(), ChangeError>
         ensures ok { OnOk result (changed self.now (tree_of value.old) ≡ Ok (tree_of value.new)) }

@@ -26,12 +26,12 @@ pub(crate) const MAX_BYTES: usize = 4_294_967_295;
 pub struct Document {
     /// The name by which errors are reported.
     pub name: String,
-    /// The bytes; none where they could not be read.
+    /// The bytes; none if they could not be read.
     pub bytes: Option<Vec<u8>>,
 }
 
 impl Document {
-    /// Copies a name and bytes. Fails with `NoMemory` where memory runs out.
+    /// Copies a name and bytes. Fails with `NoMemory` if memory runs out.
     pub fn new(alloc: Global, name: &str, bytes: &[u8]) -> Result<Document>
         ensures name { IfOk result (λ d. string_bytes d.name ≡ name.now) }
         ensures bytes { IfOk result (λ d. bytes_of d ≡ Some bytes.now) }
@@ -46,7 +46,7 @@ impl Document {
 
 /// Reads the document of bytes by the rules (RFC 8259). Fails with `TooLarge` past 4,294,967,295
 /// bytes, `InvalidUTF8` and each fault of the grammar by the rules at its offset, and `NoMemory`
-/// where memory runs out.
+/// if memory runs out.
 pub(crate) fn read_bytes(alloc: Global, bytes: &[u8], rules: Rules) -> Result<Rc<Doc>>
     ensures ok { IfOk result (λ d. IsInput (rules_of rules) bytes.now
         (doc_tree d.value (doc_root d.value))) }

@@ -7,6 +7,15 @@ use json_command::Status;
 use json_text::Error;
 
 /// Why a document, or a part of it, is not printed.
+///
+/// ```
+/// use json_files::{ChangeCode, ChangeError, DocumentError};
+/// use json_text::{Error, ErrorCode, Place};
+/// let error = Error { code: ErrorCode::Io, place: Place::Reading };
+/// let unread = DocumentError::Input(error);
+/// let change = ChangeError { code: ChangeCode::NotFound, number: Some(1) };
+/// assert!(rt; unread != DocumentError::Change(change));
+/// ```
 #[derive(Clone, Copy, Debug, PartialEq, Eq)]
 pub enum DocumentError {
     /// It could not be read, or it is not valid.

@@ -9,7 +9,7 @@ use json_text::Result;
 // The greatest number of bytes of a line that are shown.
 const WIDTH: usize = 76;
 
-// The number of bytes before the caret that are shown where the line has them.
+// The number of bytes before the caret that are shown if the line has them.
 const HALF: usize = 38;
 
 // Returns whether a byte of a character is not its first one.

@@ -15,7 +15,7 @@ use json_patch::Pointer;
 use json_value::{Path, Value, View};
 use std::alloc::Global;
 
-/// The change to the value that a JSON Pointer references (RFC 6901). It fails with `NotFound` where
+/// The change to the value that a JSON Pointer references (RFC 6901). It fails with `NotFound` if
 /// the pointer references nothing.
 ///
 /// ```

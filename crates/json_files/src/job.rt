@@ -109,7 +109,7 @@ fn print_text<K: Sink>(
     print_value(alloc, value, style, sink)
 }
 
-// Prints the line of the value, or nothing where there is no style.
+// Prints the line of the value, or nothing if there is no style.
 fn write_line<K: Sink>(
     alloc: Global,
     value: &Value,
@@ -150,7 +150,7 @@ fn changed_value<C: Change>(
 }
 
 /// Changes the value of a document and prints its line, or returns why the change does not apply.
-/// Fails with `Io` at `Writing` where the sink fails, and with `NoMemory` where memory runs out.
+/// Fails with `Io` at `Writing` if the sink fails, and with `NoMemory` if memory runs out.
 pub(crate) fn print_changed<C: Change, K: Sink>(
     alloc: Global,
     doc: &Rc<Doc>,
@@ -175,7 +175,7 @@ pub(crate) fn print_changed<C: Change, K: Sink>(
 }
 
 /// Reads the document of the bytes, changes its value and prints its line, or returns the error
-/// that the bytes have. Fails with `Io` at `Writing` where the sink fails, and with `NoMemory` where
+/// that the bytes have. Fails with `Io` at `Writing` if the sink fails, and with `NoMemory` if
 /// memory runs out.
 pub(crate) fn print_bytes<C: Change, K: Sink>(
     alloc: Global,

@@ -62,7 +62,7 @@ fn push_number(text: &mut Vec<u8>, n: usize) -> Result<()>
     Ok(())
 }
 
-// Appends the line and the column, where they are known.
+// Appends the line and the column, if they are known.
 fn push_position(text: &mut Vec<u8>, position: Option<Position>) -> Result<()>
     ensures ok { OnOk result (text.new.items ≡ location text.old.items position) }
     ensures only { IfErr result (λ e. e ≡ no_memory) }
@@ -278,7 +278,7 @@ pub(crate) fn document_report(
 }
 
 /// Returns the first line of the report of an error of the document of this name:
-/// `NAME:LINE:COLUMN: sentence (CodeName)` and a newline, without a line and a column where the
+/// `NAME:LINE:COLUMN: sentence (CodeName)` and a newline, without a line and a column if the
 /// place has none. Fails with `NoMemory` if memory runs out.
 ///
 /// ```
@@ -303,7 +303,7 @@ pub fn error_report(alloc: Global, name: &str, error: &Error) -> Result<Vec<u8>>
 }
 
 /// Returns the report of an error of the document of this name and these bytes: the line of
-/// [`error_report`], and where the place has an offset in the bytes the line of the bytes there, cut
+/// [`error_report`], and if the place has an offset in the bytes the line of the bytes there, cut
 /// to 76 bytes, a caret under the byte, and a hint at a usual cause. Fails with `NoMemory` if memory
 /// runs out.
 ///

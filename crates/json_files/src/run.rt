@@ -112,33 +112,7 @@ impl Tally {
         }
     }
 
-    // Prints a line or reports its error. Skips a line that has only whitespace.
-    fn handle_line<C: Change, K: Sink, E: Sink>(
-        &mut self,
-        alloc: Global,
-        part: Part<'_>,
-        job: &Job<'_, C>,
-        sink: &mut K,
-        errs: &mut E,
-    ) -> Result<()>
-        requires few { (part_of part).before + length (part_of part).bytes + 1 < 2 ^ 64 }
-        ensures ok { OnOk result (Handles
-            (PartsHave true (LineOutcome (task_of C.changed job.now)) (part_of part.entry ∷ []))
-            self.old self.new
-            (K.state sink.old) (K.state sink.new) (E.state errs.old) (E.state errs.new)) }
-        ensures err { IfErr result (Stops
-            (PartsHave false (LineOutcome (task_of C.changed job.now)) (part_of part.entry ∷ []))
-            self.old self.new
-            (K.state sink.old) (K.state sink.new) (E.state errs.old) (E.state errs.new)) }
-        ensures told { ReturnsWriteError (K.state sink.old) (K.state sink.new) result }
-    {
-        if is_blank(part.bytes) {
-            return Ok(());
-        }
-        self.handle_part(alloc, part, job, sink, errs)
-    }
-
-    // Prints each line of a document or reports its error.
+    // Prints each line of a document or reports its error. Skips lines that have only whitespace.
     fn handle_lines<C: Change, K: Sink, E: Sink>(
         &mut self,
         alloc: Global,
@@ -169,12 +143,15 @@ impl Tally {
                 before: number,
                 scope: Scope::Line,
             };
-            match self.handle_line(alloc, part, job, sink, errs) {
+            number += 1;
+            rest = later;
+            if is_blank(line) {
+                continue;
+            }
+            match self.handle_part(alloc, part, job, sink, errs) {
                 Ok(()) => {}
                 Err(error) => return Err(error),
             }
-            number += 1;
-            rest = later;
         }
         Ok(())
     }
@@ -202,7 +179,7 @@ impl Tally {
     }
 
     // Prints the value at a place of a text or reports its error. Returns the offset after the value;
-    // `None` where no value can be read.
+    // `None` if no value can be read.
     fn handle_value<C: Change, K: Sink, E: Sink>(
         &mut self,
         alloc: Global,
@@ -412,12 +389,12 @@ fn report_unless_muted<E: Sink>(errs: &mut E, muted: bool, error: &Error)
 }
 
 /// Prints each document that is valid and to which the change applies: the text of the changed
-/// value in the style of the job, and a newline, or nothing where the job has no style. Reports the
+/// value in the style of the job, and a newline, or nothing if the job has no style. Reports the
 /// error of each other one, and goes on. Where the job reads lines, does so with each line.
 ///
-/// Returns the greatest status of them: 0 where all are printed, 1 where one is not valid, 3 where
-/// a change does not apply to one, 4 where one could not be read. Returns 5 where writing fails, and
-/// 6 where memory runs out; the sink has a prefix of the output then, and the error of the run is
+/// Returns the greatest status of them: 0 if all are printed, 1 if one is not valid, 3 if
+/// a change does not apply to one, 4 if one could not be read. Returns 5 if writing fails, and
+/// 6 if memory runs out; the sink has a prefix of the output then, and the error of the run is
 /// reported.
 ///
 /// ```

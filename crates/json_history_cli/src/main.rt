@@ -6,20 +6,18 @@
 //!     printf '[0]' | mezdruk history '[["push", [], 1], ["undo"], ["redo"]]'
 #![tactic(auto)]
 
-mod help;
-
-use crate::help::ABOUT;
 use json_command::Console;
 use json_history::run_history;
+use json_programs::ABOUT_HISTORY;
 use std::process::ExitCode;
 
 fn main(rt: HostRuntime) -> ExitCode {
-    let mut console = match Console::open(&rt, &ABOUT) {
+    let mut console = match Console::open(&rt, &ABOUT_HISTORY) {
         Ok(console) => console,
         Err(status) => return ExitCode::from(status.number()),
     };
     let (source, sink, errs) = (&mut console.source, &mut console.sink, &mut console.errs);
     let status = run_history(rt.alloc(), &console.arguments, source, sink, errs);
-    ABOUT.add_hint(status, &mut console.errs);
+    ABOUT_HISTORY.add_hint(status, &mut console.errs);
     ExitCode::from(status)
 }

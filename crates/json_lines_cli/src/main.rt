@@ -5,22 +5,21 @@
 //!     printf '{"a":1}\n{"a":2}\n' | mezdruk lines '[[["a"],"int"]]'
 #![tactic(auto)]
 
-mod help;
 #[cfg(test)]
 mod tests;
 
-use crate::help::ABOUT;
 use json_command::Console;
 use json_lines::run_lines;
+use json_programs::ABOUT_LINES;
 use std::process::ExitCode;
 
 fn main(rt: HostRuntime) -> ExitCode {
-    let mut console = match Console::open(&rt, &ABOUT) {
+    let mut console = match Console::open(&rt, &ABOUT_LINES) {
         Ok(console) => console,
         Err(status) => return ExitCode::from(status.number()),
     };
     let (source, sink, errs) = (&mut console.source, &mut console.sink, &mut console.errs);
     let status = run_lines(rt.alloc(), &console.arguments, source, sink, errs);
-    ABOUT.add_hint(status, &mut console.errs);
+    ABOUT_LINES.add_hint(status, &mut console.errs);
     ExitCode::from(status)
 }

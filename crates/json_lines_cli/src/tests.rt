@@ -1,5 +1,5 @@
 // What is said of `--help`, of `--version` and of invalid arguments.
-use crate::help::ABOUT;
+use json_programs::ABOUT_LINES;
 use json_text::{VecSink, Words};
 use std::test::Fail;
 
@@ -14,7 +14,7 @@ fn help_and_version_stand_alone(rt: HostRuntime) -> Result<(), Fail> {
     ] {
         let mut arguments = Words::new(alloc);
         arguments.push(given)?;
-        let text = ABOUT.text_asked(&arguments);
+        let text = ABOUT_LINES.text_asked(&arguments);
         assert_eq!(rt; text.is_some(), begins.is_some(), "{given}");
         assert!(rt;
             text.unwrap_or("").starts_with(begins.unwrap_or("")),
@@ -27,9 +27,9 @@ fn help_and_version_stand_alone(rt: HostRuntime) -> Result<(), Fail> {
 #[test]
 fn invalid_arguments_are_told_where_to_look(rt: HostRuntime) {
     let mut errs = VecSink::new(rt.alloc());
-    ABOUT.add_hint(1, &mut errs);
+    ABOUT_LINES.add_hint(1, &mut errs);
     assert!(rt; errs.as_slice().is_empty());
-    ABOUT.add_hint(2, &mut errs);
+    ABOUT_LINES.add_hint(2, &mut errs);
     assert_eq!(rt;
         errs.as_slice(),
         b"Run `mezdruk lines --help` for usage.\n".as_slice()

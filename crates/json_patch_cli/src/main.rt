@@ -1,24 +1,22 @@
-//! The program `mezdruk patch`: reads a JSON text from standard input, changes it by a patch, and writes it
-//! to standard output. `run_patch` of the library `json_patch` does all of it; what is here hands it
-//! the arguments and the streams.
+//! The program `json_patch`: reads a JSON text from standard input, changes it by a patch, and writes
+//! it to standard output. `run_patch` of the library `json_patch` does all of it; what is here hands
+//! it the arguments and the streams.
 //!
-//!     printf '{"a": 1}' | ./mezdruk patch --merge='{"b": 2}'
+//!     printf '{"a": 1}' | json_patch --merge='{"b": 2}'
 #![tactic(auto)]
 
-mod help;
-
-use crate::help::ABOUT;
 use json_command::Console;
 use json_patch::run_patch;
+use json_programs::ABOUT_JSON_PATCH;
 use std::process::ExitCode;
 
 fn main(rt: HostRuntime) -> ExitCode {
-    let mut console = match Console::open(&rt, &ABOUT) {
+    let mut console = match Console::open(&rt, &ABOUT_JSON_PATCH) {
         Ok(console) => console,
         Err(status) => return ExitCode::from(status.number()),
     };
     let (source, sink, errs) = (&mut console.source, &mut console.sink, &mut console.errs);
     let status = run_patch(rt.alloc(), &console.arguments, source, sink, errs);
-    ABOUT.add_hint(status, &mut console.errs);
+    ABOUT_JSON_PATCH.add_hint(status, &mut console.errs);
     ExitCode::from(status)
 }

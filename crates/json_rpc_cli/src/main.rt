@@ -1,24 +1,22 @@
-//! The program `mezdruk rpc`: serves JSON-RPC 2.0 over one JSON document, from standard input to standard
-//! output, a line each. `run_rpc` of the library `json_rpc` does all of it; what is here hands it
-//! the arguments and the streams.
+//! The program `mezdruk rpc`: serves JSON-RPC 2.0 over one JSON document, from standard input to
+//! standard output, a line each. `run_rpc` of the library `json_rpc` does all of it; what is here
+//! hands it the arguments and the streams.
 //!
 //!     printf '{"jsonrpc":"2.0","method":"get","params":[[]],"id":1}' | mezdruk rpc
 #![tactic(auto)]
 
-mod help;
-
-use crate::help::ABOUT;
 use json_command::Console;
+use json_programs::ABOUT_RPC;
 use json_rpc::run_rpc;
 use std::process::ExitCode;
 
 fn main(rt: HostRuntime) -> ExitCode {
-    let mut console = match Console::open(&rt, &ABOUT) {
+    let mut console = match Console::open(&rt, &ABOUT_RPC) {
         Ok(console) => console,
         Err(status) => return ExitCode::from(status.number()),
     };
     let (source, sink, errs) = (&mut console.source, &mut console.sink, &mut console.errs);
     let status = run_rpc(rt.alloc(), &console.arguments, source, sink, errs);
-    ABOUT.add_hint(status, &mut console.errs);
+    ABOUT_RPC.add_hint(status, &mut console.errs);
     ExitCode::from(status)
 }

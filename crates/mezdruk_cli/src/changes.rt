@@ -82,6 +82,10 @@ fn report_refusal(
     }
 }
 
+// The hint if a JSON text is given for the name of a file.
+const NAME_HINT: &str =
+    "hint: the option takes the name of a file; EDITS or PATCH alone is the text\n";
+
 // Reports a file of edits or of a patch that could not be read, and returns the status.
 fn report_unread(rt: &HostRuntime, console: &mut Console, file: &str) -> u8 {
     let error = Error {
@@ -91,13 +95,16 @@ fn report_unread(rt: &HostRuntime, console: &mut Console, file: &str) -> u8 {
     match error_report(rt.alloc(), file, &error) {
         Ok(report) => {
             report_text(&mut console.errs, &report);
+            if file.starts_with('[') || file.starts_with('{') {
+                report_text(&mut console.errs, NAME_HINT.as_bytes());
+            }
             Status::ReadFailed.number()
         }
         Err(_) => Status::OutOfMemory.number(),
     }
 }
 
-// Reads the edits or the patch that a file has. Fails with the status where that is reported.
+// Reads the edits or the patch that a file has. Fails with the status if that is reported.
 fn read_file(
     rt: &HostRuntime,
     console: &mut Console,

@@ -12,7 +12,7 @@ const MAX_READ: usize = 4_294_967_296;
 /// The name by which errors of standard input are reported.
 const STANDARD_INPUT: &str = "<stdin>";
 
-// Reads all bytes of a source, or returns `None` where that fails. Fails with `NoMemory` where memory
+// Reads all bytes of a source, or returns `None` if that fails. Fails with `NoMemory` if memory
 // runs out.
 fn read_source<S: Source>(alloc: Global, source: &mut S) -> Result<Option<Vec<u8>>> {
     match read_all(alloc, source, MAX_READ) {
@@ -24,8 +24,8 @@ fn read_source<S: Source>(alloc: Global, source: &mut S) -> Result<Option<Vec<u8
     }
 }
 
-/// Reads the bytes of a file, or those of standard input for `-`. Returns `None` where the file cannot
-/// be read, and fails with `NoMemory` where memory runs out.
+/// Reads the bytes of a file, or those of standard input for `-`. Returns `None` if the file cannot
+/// be read, and fails with `NoMemory` if memory runs out.
 pub fn read_bytes(rt: &HostRuntime, console: &mut Console, file: &str) -> Result<Option<Vec<u8>>> {
     if file == "-" {
         return read_source(rt.alloc(), &mut console.source);
@@ -36,8 +36,8 @@ pub fn read_bytes(rt: &HostRuntime, console: &mut Console, file: &str) -> Result
     }
 }
 
-/// Reads the document of a file, or that of standard input for `-`. Its bytes are `None` where the
-/// file cannot be read. Fails with `NoMemory` where memory runs out.
+/// Reads the document of a file, or that of standard input for `-`. Its bytes are `None` if the
+/// file cannot be read. Fails with `NoMemory` if memory runs out.
 pub fn read_document(rt: &HostRuntime, console: &mut Console, file: &str) -> Result<Document> {
     let bytes = read_bytes(rt, console, file)?;
     let name = if file == "-" { STANDARD_INPUT } else { file };

@@ -8,7 +8,7 @@ use std::{fs, io};
 const NAMES: u32 = 100;
 
 // Writes the text into a new file, which gets the permissions of the file that it is to replace, and
-// its owner where the system allows that.
+// its owner if the system allows that.
 fn fill(file: &mut File, text: &[u8], replaced: &Metadata) -> io::Result<()> {
     file.write_all(text)?;
     let _ = fchown(&*file, Some(replaced.uid()), Some(replaced.gid()));

@@ -1,28 +1,29 @@
 //! The program `mezdruk`: lays out, checks, reads and edits JSON documents in files. The arguments are
 //! read by `json_arguments`, and documents in memory are changed and printed by `json_files`; what is
-//! here opens files, reads them, and writes them in place.
+//! here opens files, reads them, and writes them in place. Where the first argument names another
+//! program, that one runs on the arguments after it.
 //!
 //!     mezdruk set -i '["version"]' '"1.3.0"' package.json
 #![tactic(auto)]
 
 mod changes;
 mod files;
-mod help;
 mod in_place;
 mod outlet;
+mod program;
 mod run;
+#[cfg(test)]
+mod tests;
 
-use crate::help::ABOUT;
 use crate::run::run;
 use json_command::Console;
+use json_programs::ABOUT_MEZDRUK;
 use std::process::ExitCode;
 
 fn main(rt: HostRuntime) -> ExitCode {
-    let mut console = match Console::open(&rt, &ABOUT) {
+    let mut console = match Console::open(&rt, &ABOUT_MEZDRUK) {
         Ok(console) => console,
         Err(status) => return ExitCode::from(status.number()),
     };
-    let status = run(&rt, &mut console);
-    ABOUT.add_hint(status, &mut console.errs);
-    ExitCode::from(status)
+    ExitCode::from(run(&rt, &mut console))
 }

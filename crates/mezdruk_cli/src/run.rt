@@ -4,10 +4,12 @@ use crate::changes::{carry_out, report_arguments};
 use crate::files::read_document;
 use crate::in_place::replace_content;
 use crate::outlet::Outlet;
+use crate::program::run_named;
 use json_arguments::read_arguments;
 use json_command::{Console, Status, report_text};
 use json_files::{Change, Document, Job, error_report, print_documents};
-use json_text::{Error, ErrorCode, Place, StdSink, VecSink};
+use json_programs::ABOUT_MEZDRUK;
+use json_text::{Error, ErrorCode, Place, StdSink, VecSink, Words};
 use std::cell::Cell;
 
 // The error of a file that could not be written.
@@ -16,12 +18,23 @@ const WRITING_FAILED: Error = Error {
     place: Place::Writing,
 };
 
+// Runs a command of the tool, and returns the status.
+fn run_command(rt: &HostRuntime, console: &mut Console, words: &Words) -> u8 {
+    let status = match read_arguments(rt.alloc(), words) {
+        Ok(arguments) => carry_out(rt, console, words, arguments),
+        Err(error) => report_arguments(rt, console, words, &error),
+    };
+    ABOUT_MEZDRUK.add_hint(status, &mut console.errs);
+    status
+}
+
 /// Does what the arguments ask for, and returns the status.
 pub fn run(rt: &HostRuntime, console: &mut Console) -> u8 {
-    let words = std::mem::replace(&mut console.arguments, json_text::Words::new(rt.alloc()));
-    match read_arguments(rt.alloc(), &words) {
-        Ok(arguments) => carry_out(rt, console, &words, arguments),
-        Err(error) => report_arguments(rt, console, &words, &error),
+    let words = std::mem::replace(&mut console.arguments, Words::new(rt.alloc()));
+    let (source, sink, errs) = (&mut console.source, &mut console.sink, &mut console.errs);
+    match run_named(rt.alloc(), &words, source, sink, errs) {
+        Some(status) => status,
+        None => run_command(rt, console, &words),
     }
 }
 
@@ -54,7 +67,7 @@ fn report_failed_write(rt: &HostRuntime, console: &mut Console, name: &str) -> u
     }
 }
 
-// Writes the changed document to its file, where its text is another one, and returns the status.
+// Writes the changed document to its file, if its text is another one, and returns the status.
 fn write_in_place<C: Change>(
     rt: &HostRuntime,
     console: &mut Console,
@@ -93,8 +106,8 @@ fn run_file<C: Change>(
     }
 }
 
-/// Does what is asked for with each file, or with standard input where there is none, and returns the
-/// greatest status. It ends where standard output fails or memory runs out.
+/// Does what is asked for with each file, or with standard input if there is none, and returns the
+/// greatest status. It ends if standard output fails or memory runs out.
 pub fn run_files<C: Change>(
     rt: &HostRuntime,
     console: &mut Console,

@@ -5,22 +5,21 @@
 //!     printf '{"a": 1}' | reshape --pretty '[["set", ["a"], 2]]'
 #![tactic(auto)]
 
-mod help;
 #[cfg(test)]
 mod tests;
 
-use crate::help::ABOUT;
 use json_command::Console;
+use json_programs::ABOUT_RESHAPE;
 use reshape::run;
 use std::process::ExitCode;
 
 fn main(rt: HostRuntime) -> ExitCode {
-    let mut console = match Console::open(&rt, &ABOUT) {
+    let mut console = match Console::open(&rt, &ABOUT_RESHAPE) {
         Ok(console) => console,
         Err(status) => return ExitCode::from(status.number()),
     };
     let (source, sink, errs) = (&mut console.source, &mut console.sink, &mut console.errs);
     let status = run(rt.alloc(), &console.arguments, source, sink, errs);
-    ABOUT.add_hint(status, &mut console.errs);
+    ABOUT_RESHAPE.add_hint(status, &mut console.errs);
     ExitCode::from(status)
 }

@@ -1,17 +1,20 @@
 # Completion of `mezdruk`, and of the script `./mezdruk`, for fish.
 # The arguments of a program are completed by the file of that program.
-for file in (path dirname (status filename))/{reshape,mezdruk-*}.fish
+for file in (path dirname (status filename))/{reshape,json_patch,mezdruk-*}.fish
     test -e $file; and source $file
 end
-function __mezdruk_arguments -d 'Completes the arguments behind the name of a program'
+function __mezdruk_is_script -d 'Whether the command is a path: it leads to the script, which also builds the programs'
+    string match -q '*/*' -- (commandline -opc)[1]
+end
+function __mezdruk_arguments -d 'Completes the arguments after the name of a program'
     set -l words (commandline -opc)
-    contains -- $words[2] reshape lines patch history rpc; or return
+    contains -- $words[2] reshape lines rpc history json_patch; or return
     set -l program mezdruk-$words[2]
-    test $words[2] = reshape; and set program reshape
-    test (count $words) -eq 2; and echo --build
+    contains -- $words[2] reshape json_patch; and set program $words[2]
+    test (count $words) -eq 2; and __mezdruk_is_script; and echo --build
     complete -C (string join ' ' -- $program (string escape -- $words[3..]) (commandline -ct))
 end
-function __mezdruk_takes -d 'Whether the command is one of the first list, and no option of the second stands'
+function __mezdruk_takes -d 'Whether the command is one of the first list, and no option of the second is there'
     set -l words (commandline -opc)
     test (count $words) -ge 2; or return 1
     contains -- $words[2] (string split , -- $argv[1]); or return 1
@@ -21,30 +24,32 @@ function __mezdruk_takes -d 'Whether the command is one of the first list, and n
     return 0
 end
 set -l first 'test (count (commandline -opc)) -eq 1'
-set -l prints fmt,get,edit,set,insert,push,remove,merge
-set -l writes fmt,edit,set,insert,push,remove,merge
+set -l prints fmt,get,edit,set,insert,push,remove,patch,merge
+set -l writes fmt,edit,set,insert,push,remove,patch,merge
 set -l layouts --compact --pretty --indent --tabs
 complete -c mezdruk -n $first -f -a 'fmt' -d 'lay documents out'
 complete -c mezdruk -n $first -f -a 'check' -d 'print nothing but errors'
 complete -c mezdruk -n $first -f -a 'get' -d 'print the value at a path'
 complete -c mezdruk -n $first -f -a 'edit' -d 'apply edits'
 complete -c mezdruk -n $first -f -a 'set insert push remove' -d 'apply one edit'
+complete -c mezdruk -n $first -f -a 'patch' -d 'apply a JSON Patch'
 complete -c mezdruk -n $first -f -a 'merge' -d 'apply a JSON Merge Patch'
-complete -c mezdruk -n $first -f -a 'reshape lines patch history rpc'
-complete -c mezdruk -n $first -f -a '--build' -d 'prove and build the programs'
-complete -c mezdruk -n $first -f -a '--help' -d 'print the usage and the programs'
+complete -c mezdruk -n $first -f -a 'reshape lines rpc history' -d 'run that program'
+complete -c mezdruk -n "$first; and __mezdruk_is_script" -f -a 'json_patch' -d 'run that program'
+complete -c mezdruk -n "$first; and __mezdruk_is_script" -f -a '--build' -d 'prove and build the programs'
+complete -c mezdruk -n $first -f -a '--help' -d 'print the usage'
 complete -c mezdruk -n $first -f -a '--version' -d 'print the version'
-complete -c mezdruk -n "not $first; and test (commandline -opc)[2] = --build" -f -a 'reshape lines patch history rpc'
+complete -c mezdruk -n "not $first; and __mezdruk_is_script; and test (commandline -opc)[2] = --build" -f -a 'reshape lines rpc history json_patch mezdruk'
 complete -c mezdruk -n "not $first" -a '(__mezdruk_arguments)'
 complete -c mezdruk -n "__mezdruk_takes $prints $layouts" -a '--compact' -d 'no whitespace'
 complete -c mezdruk -n "__mezdruk_takes $prints $layouts" -a '--pretty' -d 'indent by two spaces'
 complete -c mezdruk -n "__mezdruk_takes $prints $layouts" -a "--indent=(seq 0 8)" -d 'indent by so many spaces'
 complete -c mezdruk -n "__mezdruk_takes $prints $layouts" -a '--tabs' -d 'indent by a tab'
 complete -c mezdruk -n "__mezdruk_takes $prints --sort-keys" -a '--sort-keys' -d 'sort the members of each object'
-complete -c mezdruk -n "__mezdruk_takes check,$prints --unique-keys" -a '--unique-keys' -d 'refuse two members of one key'
-complete -c mezdruk -n "__mezdruk_takes check,$prints --depth" -a '--depth=' -d 'refuse input of more levels, 254 without it'
+complete -c mezdruk -n "__mezdruk_takes check,$prints --unique-keys --stream" -a '--unique-keys' -d 'refuse two members of one key'
+complete -c mezdruk -n "__mezdruk_takes check,$prints --depth --stream" -a '--depth=' -d 'refuse input of more levels, 254 without it'
 complete -c mezdruk -n "__mezdruk_takes check,$prints --lines --stream" -a '--lines' -d 'each line is a document'
-complete -c mezdruk -n "__mezdruk_takes check,$prints --lines --stream" -a '--stream' -d 'documents follow one another'
+complete -c mezdruk -n "__mezdruk_takes check,$prints --lines --stream --unique-keys --depth" -a '--stream' -d 'documents follow one another'
 complete -c mezdruk -n '__mezdruk_takes get --raw' -a '--raw' -d 'print the content of a string'
 complete -c mezdruk -n "__mezdruk_takes $writes -i --in-place" -a '--in-place' -d 'write each file in place'
 complete -c mezdruk -n '__mezdruk_takes edit --edits' -a '--edits=' -d 'take the edits from a file'

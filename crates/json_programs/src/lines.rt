@@ -1,4 +1,4 @@
-// What the program says of itself.
+// What the program `mezdruk lines` says of itself.
 use json_command::About;
 
 /// What `--help` alone prints.
@@ -45,7 +45,7 @@ Status:
 const VERSION: &str = "mezdruk lines 0.1.0\n";
 
 /// What the program says of itself.
-pub const ABOUT: About = About {
+pub const ABOUT_LINES: About = About {
     help: HELP,
     version: VERSION,
     hint: "Run `mezdruk lines --help` for usage.\n",

@@ -1,4 +1,4 @@
-// What the program says of itself.
+// What the program `mezdruk` says of itself.
 
 use json_command::About;
 
@@ -22,6 +22,9 @@ Commands:
   remove PATH STEP         take a key or an index out
   patch PATCH              apply a JSON Patch (RFC 6902)
   merge PATCH              apply a JSON Merge Patch (RFC 7396)
+  reshape, lines, rpc, history
+                           run that program on the arguments that follow;
+                           `mezdruk lines --help` prints the help of `lines`
 
 PATH is a JSON array of steps, KEY a JSON string, VALUE any JSON text, and STEP
 a JSON string or an index from 0:
@@ -38,13 +41,14 @@ Options, in any order, each at most once:
   --depth=N                refuse more than N levels, 0 to 1024; 254 without it
   --raw                    of get: print a string's content
   --lines                  each line of the input is a document
-  --stream                 documents follow one another
+  --stream                 documents follow one another; not with --unique-keys
+                           and not with --depth=N
   -i, --in-place           write each FILE in place; not of check and get
   --edits=FILE, --patch=FILE, --merge=FILE
                            take EDITS or PATCH from a file, for edit, patch and
                            merge; before operands and files
   --                       after it no argument is an option
-  --help, --version        print this text or the version; each stands alone
+  --help, --version        print this text or the version; each is given alone
 
 Status: the greatest of those of the documents
   0  done
@@ -61,7 +65,7 @@ Status: the greatest of those of the documents
 const VERSION: &str = "mezdruk 0.1.0\n";
 
 /// What the program says of itself.
-pub const ABOUT: About = About {
+pub const ABOUT_MEZDRUK: About = About {
     help: HELP,
     version: VERSION,
     hint: "Run `mezdruk --help` for usage.\n",

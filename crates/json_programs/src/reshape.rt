@@ -1,4 +1,4 @@
-// What the program says of itself.
+// What the program `reshape` says of itself.
 
 use json_command::About;
 
@@ -51,7 +51,7 @@ Status:
 const VERSION: &str = "reshape 0.1.0\n";
 
 /// What the program says of itself.
-pub const ABOUT: About = About {
+pub const ABOUT_RESHAPE: About = About {
     help: HELP,
     version: VERSION,
     hint: "Run `reshape --help` for usage.\n",

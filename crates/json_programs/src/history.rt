@@ -1,4 +1,4 @@
-// What the program says of itself.
+// What the program `mezdruk history` says of itself.
 use json_command::About;
 
 /// What `--help` alone prints.
@@ -43,7 +43,7 @@ Status:
 const VERSION: &str = "mezdruk history 0.1.0\n";
 
 /// What the program says of itself.
-pub const ABOUT: About = About {
+pub const ABOUT_HISTORY: About = About {
     help: HELP,
     version: VERSION,
     hint: "Run `mezdruk history --help` for usage.\n",

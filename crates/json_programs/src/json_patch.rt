@@ -1,18 +1,18 @@
-// What the program says of itself.
+// What the program `json_patch` says of itself.
 use json_command::About;
 
 /// What `--help` alone prints.
 const HELP: &str = "\
-mezdruk patch reads a JSON text from standard input, changes it by a patch,
-and writes it to standard output, compact.
+json_patch reads a JSON text from standard input, changes it by a patch, and
+writes it to standard output, compact.
 
-Usage: mezdruk patch --patch=PATCH
-       mezdruk patch --merge=PATCH
+Usage: json_patch --patch=PATCH
+       json_patch --merge=PATCH
 
   --patch=PATCH   apply a JSON Patch (RFC 6902)
-      mezdruk patch --patch='[{\"op\": \"remove\", \"path\": \"/tags/0\"}]'
+      json_patch --patch='[{\"op\": \"remove\", \"path\": \"/tags/0\"}]'
   --merge=PATCH   apply a JSON Merge Patch (RFC 7396)
-      mezdruk patch --merge='{\"license\": \"MIT\", \"private\": null}'
+      json_patch --merge='{\"license\": \"MIT\", \"private\": null}'
   --help          print this text
   --version       print the version
 
@@ -39,11 +39,11 @@ Status:
 ";
 
 /// What `--version` alone prints.
-const VERSION: &str = "mezdruk patch 0.1.0\n";
+const VERSION: &str = "json_patch 0.1.0\n";
 
 /// What the program says of itself.
-pub const ABOUT: About = About {
+pub const ABOUT_JSON_PATCH: About = About {
     help: HELP,
     version: VERSION,
-    hint: "Run `mezdruk patch --help` for usage.\n",
+    hint: "Run `json_patch --help` for usage.\n",
 };

@@ -1,4 +1,4 @@
-// What the program says of itself.
+// What the program `mezdruk rpc` says of itself.
 use json_command::About;
 
 /// What `--help` alone prints.
@@ -49,7 +49,7 @@ Status:
 const VERSION: &str = "mezdruk rpc 0.1.0\n";
 
 /// What the program says of itself.
-pub const ABOUT: About = About {
+pub const ABOUT_RPC: About = About {
     help: HELP,
     version: VERSION,
     hint: "Run `mezdruk rpc --help` for usage.\n",

@@ -1,0 +1,102 @@
+// The programs that other commands run.
+ghost use Rattle.std.specs.Prelude.{◌≡◌, drop, IfOk, IfErr, IfNone};
+ghost use Rattle.json_text.specs.Errors.{no_memory};
+
+use json_command::{About, Status};
+use json_history::run_history;
+use json_lines::run_lines;
+use json_programs::{ABOUT_HISTORY, ABOUT_LINES, ABOUT_RESHAPE, ABOUT_RPC};
+use json_rpc::run_rpc;
+use json_text::{Result, Sink, Source, Words};
+use std::alloc::Global;
+
+/// A program that runs in place of the tool.
+#[derive(Clone, Copy)]
+enum Program {
+    Reshape,
+    Lines,
+    Rpc,
+    History,
+}
+
+impl Program {
+    // Returns the program of this name.
+    fn of_word(word: &str) -> Option<Program> {
+        match word {
+            "reshape" => Some(Program::Reshape),
+            "lines" => Some(Program::Lines),
+            "rpc" => Some(Program::Rpc),
+            "history" => Some(Program::History),
+            _ => None,
+        }
+    }
+
+    // Returns what the program says of itself.
+    fn about(self) -> About {
+        match self {
+            Program::Reshape => ABOUT_RESHAPE,
+            Program::Lines => ABOUT_LINES,
+            Program::Rpc => ABOUT_RPC,
+            Program::History => ABOUT_HISTORY,
+        }
+    }
+
+    // Runs the program on these arguments, and returns its status.
+    fn run<S: Source, K: Sink, E: Sink>(
+        self,
+        alloc: Global,
+        arguments: &Words,
+        source: &mut S,
+        sink: &mut K,
+        errs: &mut E,
+    ) -> u8 {
+        match self {
+            Program::Reshape => reshape::run(alloc, arguments, source, sink, errs),
+            Program::Lines => run_lines(alloc, arguments, source, sink, errs),
+            Program::Rpc => run_rpc(alloc, arguments, source, sink, errs),
+            Program::History => run_history(alloc, arguments, source, sink, errs),
+        }
+    }
+}
+
+// Copies the arguments after the first.
+fn later_words(alloc: Global, words: &Words) -> Result<Words>
+    ensures ok { IfOk result (λ later. later ≡ drop 1 words.now) }
+    ensures only { IfErr result (λ e. e ≡ no_memory) }
+{
+    let mut later = Words::new(alloc);
+    for i in 1..words.len() {
+        later.push(words.word(i))?;
+    }
+    Ok(later)
+}
+
+/// Runs the program that the first argument names, on the arguments after it, and returns the status.
+/// It prints what the program alone prints, also for `--help`, `--version` and invalid arguments.
+/// Returns `None` if the first argument names no such program.
+pub fn run_named<S: Source, K: Sink, E: Sink>(
+    alloc: Global,
+    words: &Words,
+    source: &mut S,
+    sink: &mut K,
+    errs: &mut E,
+) -> Option<u8>
+    ensures unread { IfNone result (S.state source.new ≡ S.state source.old) }
+    ensures unwritten { IfNone result (K.state sink.new ≡ K.state sink.old) }
+    ensures unreported { IfNone result (E.state errs.new ≡ E.state errs.old) }
+{
+    if words.len() == 0 {
+        return None;
+    }
+    let program = Program::of_word(words.word(0))?;
+    let Ok(arguments) = later_words(alloc, words) else {
+        return Some(Status::OutOfMemory.number());
+    };
+    let about = program.about();
+    if let Some(status) = about.say_asked(&arguments, sink) {
+        return Some(status.number());
+    }
+    let status = program.run(alloc, &arguments, source, sink, errs);
+    about.add_hint(status, errs);
+    Some(status)
+}

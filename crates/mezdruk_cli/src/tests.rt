@@ -1,0 +1,81 @@
+// What the tool hands on to other programs.
+use crate::program::run_named;
+use json_command::rows::differing_rows;
+use json_text::{FakeSource, VecSink, Words};
+use std::alloc::Global;
+use std::test::Fail;
+
+/// The status of arguments that name no program.
+const NOT_NAMED: u8 = 99;
+
+/// Worked examples, as `json_command::rows` reads them.
+const ROWS: &str = r#"# no program
+|99|||
+|99||||
+|99|||fmt|
+|99|||patch|[]|
+|99|||liness|[]|
+|99|||--lines|lines|
+# reshape
+{"a": 1}|0|{"a":2}||reshape|[["set", ["a"], 2]]|
+[1]|0|[%0A 1%0A]||reshape|--indent=1|
+[1,]|1||InvalidJsonValue at offset 3, line 1 column 4|reshape|
+{}|3||NotFound in edit 0|reshape|[["remove", [], "a"]]|
+|0|reshape 0.1.0%0A||reshape|--version|
+|2||BadWords%0ARun `reshape --help` for usage.|reshape|--version|--version|
+|2||BadWords%0ARun `reshape --help` for usage.|reshape|lines|[]|
+# lines
+{"a":1}%0A|0|1%0A||lines|[[["a"],"int"]]|
+[1%0A2%0A|1|-%0A|1: EofWhileParsing at offset 2, line 1 column 3|lines|[[[0],"int"]]|
+|0|mezdruk lines 0.1.0%0A||lines|--version|
+|2||BadWords%0ARun `mezdruk lines --help` for usage.|lines|
+|2||BadWords%0ARun `mezdruk lines --help` for usage.|lines|--|[[["a"],"int"]]|
+# rpc
+{"jsonrpc":"2.0","method":"get","params":[[]],"id":1}%0A|0|{"jsonrpc":"2.0","result":null,"id":1}%0A||rpc|
+|0|mezdruk rpc 0.1.0%0A||rpc|--version|
+|2||BadWords%0ARun `mezdruk rpc --help` for usage.|rpc|--pretty|
+# history
+[0]|0|[0,1]||history|[["push", [], 1], ["undo"], ["redo"]]|
+[0]|3||NotFound in edit 0|history|[["remove", [], 5]]|
+|0|mezdruk history 0.1.0%0A||history|--version|
+|2||BadWords%0ARun `mezdruk history --help` for usage.|history|
+"#;
+
+// Runs the named program, and returns its status.
+fn run(
+    alloc: Global,
+    words: &Words,
+    source: &mut FakeSource<'_>,
+    sink: &mut VecSink,
+    errs: &mut VecSink,
+) -> u8 {
+    run_named(alloc, words, source, sink, errs).unwrap_or(NOT_NAMED)
+}
+
+#[test]
+fn each_row_is_that_of_the_program(rt: HostRuntime) -> Result<(), Fail> {
+    assert_eq!(rt; differing_rows(rt.alloc(), ROWS, 3, run)?, 0);
+    Ok(())
+}
+
+#[test]
+fn a_help_is_that_of_the_program(rt: HostRuntime) -> Result<(), Fail> {
+    let alloc = rt.alloc();
+    for (name, help) in [
+        ("reshape", json_programs::ABOUT_RESHAPE.help),
+        ("lines", json_programs::ABOUT_LINES.help),
+        ("rpc", json_programs::ABOUT_RPC.help),
+        ("history", json_programs::ABOUT_HISTORY.help),
+    ] {
+        let mut words = Words::new(alloc);
+        words.push(name)?;
+        words.push("--help")?;
+        let mut source = FakeSource::new(b"", 1, &[0]);
+        let (mut sink, mut errs) = (VecSink::new(alloc), VecSink::new(alloc));
+        let status = run(alloc, &words, &mut source, &mut sink, &mut errs);
+        assert_eq!(rt; status, 0, "{name}");
+        assert_eq!(rt; sink.as_slice(), help.as_bytes(), "{name}");
+        assert!(rt; errs.as_slice().is_empty(), "{name}");
+    }
+    Ok(())
+}
