@@ -15,6 +15,7 @@ use std::mem;
 /// Puts a value in the place of the first element, if there is one. Fails with `NoMemory` if memory runs out.
 ///
 /// ```
+/// use json_containers::ArrayCalls;
 /// use json_edit_vectors::callers::put_first;
 /// use json_value::{Array, Value};
 /// let mut array = Array::new();

@@ -29,3 +29,5 @@ pub mod PlacedItems
 pub mod PlainBlocks
 pub mod Decimals
 pub mod ShownBytes
+pub mod StoredBlocks
+pub mod QuotedParts

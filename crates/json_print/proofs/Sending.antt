@@ -1,12 +1,12 @@
 -- What a sink that holds bytes back has sent.
 use Rattle.std.proofs.Common.{◌≡◌, Option, ℕ, ◌+◌, ◌-◌, ◌≤◌, List, [], ◌++◌, length, take, drop, ◌∙◌, subst, sym, ap, refl, arith, Ok, Err, Result}
 use Rattle.json_text.specs.Known.{Appends, Keeps, append_known}
-use Rattle.json_text.proofs.Known.{Appends-trans, Appends-nil, Appends-kept, append_known-moved, known-nil}
+use Rattle.json_text.proofs.Known.{Appends-trans, Appends-nil, Appends-kept, append_known-moved, known-append, known-nil}
 use Rattle.std.proofs.Math.Seq.{take-add}
-use Rattle.std.proofs.lemmas.List.{length-drop, take_all, take-append-drop, drop-drop}
+use Rattle.std.proofs.lemmas.List.{length-drop, length-take, take_all, take-append-drop, drop-drop, drop_all, drop-append-le}
 use Rattle.json_text.specs.declared.sink.SinkError.{SinkError}
 use Rattle.json_text.specs.Outside.{SinkState, Counts, Writes, Flushes}
-use Rattle.json_print.specs.Adding.{Sends}
+use Rattle.json_print.specs.Adding.{Adds, Sends}
 use Rattle.json_print.specs.Buffered.{held_behind}
 use Rattle.json_print.proofs.Pieces.{counts_from, counts_err, counts_ok}
 
@@ -93,3 +93,33 @@ send_failed a b buffer piece from to e h = record { progress = tt; appends = mov
 
 pub flush_failed : (a b : SinkState) (buffer : List ℕ) (from to : ℕ) (e : SinkError) → Sends a b buffer from to (Err e) → Flushes (held_behind a (drop from buffer)) (held_behind b (drop to buffer)) (Err e)
 flush_failed a b buffer from to e h = record { keeps = moved a b buffer from to h; flushed = tt; counts = counts_held a b _ _ h.counts }
+
+-- ---- what is put after what is held
+
+-- the bytes went from the one to the other, and nothing was added
+pub sent_on : (a b : SinkState) (buffer : List ℕ) (from to : ℕ) (r : Result (Unit {0}) SinkError) → Sends a b buffer from to r → Adds (held_behind a (drop from buffer)) (held_behind b (drop to buffer)) [] r
+sent_on a b buffer from to (Ok u) h =
+    record { ok = moved a b buffer from to h ∙ Appends-nil (append_known a.gained (drop from buffer)); err = tt; counts = counts_held a b _ _ h.counts }
+sent_on a b buffer from to (Err e) h =
+    record {
+      ok = tt;
+      err = record { front = []; back = []; whole = refl; gains = moved a b buffer from to h ∙ Appends-nil (append_known a.gained (drop from buffer)) };
+      counts = counts_held a b _ _ h.counts;
+    }
+
+-- ... until all is sent
+pub all_sent : (a b : SinkState) (buffer : List ℕ) (from to : ℕ) (u : Unit {0}) → Sends a b buffer from to (Ok u) → Adds (held_behind a (drop from buffer)) (held_behind b []) [] (Ok u)
+all_sent a b buffer from to u h =
+    subst (λ x. Adds (held_behind a (drop from buffer)) (held_behind b x) [] (Ok u)) (drop_all to buffer (omega (arith, h.all))) (sent_on a b buffer from to (Ok u) h)
+
+-- these were stored after what is held
+pub put_held : (inner : SinkState) (sent end now : ℕ) (old new x : List ℕ) → sent ≤ end → end ≤ length old → take now new ≡ take end old ++ x
+    → Adds (held_behind inner (drop sent (take end old))) (held_behind inner (drop sent (take now new))) x (Ok tt)
+put_held inner sent end now old new x l m h =
+    let held = drop sent (take end old) in
+    let front : sent ≤ length (take end old) = omega (arith, l, m, length-take end old) in
+    record {
+      ok = ap (λ y. append_known inner.gained (drop sent y)) h ∙ ap (append_known inner.gained) (drop-append-le sent (take end old) x front) ∙ sym (known-append inner.gained held x);
+      err = tt;
+      counts = counts_ok _ _ refl refl refl;
+    }

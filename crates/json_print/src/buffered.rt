@@ -1,16 +1,19 @@
 // A sink that holds bytes back and sends many at once.
-ghost use Rattle.std.specs.Prelude.{◌≡◌, ◌≤◌, ◌+◌, ◌++◌, length, IfErr, IfOk, List, ℕ, drop, take};
+ghost use Rattle.std.specs.Prelude.{◌≡◌, ◌≤◌, ◌<◌, ◌+◌, ◌++◌, length, IfErr, IfOk, OnOk, List, ℕ, drop, take};
 ghost use Rattle.std.specs.Io.{WritesAtMost};
 ghost use Rattle.json_text.specs.Errors.{no_memory};
 ghost use Rattle.json_text.specs.Outside.{Writes};
-ghost use Rattle.std.specs.Prelude.{◌∷◌, [], IsTrue, Ok, false};
-ghost use Rattle.json_model.specs.Print.{quoted};
+ghost use Rattle.std.specs.Prelude.{◌∷◌, [], IsTrue, Ok, Err, false};
+ghost use Rattle.json_grammar.specs.Given.{piece};
+ghost use Rattle.json_model.specs.Print.{quoted, shown_bytes};
 ghost use Rattle.json_print.specs.Adding.{Adds};
 ghost use Rattle.json_print.specs.Buffered.{held_behind};
 ghost use Rattle.json_print.specs.Calls.{comma};
 
-use crate::adding::send;
-use crate::placing::{ITEM, place_item, place_key};
+use crate::adding::{Added, send};
+use crate::blocks::{BLOCK_ROOM, store_blocks, store_last};
+use crate::placing::{ITEM, place_byte, place_item, place_key, place_lead};
+use crate::shown::BATCH;
 use json_text::{Result, Sink, SinkError};
 use std::alloc::Global;
 use std::simd::prelude::*;
@@ -180,6 +183,161 @@ impl<W: Sink> BufferedWriter<W> {
                 true
             }
             None => false,
+        }
+    }
+
+    // Sends what is held.
+    #[cold]
+    #[inline(never)]
+    fn send_held(&mut self) -> Added
+        ensures adds { Adds (⟦<BufferedWriter<W> as Sink>⟧.state self.old)
+            (⟦<BufferedWriter<W> as Sink>⟧.state self.new) [] result }
+        ensures empty { OnOk result (self.new.end ≡ 0) }
+    {
+        match send(&mut self.inner, &self.buffer[..self.end], &mut self.sent) {
+            Ok(()) => {}
+            Err(error) => return Err(error),
+        }
+        self.sent = 0;
+        self.end = 0;
+        Ok(())
+    }
+
+    // Makes room for a block.
+    #[inline(always)]
+    fn make_room(&mut self) -> Added
+        ensures adds { Adds (⟦<BufferedWriter<W> as Sink>⟧.state self.old)
+            (⟦<BufferedWriter<W> as Sink>⟧.state self.new) [] result }
+        ensures room { OnOk result (self.new.end + 112 ≤ 8192) }
+    {
+        if CAPACITY - self.end < BLOCK_ROOM {
+            return match self.send_held() {
+                Ok(()) => Ok(()),
+                Err(error) => Err(error),
+            };
+        }
+        Ok(())
+    }
+
+    // Holds a quote, and a comma before it unless it is the first.
+    #[inline(always)]
+    fn hold_lead(&mut self, first: bool)
+        requires { self.old.end + 112 ≤ 8192 }
+        ensures { Adds (⟦<BufferedWriter<W> as Sink>⟧.state self.old)
+            (⟦<BufferedWriter<W> as Sink>⟧.state self.new) (comma first ++ 34 ∷ []) (Ok tt) }
+    {
+        self.end = place_lead(&mut self.buffer, self.end, first);
+    }
+
+    // Holds blocks of a string from `at` on, and returns the offset of the next byte.
+    #[inline(always)]
+    fn hold_blocks(&mut self, text: &[u8], at: usize) -> usize
+        requires room { self.old.end + 112 ≤ 8192 }
+        requires block { at + 16 ≤ length text.now }
+        ensures next { (at < result) × (result ≤ length text.now) }
+        ensures holds { Adds (⟦<BufferedWriter<W> as Sink>⟧.state self.old)
+            (⟦<BufferedWriter<W> as Sink>⟧.state self.new)
+            (shown_bytes (piece text.now at result)) (Ok tt) }
+    {
+        let stored = store_blocks(&mut self.buffer, self.end, text, at);
+        self.end = stored.end;
+        stored.next
+    }
+
+    // Holds the last few bytes of a string, and a quote after them.
+    #[inline(always)]
+    fn hold_last(&mut self, text: &[u8])
+        requires room { self.old.end + 112 ≤ 8192 }
+        requires few { length text.now ≤ 16 }
+        ensures { Adds (⟦<BufferedWriter<W> as Sink>⟧.state self.old)
+            (⟦<BufferedWriter<W> as Sink>⟧.state self.new)
+            (shown_bytes text.now ++ 34 ∷ []) (Ok tt) }
+    {
+        let end = store_last(&mut self.buffer, self.end, text);
+        place_byte(&mut self.buffer, end, b'"');
+        self.end = end + 1;
+    }
+
+    // Puts a quote, and a comma before it unless it is the first.
+    #[inline(always)]
+    fn put_lead(&mut self, first: bool) -> Added
+        ensures { Adds (⟦<BufferedWriter<W> as Sink>⟧.state self.old)
+            (⟦<BufferedWriter<W> as Sink>⟧.state self.new) (comma first ++ 34 ∷ []) result }
+    {
+        match self.make_room() {
+            Ok(()) => {}
+            Err(error) => return Err(error),
+        }
+        self.hold_lead(first);
+        Ok(())
+    }
+
+    // Puts some blocks of a string from `at` on, and returns the offset of the next byte.
+    #[inline(always)]
+    fn put_some(&mut self, text: &[u8], at: usize) -> std::result::Result<usize, SinkError>
+        requires { at + 16 ≤ length text.now }
+        ensures more { IfOk result (λ next. (at < next) × (next ≤ length text.now)) }
+        ensures put { IfOk result (λ next. Adds (⟦<BufferedWriter<W> as Sink>⟧.state self.old)
+            (⟦<BufferedWriter<W> as Sink>⟧.state self.new)
+            (shown_bytes (piece text.now at next)) (Ok tt)) }
+        ensures failed { IfErr result (λ e. Adds (⟦<BufferedWriter<W> as Sink>⟧.state self.old)
+            (⟦<BufferedWriter<W> as Sink>⟧.state self.new) [] (Err e)) }
+    {
+        match self.make_room() {
+            Ok(()) => {}
+            Err(error) => return Err(error),
+        }
+        Ok(self.hold_blocks(text, at))
+    }
+
+    // Puts the blocks of a string, and returns the offset of the rest, which is shorter than a block.
+    #[inline(always)]
+    fn put_blocks(&mut self, text: &[u8]) -> std::result::Result<usize, SinkError>
+        ensures left { IfOk result (λ at. (at ≤ length text.now) × (length text.now < at + 16)) }
+        ensures put { IfOk result (λ at. Adds (⟦<BufferedWriter<W> as Sink>⟧.state self.old)
+            (⟦<BufferedWriter<W> as Sink>⟧.state self.new)
+            (shown_bytes (take at text.now)) (Ok tt)) }
+        ensures failed { IfErr result (λ e. Adds (⟦<BufferedWriter<W> as Sink>⟧.state self.old)
+            (⟦<BufferedWriter<W> as Sink>⟧.state self.new) (shown_bytes text.now) (Err e)) }
+    {
+        let mut at = 0;
+        'fill: while text.len() - at >= BATCH {
+            match self.put_some(text, at) {
+                Ok(next) => at = next,
+                Err(error) => return Err(error),
+            }
+        }
+        Ok(at)
+    }
+
+    // Puts the last few bytes of a string, and a quote after them.
+    #[inline(always)]
+    fn put_last(&mut self, text: &[u8]) -> Added
+        requires { length text.now ≤ 16 }
+        ensures { Adds (⟦<BufferedWriter<W> as Sink>⟧.state self.old)
+            (⟦<BufferedWriter<W> as Sink>⟧.state self.new) (shown_bytes text.now ++ 34 ∷ []) result }
+    {
+        match self.make_room() {
+            Ok(()) => {}
+            Err(error) => return Err(error),
+        }
+        self.hold_last(text);
+        Ok(())
+    }
+
+    // Puts a string between quotes, with its escapes, and a comma before it unless it is the first.
+    #[inline(never)]
+    pub(crate) fn put_quoted(&mut self, first: bool, text: &[u8]) -> Added
+        ensures { Adds (⟦<BufferedWriter<W> as Sink>⟧.state self.old)
+            (⟦<BufferedWriter<W> as Sink>⟧.state self.new) (comma first ++ quoted text.now) result }
+    {
+        match self.put_lead(first) {
+            Ok(()) => {}
+            Err(error) => return Err(error),
+        }
+        match self.put_blocks(text) {
+            Ok(at) => self.put_last(&text[at..]),
+            Err(error) => Err(error),
         }
     }
 

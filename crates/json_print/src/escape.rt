@@ -93,7 +93,7 @@ fn add_quoted_long<W: Sink>(writer: &mut W, value: &[u8]) -> Added
 
 // A short string of which no byte has to be escaped is tested and put in line.
 #[inline(always)]
-pub(crate) fn add_quoted<W: Sink>(writer: &mut W, value: &[u8]) -> Added
+fn add_quoted<W: Sink>(writer: &mut W, value: &[u8]) -> Added
     ensures { Adds (W.state writer.old) (W.state writer.new) (quoted value.now) result }
 {
     if is_plain_short(value) {

@@ -15,6 +15,7 @@
 #![tactic(auto)]
 
 mod adding;
+mod blocks;
 mod buffered;
 mod compact;
 pub mod data_laws;

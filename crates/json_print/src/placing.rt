@@ -15,7 +15,7 @@ pub(crate) const ITEM: usize = SHORT + 4;
 
 // Stores a byte behind the first `at`.
 #[inline(always)]
-fn place_byte(buffer: &mut [u8], at: usize, byte: u8)
+pub(crate) fn place_byte(buffer: &mut [u8], at: usize, byte: u8)
     requires { at < length buffer.old }
     ensures { take (at + 1) buffer.new ≡ take at buffer.old ++ byte ∷ [] }
 {
@@ -51,7 +51,7 @@ fn place_one(buffer: &mut [u8], at: usize, text: &[u8]) -> bool
 
 // Stores a short text, and says whether it is one of which no byte has to be escaped.
 #[inline(always)]
-fn place_text(buffer: &mut [u8], at: usize, text: &[u8]) -> bool
+pub(crate) fn place_text(buffer: &mut [u8], at: usize, text: &[u8]) -> bool
     requires { at + 32 ≤ length buffer.old }
     ensures plain { IsTrue result → plain text.now }
     ensures short { IsTrue result → length text.now ≤ 32 }
@@ -72,7 +72,7 @@ fn place_text(buffer: &mut [u8], at: usize, text: &[u8]) -> bool
 
 // Stores a comma behind the first `end` bytes, unless it is the first, and a quote. The end of these comes.
 #[inline(always)]
-fn place_lead(buffer: &mut [u8], end: usize, first: bool) -> usize
+pub(crate) fn place_lead(buffer: &mut [u8], end: usize, first: bool) -> usize
     requires { end + 2 ≤ length buffer.old }
     ensures within { (end < result) × (result ≤ end + 2) }
     ensures placed { take result buffer.new ≡ take end buffer.old ++ (comma first ++ 34 ∷ []) }

@@ -1,6 +1,7 @@
 // Whether a short string has no byte that has to be escaped.
-ghost use Rattle.std.specs.Prelude.{◌≡◌, ℕ, ◌+◌, ◌<◌, ◌≤◌, ◌↔◌, length, get_or, IsTrue};
-ghost use Rattle.json_text.specs.Runs.{IsPlain, plain};
+ghost use Rattle.std.specs.Prelude.{◌≡◌, ℕ, ◌+◌, ◌^◌, ◌<◌, ◌≤◌, ◌==◌, cond, length, get_or, IsTrue};
+ghost use Rattle.std.specs.Int.Count.{count_trailing_zeros};
+ghost use Rattle.json_text.specs.Runs.{CountedIn, IsPlain, plain};
 
 use std::simd::prelude::*;
 
@@ -21,18 +22,30 @@ fn is_none(mask: u64) -> bool
     mask == 0
 }
 
-// Whether each of N bytes stands for itself in a string.
+// Which of N bytes have to be escaped: a bit for each, that of the first the lowest.
+#[inline(always)]
+pub(crate) fn escaped_lanes<const N: usize>(bytes: &[u8], at: usize) -> u64
+    requires lanes { N ≤ 64 }
+    requires room { at + N ≤ length bytes.now }
+    ensures plain { CountedIn IsPlain bytes.now at N
+        (cond (result == 0) N (count_trailing_zeros 64 result)) }
+    ensures few { result < 2 ^ N }
+{
+    let block = Simd::<u8, N>::from_slice(&bytes[at..]);
+    let quote = block.simd_eq(Simd::splat(b'"'));
+    let backslash = block.simd_eq(Simd::splat(b'\\'));
+    let escaped = block.simd_le(Simd::splat(LAST_CONTROL)) | quote | backslash;
+    escaped.to_bitmask()
+}
+
+// Whether none of N bytes has to be escaped.
 #[inline(always)]
 fn is_plain_block<const N: usize>(bytes: &[u8], at: usize) -> bool
     requires lanes { N ≤ 64 }
     requires room { at + N ≤ length bytes.now }
     ensures { IsTrue result → (k : ℕ) → at ≤ k → k < at + N → IsPlain (get_or bytes.now k 0) }
 {
-    let block = Simd::<u8, N>::from_slice(&bytes[at..]);
-    let quote = block.simd_eq(Simd::splat(b'"'));
-    let backslash = block.simd_eq(Simd::splat(b'\\'));
-    let stops = block.simd_le(Simd::splat(LAST_CONTROL)) | quote | backslash;
-    is_none(stops.to_bitmask())
+    is_none(escaped_lanes::<N>(bytes, at))
 }
 
 // Whether no byte has to be escaped, of N bytes up to twice as many, by two blocks that may overlap.

@@ -11,7 +11,7 @@ ghost use Rattle.json_print.specs.TextWriting.{WritesText};
 
 use crate::BufferedWriter;
 use crate::adding::{Added, add, refusal};
-use crate::escape::{add_number, add_quoted, add_unsigned};
+use crate::escape::{add_number, add_unsigned};
 use crate::indent::{Indent, add_break};
 use json_text::{Result, Sink};
 
@@ -81,26 +81,28 @@ pub trait Layout: Copy {
             (closed_by (indent self) level empty bracket) result };
 }
 
-// A string behind a comma, unless it is the first.
+// Writes a key and a colon, and a comma before them unless it is the first.
 #[inline(never)]
-fn add_item<W: Sink>(out: &mut W, first: bool, text: &[u8]) -> Added
-    ensures { Adds (W.state out.old) (W.state out.new) (comma first ++ quoted text.now) result }
-{
-    if first {
-        return add_quoted(out, text);
-    }
-    add(out, b",")?;
-    add_quoted(out, text)
-}
-
-// The same of a key, with a colon behind it.
-#[inline(never)]
-fn add_key<W: Sink>(out: &mut W, first: bool, key: &[u8]) -> Added
-    ensures { Adds (W.state out.old) (W.state out.new)
+fn add_key<W: Sink>(out: &mut BufferedWriter<W>, first: bool, key: &[u8]) -> Added
+    ensures { Adds (⟦<BufferedWriter<W> as Sink>⟧.state out.old)
+        (⟦<BufferedWriter<W> as Sink>⟧.state out.new)
         (comma first ++ (quoted key.now ++ 58 ∷ [])) result }
 {
-    add_item(out, first, key)?;
+    out.put_quoted(first, key)?;
     add(out, b":")
+}
+
+// Writes a string, and a comma before it unless it is the first. A short one without escapes takes
+// no call.
+#[inline(always)]
+fn add_item<W: Sink>(out: &mut BufferedWriter<W>, first: bool, text: &[u8]) -> Added
+    ensures { Adds (⟦<BufferedWriter<W> as Sink>⟧.state out.old)
+        (⟦<BufferedWriter<W> as Sink>⟧.state out.new) (comma first ++ quoted text.now) result }
+{
+    if out.put_item(first, text) {
+        return Ok(());
+    }
+    out.put_quoted(first, text)
 }
 
 /// No whitespace between the tokens.
@@ -135,9 +137,6 @@ impl Layout for OneLine {
         text: &str,
     ) -> Added {
         let _ = level;
-        if out.put_item(first, text.as_bytes()) {
-            return Ok(());
-        }
         add_item(out, first, text.as_bytes())
     }
 
@@ -217,7 +216,7 @@ impl Layout for ManyLines<'_> {
         text: &str,
     ) -> Added {
         add_break(out, self.indent, level, first)?;
-        add_quoted(out, text.as_bytes())
+        add_item(out, true, text.as_bytes())
     }
 
     #[inline(always)]
@@ -229,7 +228,7 @@ impl Layout for ManyLines<'_> {
         key: &str,
     ) -> Added {
         add_break(out, self.indent, level, first)?;
-        add_quoted(out, key.as_bytes())?;
+        add_item(out, true, key.as_bytes())?;
         add(out, b": ")
     }
 
@@ -269,9 +268,6 @@ pub fn show_text<W: Sink>(out: &mut BufferedWriter<W>, text: &str) -> Added
     ensures { Adds (⟦<BufferedWriter<W> as Sink>⟧.state out.old)
         (⟦<BufferedWriter<W> as Sink>⟧.state out.new) (quoted text.now) result }
 {
-    if out.put_item(true, text.as_bytes()) {
-        return Ok(());
-    }
     add_item(out, true, text.as_bytes())
 }
 

@@ -99,7 +99,7 @@ static LENGTHS: [u8; 256] = [
 
 // Stores what shows a byte, and answers how long that is. What else is stored behind it is stored over.
 #[inline(always)]
-fn store_shown(room: &mut [u8], at: usize, byte: u8) -> usize
+pub(crate) fn store_shown(room: &mut [u8], at: usize, byte: u8) -> usize
     requires { at + 8 ≤ length room.old }
     ensures few { result ≤ 6 }
     ensures stored { take (at + result) room.new ≡ take at room.old ++ shown_byte byte }
@@ -110,20 +110,21 @@ fn store_shown(room: &mut [u8], at: usize, byte: u8) -> usize
     usize::from(LENGTHS[index])
 }
 
-// Stores what shows some bytes from the beginning on, and answers how long that is.
-fn store_batch(room: &mut [u8], batch: &[u8]) -> usize
+// Stores some bytes as they are shown after the first `end`, and returns the end of that.
+#[inline(always)]
+pub(crate) fn store_batch(room: &mut [u8], end: usize, batch: &[u8]) -> usize
     requires few { length batch.now ≤ 16 }
-    requires room { length room.old ≡ 98 }
-    ensures within { result ≤ 98 }
-    ensures stored { take result room.new ≡ shown_bytes batch.now }
+    requires room { end + 98 ≤ length room.old }
+    ensures within { result ≤ end + 96 }
+    ensures stored { take result room.new ≡ take end room.old ++ shown_bytes batch.now }
 {
     let mut at = 0;
-    let mut end = 0;
+    let mut to = end;
     'each: while at < batch.len() {
-        end += store_shown(room, end, batch[at]);
+        to += store_shown(room, to, batch[at]);
         at += 1;
     }
-    end
+    to
 }
 
 // A few bytes of a string, escaped where they have to be.
@@ -133,6 +134,6 @@ pub(crate) fn add_batch<W: Sink>(writer: &mut W, batch: &[u8]) -> Added
     ensures { Adds (W.state writer.old) (W.state writer.new) (shown_bytes batch.now) result }
 {
     let mut room = [0; ROOM];
-    let end = store_batch(&mut room, batch);
+    let end = store_batch(&mut room, 0, batch);
     add(writer, &room[..end])
 }

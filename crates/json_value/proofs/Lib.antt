@@ -43,3 +43,4 @@ pub mod KeyFronts
 pub mod SortedGiven
 pub mod Walking
 pub mod ShownTrees
+pub mod PrintedTexts

@@ -1,7 +1,8 @@
 // Arrays.
-ghost use Rattle.std.specs.Prelude.{◌≡◌, ◌≤◌, ◌↔◌, [], map, IfOk, OnOk, OnErr, IfSome, IsNone, IsOk};
+ghost use Rattle.std.specs.Prelude.{◌≡◌, ◌≤◌, ◌↔◌, [], map, IfOk, OnOk, OnErr, IfSome, IsNone, IsOk, None, string_bytes};
 ghost use Rattle.std.specs.Borrow.{Lends, LendsIfOk, sem};
 ghost use Rattle.json_grammar.specs.Tree.{list, list_trees};
+ghost use Rattle.json_model.specs.Print.{shown};
 ghost use Rattle.json_doc.specs.Left.{children_doc, children_places, children_left};
 ghost use Rattle.json_doc.specs.Readings.{elements};
 ghost use Rattle.json_value.specs.Denotes.{tree_of, list_in};
@@ -20,8 +21,10 @@ use crate::array_view::{ArrayForm, ArrayView};
 use crate::container::{Container, Form};
 use crate::packed_view::PackedView;
 use crate::place::Place;
+use crate::texts::{show_array, text_writer, text_written};
 use crate::value::Value;
 use json_doc::{Doc, DocChildren, DocNode};
+use json_print::answered;
 use json_text::Result;
 use std::alloc::Global;
 use std::rc::Rc;
@@ -190,6 +193,17 @@ impl Container<Value> {
             Form::Packed(place) => ArrayForm::Packed(PackedView::of_place(place)),
         };
         ArrayView { form }
+    }
+
+    /// Returns the compact text of the array's tree. Fails with `NoMemory` if memory runs out.
+    pub fn to_string(&self, alloc: Global) -> Result<String>
+        ensures ok { IfOk result (λ text.
+            string_bytes text ≡ shown None 0 (list (list_trees (list_in self.now)))) }
+        ensures only { OnlyNoMemory result }
+    {
+        let mut out = text_writer(alloc)?;
+        answered(show_array(self, &mut out))?;
+        text_written(out)
     }
 
     /// An array of the same elements, which no later write to this one reaches; places stay places of the same document.

@@ -38,6 +38,7 @@ mod places;
 mod show_owned;
 mod show_packed;
 mod text;
+mod texts;
 mod value;
 mod view;
 mod walk;

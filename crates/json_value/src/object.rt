@@ -1,7 +1,8 @@
 // Objects.
-ghost use Rattle.std.specs.Prelude.{◌≡◌, ◌≤◌, ◌↔◌, [], map, IfOk, OnOk, OnErr, IfSome, IsNone, IsOk};
+ghost use Rattle.std.specs.Prelude.{◌≡◌, ◌≤◌, ◌↔◌, [], map, IfOk, OnOk, OnErr, IfSome, IsNone, IsOk, None, string_bytes};
 ghost use Rattle.std.specs.Borrow.{Lends, LendsIfOk, sem};
 ghost use Rattle.json_grammar.specs.Tree.{pairs, list_pairs};
+ghost use Rattle.json_model.specs.Print.{shown};
 ghost use Rattle.json_doc.specs.Left.{pairs_doc, pairs_places, pairs_left};
 ghost use Rattle.json_value.specs.Denotes.{tree_of, pair_of, pairs_in};
 ghost use Rattle.json_value.specs.Said.{place_tree};
@@ -22,8 +23,10 @@ use crate::packed_view::PackedView;
 use crate::pair::{Keyed, Pair};
 use crate::place::Place;
 use crate::text::Text;
+use crate::texts::{show_object, text_writer, text_written};
 use crate::value::Value;
 use json_doc::{Doc, DocNode, DocPairs};
+use json_print::answered;
 use json_text::Result;
 use std::alloc::Global;
 use std::rc::Rc;
@@ -201,6 +204,17 @@ impl Container<Keyed<Value>> {
             Form::Packed(place) => ObjectForm::Packed(PackedView::of_place(place)),
         };
         ObjectView { form }
+    }
+
+    /// Returns the compact text of the object's tree. Fails with `NoMemory` if memory runs out.
+    pub fn to_string(&self, alloc: Global) -> Result<String>
+        ensures ok { IfOk result (λ text.
+            string_bytes text ≡ shown None 0 (pairs (list_pairs (pairs_in self.now)))) }
+        ensures only { OnlyNoMemory result }
+    {
+        let mut out = text_writer(alloc)?;
+        answered(show_object(self, &mut out))?;
+        text_written(out)
     }
 
     /// An object of the same members, which no later write to this one reaches; places stay places of the same document.

@@ -81,7 +81,7 @@ fn show_owned_element<W: Sink, L: Layout>(
 
 // An array of these elements.
 #[cycle(shown_value)]
-fn show_values<W: Sink, L: Layout>(
+pub(crate) fn show_values<W: Sink, L: Layout>(
     values: &Vec<Value>,
     layout: L,
     level: usize,
@@ -105,7 +105,7 @@ fn show_values<W: Sink, L: Layout>(
 
 // An object of these members.
 #[cycle(shown_value)]
-fn show_owned_pairs<W: Sink, L: Layout>(
+pub(crate) fn show_owned_pairs<W: Sink, L: Layout>(
     values: &Vec<Pair>,
     layout: L,
     level: usize,

@@ -119,26 +119,28 @@ fn numbers_are_printed(rt: HostRuntime) {
     assert!(rt; matches!(made_prints(alloc, numbers(alloc), json), Ok(true)));
 }
 
-// Whether the text of a value is this one.
+// Whether both texts of a value, by its method and by `Display`, are this one.
 fn is_displayed(alloc: Global, value: &Value, json: &str) -> Result<bool> {
-    let text = value.to_string(alloc)?;
-    Ok(text.as_str() == json)
+    let displayed = format!(in alloc; "{value}")?;
+    Ok(displayed.as_str() == json && value.to_string(alloc)?.as_str() == json)
 }
 
-// Whether the text of an array is this one.
+// The same of an array.
 fn is_array_displayed(alloc: Global, value: &mut Value, json: &str) -> Result<bool> {
-    match array_in(value) {
-        Some(array) => Ok(array.to_string(alloc)?.as_str() == json),
-        None => Ok(false),
-    }
+    let Some(array) = array_in(value) else {
+        return Ok(false);
+    };
+    let displayed = format!(in alloc; "{array}")?;
+    Ok(displayed.as_str() == json && array.to_string(alloc)?.as_str() == json)
 }
 
-// Whether the text of an object is this one.
+// The same of an object.
 fn is_object_displayed(alloc: Global, value: &Value, json: &str) -> Result<bool> {
-    match value {
-        Value::Object(object) => Ok(object.to_string(alloc)?.as_str() == json),
-        _ => Ok(false),
-    }
+    let Value::Object(object) = value else {
+        return Ok(false);
+    };
+    let displayed = format!(in alloc; "{object}")?;
+    Ok(displayed.as_str() == json && object.to_string(alloc)?.as_str() == json)
 }
 
 // The same of the value of the first member, behind the first write of its object.

@@ -85,20 +85,21 @@ fn long_string(alloc: Global) -> Result<Vec<u8>> {
     Ok(text)
 }
 
-// Whether a run over an input ends with 5, where the second call of the sink fails, and its opening quote alone is written.
-fn fails_behind_quote(alloc: Global, input: &[u8]) -> bool {
+// Whether a run over a compact input ends with 5 if the second call of the sink fails, and what the
+// first call took is written.
+fn fails_at_the_second_call(alloc: Global, input: &[u8]) -> bool {
     let mut source = SliceSource::new(input);
     let (mut sink, mut errs) = (FakeSink::new(alloc, 4_096, &[1]), VecSink::new(alloc));
     let status = status_of(alloc, &mut source, &mut sink, &mut errs);
-    let written = sink.as_slice() == b"\"".as_slice();
+    let written = sink.as_slice().len() == 4_096 && input.starts_with(sink.as_slice());
     status == 5 && written && errs.as_slice() == b"Io while writing\n".as_slice()
 }
 
-// The opening quote is sent alone, and the next call fails.
+// The first 4,096 bytes are sent, and the next call fails.
 #[test]
 fn a_sink_that_fails_at_a_long_string(rt: HostRuntime) {
     let text = long_string(rt.alloc());
-    assert!(rt; text.is_ok_and(|text| fails_behind_quote(rt.alloc(), text.as_slice())));
+    assert!(rt; text.is_ok_and(|text| fails_at_the_second_call(rt.alloc(), text.as_slice())));
 }
 
 // Whether the error of a serializer whose sink failed comes again at each later call, and no more is written.

@@ -1,14 +1,5 @@
-use Rattle.std.proofs.Common.{refl}
-use Rattle.std.proofs.lemmas.Simd.{zip2_splat, length-chunk}
-use lib.Lanes.{chunk}
-use Rattle.json_text.proofs.Masks.{joined}
 use Rattle.json_print.proofs.PlainBlocks.{plain_each}
 use Rattle.json_print.proofs.plain.is_plain_block.Goals as goal
 
 pub returns : goal.returns
-returns g c = λ h.
-    let n = g.row.N in
-    let v = chunk c.args.at n c.args.bytes.now in
-    let long = length-chunk c.args.at n c.args.bytes.now c.requires.room in
-    plain_each c.args.bytes.now c.args.at n _ c.requires.room c.requires.lanes c.type_inv.bytes _
-    (joined _ _ _ v (joined _ _ _ v (zip2_splat _ v n _ long) (zip2_splat _ v n _ long)) (zip2_splat _ v n _ long)) refl (c.is_none.ensures h)
+returns g c = λ h. plain_each c.args.bytes.now c.args.at g.row.N c.escaped_lanes.result c.escaped_lanes.ensures.plain (c.is_none.ensures h)

@@ -5,10 +5,10 @@ use Rattle.json_print.specs.Calls.{comma}
 use Rattle.json_print.proofs.Pieces.{Adds-first, Adds-then}
 use Rattle.json_print.proofs.showing.add_key.Goals as goal
 
-pub returns-in_err-add_item : goal.returns-in_err-add_item
-returns-in_err-add_item g c =
+pub returns-in_err-put_quoted : goal.returns-in_err-put_quoted
+returns-in_err-put_quoted g c =
     let p = err_from_is_err_and c.from_residual.result c.from_residual.ensures.1 in
-    rw (p.1, p.2, ← append_assoc (comma c.args.first) (quoted c.args.key.now) (58 ∷ [])) (Adds-first _ _ _ _ _ c.in_err-add_item.ensures)
+    rw (p.1, p.2, ← append_assoc (comma c.args.first) (quoted c.args.key.now) (58 ∷ [])) (Adds-first _ _ _ _ _ c.in_err-put_quoted.ensures)
 
 pub returns : goal.returns
-returns g c = rw (← append_assoc (comma c.args.first) (quoted c.args.key.now) (58 ∷ [])) (Adds-then _ _ _ _ _ _ _ c.in_ok-add_item.ensures c.add.ensures)
+returns g c = rw (← append_assoc (comma c.args.first) (quoted c.args.key.now) (58 ∷ [])) (Adds-then _ _ _ _ _ _ _ c.in_ok-put_quoted.ensures c.add.ensures)

@@ -7,4 +7,4 @@ returns-in_err-add_break g c =
     let p = err_from_is_err_and c.from_residual.result c.from_residual.ensures.1 in rw (p.1, p.2) (Adds-first _ _ _ _ _ c.in_err-add_break.ensures)
 
 pub returns : goal.returns
-returns g c = Adds-then _ _ _ _ _ _ _ c.in_ok-add_break.ensures (rw (← c.as_bytes.ensures.value) c.add_quoted.ensures)
+returns g c = Adds-then _ _ _ _ _ _ _ c.in_ok-add_break.ensures (rw (← c.as_bytes.ensures.value) c.add_item.ensures)
