@@ -8,7 +8,10 @@ fn help_and_version_stand_alone(rt: HostRuntime) -> Result<(), Fail> {
     let alloc = rt.alloc();
     for (given, begins) in [
         ("--help", Some("mezdruk lines reads JSON Lines")),
-        ("--version", Some("mezdruk lines 0.1.0\n")),
+        (
+            "--version",
+            Some("mezdruk lines 0.1.0\nRattle logic dac8208d650f15bf\n"),
+        ),
         ("--has=[]", None),
         ("-help", None),
     ] {

@@ -40,7 +40,7 @@ Status:
 ";
 
 /// What `--version` alone prints.
-const VERSION: &str = "mezdruk history 0.1.0\n";
+const VERSION: &str = "mezdruk history 0.1.0\nRattle logic dac8208d650f15bf\n";
 
 /// What the program says of itself.
 pub const ABOUT_HISTORY: About = About {

@@ -39,7 +39,7 @@ Status:
 ";
 
 /// What `--version` alone prints.
-const VERSION: &str = "json_patch 0.1.0\n";
+const VERSION: &str = "json_patch 0.1.0\nRattle logic dac8208d650f15bf\n";
 
 /// What the program says of itself.
 pub const ABOUT_JSON_PATCH: About = About {

@@ -42,7 +42,7 @@ Status:
 ";
 
 /// What `--version` alone prints.
-const VERSION: &str = "mezdruk lines 0.1.0\n";
+const VERSION: &str = "mezdruk lines 0.1.0\nRattle logic dac8208d650f15bf\n";
 
 /// What the program says of itself.
 pub const ABOUT_LINES: About = About {

@@ -62,7 +62,7 @@ Status: the greatest of those of the documents
 ";
 
 /// What `--version` alone prints.
-const VERSION: &str = "mezdruk 0.1.0\n";
+const VERSION: &str = "mezdruk 0.1.0\nRattle logic dac8208d650f15bf\n";
 
 /// What the program says of itself.
 pub const ABOUT_MEZDRUK: About = About {

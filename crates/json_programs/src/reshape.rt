@@ -48,7 +48,7 @@ Status:
 ";
 
 /// What `--version` alone prints.
-const VERSION: &str = "reshape 0.1.0\n";
+const VERSION: &str = "reshape 0.1.0\nRattle logic dac8208d650f15bf\n";
 
 /// What the program says of itself.
 pub const ABOUT_RESHAPE: About = About {

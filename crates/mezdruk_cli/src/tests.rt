@@ -21,23 +21,23 @@ const ROWS: &str = r#"# no program
 [1]|0|[%0A 1%0A]||reshape|--indent=1|
 [1,]|1||InvalidJsonValue at offset 3, line 1 column 4|reshape|
 {}|3||NotFound in edit 0|reshape|[["remove", [], "a"]]|
-|0|reshape 0.1.0%0A||reshape|--version|
+|0|reshape 0.1.0%0ARattle logic dac8208d650f15bf%0A||reshape|--version|
 |2||BadWords%0ARun `reshape --help` for usage.|reshape|--version|--version|
 |2||BadWords%0ARun `reshape --help` for usage.|reshape|lines|[]|
 # lines
 {"a":1}%0A|0|1%0A||lines|[[["a"],"int"]]|
 [1%0A2%0A|1|-%0A|1: EofWhileParsing at offset 2, line 1 column 3|lines|[[[0],"int"]]|
-|0|mezdruk lines 0.1.0%0A||lines|--version|
+|0|mezdruk lines 0.1.0%0ARattle logic dac8208d650f15bf%0A||lines|--version|
 |2||BadWords%0ARun `mezdruk lines --help` for usage.|lines|
 |2||BadWords%0ARun `mezdruk lines --help` for usage.|lines|--|[[["a"],"int"]]|
 # rpc
 {"jsonrpc":"2.0","method":"get","params":[[]],"id":1}%0A|0|{"jsonrpc":"2.0","result":null,"id":1}%0A||rpc|
-|0|mezdruk rpc 0.1.0%0A||rpc|--version|
+|0|mezdruk rpc 0.1.0%0ARattle logic dac8208d650f15bf%0A||rpc|--version|
 |2||BadWords%0ARun `mezdruk rpc --help` for usage.|rpc|--pretty|
 # history
 [0]|0|[0,1]||history|[["push", [], 1], ["undo"], ["redo"]]|
 [0]|3||NotFound in edit 0|history|[["remove", [], 5]]|
-|0|mezdruk history 0.1.0%0A||history|--version|
+|0|mezdruk history 0.1.0%0ARattle logic dac8208d650f15bf%0A||history|--version|
 |2||BadWords%0ARun `mezdruk history --help` for usage.|history|
 "#;
 

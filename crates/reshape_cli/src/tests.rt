@@ -9,7 +9,10 @@ fn help_and_version_stand_alone(rt: HostRuntime) -> Result<(), Fail> {
     let alloc = rt.alloc();
     for (given, begins) in [
         ("--help", Some("reshape reads a JSON text")),
-        ("--version", Some("reshape 0.1.0\n")),
+        (
+            "--version",
+            Some("reshape 0.1.0\nRattle logic dac8208d650f15bf\n"),
+        ),
         ("--pretty", None),
         ("-help", None),
     ] {
@@ -41,7 +44,10 @@ fn the_version_is_written_or_its_status_is_that_of_writing(rt: HostRuntime) -> R
         ABOUT_RESHAPE.say_asked(&arguments, &mut sink),
         Some(Status::Success)
     );
-    assert_eq!(rt; sink.as_slice(), b"reshape 0.1.0\n".as_slice());
+    assert_eq!(rt;
+        sink.as_slice(),
+        b"reshape 0.1.0\nRattle logic dac8208d650f15bf\n".as_slice()
+    );
     let mut failing = FakeSink::new(alloc, 2, &[1]);
     assert_eq!(rt;
         ABOUT_RESHAPE.say_asked(&arguments, &mut failing),
