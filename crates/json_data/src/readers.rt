@@ -197,7 +197,9 @@ impl<S: Lent> DeserializeFrom<S> for IgnoredAny {
     }
 }
 
-// Where a refusal e was met within a list, what is left of the list is taken too.
+/// Returns the error, which was met within an array or an object. If it is a refusal, first takes
+/// what is left of the innermost open container, its end included, and returns the error of that
+/// where it fails.
 #[cold]
 #[inline(never)]
 pub fn leave_after<S: Lent, T: Tokens<S>>(tokens: &mut T, e: Error) -> Error
