@@ -49,7 +49,7 @@ fn repeated(alloc: Global, field: &str) -> Result<String>
     Ok(text)
 }
 
-// The bytes that a field stands for.
+// The bytes that a field spells.
 fn decoded(alloc: Global, field: &str) -> Result<Vec<u8>>
     ensures { IfErr result (λ e. e ≡ no_memory) }
 {
@@ -59,7 +59,7 @@ fn decoded(alloc: Global, field: &str) -> Result<Vec<u8>>
     Ok(bytes)
 }
 
-// The lines that the field of the errors stands for.
+// The lines that the field of the errors spells.
 fn decoded_lines(alloc: Global, field: &str) -> Result<Vec<u8>>
     ensures { IfErr result (λ e. e ≡ no_memory) }
 {

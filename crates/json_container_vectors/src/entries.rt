@@ -46,7 +46,7 @@ fn is_named(entry: Entry<'_>, key: &str) -> bool {
     entry.key() == key
 }
 
-// Whether 1 stands at the key, once the number is put in where nothing does.
+// Whether 1 is the value of the key, once the number is inserted where the key is missing.
 fn has_one(object: &mut Object, alloc: Global, number: u64) -> Result<bool> {
     let entry = object.entry(alloc, "hello")?;
     Ok(is_number(entry.or_insert(Value::new_u64(number)).view(), 1))

@@ -93,7 +93,7 @@ fn value_of<'o>(object: &'o mut Object, alloc: Global, key: &str) -> Result<&'o 
 }
 
 // A place that is lent, or none where there was none; only want of memory stays an error. The walk of `get_mut` can name
-// the contract of a function of its own crate alone, so this one stands here too.
+// the contract of a function of its own crate alone, so this one is here too.
 fn none_if_missing<'a>(r: Result<&'a mut Value>) -> Result<Option<&'a mut Value>>
     ensures missing_as_none { result ≡ missing_as_none r.entry }
 {
@@ -121,7 +121,7 @@ fn copy_pairs(alloc: Global, pairs: &[Pair]) -> Result<Vec<Pair>>
     Ok(copies)
 }
 
-// Puts the member's value at the first member of its key, or the member behind the others, for
+// Puts the member's value at the first member of its key, or the member after the others, for
 // which there is room.
 fn put_pair(pairs: &mut Vec<Pair>, mut pair: Pair)
     requires { vec_len pairs.old < vec_capacity pairs.old }

@@ -26,7 +26,7 @@ fn name_of<'a>(array: ArrayView<'a>) -> Option<&'a str>
     }
 }
 
-// The two elements behind the first; none where there are fewer or more.
+// The two elements after the first; none where there are fewer or more.
 fn two_behind<'a>(array: ArrayView<'a>) -> Option<(View<'a>, View<'a>)>
     ensures { MatchOption result (length (drop 1 (elements_seen array.entry)) ≢ 2)
         (λ p. drop 1 (elements_seen array.entry) ≡ seen p.0 ∷ seen p.1 ∷ []) }
@@ -39,7 +39,7 @@ fn two_behind<'a>(array: ArrayView<'a>) -> Option<(View<'a>, View<'a>)>
     Some((first, second))
 }
 
-// The three elements behind the first; none where there are fewer or more.
+// The three elements after the first; none where there are fewer or more.
 fn three_behind<'a>(array: ArrayView<'a>) -> Option<(View<'a>, View<'a>, View<'a>)>
     ensures { MatchOption result (length (drop 1 (elements_seen array.entry)) ≢ 3)
         (λ p. drop 1 (elements_seen array.entry) ≡ seen p.0 ∷ seen p.1 ∷ seen p.2 ∷ []) }

@@ -38,7 +38,7 @@ pub struct ValueTokens<'a> {
     // the innermost open container, and those around it, the outermost first
     inner: Level<'a>,
     outer: Vec<Level<'a>>,
-    // whether the kind of the next token was told
+    // whether the kind of the next token was returned
     told: bool,
     // whether memory ran out
     failed: bool,
@@ -99,7 +99,7 @@ impl<'a> ValueTokens<'a> {
         }
     }
 
-    // Goes behind the innermost container.
+    // Goes on after the innermost container.
     fn exit(&mut self)
         ensures state { let s = value_state self.old in (l : Left) (ls : List Left)
             → s.levels ≡ l ∷ ls

@@ -106,7 +106,7 @@ fn room_is_filled(alloc: Global) -> Result<bool> {
     Ok(read && room.as_slice() == b" 7".as_slice())
 }
 
-// Whether a text that is refused stands in the room, in place of what it held.
+// Whether the room holds the text that is refused, in place of what it held.
 fn room_holds_a_refused_text(alloc: Global) -> Result<bool> {
     let mut room = Vec::new(alloc);
     room.extend_from_slice(b"kept")?;
@@ -200,7 +200,7 @@ fn a_person_is_printed_as_it_was_read(rt: HostRuntime) {
     assert!(rt; matches!(person_is_printed(rt.alloc(), text), Ok(true)));
 }
 
-// How many elements a list has; of a number none is told.
+// How many elements a list has; of a number none is returned.
 fn elements(nested: Nested) -> Option<usize> {
     match &nested {
         Nested::List(all) => Some(all.len()),

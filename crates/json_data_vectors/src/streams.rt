@@ -18,7 +18,7 @@ fn is_refused<T: Drop>(outcome: Result<T>, code: ErrorCode, offset: usize) -> bo
     told(outcome) == Some((code, Some(offset)))
 }
 
-// How many values come, what is refused then, and whether nothing comes behind that.
+// How many values come, what is refused then, and whether nothing comes after that.
 fn drained(alloc: Global, text: &str) -> (usize, Option<(ErrorCode, Option<usize>)>, bool)
     requires { length text.now < 2 ^ 32 }
 {
@@ -58,7 +58,7 @@ fn values_up_to_the_first_that_is_damaged(rt: HostRuntime) {
     assert!(rt; wrong.is_none(), "{wrong:?}");
 }
 
-// Whether what stands behind the first value is refused, at its place.
+// Whether what follows the first value is refused, at its place.
 fn object_ends(alloc: Global) -> bool {
     let mut input = Deserializer::from_str("{\"a\": 1, \"b\": 2}123").use_rawnumber();
     let read = input.deserialize::<IgnoredAny>(alloc).is_ok();
@@ -106,7 +106,7 @@ fn is_surrogate(outcome: Result<String>) -> bool {
     }
 }
 
-// Whether a surrogate that stands alone is refused, and then read in the other mode.
+// Whether a lone surrogate is refused, and then read in the other mode.
 fn mode_decides(alloc: Global) -> bool {
     let mut strict = Deserializer::from_str("\"\\ud800a\"");
     let refused = is_surrogate(strict.deserialize::<String>(alloc));

@@ -13,7 +13,7 @@ fn is_shown(alloc: Global, value: Value, json: &str) -> Result<bool> {
     shows(alloc, &value, json)
 }
 
-// Whether the value of a text stands in a document, and has this compact text.
+// Whether the value of a text is a place of a document, and has this compact text.
 fn place(alloc: Global, text: &str, json: &str) -> Result<bool> {
     let value = from_str::<Value>(alloc, text)?;
     let stands = has_place(&value);

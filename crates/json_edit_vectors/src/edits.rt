@@ -80,7 +80,7 @@ fn first_write_of_an_array(rt: HostRuntime) {
     assert!(rt; changes_to(rt.alloc(), json, Change::WriteList, then));
 }
 
-// Whether a clone from before a first write stands at this cell still, and the value at none.
+// Whether a clone from before a first write is still a place of this cell, and the value is none.
 fn clone_stays(value: &mut Value, alloc: Global, at: u32) -> Result<bool> {
     let copy = copied(alloc, value)?;
     let opened = list_in(value, alloc)?.is_some() && !has_place(value);
@@ -93,7 +93,7 @@ fn a_clone_from_before_a_first_write_stays_a_place(rt: HostRuntime) {
     assert!(rt; changes_to(rt.alloc(), json, Change::CloneAndWrite, json));
 }
 
-// Whether the first member has this key and stands here; its value is null from then on.
+// Whether the first member has this key and is the place of this cell; its value is null from then on.
 fn first_is(members: &mut Vec<Pair>, key: &str, at: u32) -> bool {
     match members.first_mut() {
         Some(first) => {
@@ -105,7 +105,7 @@ fn first_is(members: &mut Vec<Pair>, key: &str, at: u32) -> bool {
     }
 }
 
-// The first write of two members, the first of which stands at cell 2.
+// The first write of two members, the first of which is the place of cell 2.
 fn write_pairs(value: &mut Value, alloc: Global) -> Result<bool> {
     match pairs_in(value, alloc)? {
         Some(members) => Ok(members.len() == 2 && first_is(members, "a", 2)),

@@ -133,7 +133,7 @@ fn a_number_is_put_in(rt: HostRuntime) {
     assert!(rt; changes_to(alloc, "{}", Change::InsertOne, "{\"k\":1}"));
 }
 
-// Lends the place of the key `z`; answers whether null stands there.
+// Lends the place of the key `z`; returns whether null is there.
 fn lend_null(value: &mut Value, alloc: Global) -> Result<bool> {
     let place = "z".index_or_insert(alloc, value)?;
     Ok(matches!(place, Value::Null))

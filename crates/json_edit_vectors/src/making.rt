@@ -215,7 +215,7 @@ fn copy_holds_both(taken: &Value, alloc: Global) -> Result<bool> {
     holds_both(&mut copy, alloc)
 }
 
-// Whether null is left behind, and both texts stand in the copy of what is taken out.
+// Whether null is left, and both texts are in the copy of what is taken out.
 fn take_and_copy(value: &mut Value, alloc: Global) -> Result<bool> {
     let taken = value.take();
     let left = matches!(value, Value::Null);
@@ -288,7 +288,7 @@ fn array_copy(value: &Value, alloc: Global, owned: bool) -> Result<bool> {
     }
 }
 
-// The copies before and behind a first write.
+// The copies before and after a first write.
 fn copy_array(value: &mut Value, alloc: Global) -> Result<bool> {
     let before = array_copy(value, alloc, false)?;
     let opened = list_in(value, alloc)?.is_some_and(|list| list.len() == 1);
@@ -315,7 +315,7 @@ fn object_copy(value: &Value, alloc: Global, owned: bool) -> Result<bool> {
     }
 }
 
-// The copies before and behind a first write.
+// The copies before and after a first write.
 fn copy_object(value: &mut Value, alloc: Global) -> Result<bool> {
     let before = object_copy(value, alloc, false)?;
     let opened = pairs_in(value, alloc)?.is_some_and(|pairs| pairs.len() == 1);

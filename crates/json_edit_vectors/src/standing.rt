@@ -1,4 +1,4 @@
-// What stands beside a place that is written stays where it stood.
+// Places beside one that is written stay the same places.
 use crate::writing::write_number;
 use json_doc::{Doc, JsonType};
 use json_fixtures::{read, shows, whole};

@@ -115,7 +115,7 @@ impl KeyIndex {
         }
     }
 
-    // Adds a member of the key at the position, which is behind all others.
+    // Adds a member of the key at the position, which is greater than all others.
     pub(crate) fn add(&mut self, key: &str, position: usize)
         ensures others { (k : List ℕ) (n : ℕ) → StartsAtMost self.old.starts.items k n
             → StartsAtMost self.new.starts.items k n }

@@ -30,7 +30,7 @@ pub struct Deserializer<'a> {
     // the same bytes, or why they are no text
     text: Result<&'a str>,
     lossy: bool,
-    // where it was repaired: what made the text, by which places of the input are told
+    // where it was repaired: what made the text, by which places of the input are found
     repaired: Option<&'a Repaired>,
     at: usize,
 }

@@ -1,6 +1,6 @@
 //! Worked examples: of the top call, which `vectors` runs, and, as tests alone, of documents and numbers and of what is read, compared
 //! and printed of values. They stand here and not in their libraries, since a library with tests is proved twice; what is written
-//! stands in `json_edit_vectors`.
+//! is in `json_edit_vectors`.
 #![tactic(auto)]
 
 mod rows;

@@ -67,7 +67,7 @@ fn path_of(alloc: Global, first: PointerNode, second: PointerNode) -> Result<Pat
     Ok(path)
 }
 
-// Whether this literal stands where the steps lead, as a place of the document.
+// Whether the steps lead to this literal, as a place of the document.
 fn is_spelled(value: &Value, path: &[PointerNode], literal: &str) -> bool {
     match value.pointer(path) {
         Some(found) => found.literal() == Some(literal) && found.place().is_some(),
@@ -86,7 +86,7 @@ fn a_path_leads_to_a_place(rt: HostRuntime) {
     assert!(rt; path.is_ok_and(|path| leads_to_place(rt.alloc(), &path)));
 }
 
-// Whether this text stands where the steps lead, from a value and from its view.
+// Whether the steps lead to this text, from a value and from its view.
 fn is_said(value: &Value, path: &[PointerNode], text: &str) -> bool {
     match (value.pointer(path), value.view().pointer(path)) {
         (Some(found), Some(seen)) => found.text() == Some(text) && seen.text() == Some(text),
@@ -108,7 +108,7 @@ fn paths_lead_to_places_or_nowhere(rt: HostRuntime) {
     assert!(rt; is_value(rt.alloc(), NESTED, leads_nowhere));
 }
 
-// A copy of what stands where the steps lead; null where they lead nowhere.
+// A copy of what the steps lead to; null where they lead nowhere.
 fn copied(value: &Value, alloc: Global, path: &[PointerNode]) -> Result<Value> {
     match value.pointer(path) {
         Some(found) => found.to_value(alloc),

@@ -143,7 +143,7 @@ fn is_object_displayed(alloc: Global, value: &Value, json: &str) -> Result<bool>
     Ok(displayed.as_str() == json && object.to_string(alloc)?.as_str() == json)
 }
 
-// The same of the value of the first member, behind the first write of its object.
+// The same of the value of the first member, after the first write of its object.
 fn first_is_displayed(alloc: Global, value: &mut Value, json: &str) -> Result<bool> {
     let pairs = pairs_in(value, alloc)?;
     match pairs.and_then(|pairs| pairs.first_mut()) {

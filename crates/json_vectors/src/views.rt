@@ -109,7 +109,7 @@ fn members_are_seen(rt: HostRuntime) {
     assert!(rt; is_written_and_seen());
 }
 
-// Whether a value stands where what is seen does.
+// Whether a value is the place that a view shows.
 fn stands_where(value: &Value, seen: View<'_>) -> bool {
     match (value.place(), seen.place()) {
         (Some((doc, at)), Some((other, seen_at))) => at == seen_at && doc.text() == other.text(),
@@ -136,7 +136,7 @@ fn a_packed_part_of_a_value_is_shared(rt: HostRuntime) {
     assert!(rt; is_document(alloc, json, |doc| parts_are_shared(alloc, doc)));
 }
 
-// Whether the copy of the first element stands at no place, has this compact text, and holds no document.
+// Whether the copy of the first element is no place, has this compact text, and holds no document.
 fn part_is_copied(alloc: Global, doc: &Rc<Doc>, json: &str) -> Result<bool> {
     let copy = View::packed(doc.view()).at(0_usize).to_value(alloc)?;
     let alone = copy.place().is_none() && Rc::strong_count(doc) == 1;

@@ -11,7 +11,7 @@ use crate::giving::{begin_rows, end_rows, give_key};
 use json_print::Events;
 use json_text::Result;
 
-/// Members of an object in their order: a [`Field`], or a pair of members and those behind them.
+/// Members of an object in their order: a [`Field`], or a pair of members and those after them.
 ///
 /// ```
 /// use json_print::Serializer;

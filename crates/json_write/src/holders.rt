@@ -1,4 +1,4 @@
-// What stands for another value.
+// What is written as the value that it holds.
 ghost use Rattle.json_model.specs.Datum.{option_datum};
 
 use crate::giving::give_null;

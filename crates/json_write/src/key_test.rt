@@ -33,7 +33,7 @@ impl KeyTest {
         }
     }
 
-    // A value is behind.
+    // A value was taken.
     fn pass(&mut self) -> Result<()>
         ensures { Tests testing.passed self.old self.new (given null_token) result }
     {

@@ -27,7 +27,7 @@ impl Nesting {
         }
     }
 
-    // A value is behind.
+    // A value was taken.
     pub(crate) fn pass(&mut self)
         ensures { nesting_stand self.new ≡ stand_after (nesting_stand self.old) null_token }
     {

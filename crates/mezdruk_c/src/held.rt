@@ -1,4 +1,4 @@
-// A boxed value behind a pointer that C keeps, or none.
+// A boxed value to which a pointer that C keeps leads, or none.
 ghost use Rattle.std.specs.Prelude.{◌≡◌, Bool, true, false};
 ghost use Rattle.mezdruk_c.specs.declared.payload.Payload.{Payload};
 ghost use Rattle.mezdruk_c.specs.Held.{payload_coded, held_owns};

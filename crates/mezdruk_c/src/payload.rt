@@ -1,4 +1,4 @@
-// What C keeps behind a pointer.
+// What a pointer that C keeps leads to.
 
 use json_doc::Doc;
 use std::rc::Rc;
