@@ -13,7 +13,8 @@ use std::alloc::Global;
 
 // Whether a name is the key. It is taken for another if it has escapes and memory runs out.
 fn is_key(alloc: Global, name: Span<'_>, key: &str) -> bool
-    ensures { result ≡ true → (s : List ℕ) → chars name.entry.lossy s name.entry.raw.now → s ≡ key.now }
+    ensures { result ≡ true → (s : List ℕ) → chars name.entry.lossy s name.entry.raw.now
+        → s ≡ key.now }
 {
     if let Some(plain) = name.plain() {
         return plain == key;

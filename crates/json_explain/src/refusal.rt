@@ -164,7 +164,8 @@ impl Refusal {
     /// Returns the refusal as seen from the container around it. Fails with `NoMemory` if memory runs
     /// out.
     pub fn within(self, step: Step) -> Result<Refusal>
-        ensures ok { IfOk result (λ r. refused_of r ≡ spec_within (step_of step) (refused_of self)) }
+        ensures ok { IfOk result (λ r. refused_of r
+            ≡ spec_within (step_of step) (refused_of self)) }
         ensures only { IfErr result (λ e. e ≡ no_memory) }
     {
         let Refusal {

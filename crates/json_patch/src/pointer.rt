@@ -67,8 +67,8 @@ fn read_token(alloc: Global, part: &str) -> Result<String, PatchError>
 fn read_tokens(alloc: Global, parts: &str) -> Result<Vec<String>, PatchError>
     ensures ok { IfOk result (λ v. unescaped_tokens (split_at_slashes parts.now)
         ≡ Some (map string_bytes v.items)) }
-    ensures refused { IfErr result (λ e. PointerFails (unescaped_tokens (split_at_slashes parts.now))
-        e.code e.op) }
+    ensures refused { IfErr result (λ e. PointerFails
+        (unescaped_tokens (split_at_slashes parts.now)) e.code e.op) }
 {
     let mut tokens = Vec::new(alloc);
     let mut remaining = parts;
