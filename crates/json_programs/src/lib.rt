@@ -6,7 +6,8 @@
 //! use json_text::Words;
 //! let mut arguments = Words::new(alloc);
 //! arguments.push("--version")?;
-//! assert_eq!(rt; ABOUT_LINES.text_asked(&arguments), Some("mezdruk lines 0.1.0\n"));
+//! let version = ABOUT_LINES.text_asked(&arguments).ok_or("no version")?;
+//! assert!(rt; version.starts_with("mezdruk lines 0.1.0\n"));
 //! ```
 #![tactic(auto)]
 
