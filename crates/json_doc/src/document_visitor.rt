@@ -56,7 +56,7 @@ impl DocumentVisitor {
     ghost use Rattle.json_doc.specs.Docs.{IsDocOf};
     ghost use Rattle.json_doc.specs.OpenObject.{NamesText, KeyStands};
     ghost use Rattle.json_doc.specs.State.{VisitorState, Fits};
-    ghost use Rattle.json_doc.specs.Recorded.{visitor_state, SameRoom, TakesNoMemory};
+    ghost use Rattle.json_doc.specs.Recorded.{visitor_state, Holds, SameRoom, TakesNoMemory};
     ghost use Rattle.json_doc.specs.OpenCells.{outer_place, outer_count};
     ghost use Rattle.json_doc.specs.declared.cell.Cell.TheVariants.{Null as null_cell};
 
@@ -97,6 +97,41 @@ impl DocumentVisitor {
         let room = cells;
         let cells = Vec::with_capacity(alloc, room)?;
         let text = Vec::with_capacity(alloc, text_len)?;
+        Ok(DocumentVisitor {
+            cells,
+            text,
+            parent: NOWHERE,
+            count: 0,
+            room,
+            text_room: text_len,
+            full: false,
+        })
+    }
+
+    // Returns what `new` returns, in vectors that served another document.
+    pub(crate) fn in_room(
+        old_cells: Vec<Cell>,
+        old_text: Vec<u8>,
+        text_len: usize,
+    ) -> Result<DocumentVisitor>
+        requires { text_len < 2 ^ 32 }
+        ensures room { IfOk result (λ v. visitor_state v ≡ record {
+          cell_room = (text_len + 1) / 2;
+          text_room = text_len;
+          nodes = 0;
+          bytes = 0;
+          full = false;
+        }) }
+        ensures held { IfOk result (λ v. Holds v []) }
+        ensures err { IfErr result (λ e. e ≡ no_memory) }
+    {
+        let room = (text_len + 1) / 2;
+        let mut cells = old_cells;
+        cells.clear();
+        cells.reserve(room)?;
+        let mut text = old_text;
+        text.clear();
+        text.reserve(text_len)?;
         Ok(DocumentVisitor {
             cells,
             text,
@@ -296,16 +331,21 @@ impl DocumentVisitor {
             → ⟦<DocumentVisitor as JsonVisitor>⟧.holds self (tokens t) → IsDocOf d.value t) }
         ensures err { IfErr result (λ e. e ≡ no_memory) }
     {
+        Ok(Rc::new(alloc, self.into_doc())?)
+    }
+
+    // Returns the document of the tree whose events were recorded, which has to be whole.
+    pub(crate) fn into_doc(self) -> Doc
+        requires { (t : Tree) × Holds self (tokens t) }
+        ensures { (t : Tree) → Holds self (tokens t) → IsDocOf result t }
+    {
         let text = unsafe { String::from_utf8_unchecked(self.text) };
         let cells = self.cells;
-        Ok(Rc::new(
-            alloc,
-            Doc {
-                cells,
-                text,
-                root: 0,
-            },
-        )?)
+        Doc {
+            cells,
+            text,
+            root: 0,
+        }
     }
 }
 

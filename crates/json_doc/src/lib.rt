@@ -14,6 +14,7 @@
 mod cell;
 mod children;
 mod doc;
+mod document_room;
 mod document_visitor;
 mod json_type;
 pub mod laws;
@@ -28,6 +29,7 @@ mod visitor;
 pub use cell::Cell;
 pub use children::DocChildren;
 pub use doc::Doc;
+pub use document_room::DocumentRoom;
 pub use document_visitor::DocumentVisitor;
 pub use json_type::JsonType;
 pub use node::DocNode;

@@ -1,5 +1,5 @@
 // Reads a text into a document.
-ghost use Rattle.std.specs.Prelude.{◌≡◌, ◌⊎◌, ◌+◌, ◌-◌, ◌≤◌, ◌<◌, ◌^◌, List, ℕ, [], ◌∷◌, ◌++◌, length, true, false, None, Some, IfOk, IfErr, OnOk};
+ghost use Rattle.std.specs.Prelude.{◌≡◌, ◌⊎◌, ◌+◌, ◌-◌, ◌/◌, ◌≤◌, ◌<◌, ◌^◌, List, ℕ, [], ◌∷◌, ◌++◌, length, true, false, None, Some, IfOk, IfErr, OnOk};
 ghost use Rattle.json_grammar.specs.Tree.{Tree, Token, num_token, depth};
 ghost use Rattle.json_grammar.specs.Grammar.{is_text, number};
 ghost use Rattle.json_grammar.specs.Fault.{reads};
@@ -169,26 +169,26 @@ fn check_names<'a>(
     refuse_repeated(keys, event, text, end)
 }
 
-/// Reads the document of a JSON text of at most 4,294,967,295 bytes by rules: it has no more levels
-/// than they allow, and where they ask for unique names no object has a name twice (RFC 8259, sections
-/// 9 and 4). Fails with the first error of the text by the rules, at its place: of a bracket that opens
-/// a level too many and a name that repeats, the one that comes first, and either before all other
-/// errors. Fails with `NoMemory` if memory runs out.
-///
-/// ```
-/// use json_doc::read_document_with;
-/// use json_text::{ErrorCode, Rules};
-/// let rules = Rules::new(254, true).ok_or("so many levels")?;
-/// let refused = read_document_with(alloc, "{\"a\": 1, \"\\u0061\": 2}", rules).err().ok_or("it was read")?;
-/// assert_eq!(rt; (refused.code, refused.offset()), (ErrorCode::DuplicateKey, Some(9)));
-/// ```
-pub fn read_document_with(alloc: Global, text: &str, rules: Rules) -> Result<Rc<Doc>>
-    requires { length text.now < 2 ^ 32 }
+/// Reads the document of a text that fits the rules, by a builder that has room for it.
+pub(crate) fn read_by(
+    builder: DocumentVisitor,
+    alloc: Global,
+    text: &str,
+    rules: Rules,
+) -> Result<Doc>
+    requires room { visitor_state builder ≡ record {
+      cell_room = (length text.now + 1) / 2;
+      text_room = length text.now;
+      nodes = 0;
+      bytes = 0;
+      full = false;
+    } }
+    requires held { Holds builder [] }
     ensures ok { IfOk result (λ d. (t : Tree) × is_text false t text.now × fits t (rules_of rules)
-        × IsDocOf d.value t) }
+        × IsDocOf d t) }
     ensures err { IfErr result (λ e. ReadingFailsWith (rules_of rules) text.now e.code e.place) }
 {
-    let mut visitor = DocumentVisitor::new(alloc, text.len())?;
+    let mut visitor = builder;
     let mut keys = OpenKeys::new(alloc);
     let limit = rules.depth() as usize;
     let mut kinds = Kinds::new();
@@ -210,7 +210,31 @@ pub fn read_document_with(alloc: Global, text: &str, rules: Rules) -> Result<Rc<
         at = read.end;
         spot = read.spot;
     }
-    visitor.finish(alloc)
+    Ok(visitor.into_doc())
+}
+
+/// Reads the document of a JSON text of at most 4,294,967,295 bytes by rules: it has no more levels
+/// than they allow, and where they ask for unique names no object has a name twice (RFC 8259, sections
+/// 9 and 4). Fails with the first error of the text by the rules, at its place: of a bracket that opens
+/// a level too many and a name that repeats, the one that comes first, and either before all other
+/// errors. Fails with `NoMemory` if memory runs out.
+///
+/// ```
+/// use json_doc::read_document_with;
+/// use json_text::{ErrorCode, Rules};
+/// let rules = Rules::new(254, true).ok_or("so many levels")?;
+/// let refused = read_document_with(alloc, "{\"a\": 1, \"\\u0061\": 2}", rules).err().ok_or("it was read")?;
+/// assert_eq!(rt; (refused.code, refused.offset()), (ErrorCode::DuplicateKey, Some(9)));
+/// ```
+pub fn read_document_with(alloc: Global, text: &str, rules: Rules) -> Result<Rc<Doc>>
+    requires { length text.now < 2 ^ 32 }
+    ensures ok { IfOk result (λ d. (t : Tree) × is_text false t text.now × fits t (rules_of rules)
+        × IsDocOf d.value t) }
+    ensures err { IfErr result (λ e. ReadingFailsWith (rules_of rules) text.now e.code e.place) }
+{
+    let visitor = DocumentVisitor::new(alloc, text.len())?;
+    let doc = read_by(visitor, alloc, text, rules)?;
+    Ok(Rc::new(alloc, doc)?)
 }
 
 /// Reads the document of a JSON text of at most 4,294,967,295 bytes and 254 levels (RFC 8259, section

@@ -10,6 +10,7 @@ ghost use Rattle.json_lines.specs.Steps.{StepResult, StepFails};
 
 use crate::{Line, LineReader};
 use itoa::Buffer;
+use json_doc::DocumentRoom;
 use json_text::{FaultText, Result, Sink, Source, flush_all, put_all};
 use std::alloc::Global;
 
@@ -23,8 +24,14 @@ pub(crate) trait RowWriter<K: Sink> {
     /// The outcomes that a line has.
     ghost has_outcome: { Self → List ℕ → Outcome → Type 0 };
 
-    /// Writes the row of a good line, or returns the error text of a bad one.
-    fn write_row(&self, alloc: Global, line: &[u8], sink: &mut K) -> Result<Option<FaultText>>
+    /// Writes the row of a good line, whose document is read in the room, or returns the error text of
+    /// a bad one.
+    fn write_row(
+        &self,
+        room: &mut DocumentRoom,
+        line: &[u8],
+        sink: &mut K,
+    ) -> Result<Option<FaultText>>
         requires short { length line.now ≤ 1048576 }
         ensures ok { IfOk result (λ fault.
             WritesRow (has_outcome self.now line.now) (K.state sink.old) (K.state sink.new) fault) }
@@ -95,7 +102,7 @@ impl Tally {
     // Counts a line, and writes its row or reports its error.
     fn handle_line<R: RowWriter<K>, K: Sink, E: Sink>(
         &mut self,
-        alloc: Global,
+        room: &mut DocumentRoom,
         rows: &R,
         line: Line<'_>,
         sink: &mut K,
@@ -118,7 +125,7 @@ impl Tally {
                 return Ok(());
             }
         };
-        match rows.write_row(alloc, bytes, sink) {
+        match rows.write_row(room, bytes, sink) {
             Ok(None) => Ok(()),
             Ok(Some(text)) => {
                 self.report_bad(errs, text.as_bytes());
@@ -131,7 +138,7 @@ impl Tally {
 
 // Reads and handles one line. Returns false if there is none.
 fn step<R: RowWriter<K>, S: Source, K: Sink, E: Sink>(
-    alloc: Global,
+    room: &mut DocumentRoom,
     rows: &R,
     reader: &mut LineReader,
     source: &mut S,
@@ -157,7 +164,7 @@ fn step<R: RowWriter<K>, S: Source, K: Sink, E: Sink>(
         Ok(None) => return Ok(false),
         Err(error) => return Err(error),
     };
-    match tally.handle_line(alloc, rows, line, sink, errs) {
+    match tally.handle_line(room, rows, line, sink, errs) {
         Ok(()) => Ok(true),
         Err(error) => Err(error),
     }
@@ -165,7 +172,7 @@ fn step<R: RowWriter<K>, S: Source, K: Sink, E: Sink>(
 
 // Reads and handles all lines.
 fn write_rows<R: RowWriter<K>, S: Source, K: Sink, E: Sink>(
-    alloc: Global,
+    room: &mut DocumentRoom,
     rows: &R,
     reader: &mut LineReader,
     source: &mut S,
@@ -191,7 +198,7 @@ fn write_rows<R: RowWriter<K>, S: Source, K: Sink, E: Sink>(
         (S.state source.new) (K.state sink.new) (E.state errs.new) tally.new) e) }
 {
     'line: loop {
-        match step(alloc, rows, reader, source, sink, errs, tally) {
+        match step(room, rows, reader, source, sink, errs, tally) {
             Ok(true) => {}
             Ok(false) => return Ok(()),
             Err(error) => return Err(error),
@@ -220,7 +227,8 @@ pub(crate) fn write_all_rows<R: RowWriter<K>, S: Source, K: Sink, E: Sink>(
     ensures loan { (K.state sink.new).loan ≡ (K.state sink.old).loan }
 {
     let mut reader = LineReader::new(alloc, MAX_LINE)?;
-    match write_rows(alloc, rows, &mut reader, source, sink, errs, tally) {
+    let mut room = DocumentRoom::new(alloc);
+    match write_rows(&mut room, rows, &mut reader, source, sink, errs, tally) {
         Ok(()) => flush_all(sink),
         Err(error) => Err(error),
     }

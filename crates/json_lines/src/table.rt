@@ -15,13 +15,12 @@ ghost use Rattle.json_lines.specs.Tables.{BlankTest, table_column, table_command
 use crate::cells::{write_bytes, write_next_cell};
 use crate::paths::follow;
 use crate::run::RowWriter;
-use json_doc::{Doc, DocView, read_document_with};
+use json_doc::{Doc, DocView, DocumentRoom};
 use json_print::BufferedWriter;
 use json_text::{
     Error, ErrorCode, FaultText, Place, Result, Rules, Sink, check_utf8, fault_text, ws_run,
 };
 use json_value::Path;
-use std::alloc::Global;
 
 // Which values a cell shows.
 #[derive(Clone, Copy)]
@@ -71,7 +70,7 @@ impl Table {
     // Writes the row of a text, or returns its error text.
     fn write_text_row<W: Sink>(
         &self,
-        alloc: Global,
+        room: &mut DocumentRoom,
         text: &str,
         out: &mut BufferedWriter<W>,
     ) -> Result<Option<FaultText>>
@@ -86,8 +85,8 @@ impl Table {
             (⟦<BufferedWriter<W> as Sink>⟧.state out.new)
             e) }
     {
-        match read_document_with(alloc, text, Rules::usual()) {
-            Ok(doc) => self.write_document_row(&doc, out),
+        match room.read(text, Rules::usual()) {
+            Ok(doc) => self.write_document_row(doc, out),
             Err(error) => line_error(error),
         }
     }
@@ -167,7 +166,7 @@ impl<W: Sink> RowWriter<BufferedWriter<W>> for Table {
 
     fn write_row(
         &self,
-        alloc: Global,
+        room: &mut DocumentRoom,
         line: &[u8],
         sink: &mut BufferedWriter<W>,
     ) -> Result<Option<FaultText>> {
@@ -175,7 +174,7 @@ impl<W: Sink> RowWriter<BufferedWriter<W>> for Table {
             return Ok(None);
         }
         match check_utf8(line) {
-            Ok(text) => self.write_text_row(alloc, text, sink),
+            Ok(text) => self.write_text_row(room, text, sink),
             Err(error) => Ok(Some(fault_text(&error))),
         }
     }

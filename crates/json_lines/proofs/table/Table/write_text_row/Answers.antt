@@ -1,9 +1,4 @@
-use Rattle.std.proofs.Common.{sym, subst}
 use Rattle.std.proofs.lemmas.Result.{IfOk-weaker, IfErr-weaker}
-use Rattle.json_doc.specs.Docs.{doc_tree, doc_root}
-use Rattle.json_lines.specs.Cells.{row}
-use Rattle.json_lines.specs.Outcomes.{HasOutcome}
-use Rattle.json_lines.specs.Rows.{Row}
 use Rattle.json_lines.specs.Tables.{table_command}
 use Rattle.json_lines.proofs.LineRows.{returns_fault, has_row, row_written, row_failed, row_unread}
 use Rattle.json_lines.proofs.table.Table.write_text_row.Goals as goal
@@ -11,13 +6,13 @@ use Rattle.json_lines.proofs.table.Table.write_text_row.Goals as goal
 pub returns-in-Ok-clause-ok : goal.returns-in-Ok-clause-ok
 returns-in-Ok-clause-ok g c =
     let k = table_command c.args.self.now in
-    let has = subst (λ d. HasOutcome k c.args.text.now (Row (row k (doc_tree d (doc_root d))))) (sym c.deref.ensures) (has_row k c.args.text.now c.requires.short c.in-Ok.doc.value _ c.usual.ensures c.requires.full c.in-Ok.ensures.ok) in
+    let has = has_row k c.args.text.now c.requires.short c.in-Ok.doc.now _ c.usual.ensures c.requires.full c.in-Ok.ensures.ok in
     row_written k c.args.text.now c.requires.short _ _ _ c.write_document_row.result has c.write_document_row.ensures.ok
 
 pub returns-in-Ok-clause-err : goal.returns-in-Ok-clause-err
 returns-in-Ok-clause-err g c =
     let k = table_command c.args.self.now in
-    let has = subst (λ d. HasOutcome k c.args.text.now (Row (row k (doc_tree d (doc_root d))))) (sym c.deref.ensures) (has_row k c.args.text.now c.requires.short c.in-Ok.doc.value _ c.usual.ensures c.requires.full c.in-Ok.ensures.ok) in
+    let has = has_row k c.args.text.now c.requires.short c.in-Ok.doc.now _ c.usual.ensures c.requires.full c.in-Ok.ensures.ok in
     row_failed k c.args.text.now c.requires.short _ _ _ c.write_document_row.result has c.write_document_row.ensures.err
 
 pub returns-in-Err-clause-ok : goal.returns-in-Err-clause-ok

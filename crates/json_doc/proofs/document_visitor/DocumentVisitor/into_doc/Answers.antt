@@ -1,7 +1,7 @@
 use Rattle.std.proofs.Common.{◌≡◌, arith, string_bytes}
 use Rattle.json_doc.proofs.Segments.{node_some}
 use Rattle.json_doc.proofs.Finishing.{finished, stands_for, in_place}
-use Rattle.json_doc.proofs.document_visitor.DocumentVisitor.finish.Goals as goal
+use Rattle.json_doc.proofs.document_visitor.DocumentVisitor.into_doc.Goals as goal
 
 pub invariant_of-new : goal.invariant_of-new
 invariant_of-new c =
@@ -14,8 +14,8 @@ invariant_of-new c =
       in_place = rw bytes (in_place s.cells.items s.text.items s.parent s.count c.requires.0 c.requires.1);
     }
 
-pub returns-clause-ok : goal.returns-clause-ok
-returns-clause-ok c t h =
+pub returns : goal.returns
+returns c t h =
     let s = c.args.self in
     let bytes : string_bytes c.from_utf8_unchecked-text.result ≡ s.text.items = cc in
-    rw (c.in_ok-new.ensures.ok, bytes) (stands_for s.cells.items s.text.items s.parent s.count t h)
+    rw bytes (stands_for s.cells.items s.text.items s.parent s.count t h)

@@ -12,12 +12,12 @@ use Rattle.json_doc.proofs.Keeping.{keeps_start, differ_start, next_token, next_
 use Rattle.json_text.proofs.Going.{is_lent}
 use Rattle.json_doc.specs.Lent.{EventIsLentBy}
 use Rattle.json_doc.proofs.Stepping.{stepped, ended, due_in, lent_in}
-use Rattle.json_doc.proofs.reader.read_document_with.Goals as goal
+use Rattle.json_doc.proofs.reader.read_by.Goals as goal
 
 pub events-init : goal.events-init
 events-init c =
-    let v = c.in_ok-visitor.visitor in
-    let q = c.in_ok-visitor.ensures in
+    let v = c.args.builder in
+    let q = c.requires in
     let b = c.args.text.now in
     let n = c.depth-limit.result in
     let r = rules_of c.args.rules in
@@ -112,8 +112,8 @@ returns-in_err-check_names-in_default-clause-err c =
     err_is c.from_residual-in_err-check_names-in_default.result e _ c.from_residual-in_err-check_names-in_default.ensures.1
     (repeated_fails (rules_of c.args.rules) _ _ l.visitor l.keys c.args.text.now k.0 r.event e h.0 k.1 k.2 s.goes s.tight s.same (subst (λ j. RefusesName l.keys r.event c.args.text.now j e) zeroth h.1))
 
-pub finish-requires : goal.finish-requires
-finish-requires c =
+pub into_doc-requires : goal.into_doc-requires
+into_doc-requires c =
     let k = c.events.invariant in
     let l = c.events in let r = c.in-Ok.read in let s = stepped c.args.text.now c.depth-limit.result l.at r.end l.kinds c.step_by_spot.new.kinds l.spot r.spot r.event c.in-Ok.ensures.ok c.in-Ok.ensures.tight in
     let at_end = ended _ _ r.event c.in-End.is s.goes in
@@ -126,4 +126,4 @@ returns-clause-ok c =
     let l = c.events in let r = c.in-Ok.read in let s = stepped c.args.text.now c.depth-limit.result l.at r.end l.kinds c.step_by_spot.new.kinds l.spot r.spot r.event c.in-Ok.ensures.ok c.in-Ok.ensures.tight in
     let at_end = ended _ _ r.event c.in-End.is s.goes in
     let t = keeps_end (rules_of c.args.rules) _ _ l.visitor l.keys c.args.text.now k.0 k.1 k.2 at_end in
-    IfOk-weaker c.finish.result _ _ (λ d h. (t.0, t.1, t.2, h t.0 t.3)) c.finish.ensures.ok
+    (t.0, t.1, t.2, c.into_doc.ensures t.0 t.3)

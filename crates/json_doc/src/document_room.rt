@@ -1,0 +1,87 @@
+// Room that serves one document after another.
+ghost use Rattle.std.specs.Prelude.{◌≡◌, ◌+◌, ◌/◌, ◌<◌, ◌^◌, [], length, false, IfOk, IfErr};
+ghost use Rattle.json_grammar.specs.Tree.{Tree};
+ghost use Rattle.json_grammar.specs.Grammar.{is_text};
+ghost use Rattle.json_grammar.specs.Rules.{fits};
+ghost use Rattle.json_text.specs.Errors.{no_memory};
+ghost use Rattle.json_text.specs.Ruled.{rules_of};
+ghost use Rattle.json_doc.specs.Docs.{IsDocOf};
+ghost use Rattle.json_doc.specs.Reading.{ReadingFailsWith};
+ghost use Rattle.json_doc.specs.Recorded.{visitor_state, Holds};
+
+use crate::cell::Cell;
+use crate::doc::Doc;
+use crate::document_visitor::DocumentVisitor;
+use crate::reader::read_by;
+use json_text::{Result, Rules};
+use std::alloc::Global;
+use std::mem;
+
+/// Room for documents that are read one after another: what a document took serves the next one. So
+/// texts of one size take memory for the first of them alone.
+///
+/// ```
+/// use json_doc::DocumentRoom;
+/// use json_text::Rules;
+/// let mut room = DocumentRoom::new(alloc);
+/// assert_eq!(rt; room.read("[1, 2]", Rules::usual())?.view().len(), 2);
+/// assert_eq!(rt; room.read("[\"x\"]", Rules::usual())?.text(), "x");
+/// ```
+#[derive(Drop)]
+pub struct DocumentRoom {
+    alloc: Global,
+    doc: Option<Doc>,
+}
+
+impl DocumentRoom {
+    /// Returns room for nothing yet. It takes no memory.
+    pub fn new(alloc: Global) -> DocumentRoom {
+        DocumentRoom { alloc, doc: None }
+    }
+
+    /// Reads the document of a JSON text of at most 4,294,967,295 bytes by rules, as
+    /// `read_document_with` does, in place of the one before. Fails as that call does; then the room is
+    /// given back.
+    ///
+    /// ```
+    /// use json_doc::DocumentRoom;
+    /// use json_text::{ErrorCode, Rules};
+    /// let mut room = DocumentRoom::new(alloc);
+    /// let refused = room.read("[1, x]", Rules::usual()).err().ok_or("it was read")?;
+    /// assert_eq!(rt; (refused.code, refused.offset()), (ErrorCode::InvalidJsonValue, Some(4)));
+    /// ```
+    pub fn read(&mut self, text: &str, rules: Rules) -> Result<&Doc>
+        requires { length text.now < 2 ^ 32 }
+        ensures ok { IfOk result (λ d. (t : Tree) × is_text false t text.now
+            × fits t (rules_of rules) × IsDocOf d.now t) }
+        ensures err { IfErr result (λ e.
+            ReadingFailsWith (rules_of rules) text.now e.code e.place) }
+    {
+        let visitor = self.builder(text.len())?;
+        let doc = read_by(visitor, self.alloc, text, rules)?;
+        self.doc = Some(doc);
+        match &self.doc {
+            Some(doc) => Ok(doc),
+            None => unreachable!(),
+        }
+    }
+
+    // Returns a builder in the room, which is empty then.
+    fn builder(&mut self, text_len: usize) -> Result<DocumentVisitor>
+        requires { text_len < 2 ^ 32 }
+        ensures room { IfOk result (λ v. visitor_state v ≡ record {
+          cell_room = (text_len + 1) / 2;
+          text_room = text_len;
+          nodes = 0;
+          bytes = 0;
+          full = false;
+        }) }
+        ensures held { IfOk result (λ v. Holds v []) }
+        ensures err { IfErr result (λ e. e ≡ no_memory) }
+    {
+        match mem::replace(&mut self.doc, None) {
+            Some(doc) => DocumentVisitor::in_room(doc.cells, doc.text.into_bytes(), text_len),
+            None => DocumentVisitor::new(self.alloc, text_len),
+        }
+    }
+}
