@@ -1,9 +1,10 @@
 // What documents hold, and what views show of them.
 use json_doc::{
-    Cell, Doc, DocNode, DocView, DocumentVisitor, JsonType, JsonVisitor, read_document, read_front,
+    Cell, Doc, DocNode, DocView, DocumentRoom, DocumentVisitor, JsonType, JsonVisitor,
+    read_document, read_front,
 };
 use json_number::Number;
-use json_text::{Error, ErrorCode, Parser, Place, Result};
+use json_text::{Error, ErrorCode, Parser, Place, Result, Rules};
 use std::alloc::Global;
 use std::rc::Rc;
 use std::test::Fail;
@@ -120,6 +121,53 @@ fn wrong_fault(alloc: Global) -> Option<&'static str> {
 fn faults_past_the_room(rt: HostRuntime) {
     let wrong = wrong_fault(rt.alloc());
     assert!(rt; wrong.is_none(), "{wrong:?}");
+}
+
+// The first text whose document has another text or other cells, where one room serves them all.
+fn wrong_in_the_room(alloc: Global) -> Result<Option<&'static str>> {
+    let mut room = DocumentRoom::new(alloc);
+    for (json, cells, text) in [
+        ("[1, 2]", 3, ""),
+        (
+            "[\"a longer text\", \"\\u00e9\", 1.50]",
+            4,
+            "a longer texté1.50",
+        ),
+        ("{\"k\": null}", 3, "k"),
+        ("\"x\"", 1, "x"),
+    ] {
+        if json.len() > 1000 {
+            return Ok(Some(json));
+        }
+        let doc = room.read(json, Rules::usual())?;
+        if doc.cells().len() != cells || doc.text() != text || doc.root() != 0 {
+            return Ok(Some(json));
+        }
+    }
+    Ok(None)
+}
+
+#[test]
+fn one_room_for_documents_of_other_sizes(rt: HostRuntime) {
+    let wrong = wrong_in_the_room(rt.alloc());
+    assert!(rt; matches!(wrong, Ok(None)), "{wrong:?}");
+}
+
+// Whether a room reads on after a text that is refused.
+fn room_serves_after_a_fault(alloc: Global) -> Result<bool> {
+    let mut room = DocumentRoom::new(alloc);
+    let first = room.read("[1, 2, 3]", Rules::usual())?.cells().len();
+    let refused = room.read("[1,]", Rules::usual()).err();
+    let next = room.read("[[]]", Rules::usual())?.cells().len();
+    let is_told = refused.is_some_and(|error| {
+        error.code == ErrorCode::InvalidJsonValue && error.offset() == Some(3)
+    });
+    Ok((first, is_told, next) == (4, true, 2))
+}
+
+#[test]
+fn room_after_a_refused_text(rt: HostRuntime) {
+    assert!(rt; matches!(room_serves_after_a_fault(rt.alloc()), Ok(true)));
 }
 
 #[test]

@@ -86,7 +86,7 @@ pub use json_data::{
     from_str, from_value, read_members, refusal,
 };
 pub use json_derive as derive;
-pub use json_doc::{Doc, DocView, JsonType, read_document, read_document_with};
+pub use json_doc::{Doc, DocView, DocumentRoom, JsonType, read_document, read_document_with};
 pub use json_explain as explain;
 pub use json_history as history;
 pub use json_lines as lines;

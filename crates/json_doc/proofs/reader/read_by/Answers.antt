@@ -109,7 +109,7 @@ returns-in_err-check_names-in_default-clause-err c =
     let e = c.in_err-check_names-in_default.field-0.0 in
     let h = c.in_err-check_names-in_default.ensures.err in
     let zeroth : r.end ≡ 0 + r.end = omega arith in
-    err_is c.from_residual-in_err-check_names-in_default.result e _ c.from_residual-in_err-check_names-in_default.ensures.1
+    err_is c.from_residual.result e _ c.from_residual.ensures.1
     (repeated_fails (rules_of c.args.rules) _ _ l.visitor l.keys c.args.text.now k.0 r.event e h.0 k.1 k.2 s.goes s.tight s.same (subst (λ j. RefusesName l.keys r.event c.args.text.now j e) zeroth h.1))
 
 pub into_doc-requires : goal.into_doc-requires

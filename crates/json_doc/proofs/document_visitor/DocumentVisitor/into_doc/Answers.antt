@@ -3,8 +3,8 @@ use Rattle.json_doc.proofs.Segments.{node_some}
 use Rattle.json_doc.proofs.Finishing.{finished, stands_for, in_place}
 use Rattle.json_doc.proofs.document_visitor.DocumentVisitor.into_doc.Goals as goal
 
-pub invariant_of-new : goal.invariant_of-new
-invariant_of-new c =
+pub invariant_of-result : goal.invariant_of-result
+invariant_of-result c =
     let s = c.args.self in
     let f = finished s.cells.items s.text.items s.parent s.count c.requires.0 c.requires.1 in
     let bytes : string_bytes c.from_utf8_unchecked-text.result ≡ s.text.items = cc in
