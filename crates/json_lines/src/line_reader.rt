@@ -8,7 +8,8 @@ use json_text::{Error, ErrorCode, Failed, Place, Result, Source};
 use memchr::memchr;
 use std::alloc::Global;
 
-// The buffer has this many bytes more than the limit.
+// The buffer has this many bytes more than the limit, and one read asks for no more: what is read stays
+// in a cache until its lines are handled.
 const READ_AHEAD: usize = 65536;
 
 // The maximum number of bytes that one reader reads.
@@ -121,7 +122,8 @@ impl LineReader {
             (S.state source.old) (S.state source.new) e) }
     {
         let end = self.end;
-        match source.read(&mut self.buffer[end..]) {
+        let most = self.buffer.len().min(end + READ_AHEAD);
+        match source.read(&mut self.buffer[end..most]) {
             Ok(count) => {
                 self.end = end + count;
                 self.received += count as u64;
@@ -146,7 +148,7 @@ impl LineReader {
         }
     }
 
-    // Makes room after the bytes that are held: moves them to the beginning if there is none.
+    // Makes room after the bytes that are held: moves them to the beginning.
     fn make_room(&mut self)
         requires few { self.old.end ≤ self.old.start + self.old.limit }
         ensures room { self.new.end < vec_len self.new.buffer }
@@ -154,7 +156,7 @@ impl LineReader {
         ensures span { self.new.end - self.new.start ≡ self.old.end - self.old.start }
         ensures limit { self.new.limit ≡ self.old.limit }
     {
-        if self.start == self.end || self.end == self.buffer.len() {
+        if self.start > 0 {
             let held = self.end - self.start;
             self.buffer.copy_within(self.start..self.end, 0);
             self.start = 0;
