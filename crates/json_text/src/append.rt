@@ -5,6 +5,9 @@ ghost use Rattle.json_grammar.specs.Given.{piece};
 use crate::lanes::BLOCK;
 use std::mem;
 
+/// The bytes of two blocks.
+const PAIR: usize = 32;
+
 /// Appends four of the bytes, for which there is room.
 #[inline(always)]
 fn append_four(out: &mut Vec<u8>, bytes: &[u8], at: usize)
@@ -77,6 +80,34 @@ pub fn append_of_block(out: &mut Vec<u8>, bytes: &[u8], at: usize, count: usize)
     let len = out.len();
     append_sixteen(out, bytes, at);
     out.truncate(len + count);
+}
+
+/// Appends 32 of the bytes, for which there is room.
+#[inline(always)]
+fn append_pair(out: &mut Vec<u8>, bytes: &[u8], at: usize)
+    requires within { at + 32 ≤ length bytes.now }
+    requires room { vec_len out.old + 32 ≤ vec_capacity out.old }
+    ensures items { out.new.items ≡ out.old.items ++ piece bytes.now at (at + 32) }
+    ensures len { vec_len out.new ≡ vec_len out.old + 32 }
+    ensures capacity { vec_capacity out.new ≡ vec_capacity out.old }
+{
+    append_sixteen(out, bytes, at);
+    append_sixteen(out, bytes, at + 16);
+}
+
+/// Appends the first of 32 bytes, where there is room for all.
+#[inline(always)]
+fn append_of_pair(out: &mut Vec<u8>, bytes: &[u8], at: usize, count: usize)
+    requires within { at + 32 ≤ length bytes.now }
+    requires few { count ≤ 32 }
+    requires room { vec_len out.old + 32 ≤ vec_capacity out.old }
+    ensures items { out.new.items ≡ out.old.items ++ piece bytes.now at (at + count) }
+    ensures len { vec_len out.new ≡ vec_len out.old + count }
+    ensures capacity { vec_capacity out.new ≡ vec_capacity out.old }
+{
+    let before = out.len();
+    append_pair(out, bytes, at);
+    out.truncate(before + count);
 }
 
 /// Appends bytes one after another, for which there is room.
@@ -232,6 +263,31 @@ pub fn extend_reserved_from(out: &mut Vec<u8>, bytes: &[u8], start: usize, end: 
     let count = end - start;
     if count <= BLOCK && bytes.len() - start >= BLOCK && out.capacity() - out.len() >= BLOCK {
         append_of_block(out, bytes, start, count);
+        return;
+    }
+    extend_reserved(out, &bytes[start..end]);
+}
+
+/// Appends the bytes from `start` up to `end` as `extend_reserved` does. At most 32 are two blocks of 16 where as many
+/// follow `start` and as many have room, so that nothing depends on how many they are.
+///
+/// ```
+/// use json_text::extend_reserved_blocks;
+/// let mut text = Vec::with_capacity(alloc, 32)?;
+/// extend_reserved_blocks(&mut text, b"[12.5, 12.25, 12.125, 12.0625, 1]", 7, 12);
+/// assert_eq!(rt; text.as_slice(), b"12.25".as_slice());
+/// ```
+#[inline(always)]
+pub fn extend_reserved_blocks(out: &mut Vec<u8>, bytes: &[u8], start: usize, end: usize)
+    requires within { (start ≤ end) × (end ≤ length bytes.now) }
+    requires room { vec_len out.old + (end - start) ≤ vec_capacity out.old }
+    ensures items { out.new.items ≡ out.old.items ++ piece bytes.now start end }
+    ensures len { vec_len out.new ≡ vec_len out.old + (end - start) }
+    ensures capacity { vec_capacity out.new ≡ vec_capacity out.old }
+{
+    let count = end - start;
+    if count <= PAIR && bytes.len() - start >= PAIR && out.capacity() - out.len() >= PAIR {
+        append_of_pair(out, bytes, start, count);
         return;
     }
     extend_reserved(out, &bytes[start..end]);

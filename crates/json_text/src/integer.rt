@@ -1,11 +1,12 @@
 // Integers of few digits, by value.
-ghost use Rattle.std.specs.Prelude.{◌≡◌, ℕ, ◌+◌, ◌<◌, ◌≤◌, true, false, length, None, IfSome};
+ghost use Rattle.std.specs.Prelude.{◌≡◌, ◌⊎◌, ℕ, ◌+◌, ◌^◌, ◌<◌, ◌≤◌, true, false, length, None, IfSome};
 ghost use Rattle.std.specs.Str.{all_ascii_digits};
 ghost use Rattle.std.specs.Str.Parse.{digits_value};
 ghost use Rattle.json_grammar.specs.Given.{piece};
 ghost use Rattle.json_text.specs.Numbers.{NumberTo, NoDigit, GoesOn};
 ghost use Rattle.json_text.specs.Nexts.{IsShortInteger};
 ghost use Rattle.json_text.specs.Runs.{ByteAt};
+ghost use Rattle.json_text.specs.declared.integer.DigitsRead.TheVariants as DigitsRead;
 
 use crate::lanes::{BLOCK, digits_in_block};
 use crate::runs::{byte_is, digit_is};
@@ -18,6 +19,19 @@ const WORD: usize = 8;
 
 /// A word of the digit 0.
 const ZEROS: u64 = 0x3030_3030_3030_3030;
+
+/// The powers of ten up to the eighth.
+static POWERS_OF_TEN: [u64; 9] = [
+    1,
+    10,
+    100,
+    1_000,
+    10_000,
+    100_000,
+    1_000_000,
+    10_000_000,
+    100_000_000,
+];
 
 /// The number that digits denote, and the offset after them.
 #[derive(Clone, Copy)]
@@ -67,6 +81,92 @@ fn word_value(bytes: &[u8], from: usize, count: usize) -> u64
         + (pairs >> 16) % 256 * 100
         + (pairs >> 32) % 256 * 10_000
         + (pairs >> 48) % 256 * 1_000_000
+}
+
+/// Returns 10 to the power of the exponent, which is at most 8.
+#[inline(always)]
+fn power_of_ten(exponent: usize) -> u64
+    requires { exponent ≤ 8 }
+    ensures { result ≡ 10 ^ exponent }
+{
+    POWERS_OF_TEN[exponent]
+}
+
+/// Returns the number that nine to 16 digits write, as two words.
+#[inline(always)]
+fn two_words_value(bytes: &[u8], from: usize, count: usize) -> u64
+    requires within { from + 16 ≤ length bytes.now }
+    requires few { (8 < count) × (count ≤ 16) }
+    requires digits { all_ascii_digits (piece bytes.now from (from + count)) ≡ true }
+    ensures { result ≡ digits_value 10 (piece bytes.now from (from + count)) }
+{
+    let rest = count - WORD;
+    let high = word_value(bytes, from, WORD);
+    let low = word_value(bytes, from + WORD, rest);
+    let shifted = high * power_of_ten(rest);
+    shifted + low
+}
+
+/// Returns the number that one to 16 digits write.
+#[inline(always)]
+fn block_value(bytes: &[u8], from: usize, count: usize) -> u64
+    requires within { from + 16 ≤ length bytes.now }
+    requires few { (0 < count) × (count ≤ 16) }
+    requires digits { all_ascii_digits (piece bytes.now from (from + count)) ≡ true }
+    ensures { result ≡ digits_value 10 (piece bytes.now from (from + count)) }
+{
+    if count > WORD {
+        two_words_value(bytes, from, count)
+    } else {
+        word_value(bytes, from, count)
+    }
+}
+
+/// What the bytes of a range write in digits.
+#[derive(Clone, Copy)]
+pub enum DigitsRead {
+    /// They are digits, which write the number.
+    Value(u64),
+    /// They are not all digits.
+    NotDigits,
+    /// It is not known: the input has 16 digits or more where they begin, or fewer than 16 bytes.
+    NotRead,
+}
+
+/// Returns what the bytes from `from` up to `end` write in digits, by one block of 16, which may go
+/// beyond `end`. The range must not be empty.
+///
+/// ```
+/// use json_text::{DigitsRead, read_digits};
+/// let input = b"[1815, 12.10, 7, 8]";
+/// assert!(rt; matches!(read_digits(input, 1, 5), DigitsRead::Value(1815)));
+/// assert!(rt; matches!(read_digits(input, 1, 6), DigitsRead::NotDigits));
+/// assert!(rt; matches!(read_digits(input, 14, 15), DigitsRead::NotRead));
+/// ```
+#[inline(always)]
+pub fn read_digits(bytes: &[u8], from: usize, end: usize) -> DigitsRead
+    requires order { from < end }
+    requires within { end ≤ length bytes.now }
+    ensures value { (v : ℕ) → result ≡ DigitsRead.Value v
+        → (all_ascii_digits (piece bytes.now from end) ≡ true)
+        × (v ≡ digits_value 10 (piece bytes.now from end)) }
+    ensures none { result ≡ DigitsRead.NotDigits
+        → all_ascii_digits (piece bytes.now from end) ≡ false }
+    ensures unread { result ≡ DigitsRead.NotRead → (length bytes.now < from + 16)
+        ⊎ (all_ascii_digits (piece bytes.now from (from + 16)) ≡ true) }
+{
+    if bytes.len() - from < BLOCK {
+        return DigitsRead::NotRead;
+    }
+    let digits = digits_in_block(bytes, from);
+    if digits == BLOCK {
+        return DigitsRead::NotRead;
+    }
+    let count = end - from;
+    if digits < count {
+        return DigitsRead::NotDigits;
+    }
+    DigitsRead::Value(block_value(bytes, from, count))
 }
 
 /// Digits from `from` on, at most 19, of which some have been read.

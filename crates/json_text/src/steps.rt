@@ -82,7 +82,8 @@ pub fn step<'a, const USE: u8>(
     take_event(text, stand.at, stand.spot, limit, lossy, kinds)
 }
 
-/// The same, by a copy for each of what may come, so that each of them leaves out what can't come there.
+/// The same, by a copy for each of what may come, and behind a value for each kind of container, so that each of them
+/// leaves out what can't come there.
 #[inline(always)]
 pub fn step_by_spot<'a>(
     text: &'a str,
@@ -108,7 +109,11 @@ pub fn step_by_spot<'a>(
         Spot::First => step::<2>(text, at, Spot::First, limit, lossy, kinds),
         Spot::KeyOrEnd => step::<3>(text, at, Spot::KeyOrEnd, limit, lossy, kinds),
         Spot::Colon => step::<4>(text, at, Spot::Colon, limit, lossy, kinds),
-        Spot::Done => step::<5>(text, at, Spot::Done, limit, lossy, kinds),
+        Spot::Done => match kinds.top() {
+            Some(Kind::Array) => step::<5>(text, at, Spot::Done, limit, lossy, kinds),
+            Some(Kind::Object) => step::<7>(text, at, Spot::Done, limit, lossy, kinds),
+            None => step::<8>(text, at, Spot::Done, limit, lossy, kinds),
+        },
         Spot::Value | Spot::Key => step::<6>(text, at, spot, limit, lossy, kinds),
     }
 }
