@@ -16,11 +16,11 @@ own = numerals_by_value _ tells_all_ascii_digits
 
 -- ---- the two cases of the sign
 
-minus_is : (b : List ℕ) → integer_in (45 ∷ b) ≡ (if all_ascii_digits b then below_zero (digits_value 10 b) else None)
+pub minus_is : (b : List ℕ) → integer_in (45 ∷ b) ≡ (if all_ascii_digits b then below_zero (digits_value 10 b) else None)
 unfolding integer_in
 minus_is b = refl
 
-plain_is : (x : ℕ) (b : List ℕ) → x ≢ 45 → integer_in (x ∷ b) ≡ (if all_ascii_digits (x ∷ b) then from_zero (digits_value 10 (x ∷ b)) else None)
+pub plain_is : (x : ℕ) (b : List ℕ) → x ≢ 45 → integer_in (x ∷ b) ≡ (if all_ascii_digits (x ∷ b) then from_zero (digits_value 10 (x ∷ b)) else None)
 unfolding integer_in
 plain_is x b h = rw (ne_eqb x 45 h) refl
 
@@ -40,11 +40,11 @@ abbrev pub unsigned_of : {E : Type 0} → Result ℕ E → Option ℤ
 unsigned_of (Ok n) = Some (pos n)
 unsigned_of (Err e) = None
 
-below_zero_fits : (v : ℕ) → v ≤ 2 ^ 63 → below_zero v ≡ (if int_lt (neg_ℤ (pos v)) (pos 0) then Some (neg_ℤ (pos v)) else None)
+pub below_zero_fits : (v : ℕ) → v ≤ 2 ^ 63 → below_zero v ≡ (if int_lt (neg_ℤ (pos v)) (pos 0) then Some (neg_ℤ (pos v)) else None)
 below_zero_fits zero h = refl
 below_zero_fits (suc v) h = rw (lt-ltb 0 (suc v) (omega arith), le-leb (suc v) (2 ^ 63) h) refl
 
-below_zero_large : (v : ℕ) → 2 ^ 63 < v → below_zero v ≡ None
+pub below_zero_large : (v : ℕ) → 2 ^ 63 < v → below_zero v ≡ None
 below_zero_large v h = rw (lt-ltb 0 v (omega arith), lt-leb v (2 ^ 63) h) refl
 
 abbrev Minus : {E : Type 0} → List ℕ → Result ℤ E → Type 0

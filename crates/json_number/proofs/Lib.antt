@@ -1,3 +1,4 @@
 pub mod Forms
 pub mod Literals
 pub mod Integers
+pub mod LiteralDigits

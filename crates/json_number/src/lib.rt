@@ -17,7 +17,7 @@ mod number;
 mod number_from;
 mod raw_number;
 
-pub use integer::{integer_of, integer_of_by};
+pub use integer::{integer_of, integer_of_by, integer_of_in};
 pub use json_number_trait::JsonNumberTrait;
 pub use number::Number;
 pub use raw_number::RawNumber;
