@@ -15,7 +15,7 @@ use Rattle.json_text.specs.Parsing.{ParserState, state_of, Goes, IsTight, IsLent
 use Rattle.json_text.specs.Steps.{Advances, StandsBehindGap}
 use Rattle.json_text.proofs.Going.{step_goes, step_tight}
 use Rattle.json_text.proofs.Needing.{needs_left}
-use Rattle.json_doc.specs.Lent.{IsLentBy, EventIsLentBy, from_of}
+use Rattle.json_doc.specs.Lent.{IsLentBy, IsPieceAt, EventIsLentBy, from_of}
 
 pub record Stepped (p q : ParserState) (e : Event) : Type 0 where
   pub goes : Goes p e q
@@ -45,11 +45,16 @@ str_lent s b j l w h =
     let e : j - 1 ≡ (j - 1 - length s.raw.now) + length s.raw.now = omega (arith, l, n) in
     record { within = omega (arith, l, n, w); bytes = h ∙ ap (piece b (j - 1 - length s.raw.now)) e }
 
--- what the event lends stands right before its closing quote
+literal_lent : (l b : List ℕ) (j : ℕ) → length l ≤ j → j ≤ length b → l ≡ piece b (j - length l) j → IsPieceAt l b (j - length l)
+literal_lent l b j m w h =
+    let e : j ≡ (j - length l) + length l = omega arith in
+    record { within = omega arith; bytes = h ∙ ap (piece b (j - length l)) e }
+
+-- what the event lends is right before its closing quote, and a literal right before its end
 pub lent_in : (b : List ℕ) (q : ParserState) (e : Event) (j : ℕ) → q.text ≡ b → q.index ≡ j → length (token_bytes e) ≤ j → j ≤ length b → IsLent e q → EventIsLentBy e b (from_of e j)
 lent_in b q event.Null j t i l w h = tt
 lent_in b q (event.Bool v) j t i l w h = tt
-lent_in b q (event.Number n) j t i l w h = tt
+lent_in b q (event.Number n) j t i l w h = literal_lent n.now b j l w (subst (λ y. n.now ≡ piece y (j - length n.now) j) t (subst (λ k. n.now ≡ piece q.text (k - length n.now) k) i h))
 lent_in b q (event.Str s) j t i l w h = str_lent s b j l w (subst (λ y. s.raw.now ≡ piece y (j - 1 - length s.raw.now) (j - 1)) t (subst (λ k. s.raw.now ≡ piece q.text (k - 1 - length s.raw.now) (k - 1)) i h))
 lent_in b q (event.Key s) j t i l w h = str_lent s b j l w (subst (λ y. s.raw.now ≡ piece y (j - 1 - length s.raw.now) (j - 1)) t (subst (λ k. s.raw.now ≡ piece q.text (k - 1 - length s.raw.now) (k - 1)) i h))
 lent_in b q event.BeginArray j t i l w h = tt

@@ -2,7 +2,7 @@
 ghost use Rattle.std.specs.Prelude.{◌≡◌, ◌+◌, ◌/◌, ◌<◌, ◌≤◌, ◌^◌, ◌↔◌, List, ℕ, [], ◌∷◌, ◌++◌, length, true, false, IsTrue, IfOk, IfErr, vec_len, vec_capacity, slice_index_or, slice_set};
 ghost use Rattle.json_grammar.specs.Grammar.{chars};
 ghost use Rattle.json_text.specs.Spelled.{NoEscape};
-ghost use Rattle.json_doc.specs.Lent.{IsLentBy};
+ghost use Rattle.json_doc.specs.Lent.{IsLentBy, IsPieceAt};
 
 mod lent;
 mod room;
@@ -10,7 +10,7 @@ mod room;
 use crate::cell::Cell;
 use crate::doc::Doc;
 use crate::visitor::JsonVisitor;
-use json_text::{Result, Span, extend_reserved, extend_reserved_from};
+use json_text::{Result, Span, extend_reserved_blocks, extend_reserved_from};
 use std::alloc::Global;
 use std::rc::Rc;
 
@@ -179,10 +179,11 @@ impl DocumentVisitor {
         self.count += 1;
     }
 
-    // The text appended, and its cell.
+    // Appends the literal, which is in the input from `from` on, and returns its cell.
     #[inline(always)]
-    fn push_literal(&mut self, literal: &str) -> Cell
-        requires { vec_len self.old.text + length literal.now ≤ self.old.text_room }
+    fn push_literal(&mut self, literal: &str, input: &[u8], from: usize) -> Cell
+        requires room { vec_len self.old.text + length literal.now ≤ self.old.text_room }
+        requires lent { IsPieceAt literal.now input.now from }
         ensures cell { result ≡ Cell.Raw (vec_len self.old.text) (length literal.now) }
         ensures text { self.new.text.items ≡ self.old.text.items ++ literal.now }
         ensures capacity { vec_capacity self.new.text ≡ vec_capacity self.old.text }
@@ -193,7 +194,7 @@ impl DocumentVisitor {
         ensures room { SameRoom self.old self.new }
     {
         let start = self.text.len() as u32;
-        extend_reserved(&mut self.text, literal.as_bytes());
+        extend_reserved_blocks(&mut self.text, input, from, from + literal.len());
         Cell::Raw {
             start,
             len: literal.len() as u32,
@@ -413,12 +414,7 @@ impl JsonVisitor for DocumentVisitor {
 
     #[inline(always)]
     fn visit_raw_number(&mut self, literal: &str) -> bool {
-        if !self.admit(1, literal.len()) {
-            return false;
-        }
-        let cell = self.push_literal(literal);
-        self.push(cell);
-        true
+        self.take_raw_number(literal, literal.as_bytes(), 0)
     }
 
     #[inline(always)]

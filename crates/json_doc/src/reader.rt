@@ -10,7 +10,7 @@ ghost use Rattle.json_text.specs.Parsing.{input, taken, HasGiven, IsWhole, SameI
 ghost use Rattle.json_text.specs.Positions.{place_at};
 ghost use Rattle.json_text.specs.Ruled.{rules_of};
 ghost use Rattle.json_doc.specs.Awaited.{Begins};
-ghost use Rattle.json_doc.specs.Lent.{EventIsLentBy, from_of};
+ghost use Rattle.json_doc.specs.Lent.{IsPieceAt, EventIsLentBy, from_of};
 ghost use Rattle.json_doc.specs.State.{MayCome};
 ghost use Rattle.json_doc.specs.Recorded.{visitor_state, Holds, SameRoom};
 ghost use Rattle.json_doc.specs.Reading.{ReadingFails, ReadingFailsWith, FrontFails, RefusesName, EventIsNumber, HasRoomFor, Follows};
@@ -23,7 +23,7 @@ use crate::open_keys::OpenKeys;
 use crate::value_reader::record_value;
 use crate::visitor::JsonVisitor;
 use json_grammar::Spot;
-use json_number::{JsonNumberTrait, integer_of_by};
+use json_number::{JsonNumberTrait, integer_of_in};
 use json_text::{
     Error, ErrorCode, Event, Kinds, Parser, Result, Rules, Span, place_of, step_by_spot,
 };
@@ -33,19 +33,21 @@ use std::rc::Rc;
 // The use of what records an event by the loop below, which no other names.
 const HERE: u8 = 1;
 
-// Whether the number was recorded: an integer by value, every other by its literal.
+// Records the number whose literal is in the input from `from` on: an integer by value, every other by
+// its literal. Returns whether there was room for it.
 #[inline(always)]
-fn record_number<const USE: u8>(visitor: &mut DocumentVisitor, literal: &str) -> bool
+fn record_number(visitor: &mut DocumentVisitor, literal: &str, input: &[u8], from: usize) -> bool
     requires number { number literal.now }
     requires come { (visitor_state visitor.old).full ≡ false
         → MayCome (Holds visitor.old) (num_token literal.now) }
+    requires lent { IsPieceAt literal.now input.now from }
     ensures follows { (ts : List Token) → Follows visitor.old ts
         → Begins (ts ++ num_token literal.now ∷ [])
         → HasRoomFor visitor.old (length literal.now)
         → Follows visitor.new (ts ++ num_token literal.now ∷ []) }
     ensures room { SameRoom visitor.old visitor.new }
 {
-    match integer_of_by::<USE>(literal) {
+    match integer_of_in(literal, input, from) {
         Some(number) => match number.as_u64() {
             Some(n) => visitor.visit_u64(n),
             None => match number.as_i64() {
@@ -53,7 +55,7 @@ fn record_number<const USE: u8>(visitor: &mut DocumentVisitor, literal: &str) ->
                 None => unreachable!(),
             },
         },
-        None => visitor.visit_raw_number(literal),
+        None => visitor.take_raw_number(literal, input, from),
     }
 }
 
@@ -77,7 +79,7 @@ pub(crate) fn record_event<const USE: u8>(
     match event {
         Event::Null => visitor.visit_null(),
         Event::Bool(b) => visitor.visit_bool(b),
-        Event::Number(literal) => record_number::<USE>(visitor, literal),
+        Event::Number(literal) => record_number(visitor, literal, input, from),
         Event::Str(s) => visitor.take_str(s, input, from),
         Event::Key(s) => visitor.take_key(s, input, from),
         Event::BeginArray => visitor.visit_array_start(),
@@ -88,13 +90,15 @@ pub(crate) fn record_event<const USE: u8>(
     }
 }
 
-// Where what stands between the quotes of a string or a name begins, where `end` is the place behind it.
+// Where the text between the quotes of a string or a name begins, or a literal, if `end` is the offset
+// after the token.
 #[inline(always)]
 fn lent_from(event: Event<'_>, end: usize) -> usize
     requires { length (token_bytes event) ≤ end }
     ensures { result ≡ from_of event.entry end }
 {
     match event {
+        Event::Number(literal) => end - literal.len(),
         Event::Str(s) | Event::Key(s) => end - 1 - s.raw_len(),
         _ => 0,
     }

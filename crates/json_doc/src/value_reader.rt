@@ -30,11 +30,12 @@ fn lent_len(event: Event<'_>) -> usize
     }
 }
 
-// What the event lends of the text between quotes.
+// What the event lends of the text: a literal, or what is between quotes.
 fn lent_bytes(event: Event<'_>) -> &[u8]
     ensures { EventIsLentBy event.entry result.now 0 }
 {
     match event {
+        Event::Number(literal) => literal.as_bytes(),
         Event::Str(s) | Event::Key(s) => s.raw.as_bytes(),
         _ => b"",
     }

@@ -1,9 +1,10 @@
-// Strings and keys that stand in an input.
-ghost use Rattle.std.specs.Prelude.{◌≡◌, List, ℕ, length, false, IsTrue, ◌↔◌};
+// Strings, keys and literals that are in an input.
+ghost use Rattle.std.specs.Prelude.{◌≡◌, List, ℕ, length, false, None, IsTrue, ◌↔◌};
 ghost use Rattle.std.specs.Bool.{OnTrue};
-ghost use Rattle.json_grammar.specs.Tree.{text_token, key_token};
-ghost use Rattle.json_grammar.specs.Grammar.{chars};
-ghost use Rattle.json_doc.specs.Lent.{IsLentBy};
+ghost use Rattle.json_grammar.specs.Tree.{num_token, text_token, key_token};
+ghost use Rattle.json_grammar.specs.Grammar.{chars, number};
+ghost use Rattle.json_number.specs.Integers.{integer_in};
+ghost use Rattle.json_doc.specs.Lent.{IsLentBy, IsPieceAt};
 ghost use Rattle.json_doc.specs.Recorded.{visitor_state, Holds, TakesNoMemory};
 ghost use Rattle.json_doc.specs.State.{Fits, after_event, MayCome, HoldsMore};
 
@@ -11,6 +12,29 @@ use super::DocumentVisitor;
 use json_text::Span;
 
 impl DocumentVisitor {
+    /// Does what `visit_raw_number` does, of a literal that is in the input from `from` on.
+    #[inline(always)]
+    pub(crate) fn take_raw_number(&mut self, literal: &str, input: &[u8], from: usize) -> bool
+        requires number { number literal.now }
+        requires raw { integer_in literal.now ≡ None }
+        requires come { (visitor_state self.old).full ≡ false
+            → MayCome (Holds self.old) (num_token literal.now) }
+        requires lent { IsPieceAt literal.now input.now from }
+        ensures answer { IsTrue result ↔ Fits (visitor_state self.old) 1 (length literal.now) }
+        ensures state { visitor_state self.new
+            ≡ after_event result 1 (length literal.now) (visitor_state self.old) }
+        ensures held { OnTrue result
+            (HoldsMore (Holds self.old) (Holds self.new) (num_token literal.now)) }
+        ensures memory { TakesNoMemory self.old self.new }
+    {
+        if !self.admit(1, literal.len()) {
+            return false;
+        }
+        let cell = self.push_literal(literal, input, from);
+        self.push(cell);
+        true
+    }
+
     /// `visit_str`, of a string that is in the input from `from` on.
     #[inline(always)]
     pub(crate) fn take_str(&mut self, s: Span<'_>, input: &[u8], from: usize) -> bool

@@ -1,5 +1,4 @@
 use Rattle.std.proofs.Common.{[], ◌∷◌, ◌++◌, ◌≡◌, ◌+◌, Result, Ok, Err, None, false, refl, sym, subst, arith}
-use Rattle.std.proofs.lemmas.Result.{IfOk-weaker}
 use Rattle.std.specs.Result.{IsErrAnd, IfErr}
 use Rattle.json_grammar.specs.declared.Spot.TheVariants.{Value as at_value}
 use Rattle.json_text.specs.declared.error.Error.{Error}

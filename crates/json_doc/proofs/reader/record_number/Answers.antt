@@ -6,13 +6,13 @@ use Rattle.json_doc.proofs.Following.{may_come_at, follows_literal}
 use Rattle.json_doc.proofs.reader.record_number.Goals as goal
 
 pub visit_u64-requires : goal.visit_u64-requires
-visit_u64-requires g c full =
+visit_u64-requires c full =
     let l = c.args.literal.now in
     let n = c.in-Some-as_u64.n in
     may_come_at c.args.visitor.now (signed_decimal (pos n)) l (unsigned_literal l c.in-Some.number n c.requires.number (sym c.in-Some.ensures) (sym c.in-Some-as_u64.ensures)) (c.requires.come full)
 
 pub visit_i64-requires-clause-come : goal.visit_i64-requires-clause-come
-visit_i64-requires-clause-come g c full =
+visit_i64-requires-clause-come c full =
     let l = c.args.literal.now in
     let z = c.in-Some-as_i64.n in
     let fits : SFits w64 z = search rules in
@@ -20,7 +20,7 @@ visit_i64-requires-clause-come g c full =
     may_come_at c.args.visitor.now _ l (ap signed_decimal (to_z-of_z fits) ∙ is.1) (c.requires.come full)
 
 pub returns-in-Some-as_u64-clause-follows : goal.returns-in-Some-as_u64-clause-follows
-returns-in-Some-as_u64-clause-follows g c ts f b h =
+returns-in-Some-as_u64-clause-follows c ts f b h =
     let l = c.args.literal.now in
     let n = c.in-Some-as_u64.n in
     let q = c.visit_u64.ensures in
@@ -28,7 +28,7 @@ returns-in-Some-as_u64-clause-follows g c ts f b h =
     follows_literal c.args.visitor.now c.visit_u64.new.self l (num_token (signed_decimal (pos n))) 0 0 c.visit_u64.result ts (ap num_token is) (omega arith) q.answer q.state q.held f b h
 
 pub returns-in-Some-as_i64-clause-follows : goal.returns-in-Some-as_i64-clause-follows
-returns-in-Some-as_i64-clause-follows g c ts f b h =
+returns-in-Some-as_i64-clause-follows c ts f b h =
     let l = c.args.literal.now in
     let z = c.in-Some-as_i64.n in
     let q = c.visit_i64.ensures in
@@ -37,7 +37,7 @@ returns-in-Some-as_i64-clause-follows g c ts f b h =
     follows_literal c.args.visitor.now c.visit_i64.new.self l _ 0 0 c.visit_i64.result ts (ap num_token (ap signed_decimal (to_z-of_z fits) ∙ is.1)) (omega arith) q.answer q.state q.held f b h
 
 pub returns-in-None-clause-follows : goal.returns-in-None-clause-follows
-returns-in-None-clause-follows g c ts f b h =
+returns-in-None-clause-follows c ts f b h =
     let l = c.args.literal.now in
-    let q = c.visit_raw_number.ensures in
-    follows_literal c.args.visitor.now c.visit_raw_number.new.self l (num_token l) (length l) (length l) c.visit_raw_number.result ts refl (omega arith) q.answer q.state q.held f b h
+    let q = c.take_raw_number.ensures in
+    follows_literal c.args.visitor.now c.take_raw_number.new.self l (num_token l) (length l) (length l) c.take_raw_number.result ts refl (omega arith) q.answer q.state q.held f b h

@@ -1,5 +1,5 @@
 use Rattle.json_doc.proofs.Holding.{held_same, held_raw}
-use Rattle.json_doc.proofs.document_visitor.DocumentVisitorJsonVisitor.visit_raw_number.Goals as goal
+use Rattle.json_doc.proofs.document_visitor.DocumentVisitor.take_raw_number.Goals as goal
 
 pub returns-clause-held : goal.returns-clause-held
 returns-clause-held c ts h b =
