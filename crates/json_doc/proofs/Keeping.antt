@@ -38,23 +38,12 @@ use Rattle.json_doc.specs.State.{VisitorState}
 use Rattle.json_doc.specs.Recorded.{visitor_state, Holds, SameRoom}
 use Rattle.json_doc.specs.Reading.{ReadingFails, ReadingFailsWith, RefusesName, EventIsNumber, Follows}
 use Rattle.json_doc.specs.OpenNames.{HasNames, TakesIn, Differ}
+use Rattle.json_doc.specs.Progress.{Keeps}
 use Rattle.json_doc.specs.declared.open_keys.OpenKeys.{OpenKeys}
 use Rattle.json_doc.specs.declared.document_visitor.DocumentVisitor.{DocumentVisitor}
 use Rattle.json_doc.proofs.Prefixes.{reading_begins}
 use Rattle.json_doc.proofs.Fitting.{recorded_bytes}
 use Rattle.json_doc.proofs.Numeric.{event_number}
-
--- the parser has read a text up to here, and the builder was given the same tokens
-pub record Keeps (most : ℕ) (p : ParserState) (v : DocumentVisitor) (b : List ℕ) (ts : List Token) : Type 0 where
-  pub reads : p.text ≡ b
-  pub start : p.start ≡ 0
-  pub limit : p.limit ≡ most
-  pub strict : p.lossy ≡ false
-  pub unfailed : p.failure ≡ None
-  pub gave : HasGiven p ts
-  pub follows : Follows v ts
-  pub room : (visitor_state v).cell_room ≡ (length b + 1) / 2
-  pub text_room : (visitor_state v).text_room ≡ length b
 
 pub keeps_start : (limit : ℕ) (p : ParserState) (v : DocumentVisitor) (b : List ℕ) → p.text ≡ b → p.start ≡ 0 → p.limit ≡ limit → p.lossy ≡ false → HasGiven p [] → p.failure ≡ None
     → visitor_state v ≡ record { cell_room = (length b + 1) / 2; text_room = length b; nodes = 0; bytes = 0; full = false } → Holds v [] → Keeps limit p v b []

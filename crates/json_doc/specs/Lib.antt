@@ -23,3 +23,4 @@ pub mod Reading
 pub mod Laws
 pub mod OpenNames
 pub mod OneValue
+pub mod Progress

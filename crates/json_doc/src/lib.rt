@@ -11,6 +11,7 @@
 //! ```
 #![tactic(auto)]
 
+mod advance;
 mod cell;
 mod children;
 mod doc;

@@ -17,6 +17,7 @@ ghost use Rattle.json_doc.specs.Reading.{ReadingFails, ReadingFailsWith, FrontFa
 ghost use Rattle.json_doc.specs.OpenNames.{HasSomeNames, TakesIn, Differ};
 ghost use Rattle.json_doc.specs.Docs.{IsDocOf};
 
+use crate::advance::advance_by_spot;
 use crate::doc::Doc;
 use crate::document_visitor::DocumentVisitor;
 use crate::open_keys::OpenKeys;
@@ -24,14 +25,9 @@ use crate::value_reader::record_value;
 use crate::visitor::JsonVisitor;
 use json_grammar::Spot;
 use json_number::{JsonNumberTrait, integer_of_in};
-use json_text::{
-    Error, ErrorCode, Event, Kinds, Parser, Result, Rules, Span, place_of, step_by_spot,
-};
+use json_text::{Error, ErrorCode, Event, Kinds, Parser, Result, Rules, Span, place_of};
 use std::alloc::Global;
 use std::rc::Rc;
-
-// The use of what records an event by the loop below, which no other names.
-const HERE: u8 = 1;
 
 // Records the number whose literal is in the input from `from` on: an integer by value, every other by
 // its literal. Returns whether there was room for it.
@@ -93,7 +89,7 @@ pub(crate) fn record_event<const USE: u8>(
 // Where the text between the quotes of a string or a name begins, or a literal, if `end` is the offset
 // after the token.
 #[inline(always)]
-fn lent_from(event: Event<'_>, end: usize) -> usize
+pub(crate) fn lent_from(event: Event<'_>, end: usize) -> usize
     requires { length (token_bytes event) ≤ end }
     ensures { result ≡ from_of event.entry end }
 {
@@ -199,15 +195,13 @@ pub(crate) fn read_by(
     let mut at = 0;
     let mut spot = Spot::Value;
     'events: loop {
-        let read = match step_by_spot(text, at, spot, limit, false, &mut kinds) {
+        let read = match advance_by_spot(&mut visitor, text, at, spot, limit, &mut kinds) {
             Ok(read) => read,
             Err(fault) => return Err(fault.error_in(text)),
         };
         match read.event {
             Event::End => break,
             event => {
-                let from = lent_from(event, read.end);
-                let _recorded = record_event::<HERE>(&mut visitor, event, text.as_bytes(), from);
                 check_names(rules, &mut keys, event, text, read.end)?;
             }
         }

@@ -3,7 +3,7 @@ use Rattle.json_grammar.specs.Tree.{Token}
 use Rattle.json_text.specs.Parsing.{state_of}
 use Rattle.json_text.specs.Ruled.{rules_of}
 use Rattle.json_doc.specs.OpenNames.{Differ}
-use Rattle.json_doc.proofs.Keeping.{Keeps}
+use Rattle.json_doc.specs.Progress.{Keeps}
 use Rattle.json_doc.proofs.reader.read_by.Given as goal
 
 abbrev pub invariant-events : goal.invariant-events

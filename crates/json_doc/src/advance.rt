@@ -1,0 +1,92 @@
+// The events of a whole text, each recorded where it was read.
+ghost use Rattle.std.specs.Prelude.{◌≡◌, ◌≤◌, List, ℕ, [], ◌∷◌, ◌++◌, false, IfOk, IfErr};
+ghost use Rattle.json_grammar.specs.Tree.{Token};
+ghost use Rattle.json_text.specs.Due.{NextNeeds};
+ghost use Rattle.json_text.specs.Events.{Means, raw_size};
+ghost use Rattle.json_text.specs.Faults.{IsFault};
+ghost use Rattle.json_text.specs.Steps.{Advances, StandsBehindGap};
+ghost use Rattle.json_text.specs.declared.event.Event.TheVariants as Event;
+ghost use Rattle.json_doc.specs.Awaited.{Begins};
+ghost use Rattle.json_doc.specs.Progress.{IsReading};
+ghost use Rattle.json_doc.specs.Reading.{HasRoomFor, Follows};
+ghost use Rattle.json_doc.specs.Recorded.{SameRoom};
+
+use crate::document_visitor::DocumentVisitor;
+use crate::reader::{lent_from, record_event};
+use json_grammar::{Kind, Spot};
+use json_text::{Event, Fault, Kinds, Read, step};
+
+// Reads the next event of a text as `step` does, and records it. Each use has a copy of its own.
+#[inline(always)]
+fn advance<'a, const USE: u8>(
+    visitor: &mut DocumentVisitor,
+    text: &'a str,
+    at: usize,
+    spot: Spot,
+    limit: usize,
+    kinds: &mut Kinds,
+) -> Result<Read<'a>, Fault>
+    requires kept { IsReading limit text.now at kinds.old spot visitor.old }
+    requires most { limit ≤ 1024 }
+    ensures ok { IfOk result (λ r.
+        Advances false limit text.now at kinds.old spot r.event r.end kinds.new r.spot) }
+    ensures tight { IfOk result (λ r. StandsBehindGap false text.now at r.event r.end) }
+    ensures err { IfErr result (λ f. IsFault false limit text.now f.code f.offset) }
+    ensures needs { IfErr result (λ f. NextNeeds false text.now at f.code f.offset) }
+    ensures recorded { IfOk result (λ r. (x : Token) (ts : List Token) → Means r.event x
+        → Follows visitor.old ts → Begins (ts ++ x ∷ [])
+        → HasRoomFor visitor.old (raw_size r.event) → Follows visitor.new (ts ++ x ∷ [])) }
+    ensures room { IfOk result (λ r. (x : Token) → Means r.event x
+        → SameRoom visitor.old visitor.new) }
+    ensures at_end { IfOk result (λ r. r.event ≡ Event.End → visitor.new ≡ visitor.old) }
+{
+    match step::<USE>(text, at, spot, limit, false, kinds) {
+        Ok(read) => match read.event {
+            Event::End => Ok(read),
+            event => {
+                let from = lent_from(event, read.end);
+                let _recorded = record_event::<USE>(visitor, event, text.as_bytes(), from);
+                Ok(read)
+            }
+        },
+        Err(fault) => Err(fault),
+    }
+}
+
+// The same, by a copy for each of what may come, and behind a value for each kind of container, so that
+// each of them leaves out what cannot come there.
+#[inline(always)]
+pub(crate) fn advance_by_spot<'a>(
+    visitor: &mut DocumentVisitor,
+    text: &'a str,
+    at: usize,
+    spot: Spot,
+    limit: usize,
+    kinds: &mut Kinds,
+) -> Result<Read<'a>, Fault>
+    requires kept { IsReading limit text.now at kinds.old spot visitor.old }
+    requires most { limit ≤ 1024 }
+    ensures ok { IfOk result (λ r.
+        Advances false limit text.now at kinds.old spot r.event r.end kinds.new r.spot) }
+    ensures tight { IfOk result (λ r. StandsBehindGap false text.now at r.event r.end) }
+    ensures err { IfErr result (λ f. IsFault false limit text.now f.code f.offset) }
+    ensures needs { IfErr result (λ f. NextNeeds false text.now at f.code f.offset) }
+    ensures recorded { IfOk result (λ r. (x : Token) (ts : List Token) → Means r.event x
+        → Follows visitor.old ts → Begins (ts ++ x ∷ [])
+        → HasRoomFor visitor.old (raw_size r.event) → Follows visitor.new (ts ++ x ∷ [])) }
+    ensures room { IfOk result (λ r. (x : Token) → Means r.event x
+        → SameRoom visitor.old visitor.new) }
+    ensures at_end { IfOk result (λ r. r.event ≡ Event.End → visitor.new ≡ visitor.old) }
+{
+    match spot {
+        Spot::First => advance::<2>(visitor, text, at, Spot::First, limit, kinds),
+        Spot::KeyOrEnd => advance::<3>(visitor, text, at, Spot::KeyOrEnd, limit, kinds),
+        Spot::Colon => advance::<4>(visitor, text, at, Spot::Colon, limit, kinds),
+        Spot::Done => match kinds.top() {
+            Some(Kind::Array) => advance::<5>(visitor, text, at, Spot::Done, limit, kinds),
+            Some(Kind::Object) => advance::<7>(visitor, text, at, Spot::Done, limit, kinds),
+            None => advance::<8>(visitor, text, at, Spot::Done, limit, kinds),
+        },
+        Spot::Value | Spot::Key => advance::<6>(visitor, text, at, spot, limit, kinds),
+    }
+}
