@@ -1,5 +1,5 @@
 -- A token that is taken where it is found at once.
-use Rattle.std.proofs.Common.{◌≡◌, ◌≢◌, ◌∙◌, ◌-◌, ◌^◌, ◌<◌, ◌≤◌, ℕ, List, [], ◌∷◌, ◌++◌, length, get_or, drop, true, Option, Some, None, refl, ap, sym, subst, arith, length-take, length-drop}
+use Rattle.std.proofs.Common.{◌≡◌, ◌≢◌, ◌∙◌, ◌-◌, ◌^◌, ◌<◌, ◌≤◌, ℕ, pos, Bool, List, [], ◌∷◌, ◌++◌, length, get_or, drop, true, Option, Some, None, refl, ap, sym, subst, arith, length-take, length-drop}
 use Rattle.std.proofs.lemmas.Bool.{and_parts}
 use Rattle.std.specs.Char.{is_ascii_digit}
 use Rattle.std.specs.Str.{all_ascii_digits}
@@ -8,7 +8,7 @@ use Rattle.json_grammar.specs.declared.Kind.{Kind}
 use Rattle.json_grammar.specs.declared.Kind.TheVariants.{Array as array, Object as object}
 use Rattle.json_grammar.specs.Given.{piece}
 use Rattle.json_grammar.specs.Grammar.{chars}
-use Rattle.json_grammar.specs.Tree.{Token as Tok, num, num_token, text, text_token, begin, end}
+use Rattle.json_grammar.specs.Tree.{Token as Tok, null, null_token, boolean, boolean_token, num, num_token, text, text_token, begin, end}
 use Rattle.json_text.specs.declared.error.Error.{Error}
 use Rattle.json_text.specs.declared.event.Event.{Event}
 use Rattle.json_text.specs.declared.event.Event.TheVariants as event
@@ -17,9 +17,9 @@ use Rattle.json_text.specs.Parsing.{ParserState, HasGiven, SameInput, Goes, IsTi
 use Rattle.json_text.specs.Tokens.{begin_event, end_event}
 use Rattle.json_text.proofs.Bracketed.{begin_is_event, end_is_event}
 use Rattle.json_data.specs.Spots.{over}
-use Rattle.json_data.specs.Stand.{NotWhole, Peeks, TakesOne, TakesInteger, TakesText, TakesKey}
+use Rattle.json_data.specs.Stand.{NotWhole, Peeks, TakesOne, TakesTree, TakesInteger, TakesNegative, TakesText, TakesKey}
 use Rattle.json_data.specs.Text.{TextState, TakenBefore, spot_before, text_taken, text_stand, event_kind, ReadsAhead, IsReading}
-use Rattle.json_data.proofs.Digits.{plain_integer}
+use Rattle.json_data.proofs.Digits.{plain_integer, negative_integer}
 use Rattle.json_data.proofs.Events.{reads_ahead, whole_over}
 use Rattle.json_data.proofs.Steps.{scalar}
 use Rattle.json_data.proofs.TextSteps.{takes_none, takes_next}
@@ -112,6 +112,28 @@ integer_taken p q f l n ts h r t d v s =
       value = plain_integer l.now n (no_minus l.now d some) some d v s;
       takes = scalar (num l.now) (num_token l.now) x.1 refl refl refl x.2;
     }
+
+pub negative_taken : (p q : ParserState) (f : Option Error) (l : _) (n : ℕ) (ts : List Tok) → HasGiven p ts → ReadsAhead p (event.Number l) q
+    → get_or l.now 0 0 ≡ 45 → all_ascii_digits (drop 1 l.now) ≡ true → n ≡ digits_value 10 (drop 1 l.now) → 0 < n → n ≤ 2 ^ 63 → TakesNegative text_taken text_stand (clear p f) (clear q f) n
+negative_taken p q f l n ts h r m d v s k =
+    let x = taken_at_once p q f (event.Number l) ts h r in
+    record { literal = l.now; value = negative_integer l.now n m d v s k; takes = scalar (num l.now) (num_token l.now) x.1 refl refl refl x.2 }
+
+-- ---- literals
+
+pub null_read : (p q : ParserState) (ts : List Tok) → HasGiven p ts → SameInput p q → Goes p event.Null q → IsTight p event.Null q → q.failure ≡ None → ReadsAhead p event.Null q
+null_read p q ts h s g t f = reads_ahead p q event.Null ts h (λ e. absurd (cc)) s g t f
+
+pub bool_read : (p q : ParserState) (b : Bool) (ts : List Tok) → HasGiven p ts → SameInput p q → Goes p (event.Bool b) q → IsTight p (event.Bool b) q → q.failure ≡ None → ReadsAhead p (event.Bool b) q
+bool_read p q b ts h s g t f = reads_ahead p q (event.Bool b) ts h (λ e. absurd (cc)) s g t f
+
+pub null_taken : (p q : ParserState) (f : Option Error) (ts : List Tok) → HasGiven p ts → ReadsAhead p event.Null q → TakesTree text_taken text_stand (clear p f) (clear q f) null
+null_taken p q f ts h r = let x = taken_at_once p q f event.Null ts h r in scalar null null_token x.1 refl refl refl x.2
+
+pub boolean_taken : (p q : ParserState) (f : Option Error) (b : Bool) (ts : List Tok) → HasGiven p ts → ReadsAhead p (event.Bool b) q → TakesTree text_taken text_stand (clear p f) (clear q f) (boolean b)
+boolean_taken p q f b ts h r = let x = taken_at_once p q f (event.Bool b) ts h r in scalar (boolean b) (boolean_token b) x.1 refl refl refl x.2
+
+-- ---- strings
 
 pub text_taken_at_once : (p q : ParserState) (f : Option Error) (l : _) (says : List ℕ → Type 0) (ts : List Tok) → HasGiven p ts → ReadsAhead p (event.Str l) q
     → ((s : List ℕ) → chars l.lossy s l.raw.now → says s) → TakesText text_taken text_stand says (clear p f) (clear q f)

@@ -1,8 +1,8 @@
 -- Digits of literals.
-use Rattle.std.proofs.Common.{◌≡◌, ◌≢◌, ◌∙◌, ◌&&◌, ◌+◌, ◌-◌, ◌*◌, take, ◌⊎◌, inl, inr, Bool, true, false, ℕ, zero, suc, ◌<◌, ◌≤◌, ◌^◌, ℤ, pos, negsuc, if◌then◌else◌, nat_le, nat_lt, ◌==◌, List, [], ◌∷◌, length, get_or, drop, Option, Some, None, Result, Ok, Err, refl, sym, ap, subst, arith, add-one}
+use Rattle.std.proofs.Common.{◌≡◌, ◌≢◌, ◌∙◌, ◌&&◌, ◌+◌, ◌-◌, ◌*◌, take, ◌⊎◌, inl, inr, Bool, true, false, ℕ, zero, suc, ◌<◌, ◌≤◌, ◌^◌, ℤ, pos, negsuc, neg_ℤ, if◌then◌else◌, nat_le, nat_lt, ◌==◌, List, [], ◌∷◌, length, get_or, drop, Option, Some, None, Result, Ok, Err, refl, sym, ap, subst, arith, add-one}
 use Rattle.std.proofs.Math.Nat.{pow-le-pow_right}
 use Rattle.std.proofs.Math.Seq.{drop-cons}
-use Rattle.std.proofs.lemmas.Bool.{cases_lt, ne_eqb, lt-ltb}
+use Rattle.std.proofs.lemmas.Bool.{cases_lt, ne_eqb, lt-ltb, le-leb}
 use Rattle.std.proofs.lemmas.Bool.Decides.{nat_tests}
 use Rattle.std.proofs.lemmas.Int.Digits.{digits_value_more}
 use Rattle.std.specs.Char.{is_ascii_digit, digit_value}
@@ -126,6 +126,11 @@ pub plain_integer : (l : List ℕ) (n : ℕ) → get_or l 0 0 ≢ 45 → 0 < len
 unfolding integer_in
 plain_integer [] n e h d v s = absurd (omega arith)
 plain_integer (x ∷ b) n e h d v s = rw (ne_eqb x 45 e, d, ← v, lt-ltb n (2 ^ 64) s)
+
+pub negative_integer : (l : List ℕ) (n : ℕ) → get_or l 0 0 ≡ 45 → all_ascii_digits (drop 1 l) ≡ true → n ≡ digits_value 10 (drop 1 l) → 0 < n → n ≤ 2 ^ 63 → integer_in l ≡ Some (neg_ℤ (pos n))
+unfolding integer_in
+negative_integer [] n e d v p s = absurd (cc)
+negative_integer (x ∷ b) n e d v p s = rw (e, d, ← v, lt-ltb 0 n p, le-leb n (2 ^ 63) s)
 
 pub plain_other : (l : List ℕ) → get_or l 0 0 ≢ 45 → 0 < length l → all_ascii_digits l ≡ false → integer_in l ≡ None
 unfolding integer_in

@@ -1,5 +1,5 @@
 -- What a call of a source of tokens takes.
-use Rattle.std.specs.Prelude.{◌≡◌, ◌<◌, ◌≤◌, ℕ, pos, List, [], ◌∷◌, ◌++◌, Bool, Option, Some, None, true, false}
+use Rattle.std.specs.Prelude.{◌≡◌, ◌<◌, ◌≤◌, ℕ, pos, neg_ℤ, List, [], ◌∷◌, ◌++◌, Bool, Option, Some, None, true, false}
 use Rattle.json_grammar.specs.declared.Kind.TheVariants.{Array as array, Object as object}
 use Rattle.json_grammar.specs.Tree.{Tree, num, text as text_tree, Trees, Pairs, tokens, trees_tokens, pairs_tokens, Token as Tok, key_token, end}
 use Rattle.json_number.specs.Integers.{integer_in}
@@ -78,6 +78,12 @@ pub record TakesTree {S : Type 0} (taken : S → List Tok → Type 0) (stand : S
 pub record TakesInteger {S : Type 0} (taken : S → List Tok → Type 0) (stand : S → Stand) (a b : S) (n : ℕ) : Type 0 where
   pub literal : List ℕ
   pub value : integer_in literal ≡ Some (pos n)
+  pub takes : TakesTree taken stand a b (num literal)
+
+-- an integer by value below 0 was taken, of this magnitude
+pub record TakesNegative {S : Type 0} (taken : S → List Tok → Type 0) (stand : S → Stand) (a b : S) (n : ℕ) : Type 0 where
+  pub literal : List ℕ
+  pub value : integer_in literal ≡ Some (neg_ℤ (pos n))
   pub takes : TakesTree taken stand a b (num literal)
 
 -- a text of which a piece says what it is was taken

@@ -24,6 +24,24 @@ use json_text::{Error, ErrorCode, Result};
 use std::alloc::Global;
 use std::borrow::CowStr;
 
+// What `bool` does where no boolean is found at once.
+#[inline(never)]
+fn boolean_by_kind<S: Lent, T: Tokens<S>>(tokens: &mut T) -> Result<bool>
+    requires { WantsValue (T.stand tokens.old) }
+    ensures ok { IfOk result (λ b. Reads T.taken T.stand read_boolean
+        tokens.old tokens.new (gives (boolean_datum b))) }
+    ensures err { IfErr result (λ e. Stops T.taken T.stand read_boolean tokens.old tokens.new e) }
+{
+    if tokens.peek()? != TokenKind::Bool {
+        tokens.skip()?;
+        return Err(refusal(ErrorCode::TypeUnmatched));
+    }
+    match tokens.next()? {
+        Token::Bool(b) => Ok(b),
+        _ => unreachable!(),
+    }
+}
+
 impl<S: Lent> DeserializeFrom<S> for bool {
     ghost datum = { λ b. boolean_datum b };
 
@@ -32,13 +50,18 @@ impl<S: Lent> DeserializeFrom<S> for bool {
     #[inline]
     fn deserialize<T: Tokens<S>>(alloc: Global, tokens: &mut T) -> Result<bool> {
         let _ = alloc;
-        if tokens.peek()? != TokenKind::Bool {
-            tokens.skip()?;
-            return Err(refusal(ErrorCode::TypeUnmatched));
+        if let Some(b) = tokens.boolean() {
+            return Ok(b);
         }
-        match tokens.next()? {
-            Token::Bool(b) => Ok(b),
-            _ => unreachable!(),
+        boolean_by_kind(tokens)
+    }
+
+    #[inline(always)]
+    fn found<T: Tokens<S>>(alloc: Global, tokens: &mut T) -> Result<Option<bool>> {
+        let _ = alloc;
+        match tokens.boolean() {
+            Some(b) => Ok(Some(b)),
+            None => Ok(None),
         }
     }
 }
@@ -129,6 +152,9 @@ fn option_by_kind<S: Lent, V: DeserializeFrom<S>, T: Tokens<S>>(
     ensures err { IfErr result (λ e.
         Stops T.taken T.stand (read_option V.from_tree) tokens.old tokens.new e) }
 {
+    if tokens.null() {
+        return Ok(None);
+    }
     if tokens.peek()? == TokenKind::Null {
         tokens.skip()?;
         return Ok(None);
@@ -154,6 +180,20 @@ impl<S: Lent, V: DeserializeFrom<S>> DeserializeFrom<S> for Option<V> {
         match V::found(alloc, tokens) {
             Ok(Some(found)) => Ok(Some(Some(found))),
             Ok(None) => Ok(None),
+            Err(e) => Err(e),
+        }
+    }
+
+    #[inline(always)]
+    fn found_or_null<T: Tokens<S>>(alloc: Global, tokens: &mut T) -> Result<Option<Option<V>>> {
+        match V::found(alloc, tokens) {
+            Ok(Some(found)) => Ok(Some(Some(found))),
+            Ok(None) => {
+                if tokens.null() {
+                    return Ok(Some(None));
+                }
+                Ok(None)
+            }
             Err(e) => Err(e),
         }
     }
@@ -258,7 +298,7 @@ fn next_element<S: Lent, V: DeserializeFrom<S>, T: Tokens<S>>(
     ensures err { IfErr result (λ e.
         Stops T.taken T.stand V.from_tree tokens.old tokens.new e) }
 {
-    if let Some(found) = V::found(alloc, tokens)? {
+    if let Some(found) = V::found_or_null(alloc, tokens)? {
         return Ok(Some(found));
     }
     element_by_kind(alloc, tokens)
@@ -279,7 +319,7 @@ fn read_elements<S: Lent, V: DeserializeFrom<S> + Drop, T: Tokens<S>>(
 {
     let mut all = Vec::new(alloc);
     'each: loop {
-        match V::found(alloc, tokens) {
+        match V::found_or_null(alloc, tokens) {
             Ok(found) => {
                 if let Some(element) = found {
                     if all.push(element).is_err() {

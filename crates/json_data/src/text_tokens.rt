@@ -356,6 +356,21 @@ impl<'a> Tokens<&'a str> for TextTokens<'a> {
     }
 
     #[inline(always)]
+    fn negative(&mut self, least: u64) -> Option<u64> {
+        self.take_negative(least)
+    }
+
+    #[inline(always)]
+    fn null(&mut self) -> bool {
+        self.take_null()
+    }
+
+    #[inline(always)]
+    fn boolean(&mut self) -> Option<bool> {
+        self.take_boolean()
+    }
+
+    #[inline(always)]
     fn text(&mut self) -> Option<Piece<&'a str>> {
         self.take_text()
     }

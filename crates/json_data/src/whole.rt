@@ -1,5 +1,5 @@
 // Integers of literals.
-ghost use Rattle.std.specs.Prelude.{◌≡◌, ◌<◌, ℕ, ◌^◌, ◌≤◌, ℤ, pos, List, Option, Some, None, true, length, drop, IfOk, IfErr, IfSome, MatchOption};
+ghost use Rattle.std.specs.Prelude.{◌≡◌, ◌<◌, ℕ, ◌^◌, ◌≤◌, ℤ, pos, neg_ℤ, List, Option, Some, None, true, length, drop, IfOk, IfErr, IfSome, MatchOption};
 ghost use Rattle.std.specs.Str.{all_ascii_digits};
 ghost use Rattle.json_grammar.specs.Tree.{Tree, num};
 ghost use Rattle.json_grammar.specs.Grammar.{number};
@@ -191,6 +191,46 @@ pub(crate) fn integer_at_once<S: Lent, T: Tokens<S>>(tokens: &mut T, most: u64) 
     }
 }
 
+/// Returns the integer below 0 of this magnitude.
+#[inline(always)]
+fn negated(magnitude: u64) -> i64
+    requires { (0 < magnitude) × (magnitude ≤ 2 ^ 63) }
+    ensures { neg_ℤ (pos magnitude) ≡ result }
+{
+    -((magnitude - 1) as i64) - 1
+}
+
+/// The next integer from `-half` on and below `half`, where it is found at once.
+#[inline(always)]
+pub(crate) fn signed_at_once<S: Lent, T: Tokens<S>>(tokens: &mut T, half: u64) -> Option<i64>
+    requires { NotWhole (T.stand tokens.old) }
+    requires half { (0 < half) × (half ≤ 2 ^ 63) }
+    ensures within { IfSome result (λ n. between half half n ≡ true) }
+    ensures takes { MatchOption result (tokens.new ≡ tokens.old) (λ n.
+        Finds T.taken T.stand (read_integer (between half half)) tokens.old tokens.new
+        (gives (integer_datum n))) }
+{
+    if let Some(n) = integer_at_once(tokens, half - 1) {
+        return Some(n as i64);
+    }
+    match tokens.negative(half) {
+        Some(n) => Some(negated(n)),
+        None => None,
+    }
+}
+
+/// The greatest magnitude of an integer from `-low` on that has 64 bits.
+#[inline(always)]
+fn least_of(low: u128) -> u64
+    ensures { (result ≤ low) × (result ≤ 2 ^ 63) }
+{
+    if low > 9223372036854775808 {
+        9223372036854775808
+    } else {
+        low as u64
+    }
+}
+
 /// The most that is below high and has 64 bits.
 #[inline(always)]
 fn most_below(high: u128) -> u64
@@ -217,6 +257,9 @@ fn between_by_kind<S: Lent, T: Tokens<S>>(tokens: &mut T, low: u128, high: u128)
     ensures err { IfErr result (λ e.
         Stops T.taken T.stand (read_integer (between low high)) tokens.old tokens.new e) }
 {
+    if let Some(n) = tokens.negative(least_of(low)) {
+        return Ok(negated(n) as i128);
+    }
     let whole = read_whole(tokens)?;
     match fit(whole, low, high) {
         Ok(n) => Ok(n),

@@ -5,6 +5,7 @@ ghost use Rattle.std.specs.Str.Parse.{digits_value};
 ghost use Rattle.json_grammar.specs.Given.{piece};
 ghost use Rattle.json_text.specs.Numbers.{NumberTo, NoDigit, GoesOn};
 ghost use Rattle.json_text.specs.Nexts.{IsShortInteger};
+ghost use Rattle.json_text.specs.NextLiterals.{IsShortNegative};
 ghost use Rattle.json_text.specs.Runs.{ByteAt};
 ghost use Rattle.json_text.specs.declared.integer.DigitsRead.TheVariants as DigitsRead;
 
@@ -258,4 +259,23 @@ pub(crate) fn integer_at(bytes: &[u8], from: usize) -> Option<Digits>
         return None;
     }
     Some(digits)
+}
+
+/// Returns the number that the digits write of the longest number that begins at `from`, if it has a
+/// minus, at most 19 digits and nothing else.
+#[inline(always)]
+pub(crate) fn negative_at(bytes: &[u8], from: usize) -> Option<Digits>
+    requires { from ≤ length bytes.now }
+    ensures negative { IfSome result (λ d. IsShortNegative bytes.now from d.end) }
+    ensures value { IfSome result (λ d. d.value
+        ≡ digits_value 10 (piece bytes.now (from + 1) d.end)) }
+    ensures none { result ≡ None → (e : ℕ) → ¬ (IsShortNegative bytes.now from e) }
+{
+    if !byte_is(bytes, from, b'-') {
+        return None;
+    }
+    match integer_at(bytes, from + 1) {
+        Some(digits) => Some(digits),
+        None => None,
+    }
 }

@@ -24,8 +24,11 @@ use std::marker::Model;
 
 mod brackets;
 mod expected;
+mod literals;
+mod negatives;
 
 pub use expected::Integer;
+pub use negatives::NegativeInteger;
 
 /// The most levels of a tree, where the caller chooses none (RFC 8259, section 9).
 const LEVELS: usize = 254;

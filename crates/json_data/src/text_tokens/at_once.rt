@@ -1,7 +1,7 @@
 // Tokens that are taken at once, and those whose events wait.
-ghost use Rattle.std.specs.Prelude.{◌≡◌, ◌≤◌, true, false, None, IfSome, IsSome, MatchOption};
-ghost use Rattle.json_grammar.specs.Tree.{begin as begin_token, end as end_token};
-ghost use Rattle.json_data.specs.Stand.{NotWhole, TakesOne, TakesInteger, TakesText, TakesKey};
+ghost use Rattle.std.specs.Prelude.{◌≡◌, ◌<◌, ◌≤◌, ◌^◌, true, false, None, IfSome, IsSome, MatchOption};
+ghost use Rattle.json_grammar.specs.Tree.{null, boolean, begin as begin_token, end as end_token};
+ghost use Rattle.json_data.specs.Stand.{NotWhole, TakesOne, TakesTree, TakesInteger, TakesNegative, TakesText, TakesKey};
 ghost use Rattle.json_data.specs.Pieces.{Says};
 ghost use Rattle.json_data.specs.Text.{text_taken, text_stand};
 
@@ -86,6 +86,63 @@ impl<'a> TextTokens<'a> {
         }
         if let Some(integer) = self.parser.next_integer(most) {
             return Some(integer.value);
+        }
+        None
+    }
+
+    /// Takes the next token where it is an integer below 0 of at most this magnitude.
+    #[inline(always)]
+    pub(super) fn take_negative(&mut self, least: u64) -> Option<u64>
+        requires whole { NotWhole (text_stand self.old) }
+        requires fits { least ≤ 2 ^ 63 }
+        ensures least { IfSome result (λ n. (0 < n) × (n ≤ least)) }
+        ensures takes { MatchOption result (self.new ≡ self.old)
+            (TakesNegative text_taken text_stand self.old self.new) }
+        ensures unfailed { IsSome result → self.new.failed ≡ None }
+        ensures again { IsSome self.old.failed → result ≡ None }
+    {
+        if !self.is_clear() {
+            return None;
+        }
+        if let Some(integer) = self.parser.next_negative(least) {
+            return Some(integer.magnitude);
+        }
+        None
+    }
+
+    /// Takes the next token where it is `null`.
+    #[inline(always)]
+    pub(super) fn take_null(&mut self) -> bool
+        requires { NotWhole (text_stand self.old) }
+        ensures takes { result ≡ true
+            → TakesTree text_taken text_stand self.old self.new null }
+        ensures kept { result ≡ false → self.new ≡ self.old }
+        ensures unfailed { result ≡ true → self.new.failed ≡ None }
+        ensures again { IsSome self.old.failed → result ≡ false }
+    {
+        if !self.is_clear() {
+            return false;
+        }
+        if self.parser.next_null() {
+            return true;
+        }
+        false
+    }
+
+    /// Takes the next token where it is `true` or `false`.
+    #[inline(always)]
+    pub(super) fn take_boolean(&mut self) -> Option<bool>
+        requires { NotWhole (text_stand self.old) }
+        ensures takes { MatchOption result (self.new ≡ self.old) (λ b.
+            TakesTree text_taken text_stand self.old self.new (boolean b)) }
+        ensures unfailed { IsSome result → self.new.failed ≡ None }
+        ensures again { IsSome self.old.failed → result ≡ None }
+    {
+        if !self.is_clear() {
+            return None;
+        }
+        if let Some(b) = self.parser.next_bool() {
+            return Some(b);
         }
         None
     }
