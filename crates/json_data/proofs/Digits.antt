@@ -93,6 +93,10 @@ fits_in low high o n e h = ap (in_range (between low high)) e ∙ rw h
 pub low_enough : (n high : ℕ) → n < high → between 0 high (pos n) ≡ true
 low_enough n high h = lt-ltb n high h
 
+pub negative_enough : (n low high : ℕ) → 0 < n → n ≤ low → between low high (neg_ℤ (pos n)) ≡ true
+negative_enough zero low high p h = absurd (omega arith)
+negative_enough (suc n) low high p h = lt-ltb n low (omega arith)
+
 -- a literal that is no integer by value
 pub beyond : (l : List ℕ) (w : Whole) → integer_in l ≡ None → IsWhole (whole_in l) w → w ≢ whole.Nothing → read_number (num l) ≡ refuses NumberOutOfRange
 beyond l whole.Nothing e h n = absurd (n refl)

@@ -193,17 +193,33 @@ pub(crate) fn integer_at_once<S: Lent, T: Tokens<S>>(tokens: &mut T, most: u64) 
 
 /// Returns the integer below 0 of this magnitude.
 #[inline(always)]
-fn negated(magnitude: u64) -> i64
-    requires { (0 < magnitude) × (magnitude ≤ 2 ^ 63) }
-    ensures { neg_ℤ (pos magnitude) ≡ result }
+fn negated(magnitude: u64) -> i128
+    ensures { result ≡ neg_ℤ (pos magnitude) }
 {
-    -((magnitude - 1) as i64) - 1
+    -(magnitude as i128)
+}
+
+/// The next integer below 0 and from `-least` on, where it is found at once.
+#[inline(always)]
+fn negative_at_once<S: Lent, T: Tokens<S>>(tokens: &mut T, least: u64) -> Option<i128>
+    requires whole { NotWhole (T.stand tokens.old) }
+    requires fits { least ≤ 2 ^ 63 }
+    ensures within { IfSome result (λ n. (low high : ℕ) → least ≤ low
+        → between low high n ≡ true) }
+    ensures takes { MatchOption result (tokens.new ≡ tokens.old) (λ n. (low high : ℕ) → least ≤ low
+        → Finds T.taken T.stand (read_integer (between low high)) tokens.old tokens.new
+        (gives (integer_datum n))) }
+{
+    match tokens.negative(least) {
+        Some(n) => Some(negated(n)),
+        None => None,
+    }
 }
 
 /// The next integer from `-half` on and below `half`, where it is found at once.
 #[inline(always)]
-pub(crate) fn signed_at_once<S: Lent, T: Tokens<S>>(tokens: &mut T, half: u64) -> Option<i64>
-    requires { NotWhole (T.stand tokens.old) }
+pub(crate) fn signed_at_once<S: Lent, T: Tokens<S>>(tokens: &mut T, half: u64) -> Option<i128>
+    requires whole { NotWhole (T.stand tokens.old) }
     requires half { (0 < half) × (half ≤ 2 ^ 63) }
     ensures within { IfSome result (λ n. between half half n ≡ true) }
     ensures takes { MatchOption result (tokens.new ≡ tokens.old) (λ n.
@@ -211,10 +227,10 @@ pub(crate) fn signed_at_once<S: Lent, T: Tokens<S>>(tokens: &mut T, half: u64) -
         (gives (integer_datum n))) }
 {
     if let Some(n) = integer_at_once(tokens, half - 1) {
-        return Some(n as i64);
+        return Some(n as i128);
     }
-    match tokens.negative(half) {
-        Some(n) => Some(negated(n)),
+    match negative_at_once(tokens, half) {
+        Some(n) => Some(n),
         None => None,
     }
 }
@@ -244,7 +260,7 @@ fn most_below(high: u128) -> u64
     }
 }
 
-/// What `read_between` does where the integer is not found at once.
+/// What `read_between` does where no integer is found at once.
 #[inline(never)]
 fn between_by_kind<S: Lent, T: Tokens<S>>(tokens: &mut T, low: u128, high: u128) -> Result<i128>
     requires wants { WantsValue (T.stand tokens.old) }
@@ -257,14 +273,30 @@ fn between_by_kind<S: Lent, T: Tokens<S>>(tokens: &mut T, low: u128, high: u128)
     ensures err { IfErr result (λ e.
         Stops T.taken T.stand (read_integer (between low high)) tokens.old tokens.new e) }
 {
-    if let Some(n) = tokens.negative(least_of(low)) {
-        return Ok(negated(n) as i128);
-    }
     let whole = read_whole(tokens)?;
     match fit(whole, low, high) {
         Ok(n) => Ok(n),
         Err(e) => Err(e),
     }
+}
+
+/// What `read_between` does where no integer from 0 on is found at once.
+#[inline(never)]
+fn negative_or_by_kind<S: Lent, T: Tokens<S>>(tokens: &mut T, low: u128, high: u128) -> Result<i128>
+    requires wants { WantsValue (T.stand tokens.old) }
+    requires low { low ≤ 2 ^ 127 }
+    requires high { high ≤ 2 ^ 127 }
+    ensures ok { IfOk result (λ n.
+        Reads T.taken T.stand (read_integer (between low high)) tokens.old tokens.new
+        (gives (integer_datum n))) }
+    ensures within { IfOk result (λ n. between low high n ≡ true) }
+    ensures err { IfErr result (λ e.
+        Stops T.taken T.stand (read_integer (between low high)) tokens.old tokens.new e) }
+{
+    if let Some(n) = negative_at_once(tokens, least_of(low)) {
+        return Ok(n);
+    }
+    between_by_kind(tokens, low, high)
 }
 
 /// The next integer, from -low on and below high.
@@ -287,7 +319,7 @@ pub(crate) fn read_between<S: Lent, T: Tokens<S>>(
     if let Some(n) = integer_at_once(tokens, most_below(high)) {
         return Ok(n as i128);
     }
-    between_by_kind(tokens, low, high)
+    negative_or_by_kind(tokens, low, high)
 }
 
 /// An integer from 0 on, of at most 128 bits.
