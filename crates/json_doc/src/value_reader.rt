@@ -17,7 +17,7 @@ use std::alloc::Global;
 use std::rc::Rc;
 
 // The use of the parser's step in this loop, which has a copy of its own.
-const HERE: u8 = 2;
+const HERE: u8 = 9;
 
 // How many bytes of the text the event lends.
 fn lent_len(event: Event<'_>) -> usize
