@@ -22,6 +22,7 @@ use crate::steps::{is_whole, step};
 use json_grammar::{Kind, Spot};
 use std::marker::Model;
 
+mod booleans;
 mod brackets;
 mod expected;
 mod literals;

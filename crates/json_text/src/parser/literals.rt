@@ -1,6 +1,6 @@
-// Literals that are taken at once if they come next.
-ghost use Rattle.std.specs.Prelude.{◌≡◌, ◌+◌, ◌≤◌, ◌↔◌, Bool, None, true, false, length, IsTrue, IfSome};
-ghost use Rattle.json_grammar.specs.Grammar.{null_bytes, boolean_bytes};
+// `null` that is taken at once if it comes next.
+ghost use Rattle.std.specs.Prelude.{◌≡◌, ◌+◌, ◌≤◌, ◌↔◌, None, true, false, length, IsTrue};
+ghost use Rattle.json_grammar.specs.Grammar.{null_bytes};
 ghost use Rattle.json_text.specs.declared.event.Event.TheVariants as Event;
 ghost use Rattle.json_text.specs.Literals.{WordTo};
 ghost use Rattle.json_text.specs.NextLiterals.{LiteralNext};
@@ -15,7 +15,7 @@ use json_grammar::Spot;
 
 /// Returns whether the literal is at `from`.
 #[inline(always)]
-fn word_is(bytes: &[u8], from: usize, word: &[u8]) -> bool
+pub(super) fn word_is(bytes: &[u8], from: usize, word: &[u8]) -> bool
     requires { from ≤ length bytes.now }
     ensures { IsTrue result ↔ WordTo bytes.now from word.now (from + length word.now) }
 {
@@ -82,29 +82,5 @@ impl<'a> Parser<'a> {
         ensures exactly { IsTrue result ↔ LiteralNext self.old null_bytes }
     {
         self.next_literal(b"null", Event::Null)
-    }
-
-    /// Takes the next event exactly if it is `true` or `false`, and returns which. If it returns none,
-    /// neither comes next and nothing is taken: `next` returns what comes.
-    #[inline(always)]
-    pub fn next_bool(&mut self) -> Option<bool>
-        requires fresh { self.old.failure ≡ None }
-        requires inside { ¬ (IsWhole self.old) }
-        ensures same { SameInput self.old self.new }
-        ensures failure { self.new.failure ≡ None }
-        ensures ok { IfSome result (λ b. Goes self.old (Event.Bool b) self.new) }
-        ensures tight { IfSome result (λ b. IsTight self.old (Event.Bool b) self.new) }
-        ensures reads { IfSome result (λ _. IsWhole self.new → HasRead self.new) }
-        ensures kept { result ≡ None → self.new ≡ self.old }
-        ensures some { IfSome result (λ b. LiteralNext self.old (boolean_bytes b)) }
-        ensures none { result ≡ None → (b : Bool) → ¬ (LiteralNext self.old (boolean_bytes b)) }
-    {
-        if self.next_literal(b"true", Event::Bool(true)) {
-            return Some(true);
-        }
-        if self.next_literal(b"false", Event::Bool(false)) {
-            return Some(false);
-        }
-        None
     }
 }
