@@ -185,17 +185,11 @@ impl<S: Lent, V: DeserializeFrom<S>> DeserializeFrom<S> for Option<V> {
     }
 
     #[inline(always)]
-    fn found_or_null<T: Tokens<S>>(alloc: Global, tokens: &mut T) -> Result<Option<Option<V>>> {
-        match V::found(alloc, tokens) {
-            Ok(Some(found)) => Ok(Some(Some(found))),
-            Ok(None) => {
-                if tokens.null() {
-                    return Ok(Some(None));
-                }
-                Ok(None)
-            }
-            Err(e) => Err(e),
+    fn found_null<T: Tokens<S>>(tokens: &mut T) -> Option<Option<V>> {
+        if tokens.null() {
+            return Some(None);
         }
+        None
     }
 }
 
@@ -273,6 +267,9 @@ fn element_by_kind<S: Lent, V: DeserializeFrom<S>, T: Tokens<S>>(
     ensures err { IfErr result (λ e.
         Stops T.taken T.stand V.from_tree tokens.old tokens.new e) }
 {
+    if let Some(element) = V::found_null(tokens) {
+        return Ok(Some(element));
+    }
     if tokens.ends(Kind::Array) {
         return Ok(None);
     }
@@ -298,7 +295,7 @@ fn next_element<S: Lent, V: DeserializeFrom<S>, T: Tokens<S>>(
     ensures err { IfErr result (λ e.
         Stops T.taken T.stand V.from_tree tokens.old tokens.new e) }
 {
-    if let Some(found) = V::found_or_null(alloc, tokens)? {
+    if let Some(found) = V::found(alloc, tokens)? {
         return Ok(Some(found));
     }
     element_by_kind(alloc, tokens)
@@ -319,7 +316,7 @@ fn read_elements<S: Lent, V: DeserializeFrom<S> + Drop, T: Tokens<S>>(
 {
     let mut all = Vec::new(alloc);
     'each: loop {
-        match V::found_or_null(alloc, tokens) {
+        match V::found(alloc, tokens) {
             Ok(found) => {
                 if let Some(element) = found {
                     if all.push(element).is_err() {

@@ -3,7 +3,7 @@ use Rattle.std.proofs.lemmas.List.{map-append}
 use Rattle.json_grammar.specs.Tree.{list, no_trees, tree_and}
 use Rattle.json_data.specs.Reading.{gives_all, as_list}
 use Rattle.json_data.proofs.Lists.{begun, ended, still_in, one_more, join, more-gives, stopped, in_array_again, still_array}
-use Rattle.json_data.proofs.Exits.{missed, stop_in}
+use Rattle.json_data.proofs.Exits.{missed, stop_in, misses_stop}
 use Rattle.json_data.proofs.Told.{known}
 use Rattle.json_data.proofs.readers.read_elements.Goals as goal
 
@@ -49,7 +49,7 @@ returns-in-Err-clause-err g c = λ a h.
     let i = c.each.invariant in
     let f = g.V.DeserializeFrom.from_tree in
     let ds = map g.V.DeserializeFrom.datum c.each.all.items in
-    missed (stop_in (i.1 a h) c.in-Err.ensures.err c.leave_after.ensures.left c.leave_after.ensures.as_was
+    missed (stop_in (i.1 a h) (misses_stop c.in-Err.ensures.err) c.leave_after.ensures.left c.leave_after.ensures.as_was
     (λ t us h. ap as_list (stopped f i.0 us t ds c.in-Err.e.code i.3 h)))
 
 pub returns-in-Err-element_by_kind-clause-err : goal.returns-in-Err-element_by_kind-clause-err
