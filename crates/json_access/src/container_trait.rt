@@ -1,7 +1,7 @@
 // The containers that values are.
 ghost use Rattle.std.specs.Prelude.{◌≡◌, Option, Some, IfSome, option_map, option_and_then};
 ghost use Rattle.json_value.specs.Denotes.{list_in, pairs_in};
-ghost use Rattle.json_value.specs.Seen.{list_of, pairs_of};
+ghost use Rattle.json_value.specs.Seen.{list_of, object_pairs};
 ghost use Rattle.json_value.specs.declared.value.Value.{Value, Array as ArrayValue, Object as ObjectValue};
 ghost use Rattle.json_access.specs.Trees.{result_value};
 
@@ -30,7 +30,7 @@ pub trait JsonContainerTrait: JsonValueTrait {
 
     /// The object; none exactly for another kind.
     fn as_object(&self) -> Option<&Object>
-        ensures pairs { option_map (λ o. pairs_in o.now) result ≡ pairs_of (Self.tree self.now) }
+        ensures pairs { option_map (λ o. pairs_in o.now) result ≡ object_pairs (Self.tree self.now) }
         ensures object { IfSome result (λ o. value_there self.now ≡ Some (ObjectValue o.now)) };
 }
 

@@ -7,7 +7,7 @@ ghost use Rattle.json_value.specs.Denotes.{tree_of, list_in, pairs_in};
 ghost use Rattle.json_value.specs.Edits.{steps_of};
 ghost use Rattle.json_value.specs.Lending.{lent, LendsPart};
 ghost use Rattle.json_value.specs.Rows.{value_row, array_row, object_row};
-ghost use Rattle.json_value.specs.Seen.{list_of, pairs_of};
+ghost use Rattle.json_value.specs.Seen.{list_of, object_pairs};
 ghost use Rattle.json_value.specs.Steps.{child, tree_at};
 ghost use Rattle.json_value.specs.Touched.{Exchanges, Same, KeptAlong};
 ghost use Rattle.json_value.specs.Written.{ArrayOpened, ObjectOpened};
@@ -55,7 +55,7 @@ pub trait JsonValueMutTrait: JsonValueTrait {
             (λ n w. (Self.tree n ≡ pairs (list_pairs (pairs_in w))) × (held n ≡ ObjectValue w))
             (λ n. (Self.tree n ≡ Self.tree self.old) × (held n ≡ held self.old))) }
         ensures object { IfOk result (λ o. option_map (λ a. pairs_in a.now) o
-            ≡ pairs_of (Self.tree self.old)) }
+            ≡ object_pairs (Self.tree self.old)) }
         ensures children { IfSome (lent result) (ObjectOpened (held self.old)) }
         ensures only { OnlyNoMemory result };
 

@@ -9,22 +9,22 @@ use Rattle.json_arguments.specs.declared.operand.OperandKind.{OperandKind}
 use Rattle.json_arguments.specs.declared.line.Role.{Role}
 use Rattle.json_arguments.specs.declared.line.Role.TheVariants as role
 use Rattle.json_arguments.specs.Arguments.{operands_of}
-use Rattle.json_arguments.specs.CommandLine.{Asked, nothing_asked, operands_asked, missing_operand, role_of, command_role, role_in, add, after, MayTake, MayFollow, MayFollowAll, after_all, is_complete, BeginsCommandLine}
+use Rattle.json_arguments.specs.CommandLine.{Asked, nothing_asked, operands_asked, missing_operand, role_of, command_role, role_in, add, with_argument, MayTake, MayFollow, MayFollowAll, with_arguments, is_complete, BeginsCommandLine}
 use Rattle.json_arguments.proofs.Operands.{example, example_formed, example_is_operand}
 
 -- ---- arguments in a row
 
-pub follow_split : (s : Asked) (xs ys : List (List ℕ)) → MayFollowAll s (xs ++ ys) → MayFollowAll s xs × MayFollowAll (after_all s xs) ys
+pub follow_split : (s : Asked) (xs ys : List (List ℕ)) → MayFollowAll s (xs ++ ys) → MayFollowAll s xs × MayFollowAll (with_arguments s xs) ys
 follow_split s [] ys h = (tt, h)
-follow_split s (x ∷ xs) ys h = let r = follow_split (after s x) xs ys h.1 in ((h.0, r.0), r.1)
+follow_split s (x ∷ xs) ys h = let r = follow_split (with_argument s x) xs ys h.1 in ((h.0, r.0), r.1)
 
-pub follow_join : (s : Asked) (xs ys : List (List ℕ)) → MayFollowAll s xs → MayFollowAll (after_all s xs) ys → MayFollowAll s (xs ++ ys)
+pub follow_join : (s : Asked) (xs ys : List (List ℕ)) → MayFollowAll s xs → MayFollowAll (with_arguments s xs) ys → MayFollowAll s (xs ++ ys)
 follow_join s [] ys h k = k
-follow_join s (x ∷ xs) ys h k = (h.0, follow_join (after s x) xs ys h.1 k)
+follow_join s (x ∷ xs) ys h k = (h.0, follow_join (with_argument s x) xs ys h.1 k)
 
-pub after_join : (s : Asked) (xs ys : List (List ℕ)) → after_all s (xs ++ ys) ≡ after_all (after_all s xs) ys
+pub after_join : (s : Asked) (xs ys : List (List ℕ)) → with_arguments s (xs ++ ys) ≡ with_arguments (with_arguments s xs) ys
 after_join s [] ys = refl
-after_join s (x ∷ xs) ys = after_join (after s x) xs ys
+after_join s (x ∷ xs) ys = after_join (with_argument s x) xs ys
 
 -- ---- they can be continued
 
@@ -32,9 +32,9 @@ after_join s (x ∷ xs) ys = after_join (after s x) xs ys
 pub record Ends (s : Asked) : Type 0 where
   pub more : List (List ℕ)
   pub follow : MayFollowAll s more
-  pub complete : is_complete (after_all s more) ≡ true
+  pub complete : is_complete (with_arguments s more) ≡ true
 
-ends_after : (s : Asked) (w : List ℕ) → MayFollow s w → Ends (after s w) → Ends s
+ends_after : (s : Asked) (w : List ℕ) → MayFollow s w → Ends (with_argument s w) → Ends s
 ends_after s w h e = record { more = w ∷ e.more; follow = (h, e.follow); complete = e.complete }
 
 within : (o : Option (List ℕ)) (ks : List OperandKind) (m : ℕ) (k : OperandKind) → cond (is_some o) None (slice_get ks m) ≡ Some k → m < length ks
@@ -103,10 +103,10 @@ can_end s = by s.verb refl
 
 pub begins : (ws : List (List ℕ)) → MayFollowAll nothing_asked ws → BeginsCommandLine ws
 begins ws h =
-    let e = can_end (after_all nothing_asked ws) in
+    let e = can_end (with_arguments nothing_asked ws) in
     (e.more, record { follow = follow_join nothing_asked ws e.more h e.follow; complete = ap is_complete (after_join nothing_asked ws e.more) ∙ e.complete })
 
-pub begins_none : (ws : List (List ℕ)) (w : List ℕ) → ¬ (MayFollow (after_all nothing_asked ws) w) → ¬ (BeginsCommandLine (ws ++ w ∷ []))
+pub begins_none : (ws : List (List ℕ)) (w : List ℕ) → ¬ (MayFollow (with_arguments nothing_asked ws) w) → ¬ (BeginsCommandLine (ws ++ w ∷ []))
 begins_none ws w n (more, line) = n (follow_split nothing_asked ws (w ∷ []) (follow_split nothing_asked (ws ++ w ∷ []) more line.follow).0).1.0
 
 pub word_added : (words : List (List ℕ)) (i : ℕ) (w : List ℕ) → slice_get words i ≡ Some w → take i words ++ w ∷ [] ≡ take (i + 1) words

@@ -5,17 +5,17 @@ use Rattle.std.specs.List.{list_any}
 use Rattle.std.proofs.lemmas.List.{map-append}
 use Rattle.json_arguments.specs.declared.verb.Verb.{Verb}
 use Rattle.json_arguments.specs.declared.operand.OperandKind.{OperandKind}
-use Rattle.json_arguments.specs.Arguments.{verb_in, setting_in, takes, source_in, is_option, operands_of}
+use Rattle.json_arguments.specs.Arguments.{verb_in, setting_in, takes, source_in, is_option_argument, operands_of}
 use Rattle.json_arguments.specs.declared.line.Role.TheVariants as role
 use Rattle.json_arguments.specs.declared.setting.Setting.{Setting}
 use Rattle.json_grammar.specs.Tree.{Tree}
 use Rattle.json_value.specs.declared.value.Value.{Value}
 use Rattle.json_value.specs.Denotes.{tree_of}
-use Rattle.json_arguments.specs.Operands.{Spells}
+use Rattle.json_arguments.specs.Operands.{SpellsOperand}
 use Rattle.json_arguments.specs.declared.line.Line.{Line}
 use Rattle.json_arguments.specs.declared.line.Role.{Role}
-use Rattle.json_arguments.specs.CommandLine.{Asked, operands_asked, missing_operand, command_role, operand_role, role_of, role_in, add, after, MayTake, MayFollow}
-use Rattle.json_arguments.specs.Line.{SpellAll, Holds, Takes}
+use Rattle.json_arguments.specs.CommandLine.{Asked, operands_asked, missing_operand, command_role, operand_role, role_of, role_in, add, with_argument, MayTake, MayFollow}
+use Rattle.json_arguments.specs.Line.{SpellAll, HoldsAsked, TakesArgument}
 
 -- as many words as trees
 texts_length : (ks : List OperandKind) (ws : List (List ℕ)) (ts : List Tree) → SpellAll ks ws ts → length ts ≡ length ws
@@ -27,8 +27,8 @@ texts_length (k ∷ ks) [] (t ∷ ts) h = absurd h
 texts_length [] (w ∷ ws) [] h = absurd h
 texts_length (k ∷ ks) (w ∷ ws) [] h = absurd h
 
-texts_more : (ks : List OperandKind) (ws : List (List ℕ)) (ts : List Tree) (k : OperandKind) (w : List ℕ) (t : Tree) → SpellAll ks ws ts → slice_get ks (length ws) ≡ Some k → Spells k w t → SpellAll ks (ws ++ w ∷ []) (ts ++ t ∷ [])
-texts_more (j ∷ ks) [] [] k w t h e s = let i : k ≡ j = cc in (subst (λ k. Spells k w t) i s, by ks)
+texts_more : (ks : List OperandKind) (ws : List (List ℕ)) (ts : List Tree) (k : OperandKind) (w : List ℕ) (t : Tree) → SpellAll ks ws ts → slice_get ks (length ws) ≡ Some k → SpellsOperand k w t → SpellAll ks (ws ++ w ∷ []) (ts ++ t ∷ [])
+texts_more (j ∷ ks) [] [] k w t h e s = let i : k ≡ j = cc in (subst (λ k. SpellsOperand k w t) i s, by ks)
   where
     by : (ks : List OperandKind) → SpellAll ks [] []
     by [] = tt
@@ -54,7 +54,7 @@ missing_at None x k e = e
 missing_at (Some f) x k e = absurd (cc)
 
 -- one more operand, which is the one that comes next
-pub words_more : (s : Asked) (vs : List Value) (k : OperandKind) (w : List ℕ) (v : Value) → SpellAll (operands_asked s) s.operands (map tree_of vs) → missing_operand s ≡ Some k → Spells k w (tree_of v)
+pub words_more : (s : Asked) (vs : List Value) (k : OperandKind) (w : List ℕ) (v : Value) → SpellAll (operands_asked s) s.operands (map tree_of vs) → missing_operand s ≡ Some k → SpellsOperand k w (tree_of v)
     → SpellAll (operands_asked s) (s.operands ++ w ∷ []) (map tree_of (vs ++ v ∷ []))
 words_more s vs k w v h e p =
     rw (map-append tree_of vs (v ∷ [])) (texts_more (operands_asked s) s.operands (map tree_of vs) k w (tree_of v) h (missing_at s.source (slice_get (operands_asked s) (length s.operands)) k e) p)
@@ -81,8 +81,8 @@ pub files_length : (fs : List (Bor (List ℕ))) (ws : List (List ℕ)) → map (
 files_length fs ws e = sym (length-words fs) ∙ ap length e
 
 -- an argument that was taken by its role, or was not
-pub followed : (line : Line) (s : Asked) (w : List ℕ) (r : Role) → r ≡ role_in s w → Takes line s w r → MayFollow s w × Holds line (after s w)
-followed line s w r e t = (subst (MayTake s w) e t.may, subst (λ q. Holds line (add s w q)) e t.holds)
+pub followed : (line : Line) (s : Asked) (w : List ℕ) (r : Role) → r ≡ role_in s w → TakesArgument line s w r → MayFollow s w × HoldsAsked line (with_argument s w)
+followed line s w r e t = (subst (MayTake s w) e t.may, subst (λ q. HoldsAsked line (add s w q)) e t.holds)
 
 pub on_ok_then : {A E : Type 0} {P Q : Type 0} (r : Result A E) → (P → Q) → OnOk r P → OnOk r Q
 on_ok_then (Ok x) f p = f p
@@ -111,7 +111,7 @@ module _ (P : Role → Type 0) where
 
   -- the role of an argument after the command
   role_has : (v : Verb) (ended : Bool) (missing : Option OperandKind) (w : List ℕ) → P role.EndOfOptions → P role.Source → ((x : Setting) → P (role.Setting x)) → P role.Unknown → P (operand_role missing) → P (role_of v ended missing w)
-  role_has v ended missing w e s x u o = cond_has (bytes_eq w (codes "--") && not ended) _ _ e (cond_has (is_option w && not ended) _ _ (cond_has (is_some (source_in v w)) _ _ s (by (setting_in w))) o)
+  role_has v ended missing w e s x u o = cond_has (bytes_eq w (codes "--") && not ended) _ _ e (cond_has (is_option_argument w && not ended) _ _ (cond_has (is_some (source_in v w)) _ _ s (by (setting_in w))) o)
     where
       by : (y : Option Setting) → P (elim y as (λ (z : Option Setting). Role) [ Some x ↦ cond (takes v x) (role.Setting x) role.Unknown | None ↦ role.Unknown ])
       by None = u

@@ -11,13 +11,13 @@ use Rattle.json_model.specs.Datum.{Datum, list_datum, list_data}
 use Rattle.json_model.specs.Edit.{Step, Edit}
 use Rattle.json_value.specs.declared.path.Edit.{Edit as ValueEdit}
 use Rattle.json_value.specs.Edits.{edit_of}
-use Rattle.json_value.specs.EditTrees.{path_in}
+use Rattle.json_value.specs.EditTrees.{path_in, edits_in}
 use Rattle.json_data.specs.Reading.{Reading, gives, refuses, read_list}
 use Rattle.json_data.specs.ReadingValues.{spelled, path_datum, read_path, edit_datum, read_edit}
 use Rattle.json_data.specs.Refusals.{is_refusal}
 use Rattle.json_data.specs.ValueCalls.{TreeReadingFails}
 use Rattle.json_data.proofs.ValueData.{list_edits, list_none}
-use Rattle.json_arguments.specs.Operands.{edits_in, path_formed, edits_formed}
+use Rattle.json_arguments.specs.Operands.{path_formed, edits_formed}
 
 -- an error that is a refusal is one of the tree
 pub refused : (f : Tree → Reading) (t : Tree) (c : ErrorCode) (p : Place) → is_refusal c ≡ true → TreeReadingFails f t c p → (d : ErrorCode) × (f t ≡ refuses d)

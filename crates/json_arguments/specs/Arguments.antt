@@ -1,7 +1,6 @@
 -- The arguments of `mezdruk`, from the first on: which may come next, and what each adds to what is asked for.
-use Rattle.std.specs.Prelude.{ℕ, ◌-◌, Bool, true, false, not, cond, ◌&&◌, ◌||◌, ◌==◌, nat_le, List, [], ◌∷◌, length, take, drop, Option, Some, None, is_some, option_map, bytes_eq, codes}
+use Rattle.std.specs.Prelude.{ℕ, Bool, true, false, not, cond, ◌&&◌, ◌||◌, ◌==◌, nat_le, List, [], ◌∷◌, length, take, drop, Option, Some, None, is_some, option_map, bytes_eq, codes}
 use Rattle.std.specs.List.{before_first, after_first}
-use Rattle.json_command.specs.Options.{number_after}
 use Rattle.json_arguments.specs.declared.verb.Verb.{Verb}
 use Rattle.json_arguments.specs.declared.verb.Verb.TheVariants as verb
 use Rattle.json_arguments.specs.declared.operand.OperandKind.{OperandKind}
@@ -12,6 +11,7 @@ use Rattle.json_arguments.specs.declared.setting.InputForm.TheVariants.{Lines, S
 use Rattle.json_arguments.specs.declared.setting.Setting.{Setting}
 use Rattle.json_arguments.specs.declared.setting.Setting.TheVariants as setting
 use Rattle.json_arguments.specs.declared.setting.Settings.{Settings}
+use Rattle.json_command.specs.Options.{depth_in, width_in}
 
 -- ---- the words of the command line
 
@@ -41,11 +41,6 @@ operands_of verb.Patch = kind.Patch ∷ []
 operands_of verb.Merge = kind.Patch ∷ []
 operands_of _ = []
 
--- the number that one digit from 0 to 8 is
-abbrev pub width_in : List ℕ → Option ℕ
-width_in (d ∷ []) = cond (nat_le 48 d && nat_le d 56) (Some (d - 48)) None
-width_in _ = None
-
 -- the layout that a word asks for
 abbrev pub layout_in : List ℕ → Option Layout
 layout_in w =
@@ -53,10 +48,6 @@ layout_in w =
     (cond (bytes_eq w (codes "--pretty")) (Some (Spaces 2))
     (cond (bytes_eq w (codes "--tabs")) (Some Tab)
     (cond (bytes_eq (take 9 w) (codes "--indent=")) (option_map Spaces (width_in (drop 9 w))) None)))
-
--- the greatest number of levels that a word asks for: --depth=N so many, 1,024 at most
-abbrev pub depth_in : List ℕ → Option ℕ
-depth_in w = number_after (codes "--depth") 1024 w
 
 abbrev pub setting_with_value : List ℕ → Option Setting
 setting_with_value w = elim (layout_in w) [ Some l ↦ Some (setting.Layout l) | None ↦ option_map setting.Depth (depth_in w) ]
@@ -93,9 +84,9 @@ source_in verb.Merge w = file_in (codes "--merge") w
 source_in _ w = None
 
 -- a word is an option: it begins with a hyphen, and no digit follows, as in a number
-abbrev pub is_option : List ℕ → Bool
-is_option (h ∷ c ∷ w) = h == 45 && not (nat_le 48 c && nat_le c 57)
-is_option _ = false
+abbrev pub is_option_argument : List ℕ → Bool
+is_option_argument (h ∷ c ∷ w) = h == 45 && not (nat_le 48 c && nat_le c 57)
+is_option_argument _ = false
 
 -- the file that is standard input
 abbrev pub is_standard_input : List ℕ → Bool

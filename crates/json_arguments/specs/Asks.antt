@@ -3,7 +3,7 @@ use Rattle.std.specs.Prelude.{◌≡◌, ℕ, ◌+◌, ◌<◌, ⊤, true, List,
 use Rattle.json_arguments.specs.declared.arguments.Arguments.{Arguments}
 use Rattle.json_arguments.specs.declared.problem.ArgumentsError.{ArgumentsError}
 use Rattle.json_arguments.specs.declared.problem.ArgumentsError.TheVariants.{OutOfMemory, Invalid, Incomplete}
-use Rattle.json_arguments.specs.CommandLine.{Asked, nothing_asked, operands_asked, is_complete, after_all, IsCommandLine, BeginsCommandLine}
+use Rattle.json_arguments.specs.CommandLine.{Asked, nothing_asked, operands_asked, is_complete, with_arguments, IsCommandLine, BeginsCommandLine}
 use Rattle.json_value.specs.Denotes.{tree_of}
 use Rattle.json_arguments.specs.Line.{SpellAll}
 
@@ -17,9 +17,9 @@ pub record Finishes (a : Arguments) (s : Asked) : Type 0 where
   pub files : map (λ f. f.now) a.files.items ≡ s.files
 
 -- the arguments are those of a command, and ask for this
-pub record Asks (ws : List (List ℕ)) (a : Arguments) : Type 0 where
+pub record ParsesTo (ws : List (List ℕ)) (a : Arguments) : Type 0 where
   pub valid : IsCommandLine ws
-  pub asked : Finishes a (after_all nothing_asked ws)
+  pub asked : Finishes a (with_arguments nothing_asked ws)
 
 -- the argument of this index is the first that makes the arguments invalid: those before it begin the arguments of a
 -- command, and with it they begin none
@@ -29,12 +29,12 @@ pub record IsFirstInvalid (ws : List (List ℕ)) (index : ℕ) : Type 0 where
   pub none : ¬ (BeginsCommandLine (take (index + 1) ws))
 
 -- the arguments begin those of a command, and more are missing
-pub record IsUnfinished (ws : List (List ℕ)) : Type 0 where
+pub record IsUnfinishedCommandLine (ws : List (List ℕ)) : Type 0 where
   pub begins : BeginsCommandLine ws
   pub unfinished : ¬ (IsCommandLine ws)
 
 -- why arguments are refused
-abbrev pub Refuses : List (List ℕ) → ArgumentsError → Type 0
-Refuses ws OutOfMemory = ⊤
-Refuses ws (Invalid index problem) = IsFirstInvalid ws index
-Refuses ws (Incomplete missing) = IsUnfinished ws
+abbrev pub RefusesCommandLine : List (List ℕ) → ArgumentsError → Type 0
+RefusesCommandLine ws OutOfMemory = ⊤
+RefusesCommandLine ws (Invalid index problem) = IsFirstInvalid ws index
+RefusesCommandLine ws (Incomplete missing) = IsUnfinishedCommandLine ws

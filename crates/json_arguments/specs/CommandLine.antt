@@ -8,7 +8,7 @@ use Rattle.json_arguments.specs.declared.setting.Setting.TheVariants.{InPlace}
 use Rattle.json_arguments.specs.declared.setting.Settings.{Settings}
 use Rattle.json_arguments.specs.declared.line.Role.{Role}
 use Rattle.json_arguments.specs.declared.line.Role.TheVariants as role
-use Rattle.json_arguments.specs.Arguments.{verb_in, setting_in, takes, source_in, operands_of, is_option, is_standard_input, no_settings, with_setting, rules_of_stream}
+use Rattle.json_arguments.specs.Arguments.{verb_in, setting_in, takes, source_in, operands_of, is_option_argument, is_standard_input, no_settings, with_setting, rules_of_stream}
 use Rattle.json_arguments.specs.Operands.{IsOperand}
 
 -- what the arguments so far ask for
@@ -54,7 +54,7 @@ operand_role None = role.File
 abbrev pub role_of : Verb → Bool → Option OperandKind → List ℕ → Role
 role_of v ended missing w =
     cond (bytes_eq w (codes "--") && not ended) role.EndOfOptions
-    (cond (is_option w && not ended) (option_role v w) (operand_role missing))
+    (cond (is_option_argument w && not ended) (option_role v w) (operand_role missing))
 
 abbrev pub role_in : Asked → List ℕ → Role
 role_in s w = elim s.verb [ Some v ↦ role_of v s.ended (missing_operand s) w | None ↦ command_role w ]
@@ -101,8 +101,8 @@ add s w (role.Operand kind) = record s { operands = s.operands ++ w ∷ [] }
 add s w role.File = record s { files = s.files ++ w ∷ [] }
 add s w role.Unknown = s
 
-abbrev pub after : Asked → List ℕ → Asked
-after s w = add s w (role_in s w)
+abbrev pub with_argument : Asked → List ℕ → Asked
+with_argument s w = add s w (role_in s w)
 
 -- ---- all arguments
 
@@ -113,17 +113,17 @@ is_complete s = is_some s.verb && not (is_some (missing_operand s)) && not (leng
 -- each may follow those before it
 abbrev pub MayFollowAll : Asked → List (List ℕ) → Type 0
 MayFollowAll s [] = ⊤
-MayFollowAll s (w ∷ ws) = MayFollow s w × MayFollowAll (after s w) ws
+MayFollowAll s (w ∷ ws) = MayFollow s w × MayFollowAll (with_argument s w) ws
 
 -- what they ask for
-abbrev pub after_all : Asked → List (List ℕ) → Asked
-after_all s [] = s
-after_all s (w ∷ ws) = after_all (after s w) ws
+abbrev pub with_arguments : Asked → List (List ℕ) → Asked
+with_arguments s [] = s
+with_arguments s (w ∷ ws) = with_arguments (with_argument s w) ws
 
 -- the arguments are those of a command
 pub record IsCommandLine (ws : List (List ℕ)) : Type 0 where
   pub follow : MayFollowAll nothing_asked ws
-  pub complete : is_complete (after_all nothing_asked ws) ≡ true
+  pub complete : is_complete (with_arguments nothing_asked ws) ≡ true
 
 -- the arguments begin those of a command
 abbrev pub BeginsCommandLine : List (List ℕ) → Type 0

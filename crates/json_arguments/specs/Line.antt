@@ -6,15 +6,15 @@ use Rattle.json_arguments.specs.CommandLine.{Asked, operands_asked, MayTake, add
 use Rattle.json_grammar.specs.Tree.{Tree}
 use Rattle.json_value.specs.Denotes.{tree_of}
 use Rattle.json_arguments.specs.declared.operand.OperandKind.{OperandKind}
-use Rattle.json_arguments.specs.Operands.{Spells}
+use Rattle.json_arguments.specs.Operands.{SpellsOperand}
 
 -- the words spell these trees, each as the operand in its place
 abbrev pub SpellAll : List OperandKind → List (List ℕ) → List Tree → Type 0
 SpellAll kinds [] [] = ⊤
-SpellAll (kind ∷ kinds) (w ∷ ws) (t ∷ ts) = Spells kind w t × SpellAll kinds ws ts
+SpellAll (kind ∷ kinds) (w ∷ ws) (t ∷ ts) = SpellsOperand kind w t × SpellAll kinds ws ts
 SpellAll _ _ _ = ⊥
 
-pub record Holds (line : Line) (s : Asked) : Type 0 where
+pub record HoldsAsked (line : Line) (s : Asked) : Type 0 where
   pub verb : line.verb ≡ s.verb
   pub settings : line.settings ≡ s.settings
   pub ended : line.ended ≡ s.ended
@@ -23,6 +23,6 @@ pub record Holds (line : Line) (s : Asked) : Type 0 where
   pub files : map (λ f. f.now) line.files.items ≡ s.files
 
 -- an argument of this role may come next and was added
-pub record Takes (line : Line) (s : Asked) (w : List ℕ) (r : Role) : Type 0 where
+pub record TakesArgument (line : Line) (s : Asked) (w : List ℕ) (r : Role) : Type 0 where
   pub may : MayTake s w r
-  pub holds : Holds line (add s w r)
+  pub holds : HoldsAsked line (add s w r)

@@ -1,20 +1,14 @@
 -- What an operand spells.
-use Rattle.std.specs.Prelude.{◌≡◌, ℕ, Bool, true, false, ◌||◌, ◌==◌, List, length, take, Option, None, is_some, bytes_eq, codes}
-use Rattle.json_grammar.specs.Tree.{Tree, text, list, trees_list}
-use Rattle.json_model.specs.Edit.{Edit}
+use Rattle.std.specs.Prelude.{◌≡◌, ℕ, Bool, true, false, ◌||◌, ◌==◌, List, length, take, is_some, bytes_eq, codes}
+use Rattle.json_grammar.specs.Tree.{Tree, text}
 use Rattle.json_text.specs.Ruled.{usual_rules}
 use Rattle.json_doc.specs.Readings.{string_of}
-use Rattle.json_value.specs.EditTrees.{each_in, step_in, path_in, edit_in}
+use Rattle.json_value.specs.EditTrees.{step_in, path_in, edits_in}
 use Rattle.json_command.specs.Input.{IsInput}
 use Rattle.json_arguments.specs.declared.operand.OperandKind.{OperandKind}
 use Rattle.json_arguments.specs.declared.operand.OperandKind.TheVariants as kind
 
 -- ---- the forms of trees
-
--- the edits that a tree spells: a list of them
-abbrev pub edits_in : Tree → Option (List Edit)
-edits_in (list ts) = each_in edit_in (trees_list ts)
-edits_in _ = None
 
 abbrev pub path_formed : Tree → Bool
 path_formed t = is_some (path_in t)
@@ -53,10 +47,10 @@ SpellsTree kind.Place w t = elim (is_array_text w) [ true ↦ IsInput usual_rule
 SpellsTree _ w t = IsInput usual_rules w t
 
 -- the word spells this tree, which has the form of the operand
-pub record Spells (kind : OperandKind) (w : List ℕ) (tree : Tree) : Type 0 where
+pub record SpellsOperand (kind : OperandKind) (w : List ℕ) (tree : Tree) : Type 0 where
   pub text : SpellsTree kind w tree
   pub form : has_form kind tree ≡ true
 
 -- the word is such an operand
 abbrev pub IsOperand : OperandKind → List ℕ → Type 0
-IsOperand kind w = (tree : Tree) × Spells kind w tree
+IsOperand kind w = (tree : Tree) × SpellsOperand kind w tree

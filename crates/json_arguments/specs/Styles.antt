@@ -23,9 +23,9 @@ abbrev pub usual_layout : Verb → Layout
 usual_layout Fmt = Spaces 2
 usual_layout _ = Compact
 
-abbrev pub layout_asked : Settings → Verb → Layout
-layout_asked s v = unwrap_or s.layout (usual_layout v)
+abbrev pub command_layout : Settings → Verb → Layout
+command_layout s v = unwrap_or s.layout (usual_layout v)
 
 -- the rules: the levels that are asked for, 1,024 at most, or the usual number
-abbrev pub rules_asked : Settings → Rules
-rules_asked s = record { limit = min (unwrap_or s.depth usual_rules.limit) 1024; unique = s.unique }
+abbrev pub command_rules : Settings → Rules
+command_rules s = record { limit = min (unwrap_or s.depth usual_rules.limit) 1024; unique = s.unique }

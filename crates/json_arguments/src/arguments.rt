@@ -1,6 +1,6 @@
 // What the arguments of `mezdruk` ask for.
 ghost use Rattle.std.specs.Prelude.{IfOk, IfErr};
-ghost use Rattle.json_arguments.specs.Asks.{Asks, Refuses};
+ghost use Rattle.json_arguments.specs.Asks.{ParsesTo, RefusesCommandLine};
 
 use crate::line::Line;
 use crate::problem::{ArgumentsError, Refusal};
@@ -43,8 +43,8 @@ pub struct Arguments<'a> {
 /// of arguments is valid, with `Incomplete` if more arguments would make the list valid, and with
 /// `OutOfMemory` if memory runs out.
 pub fn read_arguments(alloc: Global, words: &Words) -> Result<Arguments<'_>, ArgumentsError>
-    ensures ok { IfOk result (λ a. Asks words.now a) }
-    ensures err { IfErr result (λ e. Refuses words.now e) }
+    ensures ok { IfOk result (λ a. ParsesTo words.now a) }
+    ensures err { IfErr result (λ e. RefusesCommandLine words.now e) }
 {
     let mut line = Line::new(alloc);
     'words: for i in 0..words.len() {

@@ -1,9 +1,9 @@
 // The arguments that were read so far.
 ghost use Rattle.std.specs.Prelude.{◌≡◌, ◌⊎◌, ℕ, List, [], ◌∷◌, ◌++◌, if◌then◌else◌, true, false, Some, OnOk, OnErr, IfOk, IfErr};
 ghost use Rattle.std.specs.List.{list_any};
-ghost use Rattle.json_arguments.specs.Arguments.{is_option as option_word, is_standard_input, source_in};
-ghost use Rattle.json_arguments.specs.CommandLine.{Asked, nothing_asked, missing_operand, command_role as command_or_unknown, option_role as option_or_unknown, role_in, in_place_and_input, has_no_operands as no_operands, MayTake, MayFollow, after, is_complete};
-ghost use Rattle.json_arguments.specs.Line.{Holds, Takes};
+ghost use Rattle.json_arguments.specs.Arguments.{is_option_argument as option_word, is_standard_input, source_in};
+ghost use Rattle.json_arguments.specs.CommandLine.{Asked, nothing_asked, missing_operand, command_role as command_or_unknown, option_role as option_or_unknown, role_in, in_place_and_input, has_no_operands as no_operands, MayTake, MayFollow, with_argument, is_complete};
+ghost use Rattle.json_arguments.specs.Line.{HoldsAsked, TakesArgument};
 ghost use Rattle.json_arguments.specs.Asks.{Finishes};
 ghost use Rattle.json_arguments.specs.declared.problem.Refusal.TheVariants as Refusal;
 ghost use Rattle.json_arguments.specs.declared.line.Role.TheVariants as Role;
@@ -97,7 +97,7 @@ fn option_role(verb: Verb, word: &str) -> Role
 impl<'a> Line<'a> {
     /// No arguments.
     pub(crate) fn new(alloc: Global) -> Line<'a>
-        ensures { Holds result nothing_asked }
+        ensures { HoldsAsked result nothing_asked }
     {
         Line {
             verb: None,
@@ -111,7 +111,7 @@ impl<'a> Line<'a> {
 
     // The operand that comes next, if the command has one more.
     fn missing_operand(&self) -> Option<OperandKind>
-        ensures { (s : Asked) → Holds self.now s → result ≡ missing_operand s }
+        ensures { (s : Asked) → HoldsAsked self.now s → result ≡ missing_operand s }
     {
         match (self.verb, self.source) {
             (Some(verb), None) => verb.operands().get(self.operands.len()).copied(),
@@ -121,7 +121,7 @@ impl<'a> Line<'a> {
 
     // What a word is.
     fn role_of(&self, word: &str) -> Role
-        ensures { (s : Asked) → Holds self.now s → result ≡ role_in s word.now }
+        ensures { (s : Asked) → HoldsAsked self.now s → result ≡ role_in s word.now }
     {
         let Some(verb) = self.verb else {
             return command_role(word);
@@ -140,7 +140,7 @@ impl<'a> Line<'a> {
 
     // Whether files are to be changed in place, and standard input is one of them.
     fn changes_input(&self, setting: Setting) -> bool
-        ensures { (s : Asked) → Holds self.now s → result ≡ in_place_and_input setting s.files }
+        ensures { (s : Asked) → HoldsAsked self.now s → result ≡ in_place_and_input setting s.files }
     {
         match setting {
             Setting::InPlace => has_standard_input(&self.files),
@@ -150,10 +150,10 @@ impl<'a> Line<'a> {
 
     // Adds an option, unless it does not go with those before it.
     fn take_setting(&mut self, setting: Setting) -> Result<(), Refusal>
-        ensures ok { OnOk result ((s : Asked) (w : List ℕ) → Holds self.old s
-            → Takes self.new s w (Role.Setting setting)) }
+        ensures ok { OnOk result ((s : Asked) (w : List ℕ) → HoldsAsked self.old s
+            → TakesArgument self.new s w (Role.Setting setting)) }
         ensures err { IfErr result (λ r. (r ≡ Refusal.OutOfMemory)
-            ⊎ ((s : Asked) (w : List ℕ) → Holds self.old s
+            ⊎ ((s : Asked) (w : List ℕ) → HoldsAsked self.old s
             → ¬ (MayTake s w (Role.Setting setting)))) }
     {
         if self.changes_input(setting) {
@@ -173,17 +173,17 @@ impl<'a> Line<'a> {
 
     // Whether no operand and no file was given.
     fn has_no_operands(&self) -> bool
-        ensures { (s : Asked) → Holds self.now s → result ≡ no_operands s }
+        ensures { (s : Asked) → HoldsAsked self.now s → result ≡ no_operands s }
     {
         self.operands.is_empty() && self.files.is_empty()
     }
 
     // Adds the file that an option names for the operand.
     fn take_source(&mut self, word: &'a str) -> Result<(), Refusal>
-        ensures ok { OnOk result ((s : Asked) → Holds self.old s
-            → Takes self.new s word.entry.now Role.Source) }
+        ensures ok { OnOk result ((s : Asked) → HoldsAsked self.old s
+            → TakesArgument self.new s word.entry.now Role.Source) }
         ensures err { IfErr result (λ r. (r ≡ Refusal.OutOfMemory)
-            ⊎ ((s : Asked) → Holds self.old s → ¬ (MayTake s word.entry.now Role.Source))) }
+            ⊎ ((s : Asked) → HoldsAsked self.old s → ¬ (MayTake s word.entry.now Role.Source))) }
     {
         let Some(file) = self.verb.and_then(|verb| verb.source_file(word)) else {
             return Err(Refusal::Invalid(Problem::Unknown));
@@ -200,10 +200,10 @@ impl<'a> Line<'a> {
 
     // Adds an operand.
     fn take_operand(&mut self, alloc: Global, kind: OperandKind, word: &str) -> Result<(), Refusal>
-        ensures ok { OnOk result ((s : Asked) → Holds self.old s
-            → missing_operand s ≡ Some kind → Takes self.new s word.now (Role.Operand kind)) }
+        ensures ok { OnOk result ((s : Asked) → HoldsAsked self.old s
+            → missing_operand s ≡ Some kind → TakesArgument self.new s word.now (Role.Operand kind)) }
         ensures err { IfErr result (λ r. (r ≡ Refusal.OutOfMemory)
-            ⊎ ((s : Asked) → Holds self.old s → ¬ (MayTake s word.now (Role.Operand kind)))) }
+            ⊎ ((s : Asked) → HoldsAsked self.old s → ¬ (MayTake s word.now (Role.Operand kind)))) }
     {
         let operand = read_operand(alloc, kind, word)?;
         if push_value(&mut self.operands, operand) {
@@ -215,10 +215,10 @@ impl<'a> Line<'a> {
 
     // Adds a file.
     fn take_file(&mut self, word: &'a str) -> Result<(), Refusal>
-        ensures ok { OnOk result ((s : Asked) → Holds self.old s
-            → Takes self.new s word.entry.now Role.File) }
+        ensures ok { OnOk result ((s : Asked) → HoldsAsked self.old s
+            → TakesArgument self.new s word.entry.now Role.File) }
         ensures err { IfErr result (λ r. (r ≡ Refusal.OutOfMemory)
-            ⊎ ((s : Asked) → Holds self.old s → ¬ (MayTake s word.entry.now Role.File))) }
+            ⊎ ((s : Asked) → HoldsAsked self.old s → ¬ (MayTake s word.entry.now Role.File))) }
     {
         if word == "-" && self.settings.in_place {
             return Err(Refusal::Invalid(Problem::StandardInput));
@@ -231,10 +231,10 @@ impl<'a> Line<'a> {
 
     /// Adds an argument.
     pub(crate) fn take(&mut self, alloc: Global, word: &'a str) -> Result<(), Refusal>
-        ensures ok { OnOk result ((s : Asked) → Holds self.old s
-            → MayFollow s word.entry.now × Holds self.new (after s word.entry.now)) }
+        ensures ok { OnOk result ((s : Asked) → HoldsAsked self.old s
+            → MayFollow s word.entry.now × HoldsAsked self.new (with_argument s word.entry.now)) }
         ensures err { IfErr result (λ r. (r ≡ Refusal.OutOfMemory)
-            ⊎ ((s : Asked) → Holds self.old s → ¬ (MayFollow s word.entry.now))) }
+            ⊎ ((s : Asked) → HoldsAsked self.old s → ¬ (MayFollow s word.entry.now))) }
     {
         match self.role_of(word) {
             Role::Command(verb) => {
@@ -255,8 +255,8 @@ impl<'a> Line<'a> {
 
     /// Returns what all the arguments ask for, or what is missing.
     pub(crate) fn finish(self) -> Result<Arguments<'a>, Missing>
-        ensures ok { IfOk result (λ a. (s : Asked) → Holds self.entry s → Finishes a s) }
-        ensures err { OnErr result ((s : Asked) → Holds self.entry s → is_complete s ≡ false) }
+        ensures ok { IfOk result (λ a. (s : Asked) → HoldsAsked self.entry s → Finishes a s) }
+        ensures err { OnErr result ((s : Asked) → HoldsAsked self.entry s → is_complete s ≡ false) }
     {
         let Some(verb) = self.verb else {
             return Err(Missing::Command);

@@ -1,7 +1,7 @@
 // The operands of a command.
 ghost use Rattle.std.specs.Prelude.{◌≡◌, ◌≢◌, ◌⊎◌, IfOk, IfErr};
 ghost use Rattle.json_text.specs.declared.error.ErrorCode.TheVariants.{NoMemory};
-ghost use Rattle.json_arguments.specs.Operands.{Spells, IsOperand, SpellsTree, has_form as formed, is_array_text as spelled_as_array, is_pointer as pointer_text};
+ghost use Rattle.json_arguments.specs.Operands.{SpellsOperand, IsOperand, SpellsTree, has_form as formed, is_array_text as spelled_as_array, is_pointer as pointer_text};
 ghost use Rattle.json_doc.specs.Docs.{doc_root, doc_tree};
 ghost use Rattle.json_arguments.specs.declared.problem.Refusal.TheVariants as Refusal;
 ghost use Rattle.json_command.specs.Input.{IsInput, IsValid};
@@ -155,7 +155,7 @@ fn has_form(alloc: Global, kind: OperandKind, value: &Value) -> Result<bool, Ref
 /// assert!(rt; read_operand(alloc, OperandKind::Step, "1.5").is_err());
 /// ```
 pub fn read_operand(alloc: Global, kind: OperandKind, word: &str) -> Result<Value, Refusal>
-    ensures ok { IfOk result (λ v. Spells kind word.now (tree_of v)) }
+    ensures ok { IfOk result (λ v. SpellsOperand kind word.now (tree_of v)) }
     ensures err { IfErr result (λ r. (r ≡ Refusal.OutOfMemory)
         ⊎ (¬ (IsOperand kind word.now))) }
 {

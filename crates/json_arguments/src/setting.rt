@@ -1,6 +1,7 @@
 // The options of the commands.
 ghost use Rattle.std.specs.Prelude.{◌≡◌, option_map};
-ghost use Rattle.json_arguments.specs.Arguments.{width_in, layout_in, depth_in, setting_in, setting_with_value as value_setting, with_setting, no_settings, reads_stream as is_stream, rules_of_stream};
+ghost use Rattle.json_arguments.specs.Arguments.{layout_in, setting_in, setting_with_value as value_setting, with_setting, no_settings, reads_stream as is_stream, rules_of_stream};
+ghost use Rattle.json_command.specs.Options.{depth_in, width_in};
 
 use json_command::option_number;
 

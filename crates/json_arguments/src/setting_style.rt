@@ -1,6 +1,6 @@
 // The style and the rules that options ask for.
 ghost use Rattle.std.specs.Prelude.{◌≡◌, option_map, MatchOption};
-ghost use Rattle.json_arguments.specs.Styles.{spaces_up_to_8, indent_text, layout_asked, rules_asked};
+ghost use Rattle.json_arguments.specs.Styles.{spaces_up_to_8, indent_text, command_layout, command_rules};
 ghost use Rattle.json_arguments.specs.declared.verb.Verb.TheVariants as Verb;
 ghost use Rattle.json_print.specs.Styles.{indent_of, is_sorted};
 ghost use Rattle.json_text.specs.Ruled.{rules_of};
@@ -44,7 +44,7 @@ impl Settings {
     /// Returns the layout for a command: two spaces for `fmt` and compact for the others if no
     /// option asks for one.
     pub fn layout_for(self, verb: Verb) -> Layout
-        ensures { result ≡ layout_asked self verb }
+        ensures { result ≡ command_layout self verb }
     {
         match (self.layout, verb) {
             (Some(layout), _) => layout,
@@ -56,7 +56,7 @@ impl Settings {
     /// Returns the style for a command, or `None` for `check`, which prints nothing.
     pub fn style_for(self, verb: Verb) -> Option<Style<'static>>
         ensures { MatchOption result (verb ≡ Verb.Check) (λ s.
-            (indent_of s ≡ indent_text (layout_asked self verb)) × (is_sorted s ≡ self.sorted)) }
+            (indent_of s ≡ indent_text (command_layout self verb)) × (is_sorted s ≡ self.sorted)) }
     {
         if verb == Verb::Check {
             return None;
@@ -70,7 +70,7 @@ impl Settings {
     /// Returns the rules by which documents are read: 254 levels at most if no option asks for
     /// another number, which is 1,024 at most, and keys that may repeat if none forbids it.
     pub fn rules(self) -> Rules
-        ensures { rules_of result ≡ rules_asked self }
+        ensures { rules_of result ≡ command_rules self }
     {
         let levels = self.depth.unwrap_or(Rules::usual().depth());
         match Rules::new(levels.min(1_024), self.unique) {

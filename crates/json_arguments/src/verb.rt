@@ -1,6 +1,6 @@
 // The commands.
 ghost use Rattle.std.specs.Prelude.{◌≡◌, option_map};
-ghost use Rattle.json_arguments.specs.Edits.{name_of};
+ghost use Rattle.json_arguments.specs.Edits.{verb_name};
 ghost use Rattle.json_arguments.specs.Arguments.{verb_in, operands_of, takes, file_in, source_in};
 
 use crate::operand::OperandKind;
@@ -52,7 +52,7 @@ fn text_after<'a>(word: &'a str, name: &str) -> Option<&'a str>
 impl Verb {
     /// Returns the name of the command.
     pub fn name(self) -> &'static str
-        ensures { result.now ≡ name_of self }
+        ensures { result.now ≡ verb_name self }
     {
         match self {
             Verb::Fmt => "fmt",

@@ -16,7 +16,7 @@ use Rattle.json_text.specs.Transfer.{AppendsFront, FlushesAll, WritingCause}
 use Rattle.json_print.specs.Buffered.{held_behind}
 use Rattle.json_print.specs.Calls.{holds_any}
 use Rattle.json_print.specs.Layouts.{Form, LaidOut}
-use Rattle.json_print.specs.Given.{Given, given_tokens}
+use Rattle.json_print.specs.Given.{TokenOrInteger, given_tokens}
 use Rattle.json_print.specs.Printer.{Out, StopCause, StopsTaking, after, took, start}
 use Rattle.json_print.specs.Shown.{shown_as}
 use Rattle.json_print.specs.TextWriting.{WritesText}
@@ -29,10 +29,10 @@ use Rattle.json_command.specs.Printing.{HasRunOut, PrintingFails, Prints, RunsOu
 
 -- ---- the tokens of a tree, given to a serializer
 
-module _ {F : Type 0} (m : Form F) (f : F) (w new : SinkState) (first now : Out F) (failed : Option Error) (t : Tree) (gs : List Given) (i : Option (List ℕ)) (laid : LaidOut m f i 0 false) (s : first ≡ start f false w) (z : given_tokens gs ≡ tokens t)
+module _ {F : Type 0} (m : Form F) (f : F) (w new : SinkState) (first now : Out F) (failed : Option Error) (t : Tree) (gs : List TokenOrInteger) (i : Option (List ℕ)) (laid : LaidOut m f i 0 false) (s : first ≡ start f false w) (z : given_tokens gs ≡ tokens t)
     (k : Written m now new) where
   -- memory was lacking behind the first of them
-  lacked : (front back : List Given) (x : Given) (e : Error) → gs ≡ front ++ x ∷ back → e ≡ no_memory → now ≡ after_all (took m) first front → WritesText w new (shown_as i false t) (Err e)
+  lacked : (front back : List TokenOrInteger) (x : TokenOrInteger) (e : Error) → gs ≡ front ++ x ∷ back → e ≡ no_memory → now ≡ after_all (took m) first front → WritesText w new (shown_as i false t) (Err e)
   lacked front back x e g n h =
       let here = h ∙ took_all m first front ∙ ap (λ o. after_all (after m) o (given_tokens front)) s in
       let c = k.calm f false w (given_tokens front) here in

@@ -1,7 +1,7 @@
 -- What an input is, and its fault: the JSON text (RFC 8259, section 2) that a program reads.
-use Rattle.std.specs.Prelude.{ℕ, ◌<◌, ◌≤◌, List, length, false, IsUtf8}
+use Rattle.std.specs.Prelude.{ℕ, ◌<◌, ◌≤◌, List, length, false, IsUtf8, Bool, true}
 use Rattle.json_grammar.specs.Tree.{Tree}
-use Rattle.json_grammar.specs.Grammar.{is_text}
+use Rattle.json_grammar.specs.Grammar.{is_text, ws}
 use Rattle.json_grammar.specs.Rules.{Rules, fits}
 use Rattle.json_text.specs.declared.error.ErrorCode.{ErrorCode}
 use Rattle.json_text.specs.declared.error.ErrorCode.TheVariants.{TooLarge}
@@ -30,3 +30,8 @@ pub data InputFault (rules : Rules) : List ℕ → ErrorCode → Place → Type 
   too_large : {b : List ℕ} → max_bytes < length b → InputFault rules b TooLarge nowhere
   not_utf8 : {b : List ℕ} {code : ErrorCode} {place : Place} → length b ≤ max_bytes → Utf8Cause b code place → InputFault rules b code place
   no_text : {b : List ℕ} {code : ErrorCode} {place : Place} → length b ≤ max_bytes → IsUtf8 b → FaultWithAt false rules b code place → InputFault rules b code place
+
+-- the test whether a line has only whitespace (RFC 8259, section 2)
+abbrev pub BlankTest : List ℕ → Bool → Type 0
+BlankTest line true = ws line
+BlankTest line false = ¬ (ws line)

@@ -1,5 +1,5 @@
 -- The number that an option asks for: `--NAME=N`.
-use Rattle.std.specs.Prelude.{ℕ, Bool, cond, ◌&&◌, ◌||◌, ◌==◌, nat_le, slice_index, List, Option, Some, None, option_and_then, ℤ, pos, negsuc, bytes_eq, codes}
+use Rattle.std.specs.Prelude.{ℕ, Bool, cond, ◌&&◌, ◌||◌, ◌==◌, nat_le, slice_index, List, Option, Some, None, option_and_then, ℤ, pos, negsuc, bytes_eq, codes, ◌-◌, [], ◌∷◌}
 use Rattle.std.specs.List.{before_first, after_first}
 use Rattle.json_number.specs.Integers.{integer_in}
 
@@ -19,3 +19,12 @@ number_up_to max d = cond (is_plain d) (option_and_then (up_to max) (integer_in 
 -- the number after a name and the first equals sign, from 0 to the greatest
 abbrev pub number_after : List ℕ → ℕ → List ℕ → Option ℕ
 number_after name max word = cond (bytes_eq (before_first (λ x. x == 61) word) name) (number_up_to max (after_first (λ x. x == 61) word)) None
+
+-- the greatest number of levels that a word asks for: --depth=N so many, 1,024 at most
+abbrev pub depth_in : List ℕ → Option ℕ
+depth_in w = number_after (codes "--depth") 1024 w
+
+-- the number that one digit from 0 to 8 is
+abbrev pub width_in : List ℕ → Option ℕ
+width_in (d ∷ []) = cond (nat_le 48 d && nat_le d 56) (Some (d - 48)) None
+width_in _ = None

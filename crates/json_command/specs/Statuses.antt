@@ -6,6 +6,7 @@ use Rattle.json_text.specs.declared.error.Place.{Place}
 use Rattle.json_text.specs.declared.error.Place.TheVariants.{Writing}
 use Rattle.json_command.specs.declared.status.Status.{Status}
 use Rattle.json_command.specs.declared.status.Status.TheVariants.{Success, InvalidInput, InvalidArguments, EditFailed, ReadFailed, WriteFailed, OutOfMemory, TooMuchInput, NoArguments}
+use Rattle.json_model.specs.Edit.{Refusal, not_found, type_unmatched}
 
 -- its number
 abbrev pub status_number : Status → ℕ
@@ -32,3 +33,8 @@ error_status code place = InvalidInput
 -- its number
 abbrev pub status_of : ErrorCode → Place → ℕ
 status_of code place = status_number (error_status code place)
+
+-- the code of a refusal of an edit
+abbrev pub code_of_refusal : Refusal → ErrorCode
+code_of_refusal not_found = NotFound
+code_of_refusal type_unmatched = TypeUnmatched

@@ -3,7 +3,7 @@ use Rattle.std.specs.Prelude.{◌≡◌, ℕ, ◌+◌, ◌≤◌, Bool, List, �
 use Rattle.std.specs.List.{items_where_true}
 use Rattle.std.specs.declared.alloc.Global.{Global}
 use Rattle.json_value.specs.Denotes.{tree_of, pair_of, list_in, pairs_in}
-use Rattle.json_value.specs.Places.{origin_of}
+use Rattle.json_value.specs.Places.{value_origin}
 use Rattle.json_value.specs.Room.{spare_in}
 use Rattle.json_value.specs.Rows.{owned, owned_items_of}
 use Rattle.json_value.specs.Spots.{IsPlace}
@@ -46,12 +46,12 @@ abbrev pub ObjectStays : (old new : Container (Keyed Value)) → Type 0
 ObjectStays old new = (pairs_in new ≡ pairs_in old) × ((new ≡ old) ⊎ ObjectBecame (λ items. items) old new)
 
 -- one answer for each, and those are left of which the answer was true
-abbrev pub Keeps : {A : Type 0} → (old new : List A) → Type 0
-Keeps old new = (answers : List Bool) × (length answers ≡ length old) × (new ≡ items_where_true answers old)
+abbrev pub RetainsWhereTrue : {A : Type 0} → (old new : List A) → Type 0
+RetainsWhereTrue old new = (answers : List Bool) × (length answers ≡ length old) × (new ≡ items_where_true answers old)
 
 -- room for one is taken at most
-abbrev pub TakesOne : {T : Type 0} → (old new : Container T) → Type 0
-TakesOne old new = spare_in old ≤ spare_in new + 1
+abbrev pub TakesRoomForOne : {T : Type 0} → (old new : Container T) → Type 0
+TakesRoomForOne old new = spare_in old ≤ spare_in new + 1
 
 -- n were taken out, and an owned or empty container keeps their room
 abbrev pub KeepsRoom : {T : Type 0} → ℕ → (old new : Container T) → Type 0
@@ -59,7 +59,7 @@ KeepsRoom n old new = (IsPlace old → ⊥) → spare_in new ≡ n + spare_in ol
 
 -- copies of these came behind the others: they stand where these do, and so do their parts
 abbrev pub AppendsCopies : List Value → (items now : List Value) → Type 0
-AppendsCopies copied items now = (more : List Value) × (map origin_of more ≡ map origin_of copied) × (now ≡ items ++ more)
+AppendsCopies copied items now = (more : List Value) × (map value_origin more ≡ map value_origin copied) × (now ≡ items ++ more)
 
 -- the elements of an owned list
 abbrev pub own_elements : Container Value → List Value

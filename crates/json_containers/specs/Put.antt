@@ -1,7 +1,7 @@
 -- What calls put among the members of an object, and take out of them.
 use Rattle.std.specs.Prelude.{◌≡◌, ℕ, List, ◌⊎◌, Option, None, map}
 use Rattle.json_value.specs.Denotes.{text_bytes}
-use Rattle.json_value.specs.Places.{Origin, origin_of}
+use Rattle.json_value.specs.Places.{Origin, value_origin}
 use Rattle.json_value.specs.Spots.{CellRef}
 use Rattle.json_value.specs.Touched.{Appended, OfValue}
 use Rattle.json_value.specs.Written.{value_in, key_spot}
@@ -29,11 +29,11 @@ TakesOut k o items now = (o ≡ value_under k items) × (now ≡ unkeyed k items
 
 -- where a member's key stands, and its value with its parts
 abbrev pub stood_member : Keyed Value → Option CellRef × Origin
-stood_member m = (key_spot m, origin_of (value_in m))
+stood_member m = (key_spot m, value_origin (value_in m))
 
 -- so of a copy of the member, whose key is no place
 abbrev pub copied_member : Keyed Value → Option CellRef × Origin
-copied_member m = (None, origin_of (value_in m))
+copied_member m = (None, value_origin (value_in m))
 
 -- copies of these: keys of their own, and values that stand where theirs do
 abbrev pub AreCopies : (items copies : List (Keyed Value)) → Type 0

@@ -10,7 +10,7 @@ ghost use Rattle.std.specs.List.{insert, remove, remove_range, swap_remove, Appe
 ghost use Rattle.std.specs.List.Retain.{IsFiltered, RetainsInTurn};
 ghost use Rattle.json_text.specs.Errors.{no_memory};
 ghost use Rattle.json_value.specs.Denotes.{tree_of, list_in};
-ghost use Rattle.json_value.specs.Places.{origin_of};
+ghost use Rattle.json_value.specs.Places.{value_origin};
 ghost use Rattle.json_value.specs.Room.{spare_in};
 ghost use Rattle.json_value.specs.Spots.{IsPlace};
 ghost use Rattle.json_value.specs.Written.{FirstElements};
@@ -18,8 +18,8 @@ ghost use Rattle.json_value.specs.declared.container.Container.{Container};
 ghost use Rattle.json_value.specs.declared.value.Value.{Value};
 ghost use Rattle.json_containers.specs.IntoIter.{values_left, values_shown, slice_row};
 ghost use Rattle.json_containers.specs.Changed.{ArrayChanged, ArrayBecame, ArrayStays};
-ghost use Rattle.json_containers.specs.Changed.{own_elements, Keeps};
-ghost use Rattle.json_containers.specs.Changed.{TakesOne, KeepsRoom, AppendsCopies};
+ghost use Rattle.json_containers.specs.Changed.{own_elements, RetainsWhereTrue};
+ghost use Rattle.json_containers.specs.Changed.{TakesRoomForOne, KeepsRoom, AppendsCopies};
 ghost use Rattle.json_containers.specs.Slices.{written_over};
 
 use crate::into_iter::IntoIter;
@@ -31,7 +31,7 @@ use std::alloc::Global;
 // Copies of these.
 fn copy_all(alloc: Global, items: &[Value]) -> Result<Vec<Value>>
     ensures list { IfOk result (λ v. map tree_of v.items ≡ map tree_of items.now) }
-    ensures stands { IfOk result (λ v. map origin_of v.items ≡ map origin_of items.now) }
+    ensures stands { IfOk result (λ v. map value_origin v.items ≡ map value_origin items.now) }
     ensures only { IfErr result (λ e. e ≡ no_memory) }
 {
     let mut copies = Vec::with_capacity(alloc, items.len())?;
@@ -44,8 +44,8 @@ fn copy_all(alloc: Global, items: &[Value]) -> Result<Vec<Value>>
 // So many copies of the value.
 fn copies_of(alloc: Global, value: &Value, count: usize) -> Result<Vec<Value>>
     ensures list { IfOk result (λ v. map tree_of v.items ≡ replicate count (tree_of value.now)) }
-    ensures stands { IfOk result (λ v. map origin_of v.items
-        ≡ replicate count (origin_of value.now)) }
+    ensures stands { IfOk result (λ v. map value_origin v.items
+        ≡ replicate count (value_origin value.now)) }
     ensures only { IfErr result (λ e. e ≡ no_memory) }
 {
     let mut copies = Vec::with_capacity(alloc, count)?;
@@ -144,7 +144,7 @@ pub trait ArrayCalls {
             (held self.old) (held self.new)) }
         ensures kept { OnErr result (ArrayStays (held self.old) (held self.new)) }
         ensures free { 0 < spare_in (held self.old) → IsOk result }
-        ensures room { TakesOne (held self.old) (held self.new) }
+        ensures room { TakesRoomForOne (held self.old) (held self.new) }
         ensures only { IfErr result (λ e. e ≡ no_memory) };
 
     /// Takes the element out; the others close up.
@@ -281,7 +281,7 @@ pub trait ArrayCalls {
     /// Keeps the elements for which `f` is true, in order.
     fn retain<F: FnMut(&Value) -> bool>(&mut self, alloc: Global, f: F) -> Result<()>
         requires { F.IsAlwaysCallable f }
-        ensures ok { OnOk result (Keeps (list_in (held self.old)) (list_in (held self.new))) }
+        ensures ok { OnOk result (RetainsWhereTrue (list_in (held self.old)) (list_in (held self.new))) }
         ensures children { OnOk result (ArrayChanged (IsFiltered (CalledAt F.FnMut) f)
             (held self.old) (held self.new)) }
         ensures kept { OnErr result (held self.new ≡ held self.old) }

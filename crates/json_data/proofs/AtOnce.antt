@@ -17,18 +17,18 @@ use Rattle.json_text.specs.Parsing.{ParserState, HasGiven, SameInput, Goes, IsTi
 use Rattle.json_text.specs.Tokens.{begin_event, end_event}
 use Rattle.json_text.proofs.Bracketed.{begin_is_event, end_is_event}
 use Rattle.json_data.specs.Spots.{over}
-use Rattle.json_data.specs.Stand.{NotWhole, Peeks, TakesOne, TakesTree, TakesInteger, TakesNegative, TakesText, TakesKey}
-use Rattle.json_data.specs.Text.{TextState, TakenBefore, spot_before, text_taken, text_stand, event_kind, ReadsAhead, IsReading}
+use Rattle.json_data.specs.Stand.{NotWhole, Peeks, TakesOne, TakesTree, TakesInteger, TakesNegative, TakesText, TakesKeyPiece}
+use Rattle.json_data.specs.Text.{TextTokensState, TakenBefore, spot_before, text_taken, text_tokens_state, event_kind, ReadsAhead, IsReading}
 use Rattle.json_data.proofs.Digits.{plain_integer, negative_integer}
 use Rattle.json_data.proofs.Events.{reads_ahead, whole_over}
 use Rattle.json_data.proofs.Steps.{scalar}
 use Rattle.json_data.proofs.TextSteps.{takes_none, takes_next}
 
-abbrev pub clear : ParserState → Option Error → TextState
+abbrev pub clear : ParserState → Option Error → TextTokensState
 clear p f = record { parser = p; ahead = None; failed = f }
 
 -- an event was read, and its kind was told
-pub told_ahead : (p q : ParserState) (f : Option Error) (e : Event) → ReadsAhead p e q → Peeks (text_stand (clear p f)) (text_stand (record { parser = q; ahead = Some e; failed = f })) (event_kind e)
+pub told_ahead : (p q : ParserState) (f : Option Error) (e : Event) → ReadsAhead p e q → Peeks (text_tokens_state (clear p f)) (text_tokens_state (record { parser = q; ahead = Some e; failed = f })) (event_kind e)
 told_ahead p q f e r =
     let s = r.same in
     let text = s.text in let start = s.start in let lossy = s.lossy in let limit = s.limit in
@@ -46,7 +46,7 @@ told_ahead p q f e r =
 
 -- an event was read and taken
 pub taken_at_once : (p q : ParserState) (f : Option Error) (e : Event) (ts : List Tok) → HasGiven p ts → ReadsAhead p e q
-    → (x : Tok) × Means e x × TakesOne text_taken text_stand (clear p f) (clear q f) x
+    → (x : Tok) × Means e x × TakesOne text_taken text_tokens_state (clear p f) (clear q f) x
 taken_at_once p q f e ts h r = takes_next (clear p f) q f e (event_kind e) (ts, r.goes ts h) (told_ahead p q f e r) (takes_none p q f f e r)
 
 some_bytes : (b : List ℕ) (i j : ℕ) (l : List ℕ) → i < j → j ≤ length b → piece b i j ≡ l → 0 < length l
@@ -69,29 +69,29 @@ still_reading p q e ts h r o w =
 
 -- ---- a source that is seen as a, in which no event waits
 
-module _ (a : TextState) (p : ParserState) (o : Option Event) (f : Option Error) (seen : record { parser = p; ahead = o; failed = f } ≡ a) (none : a.ahead ≡ None) where
+module _ (a : TextTokensState) (p : ParserState) (o : Option Event) (f : Option Error) (seen : record { parser = p; ahead = o; failed = f } ≡ a) (none : a.ahead ≡ None) where
   unwaiting : o ≡ None
-  unwaiting = ap (λ (t : TextState). t.ahead) seen ∙ none
+  unwaiting = ap (λ (t : TextTokensState). t.ahead) seen ∙ none
 
-  pub clear_inside : NotWhole (text_stand a) → ¬ (IsWhole p)
-  clear_inside h = λ w. h (subst (λ (t : TextState). (text_stand t).spot ≡ over) seen (subst (λ (u : Option Event). spot_before u p ≡ over) (sym unwaiting) (whole_over p w)))
+  pub clear_inside : NotWhole (text_tokens_state a) → ¬ (IsWhole p)
+  clear_inside h = λ w. h (subst (λ (t : TextTokensState). (text_tokens_state t).spot ≡ over) seen (subst (λ (u : Option Event). spot_before u p ≡ over) (sym unwaiting) (whole_over p w)))
 
   -- it goes on behind an event
   pub clear_reading : (q : ParserState) (e : Event) → a.failed ≡ None → IsReading (record { parser = p; ahead = o; failed = f })
       → ((ts : List Tok) → HasGiven p ts → ReadsAhead p e q) → (IsWhole q → HasRead q) → IsReading (record { parser = q; ahead = o; failed = f })
   clear_reading q e u i r w =
       let h : HasGiven p i.given.0 = subst (λ (v : Option Event). TakenBefore v p i.given.0) unwaiting i.given.1 in
-      let g : f ≡ None = ap (λ (t : TextState). t.failed) seen ∙ u in
+      let g : f ≡ None = ap (λ (t : TextTokensState). t.failed) seen ∙ u in
       subst (λ (v : Option Event). IsReading (record { parser = q; ahead = v; failed = f })) (sym unwaiting)
       (subst (λ (v : Option Error). IsReading (clear q v)) (sym g) (still_reading p q e i.given.0 h (r i.given.0 h) i.order w))
 
   -- what is taken from there on
-  pub clear_taken : (P : TextState → TextState → Type 0) (q : ParserState) → IsReading (record { parser = p; ahead = o; failed = f })
+  pub clear_taken : (P : TextTokensState → TextTokensState → Type 0) (q : ParserState) → IsReading (record { parser = p; ahead = o; failed = f })
       → ((ts : List Tok) → HasGiven p ts → P (clear p f) (clear q f)) → P a (record { parser = q; ahead = o; failed = f })
   clear_taken P q i t =
       let h : HasGiven p i.given.0 = subst (λ (v : Option Event). TakenBefore v p i.given.0) unwaiting i.given.1 in
       let v : clear p f ≡ a = ap (λ (u : Option Event). record { parser = p; ahead = u; failed = f }) (sym unwaiting) ∙ seen in
-      subst (λ (u : Option Event). P a (record { parser = q; ahead = u; failed = f })) (sym unwaiting) (subst (λ (b : TextState). P b (clear q f)) v (t i.given.0 h))
+      subst (λ (u : Option Event). P a (record { parser = q; ahead = u; failed = f })) (sym unwaiting) (subst (λ (b : TextTokensState). P b (clear q f)) v (t i.given.0 h))
 
 pub number_read : (p q : ParserState) (l : _) (ts : List Tok) → HasGiven p ts → SameInput p q → Goes p (event.Number l) q → IsTight p (event.Number l) q → q.failure ≡ None → ReadsAhead p (event.Number l) q
 number_read p q l ts h s g t f = reads_ahead p q (event.Number l) ts h (λ e. absurd (cc)) s g t f
@@ -103,7 +103,7 @@ pub key_read : (p q : ParserState) (l : _) (ts : List Tok) → HasGiven p ts →
 key_read p q l ts h s g t f = reads_ahead p q (event.Key l) ts h (λ e. absurd (cc)) s g t f
 
 pub integer_taken : (p q : ParserState) (f : Option Error) (l : _) (n : ℕ) (ts : List Tok) → HasGiven p ts → ReadsAhead p (event.Number l) q → IsTight p (event.Number l) q
-    → all_ascii_digits l.now ≡ true → n ≡ digits_value 10 l.now → n < 2 ^ 64 → TakesInteger text_taken text_stand (clear p f) (clear q f) n
+    → all_ascii_digits l.now ≡ true → n ≡ digits_value 10 l.now → n < 2 ^ 64 → TakesInteger text_taken text_tokens_state (clear p f) (clear q f) n
 integer_taken p q f l n ts h r t d v s =
     let x = taken_at_once p q f (event.Number l) ts h r in
     let some : 0 < length l.now = some_bytes q.text t.begins q.index l.now t.order.1 t.within t.bytes in
@@ -114,7 +114,7 @@ integer_taken p q f l n ts h r t d v s =
     }
 
 pub negative_taken : (p q : ParserState) (f : Option Error) (l : _) (n : ℕ) (ts : List Tok) → HasGiven p ts → ReadsAhead p (event.Number l) q
-    → get_or l.now 0 0 ≡ 45 → all_ascii_digits (drop 1 l.now) ≡ true → n ≡ digits_value 10 (drop 1 l.now) → 0 < n → n ≤ 2 ^ 63 → TakesNegative text_taken text_stand (clear p f) (clear q f) n
+    → get_or l.now 0 0 ≡ 45 → all_ascii_digits (drop 1 l.now) ≡ true → n ≡ digits_value 10 (drop 1 l.now) → 0 < n → n ≤ 2 ^ 63 → TakesNegative text_taken text_tokens_state (clear p f) (clear q f) n
 negative_taken p q f l n ts h r m d v s k =
     let x = taken_at_once p q f (event.Number l) ts h r in
     record { literal = l.now; value = negative_integer l.now n m d v s k; takes = scalar (num l.now) (num_token l.now) x.1 refl refl refl x.2 }
@@ -127,25 +127,25 @@ null_read p q ts h s g t f = reads_ahead p q event.Null ts h (λ e. absurd (cc))
 pub bool_read : (p q : ParserState) (b : Bool) (ts : List Tok) → HasGiven p ts → SameInput p q → Goes p (event.Bool b) q → IsTight p (event.Bool b) q → q.failure ≡ None → ReadsAhead p (event.Bool b) q
 bool_read p q b ts h s g t f = reads_ahead p q (event.Bool b) ts h (λ e. absurd (cc)) s g t f
 
-pub null_taken : (p q : ParserState) (f : Option Error) (ts : List Tok) → HasGiven p ts → ReadsAhead p event.Null q → TakesTree text_taken text_stand (clear p f) (clear q f) null
+pub null_taken : (p q : ParserState) (f : Option Error) (ts : List Tok) → HasGiven p ts → ReadsAhead p event.Null q → TakesTree text_taken text_tokens_state (clear p f) (clear q f) null
 null_taken p q f ts h r = let x = taken_at_once p q f event.Null ts h r in scalar null null_token x.1 refl refl refl x.2
 
-pub boolean_taken : (p q : ParserState) (f : Option Error) (b : Bool) (ts : List Tok) → HasGiven p ts → ReadsAhead p (event.Bool b) q → TakesTree text_taken text_stand (clear p f) (clear q f) (boolean b)
+pub boolean_taken : (p q : ParserState) (f : Option Error) (b : Bool) (ts : List Tok) → HasGiven p ts → ReadsAhead p (event.Bool b) q → TakesTree text_taken text_tokens_state (clear p f) (clear q f) (boolean b)
 boolean_taken p q f b ts h r = let x = taken_at_once p q f (event.Bool b) ts h r in scalar (boolean b) (boolean_token b) x.1 refl refl refl x.2
 
 -- ---- strings
 
 pub text_taken_at_once : (p q : ParserState) (f : Option Error) (l : _) (says : List ℕ → Type 0) (ts : List Tok) → HasGiven p ts → ReadsAhead p (event.Str l) q
-    → ((s : List ℕ) → chars l.lossy s l.raw.now → says s) → TakesText text_taken text_stand says (clear p f) (clear q f)
+    → ((s : List ℕ) → chars l.lossy s l.raw.now → says s) → TakesText text_taken text_tokens_state says (clear p f) (clear q f)
 text_taken_at_once p q f l says ts h r k =
     let x = taken_at_once p q f (event.Str l) ts h r in
     record { text = x.1.0; said = k x.1.0 x.1.1; takes = scalar (text x.1.0) (text_token x.1.0) x.1.2 refl refl refl x.2 }
 
 pub key_taken_at_once : (p q : ParserState) (f : Option Error) (l : _) (says : List ℕ → Type 0) (ts : List Tok) → HasGiven p ts → ReadsAhead p (event.Key l) q
-    → ((s : List ℕ) → chars l.lossy s l.raw.now → says s) → TakesKey text_taken text_stand says (clear p f) (clear q f)
+    → ((s : List ℕ) → chars l.lossy s l.raw.now → says s) → TakesKeyPiece text_taken text_tokens_state says (clear p f) (clear q f)
 key_taken_at_once p q f l says ts h r k =
     let x = taken_at_once p q f (event.Key l) ts h r in
-    record { name = x.1.0; said = k x.1.0 x.1.1; takes = subst (λ (y : Tok). TakesOne text_taken text_stand (clear p f) (clear q f) y) x.1.2 x.2 }
+    record { name = x.1.0; said = k x.1.0 x.1.1; takes = subst (λ (y : Tok). TakesOne text_taken text_tokens_state (clear p f) (clear q f) y) x.1.2 x.2 }
 
 -- ---- brackets
 
@@ -163,12 +163,12 @@ means_end : (k : Kind) (x : Tok) → Means (end_event k) x → x ≡ end k
 means_end array x m = m
 means_end object x m = m
 
-pub begin_taken : (p q : ParserState) (f : Option Error) (k : Kind) (ts : List Tok) → HasGiven p ts → ReadsAhead p (begin_event k) q → TakesOne text_taken text_stand (clear p f) (clear q f) (begin k)
+pub begin_taken : (p q : ParserState) (f : Option Error) (k : Kind) (ts : List Tok) → HasGiven p ts → ReadsAhead p (begin_event k) q → TakesOne text_taken text_tokens_state (clear p f) (clear q f) (begin k)
 begin_taken p q f k ts h r =
     let x = taken_at_once p q f (begin_event k) ts h r in
-    subst (λ (y : Tok). TakesOne text_taken text_stand (clear p f) (clear q f) y) (means_begin k x.0 x.1) x.2
+    subst (λ (y : Tok). TakesOne text_taken text_tokens_state (clear p f) (clear q f) y) (means_begin k x.0 x.1) x.2
 
-pub end_taken : (p q : ParserState) (f : Option Error) (k : Kind) (ts : List Tok) → HasGiven p ts → ReadsAhead p (end_event k) q → TakesOne text_taken text_stand (clear p f) (clear q f) (end k)
+pub end_taken : (p q : ParserState) (f : Option Error) (k : Kind) (ts : List Tok) → HasGiven p ts → ReadsAhead p (end_event k) q → TakesOne text_taken text_tokens_state (clear p f) (clear q f) (end k)
 end_taken p q f k ts h r =
     let x = taken_at_once p q f (end_event k) ts h r in
-    subst (λ (y : Tok). TakesOne text_taken text_stand (clear p f) (clear q f) y) (means_end k x.0 x.1) x.2
+    subst (λ (y : Tok). TakesOne text_taken text_tokens_state (clear p f) (clear q f) y) (means_end k x.0 x.1) x.2

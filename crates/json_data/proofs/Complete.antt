@@ -15,7 +15,7 @@ use Rattle.json_text.specs.Faults.{FaultAt}
 use Rattle.json_text.specs.Utf8.{IsUtf8Fault}
 use Rattle.json_text.proofs.NoText.{no_text}
 use Rattle.json_data.specs.Reading.{Reading, gives, refuses}
-use Rattle.json_data.specs.Calls.{ReadingFails, TextFails, TreeRefused, HasDatum}
+use Rattle.json_data.specs.Calls.{TypedReadingFails, BytesRefused, TreeRefused, HasDatum}
 
 abbrev error : ErrorCode → Place → Error
 error c p = record { code = c; place = p }
@@ -24,7 +24,7 @@ utf8_no_fault : (b : List ℕ) (k : ℕ) → IsUtf8Fault b k → IsUtf8 b → �
 utf8_no_fault b k v u = v.longest (length b) v.short (subst IsUtf8 (sym (take_all (length b) b (omega arith))) u)
 
 -- bytes that are not looked at as a text
-pub unread : (limit : ℕ) (f : Tree → Reading) (b : List ℕ) (c : ErrorCode) (p : Place) → TextFails b c p → ReadingFails limit f b c p
+pub unread : (limit : ℕ) (f : Tree → Reading) (b : List ℕ) (c : ErrorCode) (p : Place) → BytesRefused b c p → TypedReadingFails limit f b c p
 unread limit f b code.TooLarge place.None h = h
 unread limit f b code.InvalidUTF8 p h = h
 unread limit f b c p h = absurd h
@@ -41,7 +41,7 @@ module _ (limit : ℕ) (f : Tree → Reading) (b : List ℕ) where
   valid : HasDatum limit f b → IsUtf8 b
   valid (d, (t, h, l, a)) = text_utf8 false t b h
 
-  only_memory : (c : ErrorCode) (p : Place) → HasDatum limit f b → length b < 2 ^ 32 → ReadingFails limit f b c p → error c p ≡ no_memory
+  only_memory : (c : ErrorCode) (p : Place) → HasDatum limit f b → length b < 2 ^ 32 → TypedReadingFails limit f b c p → error c p ≡ no_memory
   only_memory code.NoMemory place.None d s h = refl
   only_memory code.TooLarge place.None d s h = absurd (omega (arith, s, h))
   only_memory code.InvalidUTF8 p d s (k, v, e) = absurd (utf8_no_fault b k v (valid d))
@@ -50,6 +50,6 @@ module _ (limit : ℕ) (f : Tree → Reading) (b : List ℕ) where
   only_memory code.ExpectedNumericKey p d s h = absurd (not_refused code.ExpectedNumericKey p d h)
   only_memory c p d s h = absurd (no_fault c p d h.1)
 
-  pub complete : {X : Type 0} (r : Result X Error) → IfErr r (λ e. ReadingFails limit f b e.code e.place) → HasDatum limit f b → length b < 2 ^ 32 → IsOkUnless r no_memory
+  pub complete : {X : Type 0} (r : Result X Error) → IfErr r (λ e. TypedReadingFails limit f b e.code e.place) → HasDatum limit f b → length b < 2 ^ 32 → IsOkUnless r no_memory
   complete (Ok x) h d s = tt
   complete (Err e) h d s = only_memory e.code e.place d s h

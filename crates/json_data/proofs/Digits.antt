@@ -21,7 +21,7 @@ use Rattle.json_data.specs.declared.whole.Whole.{Whole}
 use Rattle.json_data.specs.declared.whole.Whole.TheVariants as whole
 use Rattle.json_model.specs.Datum.{integer_datum}
 use Rattle.json_number.specs.Integers.{integer_in, below_zero, from_zero}
-use Rattle.json_data.specs.Wholes.{IsWhole, below_of, plain_of}
+use Rattle.json_data.specs.Wholes.{IntegerIsWhole, below_of, plain_of}
 use Rattle.std.specs.Str.{all_ascii_digits}
 use Rattle.std.specs.Str.Parse.{digits_value, ParsesUnsigned}
 
@@ -98,7 +98,7 @@ negative_enough zero low high p h = absurd (omega arith)
 negative_enough (suc n) low high p h = lt-ltb n low (omega arith)
 
 -- a literal that is no integer by value
-pub beyond : (l : List ℕ) (w : Whole) → integer_in l ≡ None → IsWhole (whole_in l) w → w ≢ whole.Nothing → read_number (num l) ≡ refuses NumberOutOfRange
+pub beyond : (l : List ℕ) (w : Whole) → integer_in l ≡ None → IntegerIsWhole (whole_in l) w → w ≢ whole.Nothing → read_number (num l) ≡ refuses NumberOutOfRange
 beyond l whole.Nothing e h n = absurd (n refl)
 beyond l (whole.From v) e h n = rw (e, h)
 beyond l (whole.Below (suc v)) e h n = rw (e, h.0)

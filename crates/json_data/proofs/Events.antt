@@ -13,20 +13,21 @@ use Rattle.json_text.proofs.Stands.{stood_at}
 use Rattle.json_grammar.specs.Place.{reading}
 use Rattle.json_data.specs.declared.token.TokenKind.{TokenKind}
 use Rattle.json_data.specs.Kinds.{kind_of}
-use Rattle.json_data.specs.Spots.{Spot, top, over, after_all, after, opened_of, may_come, MayCome}
-use Rattle.json_data.specs.Text.{event_kind, EventIsNumber, place_of, spot_of, before, ReadsAhead, IsReading}
+use Rattle.json_data.specs.Spots.{Spot, top, over, spot_after_all, spot_after, opened_of, may_come, KindMayCome}
+use Rattle.json_data.specs.Text.{event_kind, parser_spot, spot_at_place, before, ReadsAhead, IsReading}
 use Rattle.json_grammar.proofs.Numeric.{last_number}
 use Rattle.json_data.proofs.Places.{at_spot, comes, allowed_last, after_append, after_tree, opened_spot, before_after}
+use Rattle.json_doc.specs.Reading.{EventIsNumber}
 
 pub given_reading : (p : ParserState) (ts : List Tok) → HasGiven p ts → reading p.lossy (take (taken p) (input p)) p.open_kinds p.spot ts
 given_reading p ts h = stood_at p.lossy p.limit (input p) (taken p) p.open_kinds p.spot ts h
 
-pub place_is : (p : ParserState) (ts : List Tok) → HasGiven p ts → place_of p ≡ after_all top ts
+pub place_is : (p : ParserState) (ts : List Tok) → HasGiven p ts → parser_spot p ≡ spot_after_all top ts
 place_is p ts h = at_spot (given_reading p ts h)
 
 -- behind the tokens of a tree nothing may come
-pub tree_over : (p : ParserState) (ts : List Tok) (t : Tree) → HasGiven p ts → ts ≡ tokens t → place_of p ≡ over
-tree_over p ts t h e = place_is p ts h ∙ ap (after_all top) e ∙ after_tree top t
+pub tree_over : (p : ParserState) (ts : List Tok) (t : Tree) → HasGiven p ts → ts ≡ tokens t → parser_spot p ≡ over
+tree_over p ts t h e = place_is p ts h ∙ ap (spot_after_all top) e ∙ after_tree top t
 
 goes : (old new : ParserState) (e : Event) → e ≢ event.End → Goes old e new → (ts : List Tok) → HasGiven old ts → (x : Tok) × Means e x × HasGiven new (ts ++ x ∷ [])
 goes old new event.Null n g = g
@@ -78,11 +79,11 @@ event_number p event.EndObject ts x m h = tt
 event_number p event.End ts x m h = tt
 
 -- the spot before the last token
-pub spot_back : (p : ParserState) (e : Event) (ts : List Tok) (x : Tok) → Means e x → HasGiven p (ts ++ x ∷ []) → before (event_kind e) p.open_kinds ≡ after_all top ts
+pub spot_back : (p : ParserState) (e : Event) (ts : List Tok) (x : Tok) → Means e x → HasGiven p (ts ++ x ∷ []) → before (event_kind e) p.open_kinds ≡ spot_after_all top ts
 spot_back p e ts x m h =
-    let q = after_all top ts in
-    let a : place_of p ≡ after q x = place_is p (ts ++ x ∷ []) h ∙ after_append top ts (x ∷ []) in
-    let c : p.open_kinds ≡ opened_of (after q x) = sym (opened_spot p.spot p.open_kinds) ∙ ap opened_of a in
+    let q = spot_after_all top ts in
+    let a : parser_spot p ≡ spot_after q x = place_is p (ts ++ x ∷ []) h ∙ after_append top ts (x ∷ []) in
+    let c : p.open_kinds ≡ opened_of (spot_after q x) = sym (opened_spot p.spot p.open_kinds) ∙ ap opened_of a in
     let f : may_come q (kind_of x) ≡ true = allowed_last top ts x (comes (given_reading p (ts ++ x ∷ []) h)) in
     ap (λ (k : TokenKind). before k p.open_kinds) (sym (same_kind e x m)) ∙ ap (before (kind_of x)) c ∙ before_after q x f
 
@@ -90,30 +91,30 @@ pub reads_ahead : (old new : ParserState) (e : Event) (ts : List Tok) → HasGiv
 reads_ahead old new e ts h n s g t f =
     let r = goes old new e n g ts h in
     let k = tight old new e n t in
-    let q = after_all top ts in
+    let q = spot_after_all top ts in
     record {
       same = s;
       goes = goes old new e n g;
       forward = k.forward;
       inside = k.within;
       spot = spot_back new e ts r.0 r.1 r.2 ∙ sym (place_is old ts h);
-      may = subst (λ (p : Spot). MayCome p (event_kind e)) (sym (place_is old ts h)) (subst (λ (j : TokenKind). MayCome q j) (same_kind e r.0 r.1) (allowed_last top ts r.0 (comes (given_reading new (ts ++ r.0 ∷ []) r.2))));
+      may = subst (λ (p : Spot). KindMayCome p (event_kind e)) (sym (place_is old ts h)) (subst (λ (j : TokenKind). KindMayCome q j) (same_kind e r.0 r.1) (allowed_last top ts r.0 (comes (given_reading new (ts ++ r.0 ∷ []) r.2))));
       fresh = f;
     }
 
 -- where a value was read and nothing is open
-pub whole_over : (p : ParserState) → IsWhole p → place_of p ≡ over
-whole_over p (e, l) = ap (λ (w : Place). spot_of w p.open_kinds) e ∙ ap (spot_of done) (empty p.open_kinds l)
+pub whole_over : (p : ParserState) → IsWhole p → parser_spot p ≡ over
+whole_over p (e, l) = ap (λ (w : Place). spot_at_place w p.open_kinds) e ∙ ap (spot_at_place done) (empty p.open_kinds l)
   where
     empty : (c : List Kind) → length c ≡ 0 → c ≡ []
     empty [] l = refl
     empty (k ∷ c) l = absurd (omega arith)
 
 -- and the other way round
-pub over_whole : (p : ParserState) → place_of p ≡ over → IsWhole p
+pub over_whole : (p : ParserState) → parser_spot p ≡ over → IsWhole p
 over_whole p e = by p.spot p.open_kinds e
   where
-    by : (w : Place) (c : List Kind) → spot_of w c ≡ over → (w ≡ done) × (length c ≡ 0)
+    by : (w : Place) (c : List Kind) → spot_at_place w c ≡ over → (w ≡ done) × (length c ≡ 0)
     by done [] e = (refl, refl)
     by at_value [] e = absurd (cc)
     by first [] e = absurd (cc)

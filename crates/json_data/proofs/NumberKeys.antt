@@ -5,7 +5,7 @@ use Rattle.json_text.specs.declared.error.Error.{Error}
 use Rattle.json_text.specs.declared.error.ErrorCode.TheVariants.{ExpectedNumericKey}
 use Rattle.json_text.specs.Errors.{no_memory}
 use Rattle.json_data.specs.Keys.{integer_key}
-use Rattle.json_data.specs.Reader.{KeyRefused}
+use Rattle.json_data.specs.Reader.{KeyReadingFails}
 use Rattle.json_data.specs.Reading.{Reading, refuses, whole_in, in_range}
 use Rattle.json_data.specs.Refusals.{refusal, is_refusal}
 
@@ -16,12 +16,12 @@ no_key : (fits : ℤ → Bool) (s : List ℕ) → is_number s ≡ false → inte
 no_key fits s e = rw e
 
 -- memory ran out, or the key is no number
-pub key_absent : (says : List ℕ → Type 0) (fits : ℤ → Bool) (e : Error) → (e ≡ no_memory) ⊎ ((e ≡ refusal ExpectedNumericKey) × ((s : List ℕ) → says s → is_number s ≡ false)) → KeyRefused says (integer_key fits) e
-key_absent says fits e (inl h) = subst (λ (x : Error). KeyRefused says (integer_key fits) x) (sym h) (record { refused = λ p. absurd (cc); gave_up = λ p. refl })
-key_absent says fits e (inr h) = subst (λ (x : Error). KeyRefused says (integer_key fits) x) (sym h.0) (record { refused = λ p. (refl, λ s k. no_key fits s (h.1 s k)); gave_up = λ p. absurd (cc) })
+pub key_absent : (says : List ℕ → Type 0) (fits : ℤ → Bool) (e : Error) → (e ≡ no_memory) ⊎ ((e ≡ refusal ExpectedNumericKey) × ((s : List ℕ) → says s → is_number s ≡ false)) → KeyReadingFails says (integer_key fits) e
+key_absent says fits e (inl h) = subst (λ (x : Error). KeyReadingFails says (integer_key fits) x) (sym h) (record { refused = λ p. absurd (cc); gave_up = λ p. refl })
+key_absent says fits e (inr h) = subst (λ (x : Error). KeyReadingFails says (integer_key fits) x) (sym h.0) (record { refused = λ p. (refl, λ s k. no_key fits s (h.1 s k)); gave_up = λ p. absurd (cc) })
 
 -- it is a number, and no integer of the type
-pub key_out : (says : List ℕ → Type 0) (fits : ℤ → Bool) (e : Error) → (e ≡ refusal e.code) × (is_refusal e.code ≡ true) → ((s : List ℕ) → says s → (is_number s ≡ true) × (in_range fits (whole_in s) ≡ refuses e.code)) → KeyRefused says (integer_key fits) e
+pub key_out : (says : List ℕ → Type 0) (fits : ℤ → Bool) (e : Error) → (e ≡ refusal e.code) × (is_refusal e.code ≡ true) → ((s : List ℕ) → says s → (is_number s ≡ true) × (in_range fits (whole_in s) ≡ refuses e.code)) → KeyReadingFails says (integer_key fits) e
 key_out says fits e r h = record {
   refused = λ p. (r.0, λ s k. key_in fits (refuses e.code) s (h s k).0 (h s k).1);
   gave_up = λ p. let x : true ≡ false = sym r.1 ∙ p in absurd (cc);

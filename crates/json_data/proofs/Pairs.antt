@@ -11,9 +11,9 @@ use Rattle.json_data.specs.declared.token.TokenKind.TheVariants.{BeginObject, En
 use Rattle.json_data.specs.Kinds.{kind_of, number_kind}
 use Rattle.json_data.specs.Reading.{Reading, refuses}
 use Rattle.json_data.specs.Refusals.{refusal, is_refusal}
-use Rattle.json_data.specs.Reader.{Reads, Stops, KeyRefused}
-use Rattle.json_data.specs.Spots.{Spot, top, over, element, key_or_end, member, opened_of, behind_value, within, around, after, InObject}
-use Rattle.json_data.specs.Stand.{Stand, Takes, Peeks, AsTold, TakesTree, TakesOne, Leaves, Rest, Fails}
+use Rattle.json_data.specs.Reader.{ReadsTree, StopsReading, KeyReadingFails}
+use Rattle.json_data.specs.Spots.{Spot, top, over, element, key_or_end, member, opened_of, behind_value, spot_after_begin, around, spot_after, InObject}
+use Rattle.json_data.specs.Stand.{TokensState, TakesTokens, Peeks, AsTold, TakesTree, TakesOne, Leaves, Rest, TokensFail}
 use Rattle.json_data.proofs.Steps.{joins}
 use Rattle.json_data.proofs.Exits.{refusing, giving_up}
 
@@ -58,42 +58,42 @@ is_end (end array) e = cc
 is_end (end object) e = refl
 
 -- the source stands in an object, behind the pairs ps
-pub record InPairs {S : Type 0} (taken : S → List Tok → Type 0) (stand : S → Stand) (a b : S) (ps : Pairs) : Type 0 where
-  pub takes : Takes taken a (begin object ∷ pairs_tokens ps) b
+pub record InPairs {S : Type 0} (taken : S → List Tok → Type 0) (stand : S → TokensState) (a b : S) (ps : Pairs) : Type 0 where
+  pub takes : TakesTokens taken a (begin object ∷ pairs_tokens ps) b
   pub input : (stand b).input ≡ (stand a).input
-  pub spot : (stand b).spot ≡ within object (stand a).spot
+  pub spot : (stand b).spot ≡ spot_after_begin object (stand a).spot
   pub left : (stand b).left < (stand a).left
   pub as_told : AsTold (stand a) BeginObject
 
 -- and behind a key more
-pub record InMember {S : Type 0} (taken : S → List Tok → Type 0) (stand : S → Stand) (a b : S) (ps : Pairs) (k : List ℕ) : Type 0 where
-  pub takes : Takes taken a (begin object ∷ (pairs_tokens ps ++ key_token k ∷ [])) b
+pub record InMember {S : Type 0} (taken : S → List Tok → Type 0) (stand : S → TokensState) (a b : S) (ps : Pairs) (k : List ℕ) : Type 0 where
+  pub takes : TakesTokens taken a (begin object ∷ (pairs_tokens ps ++ key_token k ∷ [])) b
   pub input : (stand b).input ≡ (stand a).input
   pub spot : (stand b).spot ≡ member (opened_of (stand a).spot)
   pub left : (stand b).left < (stand a).left
   pub as_told : AsTold (stand a) BeginObject
 
-pub still_in_pairs : {S : Type 0} {taken : S → List Tok → Type 0} {stand : S → Stand} {a b c : S} {ps : Pairs}
+pub still_in_pairs : {S : Type 0} {taken : S → List Tok → Type 0} {stand : S → TokensState} {a b c : S} {ps : Pairs}
     → c ≡ b → InPairs taken stand a b ps → InPairs taken stand a c ps
 still_in_pairs {S = S} {taken = taken} {stand = stand} {a = a} {ps = ps} e w = subst (λ (s : S). InPairs taken stand a s ps) (sym e) w
 
-pub opens_pairs : {S : Type 0} {taken : S → List Tok → Type 0} {stand : S → Stand} {a b c : S} {x : Tok} {k : TokenKind}
-    → k ≡ BeginObject → Peeks (stand a) (stand b) k → Takes taken a [] b → TakesOne taken stand b c x → InPairs taken stand a c no_pairs
+pub opens_pairs : {S : Type 0} {taken : S → List Tok → Type 0} {stand : S → TokensState} {a b c : S} {x : Tok} {k : TokenKind}
+    → k ≡ BeginObject → Peeks (stand a) (stand b) k → TakesTokens taken a [] b → TakesOne taken stand b c x → InPairs taken stand a c no_pairs
 opens_pairs {taken = taken} {stand = stand} {a = a} {b = b} {c = c} {x = x} i y z r =
     let h = subst (λ (j : TokenKind). Peeks (stand a) (stand b) j) i y in
     let e : x ≡ begin object = is_begin x (r.as_told.told BeginObject h.told) in
     record {
-      takes = subst (λ (y : Tok). Takes taken a (y ∷ []) c) e (joins z r.takes);
+      takes = subst (λ (y : Tok). TakesTokens taken a (y ∷ []) c) e (joins z r.takes);
       input = r.moves.input ∙ h.input;
-      spot = r.moves.spot ∙ ap (λ (y : Tok). after (stand b).spot y) e ∙ ap (within object) h.spot;
+      spot = r.moves.spot ∙ ap (λ (y : Tok). spot_after (stand b).spot y) e ∙ ap (spot_after_begin object) h.spot;
       left = omega (arith, h.left, r.moves.left);
       as_told = record { may = h.may; told = h.again };
     }
 
-pub begun_pairs : {S : Type 0} {taken : S → List Tok → Type 0} {stand : S → Stand} {a c : S} → TakesOne taken stand a c (begin object) → InPairs taken stand a c no_pairs
+pub begun_pairs : {S : Type 0} {taken : S → List Tok → Type 0} {stand : S → TokensState} {a c : S} → TakesOne taken stand a c (begin object) → InPairs taken stand a c no_pairs
 begun_pairs r = record { takes = r.takes; input = r.moves.input; spot = r.moves.spot; left = r.moves.left; as_told = r.as_told }
 
-pub ended_pairs : {S : Type 0} {taken : S → List Tok → Type 0} {stand : S → Stand} {a b c : S} {ps : Pairs}
+pub ended_pairs : {S : Type 0} {taken : S → List Tok → Type 0} {stand : S → TokensState} {a b c : S} {ps : Pairs}
     → InPairs taken stand a b ps → TakesOne taken stand b c (end object) → TakesTree taken stand a c (pairs ps)
 ended_pairs w r = record {
   takes = joins w.takes r.takes;
@@ -101,22 +101,22 @@ ended_pairs w r = record {
   as_told = w.as_told;
 }
 
-pub peeks_pairs : {S : Type 0} {taken : S → List Tok → Type 0} {stand : S → Stand} {a b c : S} {k : TokenKind} {ps : Pairs}
-    → InPairs taken stand a b ps → Peeks (stand b) (stand c) k → Takes taken b [] c → InPairs taken stand a c ps
+pub peeks_pairs : {S : Type 0} {taken : S → List Tok → Type 0} {stand : S → TokensState} {a b c : S} {k : TokenKind} {ps : Pairs}
+    → InPairs taken stand a b ps → Peeks (stand b) (stand c) k → TakesTokens taken b [] c → InPairs taken stand a c ps
 peeks_pairs {taken = taken} {a = a} {c = c} {ps = ps} w h z = record {
-  takes = subst (λ (xs : List Tok). Takes taken a xs c) (append-nil (begin object ∷ pairs_tokens ps)) (joins w.takes z);
+  takes = subst (λ (xs : List Tok). TakesTokens taken a xs c) (append-nil (begin object ∷ pairs_tokens ps)) (joins w.takes z);
   input = h.input ∙ w.input;
   spot = h.spot ∙ w.spot;
   left = omega (arith, w.left, h.left);
   as_told = w.as_told;
 }
 
-pub one_key : {S : Type 0} {taken : S → List Tok → Type 0} {stand : S → Stand} {a b c : S} {ps : Pairs} {k : List ℕ}
+pub one_key : {S : Type 0} {taken : S → List Tok → Type 0} {stand : S → TokensState} {a b c : S} {ps : Pairs} {k : List ℕ}
     → InPairs taken stand a b ps → TakesOne taken stand b c (key_token k) → InMember taken stand a c ps k
 one_key {k = k} w r = record {
   takes = joins w.takes r.takes;
   input = r.moves.input ∙ w.input;
-  spot = r.moves.spot ∙ ap (λ (p : Spot). after p (key_token k)) w.spot;
+  spot = r.moves.spot ∙ ap (λ (p : Spot). spot_after p (key_token k)) w.spot;
   left = omega (arith, w.left, r.moves.left);
   as_told = w.as_told;
 }
@@ -124,34 +124,34 @@ one_key {k = k} w r = record {
 member-row : (ps : Pairs) (k : List ℕ) (t : Tree) → (pairs_tokens ps ++ key_token k ∷ []) ++ tokens t ≡ pairs_tokens (join_pairs ps (pair_and k t no_pairs))
 member-row ps k t = append_assoc (pairs_tokens ps) (key_token k ∷ []) (tokens t) ∙ ap (λ (xs : List Tok). pairs_tokens ps ++ key_token k ∷ xs) (sym (append-nil (tokens t))) ∙ sym (tokens-join_pairs ps (pair_and k t no_pairs))
 
-pub one_member : {S : Type 0} {taken : S → List Tok → Type 0} {stand : S → Stand} {a b c : S} {ps : Pairs} {k : List ℕ} {t : Tree}
+pub one_member : {S : Type 0} {taken : S → List Tok → Type 0} {stand : S → TokensState} {a b c : S} {ps : Pairs} {k : List ℕ} {t : Tree}
     → InMember taken stand a b ps k → TakesTree taken stand b c t → InPairs taken stand a c (join_pairs ps (pair_and k t no_pairs))
 one_member {taken = taken} {a = a} {c = c} {ps = ps} {k = k} {t = t} w r = record {
-  takes = subst (λ (xs : List Tok). Takes taken a (begin object ∷ xs) c) (member-row ps k t) (joins w.takes r.takes);
+  takes = subst (λ (xs : List Tok). TakesTokens taken a (begin object ∷ xs) c) (member-row ps k t) (joins w.takes r.takes);
   input = r.moves.input ∙ w.input;
   spot = r.moves.spot ∙ ap behind_value w.spot;
   left = omega (arith, w.left, r.moves.left);
   as_told = w.as_told;
 }
 
-pub closes_pairs : {S : Type 0} {taken : S → List Tok → Type 0} {stand : S → Stand} {a b c d : S} {ps : Pairs} {x : Tok} {k : TokenKind}
-    → k ≡ EndObject → InPairs taken stand a b ps → Peeks (stand b) (stand c) k → Takes taken b [] c → TakesOne taken stand c d x → TakesTree taken stand a d (pairs ps)
+pub closes_pairs : {S : Type 0} {taken : S → List Tok → Type 0} {stand : S → TokensState} {a b c d : S} {ps : Pairs} {x : Tok} {k : TokenKind}
+    → k ≡ EndObject → InPairs taken stand a b ps → Peeks (stand b) (stand c) k → TakesTokens taken b [] c → TakesOne taken stand c d x → TakesTree taken stand a d (pairs ps)
 closes_pairs {taken = taken} {stand = stand} {a = a} {b = b} {c = c} {d = d} {ps = ps} {x = x} i w y z r =
     let h = subst (λ (j : TokenKind). Peeks (stand b) (stand c) j) i y in
     let v = peeks_pairs w h z in
     let e : x ≡ end object = is_end x (r.as_told.told EndObject h.told) in
     record {
-      takes = subst (λ (y : Tok). Takes taken a (begin object ∷ (pairs_tokens ps ++ y ∷ [])) d) e (joins v.takes r.takes);
+      takes = subst (λ (y : Tok). TakesTokens taken a (begin object ∷ (pairs_tokens ps ++ y ∷ [])) d) e (joins v.takes r.takes);
       moves = record {
         input = r.moves.input ∙ v.input;
-        spot = r.moves.spot ∙ ap (λ (y : Tok). after (stand c).spot y) e ∙ ap around v.spot;
+        spot = r.moves.spot ∙ ap (λ (y : Tok). spot_after (stand c).spot y) e ∙ ap around v.spot;
         told = r.moves.told;
         left = omega (arith, v.left, r.moves.left);
       };
       as_told = w.as_told;
     }
 
-pub leaves_pairs : {S : Type 0} {taken : S → List Tok → Type 0} {stand : S → Stand} {a b c : S} {ps : Pairs}
+pub leaves_pairs : {S : Type 0} {taken : S → List Tok → Type 0} {stand : S → TokensState} {a b c : S} {ps : Pairs}
     → InPairs taken stand a b ps → Leaves taken stand b c → (qs : Pairs) × TakesTree taken stand a c (pairs (join_pairs ps qs))
 leaves_pairs {taken = taken} {stand = stand} {a = a} {b = b} {c = c} {ps = ps} w r =
     let rest : (qs : Pairs) × (r.rest ≡ pairs_tokens qs ++ end object ∷ []) = subst (λ (p : Spot). Rest p r.rest) w.spot r.is_rest in
@@ -161,7 +161,7 @@ leaves_pairs {taken = taken} {stand = stand} {a = a} {b = b} {c = c} {ps = ps} w
     ∙ ap (λ (xs : List Tok). xs ++ end object ∷ []) (sym (tokens-join_pairs ps qs)) in (
       qs,
       record {
-        takes = subst (λ (xs : List Tok). Takes taken a (begin object ∷ xs) c) e (joins w.takes r.takes);
+        takes = subst (λ (xs : List Tok). TakesTokens taken a (begin object ∷ xs) c) e (joins w.takes r.takes);
         moves = record {
           input = r.moves.input ∙ w.input;
           spot = r.moves.spot ∙ ap around w.spot;
@@ -172,7 +172,7 @@ leaves_pairs {taken = taken} {stand = stand} {a = a} {b = b} {c = c} {ps = ps} w
       },
     )
 
-pub leaves_member : {S : Type 0} {taken : S → List Tok → Type 0} {stand : S → Stand} {a b c : S} {ps : Pairs} {k : List ℕ}
+pub leaves_member : {S : Type 0} {taken : S → List Tok → Type 0} {stand : S → TokensState} {a b c : S} {ps : Pairs} {k : List ℕ}
     → InMember taken stand a b ps k → Leaves taken stand b c → (t : Tree) × (qs : Pairs) × TakesTree taken stand a c (pairs (join_pairs ps (pair_and k t qs)))
 leaves_member {taken = taken} {stand = stand} {a = a} {b = b} {c = c} {ps = ps} {k = k} w r =
     let rest : (t : Tree) × (qs : Pairs) × (r.rest ≡ (tokens t ++ pairs_tokens qs) ++ end object ∷ []) = subst (λ (p : Spot). Rest p r.rest) w.spot r.is_rest in
@@ -185,7 +185,7 @@ leaves_member {taken = taken} {stand = stand} {a = a} {b = b} {c = c} {ps = ps} 
       t,
       qs,
       record {
-        takes = subst (λ (xs : List Tok). Takes taken a (begin object ∷ xs) c) e (joins w.takes r.takes);
+        takes = subst (λ (xs : List Tok). TakesTokens taken a (begin object ∷ xs) c) e (joins w.takes r.takes);
         moves = record {
           input = r.moves.input ∙ w.input;
           spot = r.moves.spot ∙ ap around w.spot;
@@ -197,7 +197,7 @@ leaves_member {taken = taken} {stand = stand} {a = a} {b = b} {c = c} {ps = ps} 
     )
 
 -- behind a member it stands in the object again
-pub in_object_again : (p q r : Spot) (k : List ℕ) → InObject p → q ≡ after p (key_token k) → r ≡ behind_value q → InObject r
+pub in_object_again : (p q r : Spot) (k : List ℕ) → InObject p → q ≡ spot_after p (key_token k) → r ≡ behind_value q → InObject r
 in_object_again top q r k i e h = absurd i
 in_object_again over q r k i e h = absurd i
 in_object_again (element c) q r k i e h = absurd i
@@ -206,31 +206,31 @@ in_object_again (key_or_end c) q r k i e h = subst (λ (s : Spot). InObject s) (
 
 -- ---- refusals
 
-abbrev Left : {S : Type 0} → (S → List Tok → Type 0) → (S → Stand) → S → S → Error → Error → Type 0
-Left taken stand c d e r = is_refusal e.code ≡ true → ((r ≡ e) × Leaves taken stand c d) ⊎ Fails (stand c) (stand d) r
+abbrev Left : {S : Type 0} → (S → List Tok → Type 0) → (S → TokensState) → S → S → Error → Error → Type 0
+Left taken stand c d e r = is_refusal e.code ≡ true → ((r ≡ e) × Leaves taken stand c d) ⊎ TokensFail (stand c) (stand d) r
 
 -- a key was refused, and then the object was left
-stop_key_at : {S : Type 0} {taken : S → List Tok → Type 0} {stand : S → Stand} {h : Tree → Reading} {a b d : S} {ps : Pairs} {k : List ℕ} {e r : Error}
+stop_key_at : {S : Type 0} {taken : S → List Tok → Type 0} {stand : S → TokensState} {h : Tree → Reading} {a b d : S} {ps : Pairs} {k : List ℕ} {e r : Error}
     → is_refusal e.code ≡ true → e ≡ refusal e.code → InMember taken stand a b ps k
-    → (((r ≡ e) × Leaves taken stand b d) ⊎ Fails (stand b) (stand d) r)
+    → (((r ≡ e) × Leaves taken stand b d) ⊎ TokensFail (stand b) (stand d) r)
     → ((t : Tree) (qs : Pairs) → h (pairs (join_pairs ps (pair_and k t qs))) ≡ refuses e.code)
-    → Stops taken stand h a d r
+    → StopsReading taken stand h a d r
 stop_key_at {taken = taken} {stand = stand} {h = h} {a = a} {d = d} p i w (inl y) q =
     let l = leaves_member w y.1 in
-    subst (λ (z : Error). Stops taken stand h a d z) (sym y.0) (refusing p i (record { tree = pairs (join_pairs _ (pair_and _ l.0 l.1)); takes = l.2; answer = q l.0 l.1 }))
+    subst (λ (z : Error). StopsReading taken stand h a d z) (sym y.0) (refusing p i (record { tree = pairs (join_pairs _ (pair_and _ l.0 l.1)); takes = l.2; answer = q l.0 l.1 }))
 stop_key_at p i w (inr y) q = giving_up (record { input = y.input ∙ w.input; no_refusal = y.no_refusal; cause = inr y.failed })
 
-pub stop_key : {S : Type 0} {taken : S → List Tok → Type 0} {stand : S → Stand} {h : Tree → Reading} {a b d : S} {ps : Pairs} {k : List ℕ} {e r : Error}
+pub stop_key : {S : Type 0} {taken : S → List Tok → Type 0} {stand : S → TokensState} {h : Tree → Reading} {a b d : S} {ps : Pairs} {k : List ℕ} {e r : Error}
     → is_refusal e.code ≡ true → e ≡ refusal e.code → InMember taken stand a b ps k → Left taken stand b d e r
     → ((t : Tree) (qs : Pairs) → h (pairs (join_pairs ps (pair_and k t qs))) ≡ refuses e.code)
-    → Stops taken stand h a d r
+    → StopsReading taken stand h a d r
 stop_key p i w l q = stop_key_at p i w (l p) q
 
 -- a value was refused, or the source failed, and then the object was left
-pub refused_member : {S : Type 0} {taken : S → List Tok → Type 0} {stand : S → Stand} {f h : Tree → Reading} {a b c d : S} {ps : Pairs} {k : List ℕ} {x : ErrorCode}
-    → InMember taken stand a b ps k → Reads taken stand f b c (refuses x) → Leaves taken stand c d
+pub refused_member : {S : Type 0} {taken : S → List Tok → Type 0} {stand : S → TokensState} {f h : Tree → Reading} {a b c d : S} {ps : Pairs} {k : List ℕ} {x : ErrorCode}
+    → InMember taken stand a b ps k → ReadsTree taken stand f b c (refuses x) → Leaves taken stand c d
     → ((t : Tree) (qs : Pairs) → f t ≡ refuses x → h (pairs (join_pairs ps (pair_and k t qs))) ≡ refuses x)
-    → Reads taken stand h a d (refuses x)
+    → ReadsTree taken stand h a d (refuses x)
 refused_member {taken = taken} {stand = stand} {a = a} {d = d} {ps = ps} {k = k} w r l q =
     let p = leaves_pairs (one_member w r.takes) l in
     let e : join_pairs (join_pairs ps (pair_and k r.tree no_pairs)) p.0 ≡ join_pairs ps (pair_and k r.tree p.0) = join-join_pairs ps (pair_and k r.tree no_pairs) p.0 in
@@ -240,45 +240,45 @@ refused_member {taken = taken} {stand = stand} {a = a} {d = d} {ps = ps} {k = k}
       answer = q r.tree p.0 r.answer;
     }
 
-stop_member_at : {S : Type 0} {taken : S → List Tok → Type 0} {stand : S → Stand} {f h : Tree → Reading} {a b c d : S} {ps : Pairs} {k : List ℕ} {e r : Error}
-    → (v : Bool) → is_refusal e.code ≡ v → InMember taken stand a b ps k → Stops taken stand f b c e → Left taken stand c d e r
+stop_member_at : {S : Type 0} {taken : S → List Tok → Type 0} {stand : S → TokensState} {f h : Tree → Reading} {a b c d : S} {ps : Pairs} {k : List ℕ} {e r : Error}
+    → (v : Bool) → is_refusal e.code ≡ v → InMember taken stand a b ps k → StopsReading taken stand f b c e → Left taken stand c d e r
     → (is_refusal e.code ≡ false → (r ≡ e) × (d ≡ c))
     → ((t : Tree) (qs : Pairs) → f t ≡ refuses e.code → h (pairs (join_pairs ps (pair_and k t qs))) ≡ refuses e.code)
-    → Stops taken stand h a d r
+    → StopsReading taken stand h a d r
 stop_member_at {taken = taken} {stand = stand} {h = h} {a = a} {c = c} {d = d} {e = e} {r = r} true p w s l k q =
     let x = s.refused p in
     elim (l p) [
-      | inl y ↦ subst (λ (z : Error). Stops taken stand h a d z) (sym y.0) (refusing p x.0 (refused_member w x.1 y.1 q))
+      | inl y ↦ subst (λ (z : Error). StopsReading taken stand h a d z) (sym y.0) (refusing p x.0 (refused_member w x.1 y.1 q))
       | inr y ↦ giving_up (record { input = y.input ∙ x.1.takes.moves.input ∙ w.input; no_refusal = y.no_refusal; cause = inr y.failed })
     ]
 stop_member_at {S = S} {taken = taken} {stand = stand} {h = h} {a = a} {c = c} {d = d} {e = e} {r = r} false p w s l k q =
     let x = s.gave_up p in
     let y = k p in
-    let u : Stops taken stand h a c e = giving_up (record { input = x.input ∙ w.input; no_refusal = x.no_refusal; cause = x.cause }) in
-    subst (λ (z : Error). Stops taken stand h a d z) (sym y.0) (subst (λ (z : S). Stops taken stand h a z e) (sym y.1) u)
+    let u : StopsReading taken stand h a c e = giving_up (record { input = x.input ∙ w.input; no_refusal = x.no_refusal; cause = x.cause }) in
+    subst (λ (z : Error). StopsReading taken stand h a d z) (sym y.0) (subst (λ (z : S). StopsReading taken stand h a z e) (sym y.1) u)
 
-pub stop_member : {S : Type 0} {taken : S → List Tok → Type 0} {stand : S → Stand} {f h : Tree → Reading} {a b c d : S} {ps : Pairs} {k : List ℕ} {e r : Error}
-    → InMember taken stand a b ps k → Stops taken stand f b c e → Left taken stand c d e r
+pub stop_member : {S : Type 0} {taken : S → List Tok → Type 0} {stand : S → TokensState} {f h : Tree → Reading} {a b c d : S} {ps : Pairs} {k : List ℕ} {e r : Error}
+    → InMember taken stand a b ps k → StopsReading taken stand f b c e → Left taken stand c d e r
     → (is_refusal e.code ≡ false → (r ≡ e) × (d ≡ c))
     → ((t : Tree) (qs : Pairs) → f t ≡ refuses e.code → h (pairs (join_pairs ps (pair_and k t qs))) ≡ refuses e.code)
-    → Stops taken stand h a d r
+    → StopsReading taken stand h a d r
 stop_member {e = e} = stop_member_at (is_refusal e.code) refl
 
-stop_key_when : {S : Type 0} {taken : S → List Tok → Type 0} {stand : S → Stand} {says : List ℕ → Type 0} {f : List ℕ → Reading} {h : Tree → Reading} {a b d : S} {ps : Pairs} {k : List ℕ} {e r : Error}
-    → (v : Bool) → is_refusal e.code ≡ v → InMember taken stand a b ps k → KeyRefused says f e → says k → Left taken stand b d e r
+stop_key_when : {S : Type 0} {taken : S → List Tok → Type 0} {stand : S → TokensState} {says : List ℕ → Type 0} {f : List ℕ → Reading} {h : Tree → Reading} {a b d : S} {ps : Pairs} {k : List ℕ} {e r : Error}
+    → (v : Bool) → is_refusal e.code ≡ v → InMember taken stand a b ps k → KeyReadingFails says f e → says k → Left taken stand b d e r
     → (is_refusal e.code ≡ false → (r ≡ e) × (d ≡ b))
     → ((t : Tree) (qs : Pairs) → f k ≡ refuses e.code → h (pairs (join_pairs ps (pair_and k t qs))) ≡ refuses e.code)
-    → Stops taken stand h a d r
+    → StopsReading taken stand h a d r
 stop_key_when {k = k} true p w s y l i q = let x = s.refused p in stop_key p x.0 w l (λ t qs. q t qs (x.1 k y))
 stop_key_when {S = S} {taken = taken} {stand = stand} {h = h} {a = a} {b = b} {d = d} {e = e} {r = r} false p w s y l i q =
     let x = i p in
-    let u : Stops taken stand h a b e = giving_up (record { input = w.input; no_refusal = p; cause = inl (s.gave_up p) }) in
-    subst (λ (z : Error). Stops taken stand h a d z) (sym x.0) (subst (λ (z : S). Stops taken stand h a z e) (sym x.1) u)
+    let u : StopsReading taken stand h a b e = giving_up (record { input = w.input; no_refusal = p; cause = inl (s.gave_up p) }) in
+    subst (λ (z : Error). StopsReading taken stand h a d z) (sym x.0) (subst (λ (z : S). StopsReading taken stand h a z e) (sym x.1) u)
 
 -- no key was made, and then the object was left
-pub stop_key_of : {S : Type 0} {taken : S → List Tok → Type 0} {stand : S → Stand} {says : List ℕ → Type 0} {f : List ℕ → Reading} {h : Tree → Reading} {a b d : S} {ps : Pairs} {k : List ℕ} {e r : Error}
-    → InMember taken stand a b ps k → KeyRefused says f e → says k → Left taken stand b d e r
+pub stop_key_of : {S : Type 0} {taken : S → List Tok → Type 0} {stand : S → TokensState} {says : List ℕ → Type 0} {f : List ℕ → Reading} {h : Tree → Reading} {a b d : S} {ps : Pairs} {k : List ℕ} {e r : Error}
+    → InMember taken stand a b ps k → KeyReadingFails says f e → says k → Left taken stand b d e r
     → (is_refusal e.code ≡ false → (r ≡ e) × (d ≡ b))
     → ((t : Tree) (qs : Pairs) → f k ≡ refuses e.code → h (pairs (join_pairs ps (pair_and k t qs))) ≡ refuses e.code)
-    → Stops taken stand h a d r
+    → StopsReading taken stand h a d r
 stop_key_of {e = e} = stop_key_when (is_refusal e.code) refl

@@ -8,8 +8,8 @@ use Rattle.json_number.specs.Integers.{integer_in}
 use Rattle.json_data.specs.declared.token.TokenKind.{TokenKind}
 use Rattle.json_data.specs.declared.token.TokenKind.TheVariants as kind
 use Rattle.json_data.specs.Kinds.{kind_of, first_kind, number_kind}
-use Rattle.json_data.specs.Spots.{Spot, top, over, element, key_or_end, member, behind_value, around, after, MayCome, begins_value, IsOpen}
-use Rattle.json_data.specs.Stand.{Stand, Takes, Peeks, TakesTree, TakesOne, Leaves, Rest, FirstIs, WantsValueAt}
+use Rattle.json_data.specs.Spots.{Spot, top, over, element, key_or_end, member, behind_value, around, spot_after, KindMayCome, begins_value, IsOpen}
+use Rattle.json_data.specs.Stand.{TokensState, TakesTokens, Peeks, TakesTree, TakesOne, Leaves, Rest, FirstIs, WantsValueAt}
 use Rattle.json_data.proofs.Steps.{joins, scalar}
 
 -- from p the tokens lead to a spot in the same container
@@ -42,17 +42,17 @@ First [] o k = o ≡ Some k
 First (x ∷ xs) o k = kind_of x ≡ k
 
 -- what was passed between a and b
-pub record Passed {S : Type 0} (taken : S → List Tok → Type 0) (stand : S → Stand) (a b : S) : Type 0 where
+pub record Passed {S : Type 0} (taken : S → List Tok → Type 0) (stand : S → TokensState) (a b : S) : Type 0 where
   pub xs : List Tok
   pub path : Passing (stand a).spot xs (stand b).spot
   pub open_there : IsOpen (stand b).spot
-  pub takes : Takes taken a xs b
+  pub takes : TakesTokens taken a xs b
   pub input : (stand b).input ≡ (stand a).input
   pub unfailed : (stand b).failed ≡ None
   pub left : (stand b).left ≤ (stand a).left
   pub first : (k : TokenKind) → (stand a).told ≡ Some k → First xs (stand b).told k
 
-pub passed_none : {S : Type 0} {taken : S → List Tok → Type 0} {stand : S → Stand} (a : S) → IsOpen (stand a).spot → (stand a).failed ≡ None → Passed taken stand a a
+pub passed_none : {S : Type 0} {taken : S → List Tok → Type 0} {stand : S → TokensState} (a : S) → IsOpen (stand a).spot → (stand a).failed ≡ None → Passed taken stand a a
 passed_none {taken = taken} a o u = record {
   xs = [];
   path = here;
@@ -65,15 +65,15 @@ passed_none {taken = taken} a o u = record {
 }
 
 -- a told token is taken
-pub peek_one : {S : Type 0} {taken : S → List Tok → Type 0} {stand : S → Stand} {a b c : S} {k : TokenKind} {x : Tok}
-    → Peeks (stand a) (stand b) k → Takes taken a [] b → TakesOne taken stand b c x → TakesOne taken stand a c x × (kind_of x ≡ k)
+pub peek_one : {S : Type 0} {taken : S → List Tok → Type 0} {stand : S → TokensState} {a b c : S} {k : TokenKind} {x : Tok}
+    → Peeks (stand a) (stand b) k → TakesTokens taken a [] b → TakesOne taken stand b c x → TakesOne taken stand a c x × (kind_of x ≡ k)
 peek_one {taken = taken} {stand = stand} {a = a} {b = b} {c = c} {k = k} {x = x} h z r =
     let e : kind_of x ≡ k = r.as_told.told k h.told in
     let m = r.moves in (
       record {
         takes = joins z r.takes;
-        moves = record { input = m.input ∙ h.input; spot = m.spot ∙ ap (λ (p : Spot). after p x) h.spot; told = m.told; left = omega (arith, h.left, m.left) };
-        as_told = record { may = subst (λ (i : TokenKind). MayCome (stand a).spot i) (sym e) h.may; told = λ i t. e ∙ h.again i t };
+        moves = record { input = m.input ∙ h.input; spot = m.spot ∙ ap (λ (p : Spot). spot_after p x) h.spot; told = m.told; left = omega (arith, h.left, m.left) };
+        as_told = record { may = subst (λ (i : TokenKind). KindMayCome (stand a).spot i) (sym e) h.may; told = λ i t. e ∙ h.again i t };
       },
       e,
     )
@@ -106,7 +106,7 @@ value_first (text s) = (λ e. cc, λ e. cc)
 value_first (list ts) = (λ e. cc, λ e. cc)
 value_first (pairs ps) = (λ e. cc, λ e. cc)
 
-key_kinds : (c : List Kind) (k : TokenKind) → MayCome (key_or_end c) k → (k ≡ kind.Key) ⊎ (k ≡ kind.EndObject)
+key_kinds : (c : List Kind) (k : TokenKind) → KindMayCome (key_or_end c) k → (k ≡ kind.Key) ⊎ (k ≡ kind.EndObject)
 key_kinds c kind.Key e = inl refl
 key_kinds c kind.EndObject e = inr refl
 key_kinds c kind.Null e = absurd (cc)
@@ -118,7 +118,7 @@ key_kinds c kind.BeginArray e = absurd (cc)
 key_kinds c kind.EndArray e = absurd (cc)
 key_kinds c kind.BeginObject e = absurd (cc)
 
-value_path : {p : Spot} {xs : List Tok} (q : Spot) → Passing p xs q → IsOpen q → (t : Tree) → MayCome q (first_kind t) → Passing p (xs ++ tokens t) (behind_value q) × IsOpen (behind_value q)
+value_path : {p : Spot} {xs : List Tok} (q : Spot) → Passing p xs q → IsOpen q → (t : Tree) → KindMayCome q (first_kind t) → Passing p (xs ++ tokens t) (behind_value q) × IsOpen (behind_value q)
 value_path top h o t m = absurd o
 value_path over h o t m = absurd o
 value_path (element c) h o t m = (one_element h t, tt)
@@ -130,7 +130,7 @@ value_path (key_or_end c) h o t m = absurd (no_value (key_kinds c (first_kind t)
 value_path (member c) h o t m = (one_member h t, tt)
 
 -- a tree more
-pub passed_tree : {S : Type 0} {taken : S → List Tok → Type 0} {stand : S → Stand} {a b c : S} {t : Tree} → Passed taken stand a b → TakesTree taken stand b c t → (stand c).failed ≡ None → Passed taken stand a c
+pub passed_tree : {S : Type 0} {taken : S → List Tok → Type 0} {stand : S → TokensState} {a b c : S} {t : Tree} → Passed taken stand a b → TakesTree taken stand b c t → (stand c).failed ≡ None → Passed taken stand a c
 passed_tree {taken = taken} {stand = stand} {a = a} {b = b} {c = c} {t = t} w r u =
     let m = r.moves in
     let h = value_path (stand b).spot w.path w.open_there t r.as_told.may in
@@ -145,7 +145,7 @@ passed_tree {taken = taken} {stand = stand} {a = a} {b = b} {c = c} {t = t} w r 
       first = λ k e. first_more (w.xs ++ tokens t) (stand c).told k (first_append w.xs (tokens t) (stand b).told k (w.first k e) (λ f. subst (FirstIs (tokens t)) (r.as_told.told k f) (first_tree t)));
     }
 
-key_path : {p : Spot} {xs : List Tok} (q : Spot) → Passing p xs q → (s : List ℕ) → MayCome q kind.Key → Passing p (xs ++ key_token s ∷ []) (after q (key_token s)) × IsOpen (after q (key_token s))
+key_path : {p : Spot} {xs : List Tok} (q : Spot) → Passing p xs q → (s : List ℕ) → KindMayCome q kind.Key → Passing p (xs ++ key_token s ∷ []) (spot_after q (key_token s)) × IsOpen (spot_after q (key_token s))
 key_path top h s m = absurd (cc)
 key_path over h s m = absurd (cc)
 key_path (element c) h s m = absurd (cc)
@@ -153,7 +153,7 @@ key_path (key_or_end c) h s m = (one_key h s, tt)
 key_path (member c) h s m = absurd (cc)
 
 -- a key more
-passed_key : {S : Type 0} {taken : S → List Tok → Type 0} {stand : S → Stand} {a b c : S} {s : List ℕ} → Passed taken stand a b → TakesOne taken stand b c (key_token s) → (stand c).failed ≡ None → Passed taken stand a c
+passed_key : {S : Type 0} {taken : S → List Tok → Type 0} {stand : S → TokensState} {a b c : S} {s : List ℕ} → Passed taken stand a b → TakesOne taken stand b c (key_token s) → (stand c).failed ≡ None → Passed taken stand a c
 passed_key {taken = taken} {stand = stand} {a = a} {b = b} {c = c} {s = s} w r u =
     let m = r.moves in
     let h = key_path (stand b).spot w.path s r.as_told.may in
@@ -169,7 +169,7 @@ passed_key {taken = taken} {stand = stand} {a = a} {b = b} {c = c} {s = s} w r u
     }
 
 -- a token that is no bracket
-pub passed_one : {S : Type 0} {taken : S → List Tok → Type 0} {stand : S → Stand} {a b c : S} (x : Tok) → Passed taken stand a b → TakesOne taken stand b c x
+pub passed_one : {S : Type 0} {taken : S → List Tok → Type 0} {stand : S → TokensState} {a b c : S} (x : Tok) → Passed taken stand a b → TakesOne taken stand b c x
     → kind_of x ≢ kind.BeginArray → kind_of x ≢ kind.BeginObject → kind_of x ≢ kind.EndArray → kind_of x ≢ kind.EndObject → (stand c).failed ≡ None → Passed taken stand a c
 passed_one null_token w r f g i j u = passed_tree w (scalar null null_token refl refl refl refl r) u
 passed_one (boolean_token b) w r f g i j u = passed_tree w (scalar (boolean b) (boolean_token b) refl refl refl refl r) u
@@ -182,7 +182,7 @@ passed_one (end object) w r f g i j u = absurd (j refl)
 passed_one (key_token s) w r f g i j u = passed_key w r u
 
 -- a container, whole
-pub whole_container : {S : Type 0} {taken : S → List Tok → Type 0} {stand : S → Stand} {a b c : S} (x : Tok) → (kind_of x ≡ kind.BeginArray) ⊎ (kind_of x ≡ kind.BeginObject) → TakesOne taken stand a b x → Leaves taken stand b c
+pub whole_container : {S : Type 0} {taken : S → List Tok → Type 0} {stand : S → TokensState} {a b c : S} (x : Tok) → (kind_of x ≡ kind.BeginArray) ⊎ (kind_of x ≡ kind.BeginObject) → TakesOne taken stand a b x → Leaves taken stand b c
     → (t : Tree) × TakesTree taken stand a c t
 whole_container {taken = taken} {stand = stand} {a = a} {b = b} {c = c} (begin array) e r l =
     let m = r.moves in
@@ -190,7 +190,7 @@ whole_container {taken = taken} {stand = stand} {a = a} {b = b} {c = c} (begin a
     let i : (ts : Trees) × (l.rest ≡ trees_tokens ts ++ end array ∷ []) = subst (λ (p : Spot). Rest p l.rest) m.spot l.is_rest in (
       list i.0,
       record {
-        takes = subst (λ (ys : List Tok). Takes taken a (begin array ∷ ys) c) i.1 (joins r.takes l.takes);
+        takes = subst (λ (ys : List Tok). TakesTokens taken a (begin array ∷ ys) c) i.1 (joins r.takes l.takes);
         moves = record { input = n.input ∙ m.input; spot = n.spot ∙ ap around m.spot; told = n.told; left = omega (arith, m.left, n.left) };
         as_told = r.as_told;
       },
@@ -201,7 +201,7 @@ whole_container {taken = taken} {stand = stand} {a = a} {b = b} {c = c} (begin o
     let i : (ps : Pairs) × (l.rest ≡ pairs_tokens ps ++ end object ∷ []) = subst (λ (p : Spot). Rest p l.rest) m.spot l.is_rest in (
       pairs i.0,
       record {
-        takes = subst (λ (ys : List Tok). Takes taken a (begin object ∷ ys) c) i.1 (joins r.takes l.takes);
+        takes = subst (λ (ys : List Tok). TakesTokens taken a (begin object ∷ ys) c) i.1 (joins r.takes l.takes);
         moves = record { input = n.input ∙ m.input; spot = n.spot ∙ ap around m.spot; told = n.told; left = omega (arith, m.left, n.left) };
         as_told = r.as_told;
       },
@@ -227,7 +227,7 @@ whole_container (key_token s) (inl e) r l = absurd (cc)
 whole_container (key_token s) (inr e) r l = absurd (cc)
 
 -- a bracket that opens leads within
-pub begun_open : (x : Tok) (p : Spot) → (kind_of x ≡ kind.BeginArray) ⊎ (kind_of x ≡ kind.BeginObject) → IsOpen (after p x)
+pub begun_open : (x : Tok) (p : Spot) → (kind_of x ≡ kind.BeginArray) ⊎ (kind_of x ≡ kind.BeginObject) → IsOpen (spot_after p x)
 begun_open (begin array) p e = tt
 begun_open (begin object) p e = tt
 begun_open null_token p (inl e) = absurd (cc)
@@ -251,7 +251,7 @@ begun_open (key_token s) p (inl e) = absurd (cc)
 begun_open (key_token s) p (inr e) = absurd (cc)
 
 -- the end comes
-end_rest : (q : Spot) (x : Tok) → (kind_of x ≡ kind.EndArray) ⊎ (kind_of x ≡ kind.EndObject) → MayCome q (kind_of x) → Rest q (x ∷ []) × (after q x ≡ around q)
+end_rest : (q : Spot) (x : Tok) → (kind_of x ≡ kind.EndArray) ⊎ (kind_of x ≡ kind.EndObject) → KindMayCome q (kind_of x) → Rest q (x ∷ []) × (spot_after q x ≡ around q)
 end_rest (element c) (end array) e m = ((no_trees, refl), refl)
 end_rest (key_or_end c) (end object) e m = ((no_pairs, refl), refl)
 end_rest top (end array) e m = absurd (cc)
@@ -282,7 +282,7 @@ end_rest q (begin object) (inr e) m = absurd (cc)
 end_rest q (key_token s) (inl e) m = absurd (cc)
 end_rest q (key_token s) (inr e) m = absurd (cc)
 
-pub passed_end : {S : Type 0} {taken : S → List Tok → Type 0} {stand : S → Stand} {a b c : S} (x : Tok) → (kind_of x ≡ kind.EndArray) ⊎ (kind_of x ≡ kind.EndObject) → Passed taken stand a b → TakesOne taken stand b c x
+pub passed_end : {S : Type 0} {taken : S → List Tok → Type 0} {stand : S → TokensState} {a b c : S} (x : Tok) → (kind_of x ≡ kind.EndArray) ⊎ (kind_of x ≡ kind.EndObject) → Passed taken stand a b → TakesOne taken stand b c x
     → Leaves taken stand a c
 passed_end {taken = taken} {stand = stand} {a = a} {b = b} {c = c} x e w r =
     let m = r.moves in
@@ -297,7 +297,7 @@ passed_end {taken = taken} {stand = stand} {a = a} {b = b} {c = c} x e w r =
 
 -- ---- one value
 
-pub wants : (p : Spot) (o : Option TokenKind) (k : TokenKind) → WantsValueAt p o → MayCome p k → ((j : TokenKind) → o ≡ Some j → k ≡ j) → begins_value k ≡ true
+pub wants : (p : Spot) (o : Option TokenKind) (k : TokenKind) → WantsValueAt p o → KindMayCome p k → ((j : TokenKind) → o ≡ Some j → k ≡ j) → begins_value k ≡ true
 wants top o k w m t = m
 wants over o k w m t = absurd w
 wants (element c) (Some j) k w m t = subst (λ (i : TokenKind). begins_value i ≡ true) (sym (t j refl)) w
@@ -305,7 +305,7 @@ wants (element c) None k w m t = absurd w
 wants (key_or_end c) o k w m t = absurd w
 wants (member c) o k w m t = m
 
-pub whole_scalar : {S : Type 0} {taken : S → List Tok → Type 0} {stand : S → Stand} {a c : S} (x : Tok) → TakesOne taken stand a c x
+pub whole_scalar : {S : Type 0} {taken : S → List Tok → Type 0} {stand : S → TokensState} {a c : S} (x : Tok) → TakesOne taken stand a c x
     → kind_of x ≢ kind.BeginArray → kind_of x ≢ kind.BeginObject → begins_value (kind_of x) ≡ true → (t : Tree) × TakesTree taken stand a c t
 whole_scalar null_token r f g b = (null, scalar null null_token refl refl refl refl r)
 whole_scalar (boolean_token v) r f g b = (boolean v, scalar (boolean v) (boolean_token v) refl refl refl refl r)

@@ -11,34 +11,34 @@ use Rattle.json_number.specs.Integers.{integer_in}
 use Rattle.json_data.specs.declared.token.TokenKind.{TokenKind}
 use Rattle.json_data.specs.declared.token.TokenKind.TheVariants as kind
 use Rattle.json_data.specs.Kinds.{kind_of, number_kind}
-use Rattle.json_data.specs.Spots.{Spot, top, over, element, key_or_end, member, opened_of, behind, behind_value, within, around, after, after_all, may_come, begins_value, allowed}
-use Rattle.json_data.specs.Text.{spot_of, value_spot, before}
+use Rattle.json_data.specs.Spots.{Spot, top, over, element, key_or_end, member, opened_of, spot_after_value, behind_value, spot_after_begin, around, spot_after, spot_after_all, may_come, begins_value, allowed}
+use Rattle.json_data.specs.Text.{spot_at_place, value_spot, before}
 
 -- ---- spots
 
-pub after_append : (p : Spot) (xs ys : List Tok) → after_all p (xs ++ ys) ≡ after_all (after_all p xs) ys
+pub after_append : (p : Spot) (xs ys : List Tok) → spot_after_all p (xs ++ ys) ≡ spot_after_all (spot_after_all p xs) ys
 after_append p [] ys = refl
-after_append p (x ∷ xs) ys = after_append (after p x) xs ys
+after_append p (x ∷ xs) ys = after_append (spot_after p x) xs ys
 
 both : {a b : Bool} → a ≡ true → b ≡ true → a && b ≡ true
 both {a} {b} e f = rw (e, f)
 
-pub allowed_append : (p : Spot) (xs ys : List Tok) → allowed p xs ≡ true → allowed (after_all p xs) ys ≡ true → allowed p (xs ++ ys) ≡ true
+pub allowed_append : (p : Spot) (xs ys : List Tok) → allowed p xs ≡ true → allowed (spot_after_all p xs) ys ≡ true → allowed p (xs ++ ys) ≡ true
 allowed_append p [] ys e f = f
-allowed_append p (x ∷ xs) ys e f = let h = parts (may_come p (kind_of x)) (allowed (after p x) xs) e in both h.0 (allowed_append (after p x) xs ys h.1 f)
+allowed_append p (x ∷ xs) ys e f = let h = parts (may_come p (kind_of x)) (allowed (spot_after p x) xs) e in both h.0 (allowed_append (spot_after p x) xs ys h.1 f)
   where
     parts : (a b : Bool) → a && b ≡ true → (a ≡ true) × (b ≡ true)
     parts true true e = (refl, refl)
     parts true false e = absurd (cc)
     parts false b e = absurd (cc)
 
-pub allowed_last : (p : Spot) (xs : List Tok) (x : Tok) → allowed p (xs ++ x ∷ []) ≡ true → may_come (after_all p xs) (kind_of x) ≡ true
+pub allowed_last : (p : Spot) (xs : List Tok) (x : Tok) → allowed p (xs ++ x ∷ []) ≡ true → may_come (spot_after_all p xs) (kind_of x) ≡ true
 allowed_last p [] x e = first_part (may_come p (kind_of x)) e
   where
     first_part : (a : Bool) → a && true ≡ true → a ≡ true
     first_part true e = refl
     first_part false e = absurd (cc)
-allowed_last p (y ∷ ys) x e = allowed_last (after p y) ys x (second_part (may_come p (kind_of y)) _ e)
+allowed_last p (y ∷ ys) x e = allowed_last (spot_after p y) ys x (second_part (may_come p (kind_of y)) _ e)
   where
     second_part : (a b : Bool) → a && b ≡ true → b ≡ true
     second_part true b e = e
@@ -70,7 +70,7 @@ number_begins (Some n) = refl
 
 mutual
   -- a whole tree leads behind a value
-  pub after_tree : (p : Spot) (t : Tree) → after_all p (tokens t) ≡ behind_value p
+  pub after_tree : (p : Spot) (t : Tree) → spot_after_all p (tokens t) ≡ behind_value p
   after_tree p null = refl
   after_tree p (boolean b) = refl
   after_tree p (num l) = refl
@@ -78,13 +78,13 @@ mutual
   after_tree p (list ts) = after_append (element (opened_of p)) (trees_tokens ts) (end array ∷ []) ∙ ap around (after_trees (opened_of p) ts)
   after_tree p (pairs ps) = after_append (key_or_end (opened_of p)) (pairs_tokens ps) (end object ∷ []) ∙ ap around (after_pairs (opened_of p) ps)
 
-  after_trees : (c : List Kind) (ts : Trees) → after_all (element c) (trees_tokens ts) ≡ element c
+  after_trees : (c : List Kind) (ts : Trees) → spot_after_all (element c) (trees_tokens ts) ≡ element c
   after_trees c no_trees = refl
-  after_trees c (tree_and t ts) = after_append (element c) (tokens t) (trees_tokens ts) ∙ ap (λ (q : Spot). after_all q (trees_tokens ts)) (after_tree (element c) t) ∙ after_trees c ts
+  after_trees c (tree_and t ts) = after_append (element c) (tokens t) (trees_tokens ts) ∙ ap (λ (q : Spot). spot_after_all q (trees_tokens ts)) (after_tree (element c) t) ∙ after_trees c ts
 
-  after_pairs : (c : List Kind) (ps : Pairs) → after_all (key_or_end c) (pairs_tokens ps) ≡ key_or_end c
+  after_pairs : (c : List Kind) (ps : Pairs) → spot_after_all (key_or_end c) (pairs_tokens ps) ≡ key_or_end c
   after_pairs c no_pairs = refl
-  after_pairs c (pair_and k t ps) = after_append (member c) (tokens t) (pairs_tokens ps) ∙ ap (λ (q : Spot). after_all q (pairs_tokens ps)) (after_tree (member c) t) ∙ after_pairs c ps
+  after_pairs c (pair_and k t ps) = after_append (member c) (tokens t) (pairs_tokens ps) ∙ ap (λ (q : Spot). spot_after_all q (pairs_tokens ps)) (after_tree (member c) t) ∙ after_pairs c ps
 
 mutual
   pub allowed_tree : (p : Spot) (t : Tree) → Begins p → allowed p (tokens t) ≡ true
@@ -115,7 +115,7 @@ mutual
 
 -- ---- the places of a text
 
-pub opened_spot : (w : Place) (c : List Kind) → opened_of (spot_of w c) ≡ c
+pub opened_spot : (w : Place) (c : List Kind) → opened_of (spot_at_place w c) ≡ c
 opened_spot at_value [] = refl
 opened_spot first [] = refl
 opened_spot at_key [] = refl
@@ -130,22 +130,22 @@ opened_spot key_or_close (object ∷ c) = refl
 opened_spot colon (object ∷ c) = refl
 opened_spot done (object ∷ c) = refl
 
-done_spot : (c : List Kind) → spot_of done c ≡ behind c
+done_spot : (c : List Kind) → spot_at_place done c ≡ spot_after_value c
 done_spot [] = refl
 done_spot (array ∷ c) = refl
 done_spot (object ∷ c) = refl
 
 -- behind a comma, and behind a colon
-comma_spot : (k : Kind) (c : List Kind) → spot_of (after_comma k) (k ∷ c) ≡ spot_of done (k ∷ c)
+comma_spot : (k : Kind) (c : List Kind) → spot_at_place (after_comma k) (k ∷ c) ≡ spot_at_place done (k ∷ c)
 comma_spot array c = refl
 comma_spot object c = refl
 
-colon_spot : (c : List Kind) → spot_of at_value c ≡ spot_of colon c
+colon_spot : (c : List Kind) → spot_at_place at_value c ≡ spot_at_place colon c
 colon_spot [] = refl
 colon_spot (array ∷ c) = refl
 colon_spot (object ∷ c) = refl
 
-open_spot : (k : Kind) (w : Place) (c : List Kind) → spot_of (opened k) (k ∷ c) ≡ within k (spot_of w c)
+open_spot : (k : Kind) (w : Place) (c : List Kind) → spot_at_place (opened k) (k ∷ c) ≡ spot_after_begin k (spot_at_place w c)
 open_spot array w c = ap element (sym (opened_spot w c))
 open_spot object w c = ap key_or_end (sym (opened_spot w c))
 
@@ -154,7 +154,7 @@ by takes_key n m = n refl
 by takes_key_or_end n m = m refl
 
 -- a key may come in an object alone
-key_in : {lossy : Bool} {p : List ℕ} {c : List Kind} {w : Place} {ts : List Tok} → reading lossy p c w ts → TakesKey w → (d : List Kind) × (c ≡ object ∷ d) × (spot_of w c ≡ key_or_end d)
+key_in : {lossy : Bool} {p : List ℕ} {c : List Kind} {w : Place} {ts : List Tok} → reading lossy p c w ts → TakesKey w → (d : List Kind) × (c ≡ object ∷ d) × (spot_at_place w c ≡ key_or_end d)
 key_in (start h) k = absurd (by k (λ e. cc) (λ e. cc))
 key_in (open_one array h t q) k = absurd (by k (λ e. cc) (λ e. cc))
 key_in (open_one {c = c} object h t q) k = (c, refl, refl)
@@ -165,27 +165,27 @@ key_in (read_key s h n q) k = absurd (by k (λ e. cc) (λ e. cc))
 key_in (read_colon h q) k = absurd (by k (λ e. cc) (λ e. cc))
 
 -- the spot is that behind the tokens
-pub at_spot : {lossy : Bool} {p : List ℕ} {c : List Kind} {w : Place} {ts : List Tok} → reading lossy p c w ts → spot_of w c ≡ after_all top ts
+pub at_spot : {lossy : Bool} {p : List ℕ} {c : List Kind} {w : Place} {ts : List Tok} → reading lossy p c w ts → spot_at_place w c ≡ spot_after_all top ts
 at_spot (start h) = refl
-at_spot (open_one {c = c} {w = w} {ts = ts} k h t q) = open_spot k w c ∙ ap (within k) (at_spot h) ∙ sym (after_append top ts (begin k ∷ []))
+at_spot (open_one {c = c} {w = w} {ts = ts} k h t q) = open_spot k w c ∙ ap (spot_after_begin k) (at_spot h) ∙ sym (after_append top ts (begin k ∷ []))
 at_spot (read_value {c = c} {w = w} {ts = ts} t h n q) =
-    done_spot c ∙ ap behind (sym (opened_spot w c)) ∙ ap behind_value (at_spot h) ∙ sym (after_tree (after_all top ts) t) ∙ sym (after_append top ts (tokens t))
+    done_spot c ∙ ap spot_after_value (sym (opened_spot w c)) ∙ ap behind_value (at_spot h) ∙ sym (after_tree (spot_after_all top ts) t) ∙ sym (after_append top ts (tokens t))
 at_spot (read_comma {c = c} k h q) = comma_spot k c ∙ at_spot h
 at_spot (read_key {c = c} {w = w} {ts = ts} s h n q) =
     let k = key_in h n in
-    let e : after (after_all top ts) (key_token s) ≡ member k.0 = ap (λ (q : Spot). after q (key_token s)) (sym (at_spot h) ∙ k.2) in
-    ap (spot_of colon) k.1 ∙ sym e ∙ sym (after_append top ts (key_token s ∷ []))
+    let e : spot_after (spot_after_all top ts) (key_token s) ≡ member k.0 = ap (λ (q : Spot). spot_after q (key_token s)) (sym (at_spot h) ∙ k.2) in
+    ap (spot_at_place colon) k.1 ∙ sym e ∙ sym (after_append top ts (key_token s ∷ []))
 at_spot (read_colon {c = c} h q) = colon_spot c ∙ at_spot h
 
 -- a value may begin there
-value_begins : {lossy : Bool} {p : List ℕ} {c : List Kind} {w : Place} {ts : List Tok} → reading lossy p c w ts → TakesValue w → Begins (spot_of w c)
+value_begins : {lossy : Bool} {p : List ℕ} {c : List Kind} {w : Place} {ts : List Tok} → reading lossy p c w ts → TakesValue w → Begins (spot_at_place w c)
 value_begins h takes_at_value = at_value_begins _
   where
-    at_value_begins : (c : List Kind) → Begins (spot_of at_value c)
+    at_value_begins : (c : List Kind) → Begins (spot_at_place at_value c)
     at_value_begins [] = at_top
     at_value_begins (array ∷ c) = in_array
     at_value_begins (object ∷ c) = in_member
-value_begins {c = c} h takes_first = let e = first_in h refl in subst (λ (d : List Kind). Begins (spot_of first d)) (sym e.1) in_array
+value_begins {c = c} h takes_first = let e = first_in h refl in subst (λ (d : List Kind). Begins (spot_at_place first d)) (sym e.1) in_array
 
 -- each token may come where it stands
 pub comes : {lossy : Bool} {p : List ℕ} {c : List Kind} {w : Place} {ts : List Tok} → reading lossy p c w ts → allowed top ts ≡ true
@@ -193,10 +193,10 @@ comes (start h) = refl
 comes (open_one {ts = ts} k h t q) =
     allowed_append top ts (begin k ∷ []) (comes h) (both (opens_there k) refl)
   where
-    opens_there : (k : Kind) → may_come (after_all top ts) (kind_of (begin k)) ≡ true
+    opens_there : (k : Kind) → may_come (spot_after_all top ts) (kind_of (begin k)) ≡ true
     opens_there array = value_kind (subst Begins (at_spot h) (value_begins h t)) kind.BeginArray refl
     opens_there object = value_kind (subst Begins (at_spot h) (value_begins h t)) kind.BeginObject refl
-comes (read_value {ts = ts} t h n q) = allowed_append top ts (tokens t) (comes h) (allowed_tree (after_all top ts) t (subst Begins (at_spot h) (value_begins h n)))
+comes (read_value {ts = ts} t h n q) = allowed_append top ts (tokens t) (comes h) (allowed_tree (spot_after_all top ts) t (subst Begins (at_spot h) (value_begins h n)))
 comes (read_comma k h q) = comes h
 comes (read_key {ts = ts} s h n q) =
     let k = key_in h n in
@@ -205,7 +205,7 @@ comes (read_colon h q) = comes h
 
 -- ---- the spot before a token, from the containers that are open behind it
 
-opened_behind : (c : List Kind) → opened_of (behind c) ≡ c
+opened_behind : (c : List Kind) → opened_of (spot_after_value c) ≡ c
 opened_behind [] = refl
 opened_behind (array ∷ c) = refl
 opened_behind (object ∷ c) = refl
@@ -226,7 +226,7 @@ scalar_before (key_or_end c) kind.BeginObject f e = absurd (cc)
 scalar_before (key_or_end c) kind.EndObject f e = absurd (cc)
 scalar_before (member c) k f e = f
 
-pub before_after : (p : Spot) (x : Tok) → may_come p (kind_of x) ≡ true → before (kind_of x) (opened_of (after p x)) ≡ p
+pub before_after : (p : Spot) (x : Tok) → may_come p (kind_of x) ≡ true → before (kind_of x) (opened_of (spot_after p x)) ≡ p
 before_after p null_token e = scalar_before p kind.Null refl e
 before_after p (boolean_token b) e = scalar_before p kind.Bool refl e
 before_after p (num_token l) e = number_before (integer_in l) e

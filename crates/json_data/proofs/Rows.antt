@@ -7,7 +7,7 @@ use Rattle.std.specs.BTreeMap.{insert_entry}
 use Rattle.json_grammar.specs.Tree.{Tree, Pairs, no_pairs, pair_and}
 use Rattle.json_model.specs.Datum.{Datum, rows_datum, Rows, no_rows, row_and, list_rows, row_of}
 use Rattle.json_text.specs.declared.error.ErrorCode.{ErrorCode}
-use Rattle.json_data.specs.Reading.{Reading, gives, refuses, key_cmp, put, row_step, rows_from}
+use Rattle.json_data.specs.Reading.{Reading, gives, refuses, key_cmp, insert_row, row_step, rows_from}
 use Rattle.json_data.proofs.Pairs.{join_pairs}
 
 -- the rows of a map's entries
@@ -18,7 +18,7 @@ step_join : (a b : Reading) (k l : Rows → Reading) (rs es : Rows) (x : Reading
     → ((r : Rows) → k r ≡ gives (rows_datum es) → l r ≡ x) → row_step a b l rs ≡ x
 step_join (refuses c) b k l rs es x e h = absurd (cc)
 step_join (gives d) (refuses c) k l rs es x e h = absurd (cc)
-step_join (gives d) (gives v) k l rs es x e h = h (put d v rs) e
+step_join (gives d) (gives v) k l rs es x e h = h (insert_row d v rs) e
 
 pub rows-join : (f : List ℕ → Reading) (h : Tree → Reading) (ps qs : Pairs) (rs es : Rows) → rows_from f h rs ps ≡ gives (rows_datum es) → rows_from f h rs (join_pairs ps qs) ≡ rows_from f h es qs
 rows-join f h no_pairs qs rs es e = let i : rs ≡ es = cc in ap (λ (r : Rows). rows_from f h r qs) i
@@ -26,7 +26,7 @@ rows-join f h (pair_and k t ps) qs rs es e =
     step_join (f k) (h t) (λ r. rows_from f h r ps) (λ r. rows_from f h r (join_pairs ps qs)) rs es (rows_from f h es qs) e (λ r i. rows-join f h ps qs r es i)
 
 pub rows-more : (f : List ℕ → Reading) (h : Tree → Reading) (ps : Pairs) (k : List ℕ) (t : Tree) (d v : Datum) (es : Rows)
-    → rows_from f h no_rows ps ≡ gives (rows_datum es) → f k ≡ gives d → h t ≡ gives v → rows_from f h no_rows (join_pairs ps (pair_and k t no_pairs)) ≡ gives (rows_datum (put d v es))
+    → rows_from f h no_rows ps ≡ gives (rows_datum es) → f k ≡ gives d → h t ≡ gives v → rows_from f h no_rows (join_pairs ps (pair_and k t no_pairs)) ≡ gives (rows_datum (insert_row d v es))
 rows-more f h ps k t d v es e i j = rows-join f h ps (pair_and k t no_pairs) no_rows es e ∙ rw (i, j)
 
 pub rows-stop_key : (f : List ℕ → Reading) (h : Tree → Reading) (ps : Pairs) (k : List ℕ) (t : Tree) (qs : Pairs) (c : ErrorCode) (es : Rows)
@@ -64,12 +64,12 @@ put-texts {K} {V} cmp t f (e ∷ es) k v h i = by (cmp k e.0) (put-texts cmp t f
 
 -- what a map does with an entry is what the rows do
 pub rows-put : {K V : Type 0} (cmp : K → K → Ordering) (t : List ℕ → Reading) (f : K → Datum) (h : V → Datum) → Orders cmp t f → (es : List (K × V)) (k : K) (v : V) → OfText t f k → OfTexts t f es
-    → rows_of f h (insert_entry cmp es k v) ≡ put (f k) (h v) (rows_of f h es)
+    → rows_of f h (insert_entry cmp es k v) ≡ insert_row (f k) (h v) (rows_of f h es)
 rows-put cmp t f h o [] k v x y = refl
 rows-put cmp t f h o (e ∷ es) k v x y = by (cmp k e.0) (o k e.0 x.0 y.0.0 x.1 y.0.1) (rows-put cmp t f h o es k v x y.1)
   where
-    by : (r : Ordering) → r ≡ key_cmp (f k) (f e.0) → rows_of f h (insert_entry cmp es k v) ≡ put (f k) (h v) (rows_of f h es)
-        → rows_of f h (match_ordering r ((k, v) ∷ e ∷ es) ((e.0, v) ∷ es) (e ∷ insert_entry cmp es k v)) ≡ put (f k) (h v) (row_and (f e.0) (h e.1) (rows_of f h es))
-    by Less i j = chosen (row_and (f k) (h v) (row_and (f e.0) (h e.1) (rows_of f h es))) (row_and (f e.0) (h v) (rows_of f h es)) (row_and (f e.0) (h e.1) (put (f k) (h v) (rows_of f h es))) i
-    by Equal i j = chosen (row_and (f k) (h v) (row_and (f e.0) (h e.1) (rows_of f h es))) (row_and (f e.0) (h v) (rows_of f h es)) (row_and (f e.0) (h e.1) (put (f k) (h v) (rows_of f h es))) i
-    by Greater i j = ap (λ (rs : Rows). row_and (f e.0) (h e.1) rs) j ∙ chosen (row_and (f k) (h v) (row_and (f e.0) (h e.1) (rows_of f h es))) (row_and (f e.0) (h v) (rows_of f h es)) (row_and (f e.0) (h e.1) (put (f k) (h v) (rows_of f h es))) i
+    by : (r : Ordering) → r ≡ key_cmp (f k) (f e.0) → rows_of f h (insert_entry cmp es k v) ≡ insert_row (f k) (h v) (rows_of f h es)
+        → rows_of f h (match_ordering r ((k, v) ∷ e ∷ es) ((e.0, v) ∷ es) (e ∷ insert_entry cmp es k v)) ≡ insert_row (f k) (h v) (row_and (f e.0) (h e.1) (rows_of f h es))
+    by Less i j = chosen (row_and (f k) (h v) (row_and (f e.0) (h e.1) (rows_of f h es))) (row_and (f e.0) (h v) (rows_of f h es)) (row_and (f e.0) (h e.1) (insert_row (f k) (h v) (rows_of f h es))) i
+    by Equal i j = chosen (row_and (f k) (h v) (row_and (f e.0) (h e.1) (rows_of f h es))) (row_and (f e.0) (h v) (rows_of f h es)) (row_and (f e.0) (h e.1) (insert_row (f k) (h v) (rows_of f h es))) i
+    by Greater i j = ap (λ (rs : Rows). row_and (f e.0) (h e.1) rs) j ∙ chosen (row_and (f k) (h v) (row_and (f e.0) (h e.1) (rows_of f h es))) (row_and (f e.0) (h v) (rows_of f h es)) (row_and (f e.0) (h e.1) (insert_row (f k) (h v) (rows_of f h es))) i

@@ -8,11 +8,11 @@ use Rattle.json_doc.specs.Readings.{string_of}
 use Rattle.json_model.specs.Datum.{Datum}
 use Rattle.json_value.specs.EditTrees.{both, each_in, step_in, path_in, edit_named, edit_in}
 use Rattle.json_value.specs.Seen.{list_of}
-use Rattle.json_data.specs.Reader.{Stops}
+use Rattle.json_data.specs.Reader.{StopsReading}
 use Rattle.json_data.specs.Refusals.{is_refusal}
 use Rattle.json_data.specs.ReadingValues.{spelled}
 use Rattle.json_data.specs.Spelled.{Unspelled}
-use Rattle.json_data.specs.Stand.{Stand, TakesTree}
+use Rattle.json_data.specs.Stand.{TokensState, TakesTree}
 use Rattle.json_data.proofs.Exits.{mismatch, giving_up}
 
 none_some : {A : Type 0} {x : A} → None ≡ Some x → ⊥
@@ -151,7 +151,7 @@ edit_unknown name (q ∷ k ∷ u ∷ t ∷ ts) s i p r = refl
 -- ---- a value that was taken
 
 -- it spells none, or memory ran out
-pub stops_unspelled : {S A : Type 0} {taken : S → List Tok → Type 0} {stand : S → Stand} {a b : S} {t : Tree} {e : Error} (f : A → Datum) (g : Tree → Option A)
-    → TakesTree taken stand a b t → Unspelled (g t) e → Stops taken stand (λ u. spelled f (g u)) a b e
+pub stops_unspelled : {S A : Type 0} {taken : S → List Tok → Type 0} {stand : S → TokensState} {a b : S} {t : Tree} {e : Error} (f : A → Datum) (g : Tree → Option A)
+    → TakesTree taken stand a b t → Unspelled (g t) e → StopsReading taken stand (λ u. spelled f (g u)) a b e
 stops_unspelled f g h (inl m) = giving_up (record { input = h.moves.input; no_refusal = ap (λ (i : Error). is_refusal i.code) m; cause = inl m })
 stops_unspelled f g h (inr (m, n)) = mismatch m h (ap (spelled f) n)

@@ -8,24 +8,24 @@ use Rattle.json_grammar.specs.Tree.{Tree, Token as Tok, tokens, begin, end, null
 use Rattle.json_grammar.specs.declared.Kind.TheVariants.{Array as array, Object as object}
 use Rattle.json_data.specs.Kinds.{kind_of, first_kind, number_kind}
 use Rattle.json_number.specs.Integers.{integer_in}
-use Rattle.json_data.specs.Spots.{Spot, behind_value, after, MayCome}
-use Rattle.json_data.specs.Stand.{Stand, Takes, Peeks, Moves, AsTold, TakesTree, TakesOne}
+use Rattle.json_data.specs.Spots.{Spot, behind_value, spot_after, KindMayCome}
+use Rattle.json_data.specs.Stand.{TokensState, TakesTokens, Peeks, Moves, AsTold, TakesTree, TakesOne}
 
-pub joins : {S : Type 0} {taken : S → List Tok → Type 0} {a b c : S} {xs ys : List Tok} → Takes taken a xs b → Takes taken b ys c → Takes taken a (xs ++ ys) c
+pub joins : {S : Type 0} {taken : S → List Tok → Type 0} {a b c : S} {xs ys : List Tok} → TakesTokens taken a xs b → TakesTokens taken b ys c → TakesTokens taken a (xs ++ ys) c
 joins {taken = taken} {c = c} {xs = xs} {ys = ys} h k = record { on = λ ts p. subst (λ (zs : List Tok). taken c zs) (append_assoc ts xs ys) (k.on (ts ++ xs) (h.on ts p)) }
 
-pub told_before : {a b : Stand} {k j : TokenKind} → Peeks a b k → AsTold b j → AsTold a j
+pub told_before : {a b : TokensState} {k j : TokenKind} → Peeks a b k → AsTold b j → AsTold a j
 told_before {a = a} {k = k} {j = j} p q = let e : j ≡ k = q.told k p.told in record {
-  may = subst (λ (i : TokenKind). MayCome a.spot i) (sym e) p.may;
+  may = subst (λ (i : TokenKind). KindMayCome a.spot i) (sym e) p.may;
   told = λ i h. e ∙ p.again i h;
 }
 
-pub peek_moves : {a b c : Stand} {k : TokenKind} {p : Spot} → Peeks a b k → Moves b c p → Moves a c p
+pub peek_moves : {a b c : TokensState} {k : TokenKind} {p : Spot} → Peeks a b k → Moves b c p → Moves a c p
 peek_moves h m = record { input = m.input ∙ h.input; spot = m.spot; told = m.told; left = omega (arith, h.left, m.left) }
 
 -- a kind was told, and then a tree was taken
-pub peek_tree : {S : Type 0} {taken : S → List Tok → Type 0} {stand : S → Stand} {a b c : S} {k : TokenKind} {t : Tree}
-    → Peeks (stand a) (stand b) k → Takes taken a [] b → TakesTree taken stand b c t → TakesTree taken stand a c t
+pub peek_tree : {S : Type 0} {taken : S → List Tok → Type 0} {stand : S → TokensState} {a b c : S} {k : TokenKind} {t : Tree}
+    → Peeks (stand a) (stand b) k → TakesTokens taken a [] b → TakesTree taken stand b c t → TakesTree taken stand a c t
 peek_tree {taken = taken} {stand = stand} {a = a} {b = b} {c = c} {t = t} h z r = record {
   takes = joins z r.takes;
   moves = subst (λ (p : Spot). Moves (stand a) (stand c) (behind_value p)) h.spot (peek_moves h r.moves);
@@ -33,32 +33,32 @@ peek_tree {taken = taken} {stand = stand} {a = a} {b = b} {c = c} {t = t} h z r 
 }
 
 -- and then one token
-pub peek_one : {S : Type 0} {taken : S → List Tok → Type 0} {stand : S → Stand} {a b c : S} {k : TokenKind} {x : Tok}
-    → Peeks (stand a) (stand b) k → Takes taken a [] b → TakesOne taken stand b c x → TakesOne taken stand a c x
+pub peek_one : {S : Type 0} {taken : S → List Tok → Type 0} {stand : S → TokensState} {a b c : S} {k : TokenKind} {x : Tok}
+    → Peeks (stand a) (stand b) k → TakesTokens taken a [] b → TakesOne taken stand b c x → TakesOne taken stand a c x
 peek_one {stand = stand} {a = a} {c = c} {x = x} h z r = record {
   takes = joins z r.takes;
-  moves = subst (λ (p : Spot). Moves (stand a) (stand c) (after p x)) h.spot (peek_moves h r.moves);
+  moves = subst (λ (p : Spot). Moves (stand a) (stand c) (spot_after p x)) h.spot (peek_moves h r.moves);
   as_told = told_before h r.as_told;
 }
 
 -- nothing was taken before
-pub from_same : {S : Type 0} {taken : S → List Tok → Type 0} {stand : S → Stand} {a b c : S} {t : Tree}
+pub from_same : {S : Type 0} {taken : S → List Tok → Type 0} {stand : S → TokensState} {a b c : S} {t : Tree}
     → b ≡ a → TakesTree taken stand b c t → TakesTree taken stand a c t
 from_same {S = S} {taken = taken} {stand = stand} {c = c} {t = t} e r = subst (λ (s : S). TakesTree taken stand s c t) e r
 
 -- the tree that was taken begins as was told
-pub peek_kind : {S : Type 0} {taken : S → List Tok → Type 0} {stand : S → Stand} {b c : S} {a : Stand} {k : TokenKind} {t : Tree}
+pub peek_kind : {S : Type 0} {taken : S → List Tok → Type 0} {stand : S → TokensState} {b c : S} {a : TokensState} {k : TokenKind} {t : Tree}
     → Peeks a (stand b) k → TakesTree taken stand b c t → first_kind t ≡ k
 peek_kind {k = k} h r = r.as_told.told k h.told
 
 -- a tree of one token
-pub scalar : {S : Type 0} {taken : S → List Tok → Type 0} {stand : S → Stand} {b c : S} {x : Tok} (t : Tree) (y : Tok)
-    → x ≡ y → tokens t ≡ y ∷ [] → kind_of y ≡ first_kind t → after (stand b).spot y ≡ behind_value (stand b).spot
+pub scalar : {S : Type 0} {taken : S → List Tok → Type 0} {stand : S → TokensState} {b c : S} {x : Tok} (t : Tree) (y : Tok)
+    → x ≡ y → tokens t ≡ y ∷ [] → kind_of y ≡ first_kind t → spot_after (stand b).spot y ≡ behind_value (stand b).spot
     → TakesOne taken stand b c x → TakesTree taken stand b c t
 scalar {taken = taken} {stand = stand} {b = b} {c = c} t y i e k p q =
     let r = subst (λ (z : Tok). TakesOne taken stand b c z) i q in
     record {
-      takes = subst (λ (xs : List Tok). Takes taken b xs c) (sym e) r.takes;
+      takes = subst (λ (xs : List Tok). TakesTokens taken b xs c) (sym e) r.takes;
       moves = subst (λ (q : Spot). Moves (stand b) (stand c) q) p r.moves;
       as_told = subst (λ (j : TokenKind). AsTold (stand b) j) k r.as_told;
     }

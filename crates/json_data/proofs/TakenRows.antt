@@ -13,7 +13,7 @@ use Rattle.json_grammar.proofs.Numbers.{stops}
 use Rattle.json_grammar.proofs.Reading.{events_begin, one_place}
 use Rattle.json_text.specs.declared.event.Event.{Event}
 use Rattle.json_text.specs.Parsing.{ParserState, HasGiven}
-use Rattle.json_data.specs.Text.{TextState, TakenBefore, text_taken}
+use Rattle.json_data.specs.Text.{TextTokensState, TakenBefore, text_taken}
 use Rattle.json_data.specs.Values.{value_state, value_taken, rest_of}
 use Rattle.json_data.specs.declared.value_tokens.ValueTokens.{ValueTokens}
 use Rattle.json_data.proofs.Events.{given_reading}
@@ -62,10 +62,10 @@ taken_begins (Some e) p ts (x, m, h) =
     let g = given_begins p (ts ++ x ∷ []) h in
     (g.0, x ∷ g.1, g.2 ∙ append_assoc ts (x ∷ []) g.1)
 
-pub text_one : (s : TextState) (ts us : List Tok) → text_taken s ts → text_taken s us → ts ≡ us
+pub text_one : (s : TextTokensState) (ts us : List Tok) → text_taken s ts → text_taken s us → ts ≡ us
 text_one s ts us h k = taken_one s.ahead s.parser ts us h k
 
-pub text_begins : (s : TextState) (ts : List Tok) → text_taken s ts → (t : Tree) × (rest : List Tok) × (tokens t ≡ ts ++ rest)
+pub text_begins : (s : TextTokensState) (ts : List Tok) → text_taken s ts → (t : Tree) × (rest : List Tok) × (tokens t ≡ ts ++ rest)
 text_begins s ts h = taken_begins s.ahead s.parser ts h
 
 -- ---- a value

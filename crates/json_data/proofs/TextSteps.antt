@@ -18,29 +18,29 @@ use Rattle.json_text.proofs.Stands.{stood_spaced, stood_whole, misplaced_fault}
 use Rattle.json_text.specs.Parsing.{ParserState, input, taken, HasGiven, IsWhole, HasRead}
 use Rattle.json_data.specs.declared.token.TokenKind.{TokenKind}
 use Rattle.json_data.specs.Kinds.{kind_of}
-use Rattle.json_data.specs.Spots.{Spot, top, over, after, after_all, MayCome}
-use Rattle.json_data.specs.Stand.{Takes, Peeks, TakesOne}
-use Rattle.json_data.specs.Text.{TextState, TakenBefore, text_taken, text_stand, event_kind, place_of, ReadsAhead, HasFault, HasReadValue}
+use Rattle.json_data.specs.Spots.{Spot, top, over, spot_after, spot_after_all, KindMayCome}
+use Rattle.json_data.specs.Stand.{TakesTokens, Peeks, TakesOne}
+use Rattle.json_data.specs.Text.{TextTokensState, TakenBefore, text_taken, text_tokens_state, event_kind, parser_spot, ReadsAhead, HasFault, HasReadValue}
 use Rattle.json_doc.proofs.ValueRecording.{means_one}
 use Rattle.json_data.proofs.Places.{after_append}
 use Rattle.json_data.proofs.Events.{place_is, spot_back, same_kind, over_whole}
 
 -- an event was read ahead
 pub takes_none : (p q : ParserState) (f g : Option Error) (e : Event) → ReadsAhead p e q
-    → Takes text_taken (record { parser = p; ahead = None; failed = f }) [] (record { parser = q; ahead = Some e; failed = g })
+    → TakesTokens text_taken (record { parser = p; ahead = None; failed = f }) [] (record { parser = q; ahead = Some e; failed = g })
 takes_none p q f g e r = record {
   on = λ ts h. let g = r.goes ts h in (g.0, g.1, subst (λ (us : List Tok). HasGiven q (us ++ g.0 ∷ [])) (sym (append-nil ts)) g.2);
 }
 
 -- the event that was read ahead is taken
-pub takes_next : (a : TextState) (p : ParserState) (f : Option Error) (e : Event) (k : TokenKind) → (ts : List Tok) × TakenBefore (Some e) p ts
-    → Peeks (text_stand a) (text_stand (record { parser = p; ahead = Some e; failed = f })) k → Takes text_taken a [] (record { parser = p; ahead = Some e; failed = f })
-    → (x : Tok) × Means e x × TakesOne text_taken text_stand a (record { parser = p; ahead = None; failed = f }) x
+pub takes_next : (a : TextTokensState) (p : ParserState) (f : Option Error) (e : Event) (k : TokenKind) → (ts : List Tok) × TakenBefore (Some e) p ts
+    → Peeks (text_tokens_state a) (text_tokens_state (record { parser = p; ahead = Some e; failed = f })) k → TakesTokens text_taken a [] (record { parser = p; ahead = Some e; failed = f })
+    → (x : Tok) × Means e x × TakesOne text_taken text_tokens_state a (record { parser = p; ahead = None; failed = f }) x
 takes_next a p f e k i h z =
     let x = i.1.0 in
     let m = i.1.1 in
     let g = i.1.2 in
-    let s : (text_stand a).spot ≡ after_all top i.0 = sym h.spot ∙ spot_back p e i.0 x m g in
+    let s : (text_tokens_state a).spot ≡ spot_after_all top i.0 = sym h.spot ∙ spot_back p e i.0 x m g in
     let n : Some (event_kind e) ≡ Some k = h.told in
     let j : k ≡ kind_of x = let u : event_kind e ≡ k = cc in sym u ∙ sym (same_kind e x m) in (
       x,
@@ -54,11 +54,11 @@ takes_next a p f e k i h z =
         };
         moves = record {
           input = h.input;
-          spot = place_is p (i.0 ++ x ∷ []) g ∙ after_append top i.0 (x ∷ []) ∙ ap (λ (q : Spot). after q x) (sym s);
+          spot = place_is p (i.0 ++ x ∷ []) g ∙ after_append top i.0 (x ∷ []) ∙ ap (λ (q : Spot). spot_after q x) (sym s);
           told = refl;
           left = let l = h.left in omega arith;
         };
-        as_told = record { may = subst (λ (i : TokenKind). MayCome (text_stand a).spot i) j h.may; told = λ o t. sym j ∙ h.again o t };
+        as_told = record { may = subst (λ (i : TokenKind). KindMayCome (text_tokens_state a).spot i) j h.may; told = λ o t. sym j ∙ h.again o t };
       },
     )
 
@@ -74,18 +74,18 @@ no_again None r k q h i = tt
 no_again (Some e) r k q h i = absurd (cc)
 
 -- behind a value that was taken no event waits
-pub none_waits : (p : ParserState) (o : Option Event) (f : Option Error) → (text_stand (record { parser = p; ahead = o; failed = f })).told ≡ None → o ≡ None
+pub none_waits : (p : ParserState) (o : Option Event) (f : Option Error) → (text_tokens_state (record { parser = p; ahead = o; failed = f })).told ≡ None → o ≡ None
 none_waits p None f t = refl
 none_waits p (Some e) f t = absurd (cc)
 
 -- behind a value that was taken
-pub has_read_value : (p : ParserState) (o : Option Event) (f : Option Error) → (text_stand (record { parser = p; ahead = o; failed = f })).spot ≡ over
-    → (text_stand (record { parser = p; ahead = o; failed = f })).told ≡ None → (IsWhole p → HasRead p) → HasReadValue (record { parser = p; ahead = o; failed = f })
+pub has_read_value : (p : ParserState) (o : Option Event) (f : Option Error) → (text_tokens_state (record { parser = p; ahead = o; failed = f })).spot ≡ over
+    → (text_tokens_state (record { parser = p; ahead = o; failed = f })).told ≡ None → (IsWhole p → HasRead p) → HasReadValue (record { parser = p; ahead = o; failed = f })
 has_read_value p (Some a) f s t r = absurd (cc)
 has_read_value p None f s t r = r (over_whole p s)
 
 -- behind a value and whitespace
-spaced_to : (p : ParserState) (ts : List Tok) (k : ℕ) → HasGiven p ts → place_of p ≡ over → p.start ≤ p.index → ComesNext p k → Stood p.lossy p.limit (input p) (k - p.start) p.open_kinds done ts
+spaced_to : (p : ParserState) (ts : List Tok) (k : ℕ) → HasGiven p ts → parser_spot p ≡ over → p.start ≤ p.index → ComesNext p k → Stood p.lossy p.limit (input p) (k - p.start) p.open_kinds done ts
 spaced_to p ts k g o s n =
     let w = over_whole p o in
     let h : Stood p.lossy p.limit (input p) (taken p) p.open_kinds done ts = subst (λ (q : Place). Stood p.lossy p.limit (input p) (taken p) p.open_kinds q ts) w.0 g in
@@ -97,13 +97,13 @@ spaced_to p ts k g o s n =
     stood_spaced p.lossy p.limit (input p) (taken p) (k - p.start) p.open_kinds done ts h (omega arith) (omega (arith, length-drop p.start p.text)) (subst ws (sym e) n.space)
 
 -- where only whitespace is left, it is a text
-pub whole_text : (p : ParserState) (ts : List Tok) → HasGiven p ts → place_of p ≡ over → p.start ≤ p.index → NothingLeft p → (t : Tree) × is_text p.lossy t (input p) × (ts ≡ tokens t) × (depth t ≤ p.limit)
+pub whole_text : (p : ParserState) (ts : List Tok) → HasGiven p ts → parser_spot p ≡ over → p.start ≤ p.index → NothingLeft p → (t : Tree) × is_text p.lossy t (input p) × (ts ≡ tokens t) × (depth t ≤ p.limit)
 whole_text p ts g o s n =
     let from = n.order in
     stood_whole p.lossy p.limit (input p) (length p.text - p.start) p.open_kinds ts (spaced_to p ts (length p.text) g o s n) (over_whole p o).1 (sym (length-drop p.start p.text))
 
 -- and else the next byte is its fault
-pub trailing_fault : (p : ParserState) (ts : List Tok) (e : Error) → HasGiven p ts → place_of p ≡ over → p.start ≤ p.index → TrailsAt p e → FaultFrom p.lossy p.limit p.start p.text e.code e.place
+pub trailing_fault : (p : ParserState) (ts : List Tok) (e : Error) → HasGiven p ts → parser_spot p ≡ over → p.start ≤ p.index → TrailsAt p e → FaultFrom p.lossy p.limit p.start p.text e.code e.place
 trailing_fault p ts e g o s t =
     let k = t.at - p.start in
     let from = t.next.order in

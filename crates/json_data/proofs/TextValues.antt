@@ -6,7 +6,7 @@ use Rattle.json_grammar.specs.Tree.{Tree, Token as Tok, null_token, boolean_toke
 use Rattle.json_doc.specs.declared.doc.Doc.{Doc}
 use Rattle.json_doc.specs.Docs.{IsDocOf, doc_tree, doc_root, doc_cells, doc_text}
 use Rattle.json_doc.proofs.Trees.{spelled}
-use Rattle.json_doc.specs.OneValue.{BeginsValue, HandedOut, ReadsValue, RefusesValue}
+use Rattle.json_doc.specs.OneValue.{TokenBeginsValue, HandedOut, ReadsValue, RefusesValue}
 use Rattle.json_doc.proofs.ValueRecording.{means_one}
 use Rattle.json_text.specs.declared.error.Error.{Error}
 use Rattle.json_text.specs.declared.event.Event.{Event}
@@ -14,16 +14,16 @@ use Rattle.json_text.specs.Errors.{no_memory}
 use Rattle.json_text.specs.Parsing.{ParserState, HasGiven, SameInput}
 use Rattle.json_data.specs.declared.token.TokenKind.{TokenKind}
 use Rattle.json_data.specs.Kinds.{kind_of, first_kind}
-use Rattle.json_data.specs.Spots.{top, behind_value, after_all, begins_value, MayCome}
-use Rattle.json_data.specs.Stand.{over_text, WantsValueAt, FirstIs, Takes, Peeks, TakesTree}
-use Rattle.json_data.specs.Text.{TextState, TakenBefore, text_taken, text_stand, event_kind, TextFails}
+use Rattle.json_data.specs.Spots.{top, behind_value, spot_after_all, begins_value, KindMayCome}
+use Rattle.json_data.specs.Stand.{over_text, WantsValueAt, FirstIs, TakesTokens, Peeks, TakesTree}
+use Rattle.json_data.specs.Text.{TextTokensState, TakenBefore, text_taken, text_tokens_state, event_kind, TextFails}
 use Rattle.json_data.proofs.Places.{after_append, after_tree}
 use Rattle.json_data.proofs.Events.{place_is, spot_back, same_kind}
 use Rattle.json_data.proofs.Passing.{first_tree, wants}
 use Rattle.json_data.proofs.ValueFaults.{has_fault}
 
 -- a token of such a kind is no name and no end
-begins_one : (x : Tok) → begins_value (kind_of x) ≡ true → BeginsValue x
+begins_one : (x : Tok) → begins_value (kind_of x) ≡ true → TokenBeginsValue x
 begins_one null_token e = tt
 begins_one (boolean_token b) e = tt
 begins_one (num_token l) e = tt
@@ -34,26 +34,26 @@ begins_one (end object) e = absurd (cc)
 begins_one (key_token s) e = absurd (cc)
 
 -- where a value is wanted, the event that was told begins one
-pub handed_out : (a : TextState) (p : ParserState) (e : Event) (k : TokenKind) (f : Option Error) → (ts : List Tok) × TakenBefore (Some e) p ts → p.failure ≡ None
-    → WantsValueAt (text_stand a).spot (text_stand a).told → Peeks (text_stand a) (text_stand (record { parser = p; ahead = Some e; failed = f })) k → HandedOut p e
+pub handed_out : (a : TextTokensState) (p : ParserState) (e : Event) (k : TokenKind) (f : Option Error) → (ts : List Tok) × TakenBefore (Some e) p ts → p.failure ≡ None
+    → WantsValueAt (text_tokens_state a).spot (text_tokens_state a).told → Peeks (text_tokens_state a) (text_tokens_state (record { parser = p; ahead = Some e; failed = f })) k → HandedOut p e
 handed_out a p e k f (ts, (x, m, g)) n w h =
     let i : event_kind e ≡ k = let u : Some (event_kind e) ≡ Some k = h.told in cc in
     record {
       token = x;
       means = m;
-      begins = begins_one x (ap begins_value (same_kind e x m ∙ i) ∙ wants (text_stand a).spot (text_stand a).told k w h.may h.again);
+      begins = begins_one x (ap begins_value (same_kind e x m ∙ i) ∙ wants (text_tokens_state a).spot (text_tokens_state a).told k w h.may h.again);
       before = ts;
       given = g;
       unfailed = n;
     }
 
 -- the tokens of the tree were taken, the one that was told among them
-pub takes_value : (a : TextState) (p q : ParserState) (f g : Option Error) (e : Event) (k : TokenKind) (t : Tree) → (ts : List Tok) × TakenBefore (Some e) p ts
-    → Peeks (text_stand a) (text_stand (record { parser = p; ahead = Some e; failed = f })) k → Takes text_taken a [] (record { parser = p; ahead = Some e; failed = f })
-    → SameInput p q → p.index ≤ q.index → ReadsValue p e t q → TakesTree text_taken text_stand a (record { parser = q; ahead = None; failed = g }) t
+pub takes_value : (a : TextTokensState) (p q : ParserState) (f g : Option Error) (e : Event) (k : TokenKind) (t : Tree) → (ts : List Tok) × TakenBefore (Some e) p ts
+    → Peeks (text_tokens_state a) (text_tokens_state (record { parser = p; ahead = Some e; failed = f })) k → TakesTokens text_taken a [] (record { parser = p; ahead = Some e; failed = f })
+    → SameInput p q → p.index ≤ q.index → ReadsValue p e t q → TakesTree text_taken text_tokens_state a (record { parser = q; ahead = None; failed = g }) t
 takes_value a p q f g e k t (us, (x, m, i)) h z same order r =
     let inputs : over_text q.text q.start q.lossy q.limit ≡ over_text p.text p.start p.lossy p.limit = rw (same.text, same.start, same.lossy, same.limit) in
-    let s : (text_stand a).spot ≡ after_all top us = sym h.spot ∙ spot_back p e us x m i in
+    let s : (text_tokens_state a).spot ≡ spot_after_all top us = sym h.spot ∙ spot_back p e us x m i in
     let on : (ts : List Tok) → TakenBefore (Some e) p ts → HasGiven q (ts ++ tokens t) = λ ts b.
     r.goes ts (subst (λ (y : Tok). HasGiven p (ts ++ y ∷ [])) (means_one e b.0 r.token b.1 r.means) b.2) in
     let j : first_kind t ≡ k =
@@ -62,11 +62,11 @@ takes_value a p q f g e k t (us, (x, m, i)) h z same order r =
       takes = record { on = λ ts b. on ts (subst (TakenBefore (Some e) p) (append-nil ts) (z.on ts b)) };
       moves = record {
         input = inputs ∙ h.input;
-        spot = place_is q (us ++ tokens t) (on us (x, m, i)) ∙ after_append top us (tokens t) ∙ after_tree (after_all top us) t ∙ ap behind_value (sym s);
+        spot = place_is q (us ++ tokens t) (on us (x, m, i)) ∙ after_append top us (tokens t) ∙ after_tree (spot_after_all top us) t ∙ ap behind_value (sym s);
         told = refl;
         left = let l = h.left in omega (arith, ap length same.text);
       };
-      as_told = record { may = subst (λ (i : TokenKind). MayCome (text_stand a).spot i) (sym j) h.may; told = λ o b. j ∙ h.again o b };
+      as_told = record { may = subst (λ (i : TokenKind). KindMayCome (text_tokens_state a).spot i) (sym j) h.may; told = λ o b. j ∙ h.again o b };
     }
 
 -- why a value was not packed

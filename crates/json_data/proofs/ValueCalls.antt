@@ -9,7 +9,7 @@ use Rattle.json_text.specs.declared.error.Place.{Place}
 use Rattle.json_text.specs.declared.error.Place.TheVariants as place
 use Rattle.json_data.specs.declared.value_tokens.ValueTokens.{ValueTokens}
 use Rattle.json_data.specs.Reading.{Reading, refuses}
-use Rattle.json_data.specs.Reader.{Reads, Stops}
+use Rattle.json_data.specs.Reader.{ReadsTree, StopsReading}
 use Rattle.json_data.specs.Refusals.{is_refusal}
 use Rattle.json_data.specs.Stand.{WantsValue, over_tree}
 use Rattle.json_data.specs.ValueCalls.{TreeReadingFails}
@@ -20,7 +20,7 @@ pub wants_value : (a : ValueTokens) (t : Tree) → value_state a ≡ at_begin t 
 wants_value a t e = subst (λ (s : ValueState). WantsValue (state_stand s)) (sym e) tt
 
 -- the tree that was taken is the whole
-pub read_value : (a b : ValueTokens) (t : Tree) (f : Tree → Reading) (r : Reading) → value_state a ≡ at_begin t → Reads value_taken value_stand f a b r → f t ≡ r
+pub read_value : (a b : ValueTokens) (t : Tree) (f : Tree → Reading) (r : Reading) → value_state a ≡ at_begin t → ReadsTree value_taken value_stand f a b r → f t ≡ r
 read_value a b t f r e h =
     let g = h.takes.takes.on [] (subst (λ (s : ValueState). state_taken s []) (sym e) (append-nil (tokens t))) in
     let i : over_tree (value_state b).tree ≡ over_tree t = h.takes.moves.input ∙ ap (λ (s : ValueState). over_tree s.tree) e in
@@ -41,7 +41,7 @@ gave_up : (a : ValueState) (e : Error) → (e ≡ no_memory) ⊎ ((state_stand a
 gave_up a e (inl h) = h
 gave_up a e (inr h) = failed_is a.failed e h
 
-pub value_fails : (a b : ValueTokens) (t : Tree) (f : Tree → Reading) (e : Error) → value_state a ≡ at_begin t → Stops value_taken value_stand f a b e → TreeReadingFails f t e.code e.place
+pub value_fails : (a b : ValueTokens) (t : Tree) (f : Tree → Reading) (e : Error) → value_state a ≡ at_begin t → StopsReading value_taken value_stand f a b e → TreeReadingFails f t e.code e.place
 value_fails a b t f e s h = by (is_refusal e.code) refl
   where
     by : (r : Bool) → is_refusal e.code ≡ r → TreeReadingFails f t e.code e.place

@@ -3,21 +3,21 @@ use Rattle.std.proofs.Common.{◌≡◌, ◌∙◌, ℕ, List, [], ◌∷◌, ma
 use Rattle.std.specs.Prelude.{option_map}
 use Rattle.std.proofs.lemmas.Slice.Eq.{bytes_eq-Decides}
 use Rattle.json_grammar.specs.Tree.{Tree, null, boolean, num, text, list, pairs, Trees, no_trees, tree_and, Pairs, no_pairs, pair_and, trees_list, list_trees, pairs_list, list_pairs}
-use Rattle.json_model.specs.Datum.{Datum, text_datum, list_datum, Data, datum_and, list_data, tree_of, trees_of, pairs_of as rows_pairs, element_before, member_before}
+use Rattle.json_model.specs.Datum.{Datum, text_datum, list_datum, Data, datum_and, list_data, tree_of_datum, trees_of, pairs_of as rows_pairs, element_before, member_before}
 use Rattle.json_model.specs.Edit.{Step, key_step, index_step, Edit, set_at, insert_at, push_at, remove_at}
 use Rattle.json_text.specs.declared.error.ErrorCode.{ErrorCode}
 use Rattle.json_doc.proofs.Trees.{list_back, pairs_back}
-use Rattle.json_value.specs.Seen.{list_of, pairs_of}
+use Rattle.json_value.specs.Seen.{list_of, object_pairs}
 use Rattle.json_value.specs.EditTrees.{both, each_in, edit_in}
-use Rattle.json_data.specs.Reading.{gives, refuses, Series, gives_all, stops, and_then, each, as_list, read_list}
-use Rattle.json_data.specs.ReadingValues.{value_datum, trees_data, pairs_rows, step_datum, steps_data, path_datum, edit_datum, spelled, read_array, read_object, read_edit}
+use Rattle.json_data.specs.Reading.{gives, refuses, Series, gives_all, stops, prepend_reading, each, as_list, read_list}
+use Rattle.json_data.specs.ReadingValues.{value_datum, trees_data, pairs_rows, step_datum, steps_data, path_datum, edit_datum, spelled, read_array, read_object_value, read_edit}
 
 some_is : {A : Type 0} {x y : A} → Some x ≡ Some y → x ≡ y
 some_is e = cc
 
 mutual
   -- a tree is that of its datum
-  pub tree_back : (t : Tree) → tree_of (value_datum t) ≡ Some t
+  pub tree_back : (t : Tree) → tree_of_datum (value_datum t) ≡ Some t
   tree_back null = refl
   tree_back (boolean b) = refl
   tree_back (num l) = refl
@@ -34,7 +34,7 @@ mutual
   rows_back (pair_and k t ps) = ap₂ (member_before (Some k)) (tree_back t) (rows_back ps)
 
 pub same_value : (t u : Tree) → value_datum t ≡ value_datum u → t ≡ u
-same_value t u e = some_is (sym (tree_back t) ∙ ap tree_of e ∙ tree_back u)
+same_value t u e = some_is (sym (tree_back t) ∙ ap tree_of_datum e ∙ tree_back u)
 
 -- what an array and an object mean
 pub array_read : (t : Tree) (ts : List Tree) → Some ts ≡ list_of t → read_array t ≡ gives (value_datum (list (list_trees ts)))
@@ -45,7 +45,7 @@ array_read (num l) ts e = absurd (cc)
 array_read (text s) ts e = absurd (cc)
 array_read (pairs ps) ts e = absurd (cc)
 
-pub object_read : (t : Tree) (ms : List (List ℕ × Tree)) → Some ms ≡ pairs_of t → read_object t ≡ gives (value_datum (pairs (list_pairs ms)))
+pub object_read : (t : Tree) (ms : List (List ℕ × Tree)) → Some ms ≡ object_pairs t → read_object_value t ≡ gives (value_datum (pairs (list_pairs ms)))
 object_read (pairs ps) ms e = let i : ms ≡ pairs_list ps = cc in ap (λ qs. gives (value_datum (pairs qs))) (sym (pairs_back ps) ∙ ap list_pairs (sym i))
 object_read null ms e = absurd (cc)
 object_read (boolean b) ms e = absurd (cc)
@@ -132,7 +132,7 @@ each_edit no_trees (f ∷ es) e = let i : [] ≡ edit_datum f ∷ map edit_datum
 each_edit (tree_and t ts) es e = by (edit_in t) (each read_edit ts) es (λ fs. each_edit ts fs) e
   where
     by : (o : Option Edit) (s : Series) (es : List Edit) → ((fs : List Edit) → s ≡ gives_all (map edit_datum fs) → each_in edit_in (trees_list ts) ≡ Some fs)
-        → and_then (spelled edit_datum o) s ≡ gives_all (map edit_datum es) → both (λ x xs. x ∷ xs) o (each_in edit_in (trees_list ts)) ≡ Some es
+        → prepend_reading (spelled edit_datum o) s ≡ gives_all (map edit_datum es) → both (λ x xs. x ∷ xs) o (each_in edit_in (trees_list ts)) ≡ Some es
     by None s es h e = absurd (gives_no e)
     by (Some f) (stops c) es h e = absurd (gives_no e)
     by (Some f) (gives_all ds) [] h e = let i : edit_datum f ∷ ds ≡ [] = all_is e in absurd (cc)
@@ -147,7 +147,7 @@ none_edit no_trees c e = absurd (gives_no (sym e))
 none_edit (tree_and t ts) c e = by (edit_in t) (each read_edit ts) (none_edit ts) e
   where
     by : (o : Option Edit) (s : Series) → ((c : ErrorCode) → s ≡ stops c → each_in edit_in (trees_list ts) ≡ None)
-        → and_then (spelled edit_datum o) s ≡ stops c → both (λ x xs. x ∷ xs) o (each_in edit_in (trees_list ts)) ≡ None
+        → prepend_reading (spelled edit_datum o) s ≡ stops c → both (λ x xs. x ∷ xs) o (each_in edit_in (trees_list ts)) ≡ None
     by None s h e = both_none (each_in edit_in (trees_list ts))
       where
         both_none : (o : Option (List Edit)) → both (λ (x : Edit) (xs : List Edit). x ∷ xs) None o ≡ None

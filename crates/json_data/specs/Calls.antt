@@ -17,12 +17,12 @@ use Rattle.json_model.specs.Datum.{Datum}
 use Rattle.json_data.specs.Reading.{Reading, gives, refuses}
 
 -- the bytes are a text of a tree of so many levels at most, of which r is the reading
-abbrev pub ReadsText : ℕ → (Tree → Reading) → List ℕ → Reading → Type 0
-ReadsText limit f b r = (t : Tree) × is_text false t b × (depth t ≤ limit) × (f t ≡ r)
+abbrev pub ReadsTypedText : ℕ → (Tree → Reading) → List ℕ → Reading → Type 0
+ReadsTypedText limit f b r = (t : Tree) × is_text false t b × (depth t ≤ limit) × (f t ≡ r)
 
 -- the bytes are a text that fits, of whose tree the type has a datum
 abbrev pub HasDatum : ℕ → (Tree → Reading) → List ℕ → Type 0
-HasDatum limit f b = (d : Datum) × ReadsText limit f b (gives d)
+HasDatum limit f b = (d : Datum) × ReadsTypedText limit f b (gives d)
 
 -- the value of the text begins there
 abbrev pub ValueBegins : List ℕ → Place → Type 0
@@ -30,24 +30,24 @@ ValueBegins b p = (k : ℕ) × ws (piece b 0 k) × (k < length b → ¬ (IsWhite
 
 -- the tree of the text is refused, at the beginning of its value
 abbrev pub TreeRefused : ℕ → (Tree → Reading) → List ℕ → ErrorCode → Place → Type 0
-TreeRefused limit f b c p = ReadsText limit f b (refuses c) × ValueBegins b p
+TreeRefused limit f b c p = ReadsTypedText limit f b (refuses c) × ValueBegins b p
 
 -- why no value of so many levels at most is read of bytes: memory ran out, there are more than 4,294,967,295, they are no UTF-8, they are no text,
 -- or its tree is refused
-abbrev pub ReadingFails : ℕ → (Tree → Reading) → List ℕ → ErrorCode → Place → Type 0
-ReadingFails limit f b code.NoMemory place.None = Unit {0}
-ReadingFails limit f b code.TooLarge place.None = 2 ^ 32 ≤ length b
-ReadingFails limit f b code.InvalidUTF8 p = (k : ℕ) × IsUtf8Fault b k × (p ≡ place_at b k)
-ReadingFails limit f b code.TypeUnmatched p = TreeRefused limit f b code.TypeUnmatched p
-ReadingFails limit f b code.NumberOutOfRange p = TreeRefused limit f b code.NumberOutOfRange p
-ReadingFails limit f b code.ExpectedNumericKey p = TreeRefused limit f b code.ExpectedNumericKey p
-ReadingFails limit f b c p = IsUtf8 b × FaultAt false limit b c p
+abbrev pub TypedReadingFails : ℕ → (Tree → Reading) → List ℕ → ErrorCode → Place → Type 0
+TypedReadingFails limit f b code.NoMemory place.None = Unit {0}
+TypedReadingFails limit f b code.TooLarge place.None = 2 ^ 32 ≤ length b
+TypedReadingFails limit f b code.InvalidUTF8 p = (k : ℕ) × IsUtf8Fault b k × (p ≡ place_at b k)
+TypedReadingFails limit f b code.TypeUnmatched p = TreeRefused limit f b code.TypeUnmatched p
+TypedReadingFails limit f b code.NumberOutOfRange p = TreeRefused limit f b code.NumberOutOfRange p
+TypedReadingFails limit f b code.ExpectedNumericKey p = TreeRefused limit f b code.ExpectedNumericKey p
+TypedReadingFails limit f b c p = IsUtf8 b × FaultAt false limit b c p
 
 -- why bytes are not looked at as a text: there are more than 4,294,967,295, or they are no UTF-8
-abbrev pub TextFails : List ℕ → ErrorCode → Place → Type 0
-TextFails b code.TooLarge place.None = 2 ^ 32 ≤ length b
-TextFails b code.InvalidUTF8 p = (k : ℕ) × IsUtf8Fault b k × (p ≡ place_at b k)
-TextFails b c p = ⊥
+abbrev pub BytesRefused : List ℕ → ErrorCode → Place → Type 0
+BytesRefused b code.TooLarge place.None = 2 ^ 32 ≤ length b
+BytesRefused b code.InvalidUTF8 p = (k : ℕ) × IsUtf8Fault b k × (p ≡ place_at b k)
+BytesRefused b c p = ⊥
 
 -- ---- by rules
 
@@ -59,14 +59,14 @@ abbrev pub TreeRefusedWith : Rules → (Tree → Reading) → List ℕ → Error
 TreeRefusedWith rules f b c p = ReadsTextWith rules f b (refuses c) × ValueBegins b p
 
 -- why no value that fits the rules is read of bytes
-abbrev pub ReadingFailsWith : Rules → (Tree → Reading) → List ℕ → ErrorCode → Place → Type 0
-ReadingFailsWith rules f b code.NoMemory place.None = Unit {0}
-ReadingFailsWith rules f b code.TooLarge place.None = 2 ^ 32 ≤ length b
-ReadingFailsWith rules f b code.InvalidUTF8 p = (k : ℕ) × IsUtf8Fault b k × (p ≡ place_at b k)
-ReadingFailsWith rules f b code.TypeUnmatched p = TreeRefusedWith rules f b code.TypeUnmatched p
-ReadingFailsWith rules f b code.NumberOutOfRange p = TreeRefusedWith rules f b code.NumberOutOfRange p
-ReadingFailsWith rules f b code.ExpectedNumericKey p = TreeRefusedWith rules f b code.ExpectedNumericKey p
-ReadingFailsWith rules f b c p = IsUtf8 b × FaultWithAt false rules b c p
+abbrev pub TypedReadingFailsWith : Rules → (Tree → Reading) → List ℕ → ErrorCode → Place → Type 0
+TypedReadingFailsWith rules f b code.NoMemory place.None = Unit {0}
+TypedReadingFailsWith rules f b code.TooLarge place.None = 2 ^ 32 ≤ length b
+TypedReadingFailsWith rules f b code.InvalidUTF8 p = (k : ℕ) × IsUtf8Fault b k × (p ≡ place_at b k)
+TypedReadingFailsWith rules f b code.TypeUnmatched p = TreeRefusedWith rules f b code.TypeUnmatched p
+TypedReadingFailsWith rules f b code.NumberOutOfRange p = TreeRefusedWith rules f b code.NumberOutOfRange p
+TypedReadingFailsWith rules f b code.ExpectedNumericKey p = TreeRefusedWith rules f b code.ExpectedNumericKey p
+TypedReadingFailsWith rules f b c p = IsUtf8 b × FaultWithAt false rules b c p
 
 -- ---- from a source
 
@@ -76,8 +76,8 @@ most = 4294967295
 
 -- all bytes that the source had left are a text of a tree of at most 254 levels, of which r is the reading
 abbrev pub ReadsSource : SourceState → SourceState → (Tree → Reading) → Reading → Type 0
-ReadsSource old new f r = (b : List ℕ) × ReadsWithin most old new b × ReadsText 254 f b r
+ReadsSource old new f r = (b : List ℕ) × ReadsWithin most old new b × ReadsTypedText 254 f b r
 
 -- why no value is read of a source: its bytes were not had, or no value is read of them
 abbrev pub SourceFails : SourceState → SourceState → (Tree → Reading) → ErrorCode → Place → Type 0
-SourceFails old new f c p = ReadingCause most old new c p ⊎ ((b : List ℕ) × ReadsWithin most old new b × ReadingFails 254 f b c p)
+SourceFails old new f c p = ReadingCause most old new c p ⊎ ((b : List ℕ) × ReadsWithin most old new b × TypedReadingFails 254 f b c p)

@@ -40,14 +40,14 @@ first_kind (list ts) = kind.BeginArray
 first_kind (pairs ps) = kind.BeginObject
 
 -- what a token that is lent stands for
-abbrev pub StandsFor : {S : Type 0} {g : _} → (S → List ℕ) → Token Number S (Piece S g) → Tok → Type 0
-StandsFor f token.Null x = x ≡ null_token
-StandsFor f (token.Bool b) x = x ≡ boolean_token b
-StandsFor f (token.Int n) x = (x ≡ num_token (text_of_number n)) × (integer_in (text_of_number n) ≡ Some (value_of n)) × number (text_of_number n)
-StandsFor f (token.Raw l) x = (x ≡ num_token (f l)) × (integer_in (f l) ≡ None) × number (f l)
-StandsFor f (token.Text p) x = (s : List ℕ) × Says s p.escaped (f p.text) × (x ≡ text_token s)
-StandsFor f (token.Key p) x = (s : List ℕ) × Says s p.escaped (f p.text) × (x ≡ key_token s)
-StandsFor f token.BeginArray x = x ≡ begin array
-StandsFor f token.EndArray x = x ≡ end array
-StandsFor f token.BeginObject x = x ≡ begin object
-StandsFor f token.EndObject x = x ≡ end object
+abbrev pub DenotesToken : {S : Type 0} {g : _} → (S → List ℕ) → Token Number S (Piece S g) → Tok → Type 0
+DenotesToken f token.Null x = x ≡ null_token
+DenotesToken f (token.Bool b) x = x ≡ boolean_token b
+DenotesToken f (token.Int n) x = (x ≡ num_token (text_of_number n)) × (integer_in (text_of_number n) ≡ Some (value_of n)) × number (text_of_number n)
+DenotesToken f (token.Raw l) x = (x ≡ num_token (f l)) × (integer_in (f l) ≡ None) × number (f l)
+DenotesToken f (token.Text p) x = (s : List ℕ) × Says s p.escaped (f p.text) × (x ≡ text_token s)
+DenotesToken f (token.Key p) x = (s : List ℕ) × Says s p.escaped (f p.text) × (x ≡ key_token s)
+DenotesToken f token.BeginArray x = x ≡ begin array
+DenotesToken f token.EndArray x = x ≡ end array
+DenotesToken f token.BeginObject x = x ≡ begin object
+DenotesToken f token.EndObject x = x ≡ end object

@@ -3,7 +3,7 @@ use Rattle.std.specs.Prelude.{◌≡◌, List, ◌++◌}
 use Rattle.json_grammar.specs.Tree.{Tree, Token as Tok, tokens}
 use Rattle.json_model.specs.Edit.{Step, Edit}
 use Rattle.json_data.specs.ReadingValues.{value_datum, path_datum, edit_datum}
-use Rattle.json_data.specs.Text.{TextState, text_taken}
+use Rattle.json_data.specs.Text.{TextTokensState, text_taken}
 use Rattle.json_data.specs.Values.{value_taken}
 use Rattle.json_data.specs.declared.value_tokens.ValueTokens.{ValueTokens}
 
@@ -11,11 +11,11 @@ use Rattle.json_data.specs.declared.value_tokens.ValueTokens.{ValueTokens}
 
 -- the tokens that were taken of a text are one list
 abbrev pub OneTextRow : Type 0
-OneTextRow = (s : TextState) (ts us : List Tok) → text_taken s ts → text_taken s us → ts ≡ us
+OneTextRow = (s : TextTokensState) (ts us : List Tok) → text_taken s ts → text_taken s us → ts ≡ us
 
 -- and begin those of a tree
 abbrev pub TextRowBegins : Type 0
-TextRowBegins = (s : TextState) (ts : List Tok) → text_taken s ts → (t : Tree) × (rest : List Tok) × (tokens t ≡ ts ++ rest)
+TextRowBegins = (s : TextTokensState) (ts : List Tok) → text_taken s ts → (t : Tree) × (rest : List Tok) × (tokens t ≡ ts ++ rest)
 
 -- the same of a value
 abbrev pub OneValueRow : Type 0
@@ -27,8 +27,8 @@ ValueRowBegins = (s : ValueTokens) (ts : List Tok) → value_taken s ts → (t :
 -- ---- what is read
 
 -- trees with the same datum are the same tree
-abbrev pub SameValue : Type 0
-SameValue = (t u : Tree) → value_datum t ≡ value_datum u → t ≡ u
+abbrev pub SameDatum : Type 0
+SameDatum = (t u : Tree) → value_datum t ≡ value_datum u → t ≡ u
 
 -- so paths
 abbrev pub SamePath : Type 0

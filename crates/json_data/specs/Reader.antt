@@ -8,39 +8,39 @@ use Rattle.json_text.specs.Errors.{no_memory}
 use Rattle.json_data.specs.Kinds.{kind_of, first_kind}
 use Rattle.json_data.specs.Refusals.{is_refusal, refusal}
 use Rattle.json_data.specs.Reading.{Reading, refuses}
-use Rattle.json_data.specs.Stand.{Stand, TakesTree}
+use Rattle.json_data.specs.Stand.{TokensState, TakesTree}
 
 -- one tree was taken, and the answer r is its reading
-pub record Reads {S : Type 0} (taken : S → List Tok → Type 0) (stand : S → Stand) (f : Tree → Reading) (a b : S) (r : Reading) : Type 0 where
+pub record ReadsTree {S : Type 0} (taken : S → List Tok → Type 0) (stand : S → TokensState) (f : Tree → Reading) (a b : S) (r : Reading) : Type 0 where
   pub tree : Tree
   pub takes : TakesTree taken stand a b tree
   pub answer : f tree ≡ r
 
 -- the same of a tree other than null
-pub record Finds {S : Type 0} (taken : S → List Tok → Type 0) (stand : S → Stand) (f : Tree → Reading) (a b : S) (r : Reading) : Type 0 where
+pub record ReadsNonNull {S : Type 0} (taken : S → List Tok → Type 0) (stand : S → TokensState) (f : Tree → Reading) (a b : S) (r : Reading) : Type 0 where
   pub tree : Tree
   pub takes : TakesTree taken stand a b tree
   pub answer : f tree ≡ r
   pub some : tree ≢ null
 
 -- memory ran out, or the source answered e
-pub record GivesUp (a b : Stand) (e : Error) : Type 0 where
+pub record GivesUp (a b : TokensState) (e : Error) : Type 0 where
   pub input : b.input ≡ a.input
   pub no_refusal : is_refusal e.code ≡ false
   pub cause : (e ≡ no_memory) ⊎ (b.failed ≡ Some e)
 
 -- e is a refusal of the tree that was taken, or none
-pub record Stops {S : Type 0} (taken : S → List Tok → Type 0) (stand : S → Stand) (f : Tree → Reading) (a b : S) (e : Error) : Type 0 where
-  pub refused : is_refusal e.code ≡ true → (e ≡ refusal e.code) × Reads taken stand f a b (refuses e.code)
+pub record StopsReading {S : Type 0} (taken : S → List Tok → Type 0) (stand : S → TokensState) (f : Tree → Reading) (a b : S) (e : Error) : Type 0 where
+  pub refused : is_refusal e.code ≡ true → (e ≡ refusal e.code) × ReadsTree taken stand f a b (refuses e.code)
   pub gave_up : is_refusal e.code ≡ false → GivesUp (stand a) (stand b) e
 
 -- the same of a tree other than null
-pub record Misses {S : Type 0} (taken : S → List Tok → Type 0) (stand : S → Stand) (f : Tree → Reading) (a b : S) (e : Error) : Type 0 where
-  pub refused : is_refusal e.code ≡ true → (e ≡ refusal e.code) × Finds taken stand f a b (refuses e.code)
+pub record Misses {S : Type 0} (taken : S → List Tok → Type 0) (stand : S → TokensState) (f : Tree → Reading) (a b : S) (e : Error) : Type 0 where
+  pub refused : is_refusal e.code ≡ true → (e ≡ refusal e.code) × ReadsNonNull taken stand f a b (refuses e.code)
   pub gave_up : is_refusal e.code ≡ false → GivesUp (stand a) (stand b) e
 
 -- why no key is made of a piece: memory ran out, or each text that it says is refused
-pub record KeyRefused (says : List ℕ → Type 0) (f : List ℕ → Reading) (e : Error) : Type 0 where
+pub record KeyReadingFails (says : List ℕ → Type 0) (f : List ℕ → Reading) (e : Error) : Type 0 where
   pub refused : is_refusal e.code ≡ true → (e ≡ refusal e.code) × ((s : List ℕ) → says s → f s ≡ refuses e.code)
   pub gave_up : is_refusal e.code ≡ false → e ≡ no_memory
 

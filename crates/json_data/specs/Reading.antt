@@ -23,14 +23,14 @@ pub data Series : Type 0 where
   stops : ErrorCode → Series
 
 -- the leftmost refusal comes first
-abbrev pub and_then : Reading → Series → Series
-and_then (refuses c) s = stops c
-and_then (gives d) (stops c) = stops c
-and_then (gives d) (gives_all ds) = gives_all (d ∷ ds)
+abbrev pub prepend_reading : Reading → Series → Series
+prepend_reading (refuses c) s = stops c
+prepend_reading (gives d) (stops c) = stops c
+prepend_reading (gives d) (gives_all ds) = gives_all (d ∷ ds)
 
 abbrev pub each : (Tree → Reading) → Trees → Series
 each f no_trees = gives_all []
-each f (tree_and t ts) = and_then (f t) (each f ts)
+each f (tree_and t ts) = prepend_reading (f t) (each f ts)
 
 abbrev pub as_list : Series → Reading
 as_list (gives_all ds) = gives (list_datum (list_data ds))
@@ -72,9 +72,9 @@ read_list f _ = refuses TypeUnmatched
 -- a list of two: the elements' refusals first, then that of another length
 abbrev pub two : (Tree → Reading) → (Tree → Reading) → Trees → Series
 two f g no_trees = stops TypeUnmatched
-two f g (tree_and t no_trees) = and_then (f t) (stops TypeUnmatched)
-two f g (tree_and t (tree_and u no_trees)) = and_then (f t) (and_then (g u) (gives_all []))
-two f g (tree_and t (tree_and u (tree_and v ts))) = and_then (f t) (and_then (g u) (stops TypeUnmatched))
+two f g (tree_and t no_trees) = prepend_reading (f t) (stops TypeUnmatched)
+two f g (tree_and t (tree_and u no_trees)) = prepend_reading (f t) (prepend_reading (g u) (gives_all []))
+two f g (tree_and t (tree_and u (tree_and v ts))) = prepend_reading (f t) (prepend_reading (g u) (stops TypeUnmatched))
 
 abbrev pub read_pair : (Tree → Reading) → (Tree → Reading) → Tree → Reading
 read_pair f g (list ts) = as_list (two f g ts)
@@ -136,15 +136,15 @@ key_cmp (boolean_datum a) (boolean_datum b) = bool_cmp a b
 key_cmp _ _ = Equal
 
 -- one row more, in order; the last value of a key stays
-abbrev pub put : Datum → Datum → Rows → Rows
-put k v no_rows = row_and k v no_rows
-put k v (row_and l w rs) = match_ordering (key_cmp k l) (row_and k v (row_and l w rs)) (row_and l v rs) (row_and l w (put k v rs))
+abbrev pub insert_row : Datum → Datum → Rows → Rows
+insert_row k v no_rows = row_and k v no_rows
+insert_row k v (row_and l w rs) = match_ordering (key_cmp k l) (row_and k v (row_and l w rs)) (row_and l v rs) (row_and l w (insert_row k v rs))
 
 -- a pair more: the key's refusal, then the value's
 abbrev pub row_step : Reading → Reading → (Rows → Reading) → Rows → Reading
 row_step (refuses c) v k rs = refuses c
 row_step (gives d) (refuses c) k rs = refuses c
-row_step (gives d) (gives v) k rs = k (put d v rs)
+row_step (gives d) (gives v) k rs = k (insert_row d v rs)
 
 abbrev pub rows_from : (List ℕ → Reading) → (Tree → Reading) → Rows → Pairs → Reading
 rows_from f h rs no_pairs = gives (rows_datum rs)

@@ -32,9 +32,9 @@ abbrev pub read_array : Tree → Reading
 read_array (list ts) = read_value (list ts)
 read_array _ = refuses TypeUnmatched
 
-abbrev pub read_object : Tree → Reading
-read_object (pairs ps) = read_value (pairs ps)
-read_object _ = refuses TypeUnmatched
+abbrev pub read_object_value : Tree → Reading
+read_object_value (pairs ps) = read_value (pairs ps)
+read_object_value _ = refuses TypeUnmatched
 
 -- ---- paths and edits, in the form in which trees spell them
 

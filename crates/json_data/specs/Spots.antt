@@ -3,6 +3,7 @@ use Rattle.std.specs.Prelude.{◌≡◌, List, [], ◌∷◌, Bool, true, false,
 use Rattle.json_grammar.specs.declared.Kind.{Kind}
 use Rattle.json_grammar.specs.declared.Kind.TheVariants.{Array as array, Object as object}
 use Rattle.json_grammar.specs.Tree.{Token as Tok, null_token, boolean_token, num_token, text_token, begin, end, key_token}
+use Rattle.json_grammar.specs.Place.{outside}
 use Rattle.json_data.specs.declared.token.TokenKind.{TokenKind}
 use Rattle.json_data.specs.declared.token.TokenKind.TheVariants as kind
 use Rattle.json_data.specs.Kinds.{kind_of}
@@ -24,40 +25,36 @@ opened_of (element c) = array ∷ c
 opened_of (key_or_end c) = object ∷ c
 opened_of (member c) = object ∷ c
 
-abbrev pub outside : List Kind → List Kind
-outside [] = []
-outside (k ∷ c) = c
-
 -- behind a value
-abbrev pub behind : List Kind → Spot
-behind [] = over
-behind (array ∷ c) = element c
-behind (object ∷ c) = key_or_end c
+abbrev pub spot_after_value : List Kind → Spot
+spot_after_value [] = over
+spot_after_value (array ∷ c) = element c
+spot_after_value (object ∷ c) = key_or_end c
 
 abbrev pub behind_value : Spot → Spot
-behind_value p = behind (opened_of p)
+behind_value p = spot_after_value (opened_of p)
 
 -- behind a bracket
-abbrev pub within : Kind → Spot → Spot
-within array p = element (opened_of p)
-within object p = key_or_end (opened_of p)
+abbrev pub spot_after_begin : Kind → Spot → Spot
+spot_after_begin array p = element (opened_of p)
+spot_after_begin object p = key_or_end (opened_of p)
 
 -- behind the innermost container
 abbrev pub around : Spot → Spot
-around p = behind (outside (opened_of p))
+around p = spot_after_value (outside (opened_of p))
 
-abbrev pub after : Spot → Tok → Spot
-after p null_token = behind_value p
-after p (boolean_token b) = behind_value p
-after p (num_token l) = behind_value p
-after p (text_token s) = behind_value p
-after p (key_token s) = member (outside (opened_of p))
-after p (begin k) = within k p
-after p (end k) = around p
+abbrev pub spot_after : Spot → Tok → Spot
+spot_after p null_token = behind_value p
+spot_after p (boolean_token b) = behind_value p
+spot_after p (num_token l) = behind_value p
+spot_after p (text_token s) = behind_value p
+spot_after p (key_token s) = member (outside (opened_of p))
+spot_after p (begin k) = spot_after_begin k p
+spot_after p (end k) = around p
 
-abbrev pub after_all : Spot → List Tok → Spot
-after_all p [] = p
-after_all p (x ∷ xs) = after_all (after p x) xs
+abbrev pub spot_after_all : Spot → List Tok → Spot
+spot_after_all p [] = p
+spot_after_all p (x ∷ xs) = spot_after_all (spot_after p x) xs
 
 -- a token of the kind begins a value
 abbrev pub begins_value : TokenKind → Bool
@@ -78,13 +75,13 @@ may_come (key_or_end c) kind.EndObject = true
 may_come (key_or_end c) _ = false
 may_come (member c) k = begins_value k
 
-abbrev pub MayCome : Spot → TokenKind → Type 0
-MayCome p k = may_come p k ≡ true
+abbrev pub KindMayCome : Spot → TokenKind → Type 0
+KindMayCome p k = may_come p k ≡ true
 
 -- each token may come where it stands
 abbrev pub allowed : Spot → List Tok → Bool
 allowed p [] = true
-allowed p (x ∷ xs) = may_come p (kind_of x) && allowed (after p x) xs
+allowed p (x ∷ xs) = may_come p (kind_of x) && allowed (spot_after p x) xs
 
 -- a container is open
 abbrev pub IsOpen : Spot → Type 0

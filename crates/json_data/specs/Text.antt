@@ -4,9 +4,9 @@ use Rattle.json_grammar.specs.declared.Kind.{Kind}
 use Rattle.json_grammar.specs.declared.Kind.TheVariants.{Array as array, Object as object}
 use Rattle.json_grammar.specs.declared.Spot.{Spot as Place}
 use Rattle.json_grammar.specs.declared.Spot.TheVariants.{Colon as colon, Done as done, Value as at_value}
-use Rattle.json_grammar.specs.Grammar.{number}
 use Rattle.json_grammar.specs.Fault.{reads}
 use Rattle.json_grammar.specs.Tree.{Tree, Token as Tok, tokens, depth}
+use Rattle.json_grammar.specs.Place.{outside}
 use Rattle.json_number.specs.Integers.{integer_in}
 use Rattle.json_text.specs.declared.error.Error.{Error}
 use Rattle.json_text.specs.declared.event.Event.{Event}
@@ -21,17 +21,17 @@ use Rattle.json_data.specs.declared.token.TokenKind.{TokenKind}
 use Rattle.json_data.specs.declared.token.TokenKind.TheVariants as kind
 use Rattle.json_data.specs.Kinds.{number_kind}
 use Rattle.json_data.specs.Refusals.{is_refusal}
-use Rattle.json_data.specs.Spots.{Spot, top, over, element, key_or_end, member, outside, MayCome}
-use Rattle.json_data.specs.Stand.{Stand, over_text}
+use Rattle.json_data.specs.Spots.{Spot, top, over, element, key_or_end, member, KindMayCome}
+use Rattle.json_data.specs.Stand.{TokensState, over_text}
 
 -- the spot of a place in a text, within the open containers
-abbrev pub spot_of : Place → List Kind → Spot
-spot_of done [] = over
-spot_of _ [] = top
-spot_of w (array ∷ c) = element c
-spot_of at_value (object ∷ c) = member c
-spot_of colon (object ∷ c) = member c
-spot_of _ (object ∷ c) = key_or_end c
+abbrev pub spot_at_place : Place → List Kind → Spot
+spot_at_place done [] = over
+spot_at_place _ [] = top
+spot_at_place w (array ∷ c) = element c
+spot_at_place at_value (object ∷ c) = member c
+spot_at_place colon (object ∷ c) = member c
+spot_at_place _ (object ∷ c) = key_or_end c
 
 -- where a value may come, within the open containers
 abbrev pub value_spot : List Kind → Spot
@@ -68,13 +68,8 @@ abbrev pub event_integer : Event → Option ℤ
 event_integer (event.Number l) = integer_in l.now
 event_integer _ = None
 
--- where it is of a number, its literal is a number
-abbrev pub EventIsNumber : Event → Type 0
-EventIsNumber (event.Number l) = number l.now
-EventIsNumber _ = Unit {0}
-
-abbrev pub place_of : ParserState → Spot
-place_of p = spot_of p.spot p.open_kinds
+abbrev pub parser_spot : ParserState → Spot
+parser_spot p = spot_at_place p.spot p.open_kinds
 
 -- one event was read, of a token that may come there
 pub record ReadsAhead (old : ParserState) (e : Event) (new : ParserState) : Type 0 where
@@ -82,8 +77,8 @@ pub record ReadsAhead (old : ParserState) (e : Event) (new : ParserState) : Type
   pub goes : (ts : List Tok) → HasGiven old ts → (x : Tok) × Means e x × HasGiven new (ts ++ x ∷ [])
   pub forward : old.index < new.index
   pub inside : new.index ≤ length new.text
-  pub spot : before (event_kind e) new.open_kinds ≡ place_of old
-  pub may : MayCome (place_of old) (event_kind e)
+  pub spot : before (event_kind e) new.open_kinds ≡ parser_spot old
+  pub may : KindMayCome (parser_spot old) (event_kind e)
   pub fresh : new.failure ≡ None
 
 -- the value that is read has a fault, which is one of the text too, and is told at the token that needs the byte at its offset
@@ -98,7 +93,7 @@ pub record HasFault (p : ParserState) (e : Error) : Type 0 where
 -- ---- sources
 
 -- the reader of the text, an event that was read and not taken yet, and what was answered in the place of a token
-pub record TextState : Type 0 where
+pub record TextTokensState : Type 0 where
   pub parser : ParserState
   pub ahead : Option Event
   pub failed : Option Error
@@ -108,19 +103,19 @@ abbrev pub TakenBefore : Option Event → ParserState → List Tok → Type 0
 TakenBefore None p ts = HasGiven p ts
 TakenBefore (Some e) p ts = (x : Tok) × Means e x × HasGiven p (ts ++ x ∷ [])
 
-abbrev pub text_taken : TextState → List Tok → Type 0
+abbrev pub text_taken : TextTokensState → List Tok → Type 0
 text_taken s ts = TakenBefore s.ahead s.parser ts
 
 abbrev pub spot_before : Option Event → ParserState → Spot
-spot_before None p = place_of p
+spot_before None p = parser_spot p
 spot_before (Some e) p = before (event_kind e) p.open_kinds
 
 abbrev pub waiting : Option Event → ℕ
 waiting None = 0
 waiting (Some e) = 1
 
-abbrev pub text_stand : TextState → Stand
-text_stand s = record {
+abbrev pub text_tokens_state : TextTokensState → TokensState
+text_tokens_state s = record {
   input = over_text s.parser.text s.parser.start s.parser.lossy s.parser.limit;
   spot = spot_before s.ahead s.parser;
   told = option_map event_kind s.ahead;
@@ -129,15 +124,15 @@ text_stand s = record {
 }
 
 -- no token was told, taken or refused
-pub record IsFresh (s : TextState) : Type 0 where
+pub record IsFreshReader (s : TextTokensState) : Type 0 where
   pub none : HasGiven s.parser []
   pub taken : text_taken s []
-  pub spot : (text_stand s).spot ≡ top
+  pub spot : (text_tokens_state s).spot ≡ top
   pub ahead : s.ahead ≡ None
   pub failed : s.failed ≡ None
 
 -- the tokens that were taken are those of the value that is read there, whatever follows it
-abbrev pub HasReadValue : TextState → Type 0
+abbrev pub HasReadValue : TextTokensState → Type 0
 HasReadValue s = (ts : List Tok) → text_taken s ts → (t : Tree) × reads s.parser.lossy (input s.parser) t (taken s.parser) × (ts ≡ tokens t) × (depth t ≤ s.parser.limit)
 
 -- why a source of a text answered an error: memory ran out, or the value has this fault
@@ -145,7 +140,7 @@ abbrev pub TextFails : ParserState → Error → Type 0
 TextFails p e = (e ≡ no_memory) ⊎ HasFault p e
 
 -- what is true of each source
-pub record IsReading (s : TextState) : Type 0 where
+pub record IsReading (s : TextTokensState) : Type 0 where
   pub given : (ts : List Tok) × text_taken s ts
   pub failed : IfSome s.failed (TextFails s.parser)
   pub fresh : s.failed ≡ None → s.parser.failure ≡ None

@@ -18,7 +18,7 @@ use Rattle.json_data.specs.declared.token.TokenKind.TheVariants as kind
 use Rattle.json_data.specs.declared.value_tokens.ValueTokens.{ValueTokens}
 use Rattle.json_data.specs.Kinds.{kind_of}
 use Rattle.json_data.specs.Spots.{Spot, top, over, element, key_or_end, member}
-use Rattle.json_data.specs.Stand.{Stand, over_tree}
+use Rattle.json_data.specs.Stand.{TokensState, over_tree}
 
 -- what is left of an open container: its elements, or its members
 pub data Left : Type 0 where
@@ -26,15 +26,15 @@ pub data Left : Type 0 where
   members_of : List (List ℕ × Tree) → Left
 
 -- a container within the open ones, the innermost first
-abbrev pub opened : Level → List Left → List Left
-opened level.Root c = []
-opened (level.List s) c = elements_of (elements_left s) ∷ c
-opened (level.Pairs s) c = members_of (members_left s) ∷ c
+abbrev pub left_after_opening : Level → List Left → List Left
+left_after_opening level.Root c = []
+left_after_opening (level.List s) c = elements_of (elements_left s) ∷ c
+left_after_opening (level.Pairs s) c = members_of (members_left s) ∷ c
 
 -- so each of them, the outermost first
 abbrev pub opened_in : List Left → List Level → List Left
 opened_in c [] = c
-opened_in c (l ∷ ls) = opened_in (opened l c) ls
+opened_in c (l ∷ ls) = opened_in (left_after_opening l c) ls
 
 abbrev pub kind_left : Left → Kind
 kind_left (elements_of ts) = array
@@ -54,12 +54,12 @@ next_tokens None = []
 next_tokens (Some t) = tokens t
 
 -- the spot within open containers, by whether a value of the innermost comes next
-abbrev pub spot_in : List Left → Option Tree → Spot
-spot_in [] None = over
-spot_in [] (Some t) = top
-spot_in (elements_of ts ∷ ls) o = element (map kind_left ls)
-spot_in (members_of ps ∷ ls) None = key_or_end (map kind_left ls)
-spot_in (members_of ps ∷ ls) (Some t) = member (map kind_left ls)
+abbrev pub spot_in_levels : List Left → Option Tree → Spot
+spot_in_levels [] None = over
+spot_in_levels [] (Some t) = top
+spot_in_levels (elements_of ts ∷ ls) o = element (map kind_left ls)
+spot_in_levels (members_of ps ∷ ls) None = key_or_end (map kind_left ls)
+spot_in_levels (members_of ps ∷ ls) (Some t) = member (map kind_left ls)
 
 -- a value whose tokens are taken
 pub record ValueState : Type 0 where
@@ -76,7 +76,7 @@ abbrev pub value_state : ValueTokens → ValueState
 value_state s = record {
   tree = seen s.whole;
   next = option_map seen s.next;
-  levels = opened s.inner (opened_in [] s.outer.items);
+  levels = left_after_opening s.inner (opened_in [] s.outer.items);
   told = s.told;
   failed = s.failed;
 }
@@ -92,10 +92,10 @@ head_kind (x ∷ xs) = Some (kind_of x)
 abbrev pub state_taken : ValueState → List Tok → Type 0
 state_taken s ts = ts ++ rest_of s ≡ tokens s.tree
 
-abbrev pub state_stand : ValueState → Stand
+abbrev pub state_stand : ValueState → TokensState
 state_stand s = record {
   input = over_tree s.tree;
-  spot = spot_in s.levels s.next;
+  spot = spot_in_levels s.levels s.next;
   told = if s.told then head_kind (rest_of s) else None;
   left = length (rest_of s);
   failed = if s.failed then Some no_memory else None;
@@ -105,7 +105,7 @@ state_stand s = record {
 abbrev pub value_taken : ValueTokens → List Tok → Type 0
 value_taken s ts = state_taken (value_state s) ts
 
-abbrev pub value_stand : ValueTokens → Stand
+abbrev pub value_stand : ValueTokens → TokensState
 value_stand s = state_stand (value_state s)
 
 -- ---- values that are returned
@@ -159,19 +159,19 @@ FrontIs (members_of [] ∷ c) k = k ≡ kind.EndObject
 FrontIs (members_of (p ∷ ps) ∷ c) k = k ≡ kind.Key
 
 -- an element that comes next was reached; nothing else changed
-pub record Settles (a b : ValueState) : Type 0 where
+pub record SettlesNext (a b : ValueState) : Type 0 where
   pub tree : b.tree ≡ a.tree
   pub rest : rest_of b ≡ rest_of a
-  pub spot : spot_in b.levels b.next ≡ spot_in a.levels a.next
+  pub spot : spot_in_levels b.levels b.next ≡ spot_in_levels a.levels a.next
   pub reached : b.next ≡ None → NoElement b.levels
   pub told : b.told ≡ a.told
   pub failed : b.failed ≡ a.failed
 
 -- the tokens xs were taken, and it stands at p
-pub record Steps (a b : ValueState) (xs : List Tok) (p : Spot) : Type 0 where
+pub record TakesTokensTo (a b : ValueState) (xs : List Tok) (p : Spot) : Type 0 where
   pub tree : b.tree ≡ a.tree
   pub rest : rest_of a ≡ xs ++ rest_of b
-  pub spot : spot_in b.levels b.next ≡ p
+  pub spot : spot_in_levels b.levels b.next ≡ p
   pub told : b.told ≡ false
   pub failed : b.failed ≡ a.failed
 

@@ -2,9 +2,9 @@
 ghost use Rattle.std.specs.Prelude.{◌≡◌, OnOk, IfErr};
 ghost use Rattle.json_grammar.specs.Tree.{Tree, Token as Tok, begin as begin_token};
 ghost use Rattle.json_data.specs.Kinds.{kind_of};
-ghost use Rattle.json_data.specs.Reader.{Stops, RefusesOthers};
+ghost use Rattle.json_data.specs.Reader.{StopsReading, RefusesOthers};
 ghost use Rattle.json_data.specs.Reading.{Reading};
-ghost use Rattle.json_data.specs.Stand.{NotWhole, WantsValue, TakesOne, Fails};
+ghost use Rattle.json_data.specs.Stand.{NotWhole, WantsValue, TakesOne, TokensFail};
 
 use crate::lent::Lent;
 use crate::refusals::refusal;
@@ -29,7 +29,7 @@ pub(crate) fn begin_kind(kind: Kind) -> TokenKind
 pub(crate) fn pass<S: Lent, T: Tokens<S>>(tokens: &mut T) -> Result<()>
     requires { NotWhole (T.stand tokens.old) }
     ensures ok { OnOk result ((x : Tok) × TakesOne T.taken T.stand tokens.old tokens.new x) }
-    ensures err { IfErr result (λ e. Fails (T.stand tokens.old) (T.stand tokens.new) e) }
+    ensures err { IfErr result (λ e. TokensFail (T.stand tokens.old) (T.stand tokens.new) e) }
 {
     let _token = tokens.next()?;
     Ok(())
@@ -42,7 +42,7 @@ fn open_by_kind<S: Lent, T: Tokens<S>>(tokens: &mut T, kind: Kind) -> Result<()>
     ensures ok { OnOk result
         (TakesOne T.taken T.stand tokens.old tokens.new (begin_token kind)) }
     ensures err { (f : Tree → Reading) → RefusesOthers kind f
-        → IfErr result (λ e. Stops T.taken T.stand f tokens.old tokens.new e) }
+        → IfErr result (λ e. StopsReading T.taken T.stand f tokens.old tokens.new e) }
 {
     if tokens.peek()? != begin_kind(kind) {
         tokens.skip()?;
@@ -59,7 +59,7 @@ pub(crate) fn open<S: Lent, T: Tokens<S>>(tokens: &mut T, kind: Kind) -> Result<
     ensures ok { OnOk result
         (TakesOne T.taken T.stand tokens.old tokens.new (begin_token kind)) }
     ensures err { (f : Tree → Reading) → RefusesOthers kind f
-        → IfErr result (λ e. Stops T.taken T.stand f tokens.old tokens.new e) }
+        → IfErr result (λ e. StopsReading T.taken T.stand f tokens.old tokens.new e) }
 {
     if tokens.begins(kind) {
         return Ok(());

@@ -4,9 +4,9 @@ ghost use Rattle.json_text.specs.Errors.{no_memory, reading_failed, too_large as
 ghost use Rattle.json_text.specs.Ruled.{rules_of};
 ghost use Rattle.json_text.specs.Transfer.{ReadsWithin, ReadingCause, TakesAtMost};
 ghost use Rattle.json_data.specs.Reading.{gives};
-ghost use Rattle.json_data.specs.Calls.{most, TextFails};
-ghost use Rattle.json_data.specs.TextValues.{IsPacked};
-ghost use Rattle.json_data.specs.Calls.{ReadsText, ReadingFails, HasDatum, ReadsTextWith, ReadingFailsWith, ReadsSource, SourceFails};
+ghost use Rattle.json_data.specs.Calls.{most, BytesRefused};
+ghost use Rattle.json_data.specs.TextValues.{IsPackedAtRoot};
+ghost use Rattle.json_data.specs.Calls.{ReadsTypedText, TypedReadingFails, HasDatum, ReadsTextWith, TypedReadingFailsWith, ReadsSource, SourceFails};
 
 use crate::deserialize::{Deserialize, DeserializeFrom};
 use crate::refusals::is_refusal;
@@ -39,7 +39,7 @@ fn text_of(json: &[u8]) -> Result<&str>
     ensures same { IfOk result (λ text. text.now ≡ json.now) }
     ensures valid { IfOk result (λ _. IsUtf8 json.now) }
     ensures size { IfOk result (λ _. length json.now < 2 ^ 32) }
-    ensures cause { IfErr result (λ e. TextFails json.now e.code e.place) }
+    ensures cause { IfErr result (λ e. BytesRefused json.now e.code e.place) }
     ensures large { 2 ^ 32 ≤ length json.now → IsErrOf result spec_too_large }
 {
     if json.len() > MOST {
@@ -51,9 +51,9 @@ fn text_of(json: &[u8]) -> Result<&str>
 // The value of a text of so many levels at most.
 fn read_text<'a, T: Deserialize<'a> + Drop>(alloc: Global, text: &'a str, depth: u32) -> Result<T>
     requires { depth ≤ 1024 }
-    ensures ok { IfOk result (λ v. ReadsText depth T.from_tree text.now (gives (T.datum v))) }
-    ensures place { IfOk result (T.placed IsPacked) }
-    ensures err { IfErr result (λ e. ReadingFails depth T.from_tree text.now e.code e.place) }
+    ensures ok { IfOk result (λ v. ReadsTypedText depth T.from_tree text.now (gives (T.datum v))) }
+    ensures place { IfOk result (T.placed IsPackedAtRoot) }
+    ensures err { IfErr result (λ e. TypedReadingFails depth T.from_tree text.now e.code e.place) }
 {
     let mut tokens = TextTokens::new(text).depth(depth);
     match T::deserialize(alloc, &mut tokens) {
@@ -83,9 +83,9 @@ fn read_text<'a, T: Deserialize<'a> + Drop>(alloc: Global, text: &'a str, depth:
 /// beginning of the value: with `TypeUnmatched`, `NumberOutOfRange` or `ExpectedNumericKey`. Fails with
 /// `NoMemory` if memory runs out.
 pub fn from_str<'a, T: Deserialize<'a> + Drop>(alloc: Global, s: &'a str) -> Result<T>
-    ensures ok { IfOk result (λ v. ReadsText 254 T.from_tree s.now (gives (T.datum v))) }
-    ensures place { IfOk result (T.placed IsPacked) }
-    ensures err { IfErr result (λ e. ReadingFails 254 T.from_tree s.now e.code e.place) }
+    ensures ok { IfOk result (λ v. ReadsTypedText 254 T.from_tree s.now (gives (T.datum v))) }
+    ensures place { IfOk result (T.placed IsPackedAtRoot) }
+    ensures err { IfErr result (λ e. TypedReadingFails 254 T.from_tree s.now e.code e.place) }
     ensures complete { HasDatum 254 T.from_tree s.now → length s.now < 2 ^ 32
         → IsOkUnless result no_memory }
     ensures large { 2 ^ 32 ≤ length s.now → IsErrOf result spec_too_large }
@@ -99,9 +99,9 @@ pub fn from_str<'a, T: Deserialize<'a> + Drop>(alloc: Global, s: &'a str) -> Res
 /// The value of the bytes of a JSON text, as [`from_str`]. `InvalidUTF8` comes where they are no UTF-8, before any
 /// fault of the text.
 pub fn from_slice<'a, T: Deserialize<'a> + Drop>(alloc: Global, json: &'a [u8]) -> Result<T>
-    ensures ok { IfOk result (λ v. ReadsText 254 T.from_tree json.now (gives (T.datum v))) }
-    ensures place { IfOk result (T.placed IsPacked) }
-    ensures err { IfErr result (λ e. ReadingFails 254 T.from_tree json.now e.code e.place) }
+    ensures ok { IfOk result (λ v. ReadsTypedText 254 T.from_tree json.now (gives (T.datum v))) }
+    ensures place { IfOk result (T.placed IsPackedAtRoot) }
+    ensures err { IfErr result (λ e. TypedReadingFails 254 T.from_tree json.now e.code e.place) }
     ensures complete { HasDatum 254 T.from_tree json.now → length json.now < 2 ^ 32
         → IsOkUnless result no_memory }
     ensures large { 2 ^ 32 ≤ length json.now → IsErrOf result spec_too_large }
@@ -116,9 +116,9 @@ pub fn from_slice_unchecked<'a, T: Deserialize<'a> + Drop>(
     json: &'a [u8],
 ) -> Result<T>
     requires { IsUtf8 json.now }
-    ensures ok { IfOk result (λ v. ReadsText 254 T.from_tree json.now (gives (T.datum v))) }
-    ensures place { IfOk result (T.placed IsPacked) }
-    ensures err { IfErr result (λ e. ReadingFails 254 T.from_tree json.now e.code e.place) }
+    ensures ok { IfOk result (λ v. ReadsTypedText 254 T.from_tree json.now (gives (T.datum v))) }
+    ensures place { IfOk result (T.placed IsPackedAtRoot) }
+    ensures err { IfErr result (λ e. TypedReadingFails 254 T.from_tree json.now e.code e.place) }
     ensures complete { HasDatum 254 T.from_tree json.now → length json.now < 2 ^ 32
         → IsOkUnless result no_memory }
     ensures large { 2 ^ 32 ≤ length json.now → IsErrOf result spec_too_large }
@@ -137,9 +137,9 @@ fn read_unique<'a, T: Deserialize<'a> + Drop>(
     requires size { length text.now < 2 ^ 32 }
     ensures ok { IfOk result (λ v.
         ReadsTextWith (rules_of rules) T.from_tree text.now (gives (T.datum v))) }
-    ensures place { IfOk result (T.placed IsPacked) }
+    ensures place { IfOk result (T.placed IsPackedAtRoot) }
     ensures err { IfErr result (λ e.
-        ReadingFailsWith (rules_of rules) T.from_tree text.now e.code e.place) }
+        TypedReadingFailsWith (rules_of rules) T.from_tree text.now e.code e.place) }
 {
     let _document = read_document_with(alloc, text, rules)?;
     read_text(alloc, text, rules.depth())
@@ -156,9 +156,9 @@ pub fn from_slice_with<'a, T: Deserialize<'a> + Drop>(
 ) -> Result<T>
     ensures ok { IfOk result (λ v.
         ReadsTextWith (rules_of rules) T.from_tree json.now (gives (T.datum v))) }
-    ensures place { IfOk result (T.placed IsPacked) }
+    ensures place { IfOk result (T.placed IsPackedAtRoot) }
     ensures err { IfErr result (λ e.
-        ReadingFailsWith (rules_of rules) T.from_tree json.now e.code e.place) }
+        TypedReadingFailsWith (rules_of rules) T.from_tree json.now e.code e.place) }
     ensures large { 2 ^ 32 ≤ length json.now → IsErrOf result spec_too_large }
 {
     let text = text_of(json)?;
@@ -197,7 +197,7 @@ pub fn from_reader<'a, S: Source, T: Deserialize<'a> + Drop>(
 ) -> Result<T>
     ensures ok { IfOk result (λ v.
         ReadsSource (S.state source.old) (S.state source.new) T.from_tree (gives (T.datum v))) }
-    ensures place { IfOk result (T.placed IsPacked) }
+    ensures place { IfOk result (T.placed IsPackedAtRoot) }
     ensures err { IfErr result (λ e.
         SourceFails (S.state source.old) (S.state source.new) T.from_tree e.code e.place) }
     ensures told { (S.state source.old).faults < (S.state source.new).faults

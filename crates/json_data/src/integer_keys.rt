@@ -6,10 +6,10 @@ ghost use Rattle.json_text.specs.Errors.{no_memory};
 ghost use Rattle.json_text.specs.declared.error.ErrorCode.TheVariants.{ExpectedNumericKey};
 ghost use Rattle.json_data.specs.Keys.{integer_key, integer_named, unsigned_orders};
 ghost use Rattle.json_data.specs.Pieces.{Says};
-ghost use Rattle.json_data.specs.Reader.{KeyRefused};
+ghost use Rattle.json_data.specs.Reader.{KeyReadingFails};
 ghost use Rattle.json_data.specs.Reading.{gives, whole_in, between};
 ghost use Rattle.json_data.specs.Refusals.{refusal as spec_refusal};
-ghost use Rattle.json_data.specs.Wholes.{IsWhole};
+ghost use Rattle.json_data.specs.Wholes.{IntegerIsWhole};
 
 use crate::keys::FromKey;
 use crate::lent::Lent;
@@ -22,7 +22,7 @@ use std::alloc::Global;
 // The integer of a key that is a number.
 fn key_whole<S: Lent>(alloc: Global, key: Piece<S>) -> Result<Whole>
     ensures ok { IfOk result (λ w. (s : List ℕ) → Says s key.escaped (S.bytes key.text)
-        → (spec_is_number s ≡ true) × IsWhole (whole_in s) w) }
+        → (spec_is_number s ≡ true) × IntegerIsWhole (whole_in s) w) }
     ensures err { IfErr result (λ e. (e ≡ no_memory) ⊎ ((e ≡ spec_refusal ExpectedNumericKey)
         × ((s : List ℕ) → Says s key.escaped (S.bytes key.text) → spec_is_number s ≡ false))) }
 {
@@ -42,7 +42,7 @@ fn key_between<S: Lent>(alloc: Global, key: Piece<S>, low: u128, high: u128) -> 
         → integer_key (between low high) s ≡ gives (integer_datum n)) }
     ensures within { IfOk result (λ n. between low high n ≡ true) }
     ensures err { IfErr result (λ e.
-        KeyRefused (λ s. Says s key.escaped (S.bytes key.text)) (integer_key (between low high)) e) }
+        KeyReadingFails (λ s. Says s key.escaped (S.bytes key.text)) (integer_key (between low high)) e) }
 {
     let whole = match key_whole(alloc, key) {
         Ok(whole) => whole,

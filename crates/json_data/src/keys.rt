@@ -8,9 +8,9 @@ ghost use Rattle.json_data.specs.declared.token.TokenKind.TheVariants as TokenKi
 ghost use Rattle.json_data.specs.Keys.{text_key, boolean_key, IsNamed, boolean_named, option_orders};
 ghost use Rattle.json_data.specs.Pieces.{Says};
 ghost use Rattle.json_data.specs.Reading.{Reading, gives, key_cmp};
-ghost use Rattle.json_data.specs.Reader.{KeyRefused};
+ghost use Rattle.json_data.specs.Reader.{KeyReadingFails};
 ghost use Rattle.json_data.specs.Spots.{InObject};
-ghost use Rattle.json_data.specs.Stand.{NotWhole, TakesOne, TakesKey, Fails};
+ghost use Rattle.json_data.specs.Stand.{NotWhole, TakesOne, TakesKeyPiece, TokensFail};
 
 use crate::brackets::pass;
 use crate::lent::Lent;
@@ -43,7 +43,7 @@ pub trait FromKey<S: Lent>: Sized + Ord {
         ensures ok { IfOk result (λ k. (s : List ℕ) → Says s key.now.escaped (S.bytes key.now.text)
             → from_text s ≡ gives (key_datum k)) }
         ensures err { IfErr result (λ e.
-            KeyRefused (λ s. Says s key.now.escaped (S.bytes key.now.text)) from_text e) };
+            KeyReadingFails (λ s. Says s key.now.escaped (S.bytes key.now.text)) from_text e) };
 
     /// No key means null.
     ghost named: { (s : List ℕ) → IsNamed (from_text s) };
@@ -126,7 +126,7 @@ pub(crate) fn next_key<S: Lent, T: Tokens<S>>(tokens: &mut T) -> Result<Piece<S>
     requires told { (T.stand tokens.old).told ≡ Some TokenKind.Key }
     ensures ok { IfOk result (λ p. (s : List ℕ) × Says s p.escaped (S.bytes p.text)
         × TakesOne T.taken T.stand tokens.old tokens.new (key_token s)) }
-    ensures err { IfErr result (λ e. Fails (T.stand tokens.old) (T.stand tokens.new) e) }
+    ensures err { IfErr result (λ e. TokensFail (T.stand tokens.old) (T.stand tokens.new) e) }
 {
     match tokens.next()? {
         Token::Key(piece) => Ok(piece),
@@ -139,10 +139,10 @@ pub(crate) fn next_key<S: Lent, T: Tokens<S>>(tokens: &mut T) -> Result<Piece<S>
 pub(crate) fn next_name<S: Lent, T: Tokens<S>>(tokens: &mut T) -> Result<Option<Piece<S>>>
     requires { InObject (T.stand tokens.old).spot }
     ensures name { IfOk result (λ r. IfSome r (λ p.
-        TakesKey T.taken T.stand (λ s. Says s p.escaped (S.bytes p.text)) tokens.old tokens.new)) }
+        TakesKeyPiece T.taken T.stand (λ s. Says s p.escaped (S.bytes p.text)) tokens.old tokens.new)) }
     ensures end { IfOk result (λ r. r ≡ None
         → TakesOne T.taken T.stand tokens.old tokens.new (end_token object)) }
-    ensures err { IfErr result (λ e. Fails (T.stand tokens.old) (T.stand tokens.new) e) }
+    ensures err { IfErr result (λ e. TokensFail (T.stand tokens.old) (T.stand tokens.new) e) }
 {
     if let Some(key) = tokens.key() {
         return Ok(Some(key));

@@ -1,5 +1,5 @@
 // Laws over the definitions: what the tokens of a source are, and what data say of trees, paths and edits.
-ghost use Rattle.json_data.specs.Laws.{OneTextRow, TextRowBegins, OneValueRow, ValueRowBegins, SameValue, SamePath, SameEdit};
+ghost use Rattle.json_data.specs.Laws.{OneTextRow, TextRowBegins, OneValueRow, ValueRowBegins, SameDatum, SamePath, SameEdit};
 
 pub use crate::text_tokens::text_row_exists;
 
@@ -25,7 +25,7 @@ pub fn value_row_begins()
 
 /// Trees with the same datum are the same tree.
 pub fn same_value()
-    ensures { SameValue }
+    ensures { SameDatum }
 {}
 
 /// Paths with the same datum are the same path.

@@ -3,7 +3,7 @@ ghost use Rattle.std.specs.Prelude.{IfOk, IfErr, map};
 ghost use Rattle.json_grammar.specs.declared.Kind.TheVariants.{Object as object};
 ghost use Rattle.json_grammar.specs.Tree.{begin as begin_token};
 ghost use Rattle.json_model.specs.Datum.{rows_datum, list_rows, row_of};
-ghost use Rattle.json_data.specs.Reader.{Finds, Misses};
+ghost use Rattle.json_data.specs.Reader.{ReadsNonNull, Misses};
 ghost use Rattle.json_data.specs.Reading.{gives, read_map};
 ghost use Rattle.json_data.specs.Spots.{InObject};
 ghost use Rattle.json_data.specs.Stand.{TakesOne};
@@ -28,7 +28,7 @@ fn read_rows<S: Lent, K: FromKey<S> + Drop, V: DeserializeFrom<S> + Drop, T: Tok
 ) -> Result<BTreeMap<K, V>>
     requires { InObject (T.stand tokens.old).spot }
     ensures ok { (a : T) → TakesOne T.taken T.stand a tokens.old (begin_token object)
-        → IfOk result (λ m. Finds T.taken T.stand (read_map K.from_text V.from_tree) a tokens.new
+        → IfOk result (λ m. ReadsNonNull T.taken T.stand (read_map K.from_text V.from_tree) a tokens.new
         (gives (rows_datum (list_rows (map (row_of K.key_datum V.datum) m.entries))))) }
     ensures err { (a : T) → TakesOne T.taken T.stand a tokens.old (begin_token object)
         → IfErr result (λ e.

@@ -5,7 +5,7 @@ ghost use Rattle.json_grammar.specs.Tree.{Tree, begin as begin_token};
 ghost use Rattle.json_model.specs.Datum.{Datum};
 ghost use Rattle.json_data.specs.Members.{read_members as spec_read_members};
 ghost use Rattle.json_data.specs.Pieces.{Says};
-ghost use Rattle.json_data.specs.Reader.{Reads, Finds, Misses, Stops};
+ghost use Rattle.json_data.specs.Reader.{ReadsTree, ReadsNonNull, Misses, StopsReading};
 ghost use Rattle.json_data.specs.Reading.{Reading, gives};
 ghost use Rattle.json_data.specs.Spots.{InObject};
 ghost use Rattle.json_data.specs.Stand.{NotWhole, WantsValue, TakesOne};
@@ -57,10 +57,10 @@ pub trait Members<S: Lent>: Sized {
     /// value comes after the whole of it was taken.
     fn member<T: Tokens<S>>(&mut self, alloc: Global, name: &str, tokens: &mut T) -> Result<()>
         requires { WantsValue (T.stand tokens.old) }
-        ensures ok { OnOk result (Reads T.taken T.stand (step (so_far self.old) name.now)
+        ensures ok { OnOk result (ReadsTree T.taken T.stand (step (so_far self.old) name.now)
             tokens.old tokens.new (gives (so_far self.new))) }
         ensures err { IfErr result (λ e.
-            Stops T.taken T.stand (step (so_far self.old) name.now) tokens.old tokens.new e) };
+            StopsReading T.taken T.stand (step (so_far self.old) name.now) tokens.old tokens.new e) };
 }
 
 // Takes the value of the member whose name a piece says.
@@ -73,11 +73,11 @@ fn read_member<S: Lent, M: Members<S>, T: Tokens<S>>(
 ) -> Result<()>
     requires { WantsValue (T.stand tokens.old) }
     ensures ok { (s : List ℕ) → Says s key.escaped (S.bytes key.text)
-        → OnOk result (Reads T.taken T.stand (M.step (M.so_far members.old) s)
+        → OnOk result (ReadsTree T.taken T.stand (M.step (M.so_far members.old) s)
         tokens.old tokens.new (gives (M.so_far members.new))) }
     ensures err { (s : List ℕ) → Says s key.escaped (S.bytes key.text)
         → IfErr result (λ e.
-        Stops T.taken T.stand (M.step (M.so_far members.old) s) tokens.old tokens.new e) }
+        StopsReading T.taken T.stand (M.step (M.so_far members.old) s) tokens.old tokens.new e) }
 {
     let name = key.to_text(alloc)?;
     members.member(alloc, name.as_str(), tokens)
@@ -92,7 +92,7 @@ fn read_rest<S: Lent, M: Members<S>, T: Tokens<S>>(
 ) -> Result<()>
     requires { InObject (T.stand tokens.old).spot }
     ensures ok { (a : T) → TakesOne T.taken T.stand a tokens.old (begin_token object)
-        → OnOk result (Finds T.taken T.stand (spec_read_members M.step (M.so_far members.old))
+        → OnOk result (ReadsNonNull T.taken T.stand (spec_read_members M.step (M.so_far members.old))
         a tokens.new (gives (M.so_far members.new))) }
     ensures err { (a : T) → TakesOne T.taken T.stand a tokens.old (begin_token object)
         → IfErr result (λ e. Misses T.taken T.stand
@@ -120,9 +120,9 @@ pub fn read_members<S: Lent, M: Members<S>, T: Tokens<S>>(
 ) -> Result<()>
     requires { WantsValue (T.stand tokens.old) }
     ensures ok { OnOk result
-        (Reads T.taken T.stand (spec_read_members M.step (M.so_far members.old))
+        (ReadsTree T.taken T.stand (spec_read_members M.step (M.so_far members.old))
         tokens.old tokens.new (gives (M.so_far members.new))) }
-    ensures err { IfErr result (λ e. Stops T.taken T.stand
+    ensures err { IfErr result (λ e. StopsReading T.taken T.stand
         (spec_read_members M.step (M.so_far members.old)) tokens.old tokens.new e) }
 {
     open(tokens, Kind::Object)?;
@@ -141,7 +141,7 @@ pub fn find_members<S: Lent, M: Members<S>, T: Tokens<S>>(
     ensures none { IfOk result (λ b. b ≡ false → tokens.new ≡ tokens.old) }
     ensures kept { IfOk result (λ b. b ≡ false → members.new ≡ members.old) }
     ensures ok { IfOk result (λ b. b ≡ true
-        → Finds T.taken T.stand (spec_read_members M.step (M.so_far members.old))
+        → ReadsNonNull T.taken T.stand (spec_read_members M.step (M.so_far members.old))
         tokens.old tokens.new (gives (M.so_far members.new))) }
     ensures err { IfErr result (λ e. Misses T.taken T.stand
         (spec_read_members M.step (M.so_far members.old)) tokens.old tokens.new e) }

@@ -5,7 +5,7 @@ ghost use Rattle.json_text.specs.Parsing.{HasGiven, HasRead, IsWhole, SameInput}
 ghost use Rattle.json_doc.specs.OneValue.{HandedOut, ReadsValue};
 ghost use Rattle.json_value.specs.Denotes.{tree_of};
 ghost use Rattle.json_data.specs.Text.{TextFails};
-ghost use Rattle.json_data.specs.TextValues.{IsPacked};
+ghost use Rattle.json_data.specs.TextValues.{IsPackedAtRoot};
 
 use json_doc::read_value;
 use json_text::{Event, Parser, Result};
@@ -22,7 +22,7 @@ pub(crate) fn packed_value<'a>(
     ensures same { SameInput parser.old parser.new }
     ensures order { parser.old.index ≤ parser.new.index }
     ensures ok { IfOk result (λ v. ReadsValue parser.old first.entry (tree_of v) parser.new) }
-    ensures place { IfOk result IsPacked }
+    ensures place { IfOk result IsPackedAtRoot }
     ensures whole { (IsWhole parser.old → HasRead parser.old)
         → IsWhole parser.new → HasRead parser.new }
     ensures err { IfErr result (TextFails parser.new) }

@@ -9,8 +9,8 @@ ghost use Rattle.json_model.specs.Datum.{null_datum, boolean_datum, text_datum, 
 ghost use Rattle.json_data.specs.Reading.{gives, read_boolean, read_unit, read_text, read_option, read_list, read_pair, read_any};
 ghost use Rattle.json_data.specs.Refusals.{is_refusal as spec_is_refusal};
 ghost use Rattle.json_data.specs.Spots.{IsOpen, InArray};
-ghost use Rattle.json_data.specs.Stand.{NotWhole, WantsValue, TakesOne, TakesTree, TakesText, Leaves, Fails};
-ghost use Rattle.json_data.specs.Reader.{Reads, Finds, Misses, Stops};
+ghost use Rattle.json_data.specs.Stand.{NotWhole, WantsValue, TakesOne, TakesTree, TakesText, Leaves, TokensFail};
+ghost use Rattle.json_data.specs.Reader.{ReadsTree, ReadsNonNull, Misses, StopsReading};
 
 use crate::brackets::{open, pass};
 use crate::deserialize::DeserializeFrom;
@@ -28,9 +28,9 @@ use std::borrow::CowStr;
 #[inline(never)]
 fn boolean_by_kind<S: Lent, T: Tokens<S>>(tokens: &mut T) -> Result<bool>
     requires { WantsValue (T.stand tokens.old) }
-    ensures ok { IfOk result (λ b. Reads T.taken T.stand read_boolean
+    ensures ok { IfOk result (λ b. ReadsTree T.taken T.stand read_boolean
         tokens.old tokens.new (gives (boolean_datum b))) }
-    ensures err { IfErr result (λ e. Stops T.taken T.stand read_boolean tokens.old tokens.new e) }
+    ensures err { IfErr result (λ e. StopsReading T.taken T.stand read_boolean tokens.old tokens.new e) }
 {
     if tokens.peek()? != TokenKind::Bool {
         tokens.skip()?;
@@ -73,7 +73,7 @@ pub(crate) fn next_text<S: Lent, T: Tokens<S>>(tokens: &mut T) -> Result<Piece<S
     requires told { (T.stand tokens.old).told ≡ Some TokenKind.Text }
     ensures ok { IfOk result (λ p. (s : List ℕ) × Says s p.escaped (S.bytes p.text)
         × TakesTree T.taken T.stand tokens.old tokens.new (text s)) }
-    ensures err { IfErr result (λ e. Fails (T.stand tokens.old) (T.stand tokens.new) e) }
+    ensures err { IfErr result (λ e. TokensFail (T.stand tokens.old) (T.stand tokens.new) e) }
 {
     match tokens.next()? {
         Token::Text(piece) => Ok(piece),
@@ -87,7 +87,7 @@ fn text_by_kind<S: Lent, T: Tokens<S>>(tokens: &mut T) -> Result<Piece<S>>
     requires { WantsValue (T.stand tokens.old) }
     ensures ok { IfOk result (λ p.
         TakesText T.taken T.stand (λ s. Says s p.escaped (S.bytes p.text)) tokens.old tokens.new) }
-    ensures err { IfErr result (λ e. Stops T.taken T.stand read_text tokens.old tokens.new e) }
+    ensures err { IfErr result (λ e. StopsReading T.taken T.stand read_text tokens.old tokens.new e) }
 {
     if tokens.peek()? != TokenKind::Text {
         tokens.skip()?;
@@ -102,7 +102,7 @@ pub(crate) fn expect_text<S: Lent, T: Tokens<S>>(tokens: &mut T) -> Result<Piece
     requires { WantsValue (T.stand tokens.old) }
     ensures ok { IfOk result (λ p.
         TakesText T.taken T.stand (λ s. Says s p.escaped (S.bytes p.text)) tokens.old tokens.new) }
-    ensures err { IfErr result (λ e. Stops T.taken T.stand read_text tokens.old tokens.new e) }
+    ensures err { IfErr result (λ e. StopsReading T.taken T.stand read_text tokens.old tokens.new e) }
 {
     if let Some(piece) = tokens.text() {
         return Ok(piece);
@@ -147,10 +147,10 @@ fn option_by_kind<S: Lent, V: DeserializeFrom<S>, T: Tokens<S>>(
     tokens: &mut T,
 ) -> Result<Option<V>>
     requires { WantsValue (T.stand tokens.old) }
-    ensures ok { IfOk result (λ o. Reads T.taken T.stand (read_option V.from_tree)
+    ensures ok { IfOk result (λ o. ReadsTree T.taken T.stand (read_option V.from_tree)
         tokens.old tokens.new (gives (option_datum V.datum o))) }
     ensures err { IfErr result (λ e.
-        Stops T.taken T.stand (read_option V.from_tree) tokens.old tokens.new e) }
+        StopsReading T.taken T.stand (read_option V.from_tree) tokens.old tokens.new e) }
 {
     if tokens.null() {
         return Ok(None);
@@ -240,7 +240,7 @@ pub fn leave_after<S: Lent, T: Tokens<S>>(tokens: &mut T, e: Error) -> Error
     requires { spec_is_refusal e.code ≡ true → IsOpen (T.stand tokens.old).spot }
     ensures left { spec_is_refusal e.code ≡ true
         → ((result ≡ e) × Leaves T.taken T.stand tokens.old tokens.new)
-        ⊎ Fails (T.stand tokens.old) (T.stand tokens.new) result }
+        ⊎ TokensFail (T.stand tokens.old) (T.stand tokens.new) result }
     ensures as_was { spec_is_refusal e.code ≡ false → (result ≡ e) × (tokens.new ≡ tokens.old) }
 {
     if is_refusal(e.code) {
@@ -261,11 +261,11 @@ fn element_by_kind<S: Lent, V: DeserializeFrom<S>, T: Tokens<S>>(
 ) -> Result<Option<V>>
     requires { InArray (T.stand tokens.old).spot }
     ensures element { IfOk result (λ r. IfSome r (λ v.
-        Reads T.taken T.stand V.from_tree tokens.old tokens.new (gives (V.datum v)))) }
+        ReadsTree T.taken T.stand V.from_tree tokens.old tokens.new (gives (V.datum v)))) }
     ensures end { IfOk result (λ r. r ≡ None
         → TakesOne T.taken T.stand tokens.old tokens.new (end_token array)) }
     ensures err { IfErr result (λ e.
-        Stops T.taken T.stand V.from_tree tokens.old tokens.new e) }
+        StopsReading T.taken T.stand V.from_tree tokens.old tokens.new e) }
 {
     if let Some(element) = V::found_null(tokens) {
         return Ok(Some(element));
@@ -289,11 +289,11 @@ fn next_element<S: Lent, V: DeserializeFrom<S>, T: Tokens<S>>(
 ) -> Result<Option<V>>
     requires { InArray (T.stand tokens.old).spot }
     ensures element { IfOk result (λ r. IfSome r (λ v.
-        Reads T.taken T.stand V.from_tree tokens.old tokens.new (gives (V.datum v)))) }
+        ReadsTree T.taken T.stand V.from_tree tokens.old tokens.new (gives (V.datum v)))) }
     ensures end { IfOk result (λ r. r ≡ None
         → TakesOne T.taken T.stand tokens.old tokens.new (end_token array)) }
     ensures err { IfErr result (λ e.
-        Stops T.taken T.stand V.from_tree tokens.old tokens.new e) }
+        StopsReading T.taken T.stand V.from_tree tokens.old tokens.new e) }
 {
     if let Some(found) = V::found(alloc, tokens)? {
         return Ok(Some(found));
@@ -309,7 +309,7 @@ fn read_elements<S: Lent, V: DeserializeFrom<S> + Drop, T: Tokens<S>>(
 ) -> Result<Vec<V>>
     requires { InArray (T.stand tokens.old).spot }
     ensures ok { (a : T) → TakesOne T.taken T.stand a tokens.old (begin_token array)
-        → IfOk result (λ v. Finds T.taken T.stand (read_list V.from_tree) a tokens.new
+        → IfOk result (λ v. ReadsNonNull T.taken T.stand (read_list V.from_tree) a tokens.new
         (gives (list_datum (list_data (map V.datum v.items))))) }
     ensures err { (a : T) → TakesOne T.taken T.stand a tokens.old (begin_token array)
         → IfErr result (λ e. Misses T.taken T.stand (read_list V.from_tree) a tokens.new e) }
@@ -371,7 +371,7 @@ fn read_two<S: Lent, A: DeserializeFrom<S> + Drop, B: DeserializeFrom<S> + Drop,
 ) -> Result<(A, B)>
     requires { InArray (T.stand tokens.old).spot }
     ensures ok { (a : T) → TakesOne T.taken T.stand a tokens.old (begin_token array)
-        → IfOk result (λ p. Finds T.taken T.stand (read_pair A.from_tree B.from_tree) a tokens.new
+        → IfOk result (λ p. ReadsNonNull T.taken T.stand (read_pair A.from_tree B.from_tree) a tokens.new
         (gives (list_datum (list_data (A.datum p.0 ∷ B.datum p.1 ∷ []))))) }
     ensures err { (a : T) → TakesOne T.taken T.stand a tokens.old (begin_token array)
         → IfErr result (λ e.

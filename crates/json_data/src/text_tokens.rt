@@ -2,11 +2,11 @@
 ghost use Rattle.std.specs.Prelude.{◌≡◌, ◌≤◌, ◌^◌, length, List, [], true, false, Err, None, OnOk, IfOk, IfErr, IfSome, IsSome, IsTrue, MatchOption};
 ghost use Rattle.json_grammar.specs.Tree.{Tree, Token as Tok, tokens, depth};
 ghost use Rattle.json_value.specs.Denotes.{tree_of};
-ghost use Rattle.json_data.specs.Kinds.{StandsFor};
-ghost use Rattle.json_data.specs.TextValues.{IsPacked};
+ghost use Rattle.json_data.specs.Kinds.{DenotesToken};
+ghost use Rattle.json_data.specs.TextValues.{IsPackedAtRoot};
 ghost use Rattle.json_data.specs.Spots.{IsOpen, over};
-ghost use Rattle.json_data.specs.Stand.{NotWhole, WantsValue, Takes, Peeks, TakesOne, TakesTree, Leaves, Fails};
-ghost use Rattle.json_data.specs.Text.{IsFresh, text_taken, text_stand, TextFails, HasFault, HasReadValue};
+ghost use Rattle.json_data.specs.Stand.{NotWhole, WantsValue, TakesTokens, Peeks, TakesOne, TakesTree, Leaves, TokensFail};
+ghost use Rattle.json_data.specs.Text.{IsFreshReader, text_taken, text_tokens_state, TextFails, HasFault, HasReadValue};
 ghost use Rattle.json_data.specs.declared.token.TokenKind.{TokenKind as TokenKindOf};
 ghost use Rattle.json_data.specs.declared.token.TokenKind.TheVariants as TokenKindAt;
 ghost use Rattle.std.specs.Str.{IsCharBoundary};
@@ -47,9 +47,9 @@ pub struct TextTokens<'a> {
 
 impl<'a> Model for TextTokens<'a> {
     ghost use Rattle.std.specs.Prelude.{option_map};
-    ghost use Rattle.json_data.specs.Text.{TextState, IsReading};
+    ghost use Rattle.json_data.specs.Text.{TextTokensState, IsReading};
 
-    ghost Value = { TextState };
+    ghost Value = { TextTokensState };
 
     ghost view = { λ a. record { parser = a.parser; ahead = option_map (λ h. h.event) a.ahead; failed = a.failed } };
 
@@ -62,7 +62,7 @@ impl<'a> TextTokens<'a> {
         ensures text { result.parser.text ≡ text.now }
         ensures start { (result.parser.start ≡ 0) × (result.parser.limit ≡ 254) }
         ensures strict { result.parser.lossy ≡ false }
-        ensures fresh { IsFresh result }
+        ensures fresh { IsFreshReader result }
     {
         TextTokens {
             parser: Parser::new(text),
@@ -78,7 +78,7 @@ impl<'a> TextTokens<'a> {
         ensures text { result.parser.text ≡ text.now }
         ensures start { (result.parser.start ≡ index) × (result.parser.limit ≡ 254) }
         ensures strict { result.parser.lossy ≡ false }
-        ensures fresh { IsFresh result }
+        ensures fresh { IsFreshReader result }
     {
         TextTokens {
             parser: Parser::at(text, index),
@@ -91,12 +91,12 @@ impl<'a> TextTokens<'a> {
     /// first token.
     pub fn depth(self, depth: u32) -> TextTokens<'a>
         requires most { depth ≤ 1024 }
-        requires fresh { IsFresh self }
+        requires fresh { IsFreshReader self }
         ensures text { result.parser.text ≡ self.entry.parser.text }
         ensures start { (result.parser.start ≡ self.entry.parser.start)
             × (result.parser.limit ≡ depth) }
         ensures mode { result.parser.lossy ≡ self.entry.parser.lossy }
-        ensures fresh { IsFresh result }
+        ensures fresh { IsFreshReader result }
     {
         TextTokens {
             parser: self.parser.depth(depth),
@@ -108,12 +108,12 @@ impl<'a> TextTokens<'a> {
     /// Returns the same tokens in the lossy mode, in which no surrogate is an error: the escape of one
     /// that is alone is U+FFFD (RFC 8259, section 8.2). To be called before the first token.
     pub fn lossy(self) -> TextTokens<'a>
-        requires { IsFresh self }
+        requires { IsFreshReader self }
         ensures text { result.parser.text ≡ self.entry.parser.text }
         ensures start { (result.parser.start ≡ self.entry.parser.start)
             × (result.parser.limit ≡ self.entry.parser.limit) }
         ensures mode { result.parser.lossy ≡ true }
-        ensures fresh { IsFresh result }
+        ensures fresh { IsFreshReader result }
     {
         TextTokens {
             parser: self.parser.lossy(),
@@ -134,8 +134,8 @@ impl<'a> TextTokens<'a> {
     /// Returns the offset right after the value, which was taken, in bytes from the beginning of the
     /// text.
     pub fn index(&self) -> usize
-        requires over { (text_stand self.now).spot ≡ over }
-        requires told { (text_stand self.now).told ≡ None }
+        requires over { (text_tokens_state self.now).spot ≡ over }
+        requires told { (text_tokens_state self.now).told ≡ None }
         ensures same { result ≡ self.now.parser.index }
         ensures order { self.now.parser.start ≤ result }
         ensures read { HasReadValue self.now }
@@ -145,8 +145,8 @@ impl<'a> TextTokens<'a> {
 
     /// Fails if more than whitespace follows the value, which was taken.
     pub(crate) fn finish(self) -> Result<()>
-        requires over { (text_stand self).spot ≡ over }
-        requires told { (text_stand self).told ≡ None }
+        requires over { (text_tokens_state self).spot ≡ over }
+        requires told { (text_tokens_state self).told ≡ None }
         ensures ok { OnOk result ((ts : List Tok) → text_taken self.entry ts
             → (t : Tree) × is_text self.entry.parser.lossy t (input self.entry.parser) × (ts ≡ tokens t) × (depth t ≤ self.entry.parser.limit)) }
         ensures err { IfErr result (λ e.
@@ -172,16 +172,16 @@ impl<'a> TextTokens<'a> {
     /// Reads the next event, where none waits. Whether one waits then; else it failed.
     #[inline(never)]
     fn read(&mut self) -> bool
-        requires whole { NotWhole (text_stand self.old) }
+        requires whole { NotWhole (text_tokens_state self.old) }
         requires none { self.old.ahead ≡ None }
         requires unfailed { self.old.failed ≡ None }
         ensures ok { IsTrue result
-            → (k : TokenKindOf) × Peeks (text_stand self.old) (text_stand self.new) k }
-        ensures none { IsTrue result → Takes text_taken self.old [] self.new }
+            → (k : TokenKindOf) × Peeks (text_tokens_state self.old) (text_tokens_state self.new) k }
+        ensures none { IsTrue result → TakesTokens text_taken self.old [] self.new }
         ensures unfailed { IsTrue result → self.new.failed ≡ None }
         ensures failed { result ≡ false → IsSome self.new.failed }
         ensures err { IfSome self.new.failed (λ e.
-            Fails (text_stand self.old) (text_stand self.new) e) }
+            TokensFail (text_tokens_state self.old) (text_tokens_state self.new) e) }
         ensures cause { IfSome self.new.failed (HasFault self.new.parser) }
     {
         match read_ahead(&mut self.parser) {
@@ -199,11 +199,11 @@ impl<'a> TextTokens<'a> {
     /// The kind of the next token.
     #[inline(always)]
     fn look(&mut self) -> Result<TokenKind>
-        requires { NotWhole (text_stand self.old) }
-        ensures ok { IfOk result (λ k. Peeks (text_stand self.old) (text_stand self.new) k) }
-        ensures none { OnOk result (Takes text_taken self.old [] self.new) }
+        requires { NotWhole (text_tokens_state self.old) }
+        ensures ok { IfOk result (λ k. Peeks (text_tokens_state self.old) (text_tokens_state self.new) k) }
+        ensures none { OnOk result (TakesTokens text_taken self.old [] self.new) }
         ensures unfailed { OnOk result (self.new.failed ≡ None) }
-        ensures err { IfErr result (λ e. Fails (text_stand self.old) (text_stand self.new) e) }
+        ensures err { IfErr result (λ e. TokensFail (text_tokens_state self.old) (text_tokens_state self.new) e) }
         ensures cause { self.old.failed ≡ None → IfErr result (HasFault self.new.parser) }
         ensures again { IfSome self.old.failed (λ e. result ≡ Err e) }
     {
@@ -225,11 +225,11 @@ impl<'a> TextTokens<'a> {
     /// Takes the next token.
     #[inline(always)]
     fn take(&mut self) -> Result<TokenOf<&'a str>>
-        requires { NotWhole (text_stand self.old) }
-        ensures ok { IfOk result (λ y. (x : Tok) × StandsFor (λ s. s.now) y x
-            × TakesOne text_taken text_stand self.old self.new x) }
+        requires { NotWhole (text_tokens_state self.old) }
+        ensures ok { IfOk result (λ y. (x : Tok) × DenotesToken (λ s. s.now) y x
+            × TakesOne text_taken text_tokens_state self.old self.new x) }
         ensures unfailed { OnOk result (self.new.failed ≡ None) }
-        ensures err { IfErr result (λ e. Fails (text_stand self.old) (text_stand self.new) e) }
+        ensures err { IfErr result (λ e. TokensFail (text_tokens_state self.old) (text_tokens_state self.new) e) }
         ensures cause { self.old.failed ≡ None → IfErr result (HasFault self.new.parser) }
         ensures again { IfSome self.old.failed (λ e. result ≡ Err e) }
     {
@@ -245,12 +245,12 @@ impl<'a> TextTokens<'a> {
 
     /// Takes the tokens of one tree, and returns a value of it.
     fn keep(&mut self, alloc: Global) -> Result<Value>
-        requires { WantsValue (text_stand self.old) }
+        requires { WantsValue (text_tokens_state self.old) }
         ensures ok { IfOk result (λ v.
-            TakesTree text_taken text_stand self.old self.new (tree_of v)) }
-        ensures place { IfOk result IsPacked }
+            TakesTree text_taken text_tokens_state self.old self.new (tree_of v)) }
+        ensures place { IfOk result IsPackedAtRoot }
         ensures unfailed { OnOk result (self.new.failed ≡ None) }
-        ensures err { IfErr result (λ e. Fails (text_stand self.old) (text_stand self.new) e) }
+        ensures err { IfErr result (λ e. TokensFail (text_tokens_state self.old) (text_tokens_state self.new) e) }
         ensures cause { self.old.failed ≡ None → IfErr result (TextFails self.new.parser) }
         ensures again { IfSome self.old.failed (λ e. result ≡ Err e) }
     {
@@ -271,10 +271,10 @@ impl<'a> TextTokens<'a> {
 
     /// Takes what is left of the innermost open container.
     fn close(&mut self) -> Result<()>
-        requires { IsOpen (text_stand self.old).spot }
-        ensures ok { OnOk result (Leaves text_taken text_stand self.old self.new) }
+        requires { IsOpen (text_tokens_state self.old).spot }
+        ensures ok { OnOk result (Leaves text_taken text_tokens_state self.old self.new) }
         ensures unfailed { OnOk result (self.new.failed ≡ None) }
-        ensures err { IfErr result (λ e. Fails (text_stand self.old) (text_stand self.new) e) }
+        ensures err { IfErr result (λ e. TokensFail (text_tokens_state self.old) (text_tokens_state self.new) e) }
         ensures cause { self.old.failed ≡ None → IfErr result (HasFault self.new.parser) }
         ensures again { IfSome self.old.failed (λ e. result ≡ Err e) }
     {
@@ -294,11 +294,11 @@ impl<'a> TextTokens<'a> {
 
     /// Takes the tokens of one tree.
     fn pass(&mut self) -> Result<()>
-        requires { WantsValue (text_stand self.old) }
+        requires { WantsValue (text_tokens_state self.old) }
         ensures ok { OnOk result ((t : Tree)
-            × TakesTree text_taken text_stand self.old self.new t) }
+            × TakesTree text_taken text_tokens_state self.old self.new t) }
         ensures unfailed { OnOk result (self.new.failed ≡ None) }
-        ensures err { IfErr result (λ e. Fails (text_stand self.old) (text_stand self.new) e) }
+        ensures err { IfErr result (λ e. TokensFail (text_tokens_state self.old) (text_tokens_state self.new) e) }
         ensures cause { self.old.failed ≡ None → IfErr result (HasFault self.new.parser) }
         ensures again { IfSome self.old.failed (λ e. result ≡ Err e) }
     {
@@ -321,11 +321,11 @@ pub fn text_row_exists(tokens: &TextTokens<'_>)
 impl<'a> Tokens<&'a str> for TextTokens<'a> {
     ghost taken = { text_taken };
 
-    ghost stand = { text_stand };
+    ghost stand = { text_tokens_state };
 
     ghost causes = { λ s. HasFault s.parser };
 
-    ghost placed = { λ _. IsPacked };
+    ghost placed = { λ _. IsPackedAtRoot };
 
     #[inline(always)]
     fn peek(&mut self) -> Result<TokenKind> {

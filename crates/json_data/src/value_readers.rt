@@ -2,7 +2,7 @@
 ghost use Rattle.json_grammar.specs.Tree.{list, list_trees, pairs, list_pairs};
 ghost use Rattle.json_value.specs.Denotes.{tree_of, list_in, pairs_in};
 ghost use Rattle.json_value.specs.declared.value.Value.{Array as ArrayValue, Object as ObjectValue};
-ghost use Rattle.json_data.specs.ReadingValues.{value_datum, read_value, read_array, read_object};
+ghost use Rattle.json_data.specs.ReadingValues.{value_datum, read_value, read_array, read_object_value};
 
 use crate::deserialize::DeserializeFrom;
 use crate::lent::Lent;
@@ -47,7 +47,7 @@ impl<S: Lent> DeserializeFrom<S> for Array {
 impl<S: Lent> DeserializeFrom<S> for Object {
     ghost datum = { λ o. value_datum (pairs (list_pairs (pairs_in o))) };
 
-    ghost from_tree = { read_object };
+    ghost from_tree = { read_object_value };
 
     ghost placed = { λ stands o. stands (ObjectValue o) };
 

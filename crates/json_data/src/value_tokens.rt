@@ -4,10 +4,10 @@ ghost use Rattle.json_grammar.specs.Tree.{Token as Tok};
 ghost use Rattle.json_text.specs.Errors.{no_memory};
 ghost use Rattle.json_value.specs.Seen.{seen};
 ghost use Rattle.json_value.specs.Sights.{sight_of};
-ghost use Rattle.json_data.specs.Kinds.{StandsFor};
-ghost use Rattle.json_data.specs.Spots.{after};
+ghost use Rattle.json_data.specs.Kinds.{DenotesToken};
+ghost use Rattle.json_data.specs.Spots.{spot_after};
 ghost use Rattle.json_data.specs.Stand.{NotWhole};
-ghost use Rattle.json_data.specs.Values.{Left, opened, value_state, value_taken, value_stand, value_placed, next_sight, at_begin, NoElement, Settles, Steps, Breaks};
+ghost use Rattle.json_data.specs.Values.{Left, left_after_opening, value_state, value_taken, value_stand, value_placed, next_sight, at_begin, NoElement, SettlesNext, TakesTokensTo, Breaks};
 
 use crate::level::Level;
 use crate::piece::Piece;
@@ -63,7 +63,7 @@ impl<'a> ValueTokens<'a> {
 
     // Reaches an element that comes next.
     fn settle(&mut self)
-        ensures state { Settles (value_state self.old) (value_state self.new) }
+        ensures state { SettlesNext (value_state self.old) (value_state self.new) }
         ensures sight { option_map sight_of self.new.next
             ≡ next_sight self.old.next self.old.inner }
     {
@@ -84,7 +84,7 @@ impl<'a> ValueTokens<'a> {
     // Goes from the value that comes next into what is left of it.
     fn enter(&mut self, level: Level<'a>) -> Result<()>
         ensures ok { let s = value_state self.old in OnOk result (value_state self.new
-            ≡ record s { next = None; levels = opened level.entry s.levels; told = false }) }
+            ≡ record s { next = None; levels = left_after_opening level.entry s.levels; told = false }) }
         ensures err { IfErr result (λ e. (e ≡ no_memory)
             × Breaks (value_state self.old) (value_state self.new)) }
     {
@@ -117,9 +117,9 @@ impl<'a> ValueTokens<'a> {
     // Takes the first token of the value that comes next.
     fn take_value(&mut self, view: View<'a>) -> Result<TokenOf<&'a str>>
         requires { (value_state self.old).next ≡ Some (seen view) }
-        ensures ok { IfOk result (λ y. (x : Tok) × StandsFor (λ s. s.now) y x
-            × Steps (value_state self.old) (value_state self.new) (x ∷ [])
-            (after (value_stand self.old).spot x)) }
+        ensures ok { IfOk result (λ y. (x : Tok) × DenotesToken (λ s. s.now) y x
+            × TakesTokensTo (value_state self.old) (value_state self.new) (x ∷ [])
+            (spot_after (value_stand self.old).spot x)) }
         ensures err { IfErr result (λ e. (e ≡ no_memory)
             × Breaks (value_state self.old) (value_state self.new)) }
     {
@@ -145,9 +145,9 @@ impl<'a> ValueTokens<'a> {
         requires open { NotWhole (value_stand self.old) }
         requires next { (value_state self.old).next ≡ None }
         requires reached { NoElement (value_state self.old).levels }
-        ensures { (x : Tok) × StandsFor (λ s. s.now) result x
-            × Steps (value_state self.old) (value_state self.new) (x ∷ [])
-            (after (value_stand self.old).spot x) }
+        ensures { (x : Tok) × DenotesToken (λ s. s.now) result x
+            × TakesTokensTo (value_state self.old) (value_state self.new) (x ∷ [])
+            (spot_after (value_stand self.old).spot x) }
     {
         let front = self.inner.front();
         if let Some((key, value)) = self.inner.member() {

@@ -2,7 +2,7 @@
 ghost use Rattle.std.specs.Prelude.{◌≡◌, [], ◌∷◌};
 ghost use Rattle.json_grammar.specs.Tree.{Token as Tok, tokens};
 ghost use Rattle.json_value.specs.Seen.{seen};
-ghost use Rattle.json_data.specs.Kinds.{first_kind, StandsFor};
+ghost use Rattle.json_data.specs.Kinds.{first_kind, DenotesToken};
 
 use crate::piece::Piece;
 use crate::token::{Token, TokenKind, TokenOf};
@@ -28,7 +28,7 @@ pub(crate) fn view_kind(view: View<'_>) -> TokenKind
 
 /// The token of a value that is no container.
 pub(crate) fn scalar_token<'a>(view: View<'a>) -> TokenOf<&'a str>
-    ensures { (x : Tok) → tokens (seen view.entry) ≡ x ∷ [] → StandsFor (λ s. s.now) result x }
+    ensures { (x : Tok) → tokens (seen view.entry) ≡ x ∷ [] → DenotesToken (λ s. s.now) result x }
 {
     if let Some(number) = view.as_number() {
         return Token::Int(number);

@@ -9,9 +9,9 @@ ghost use Rattle.json_number.specs.Numbers.{value_of, text_of_number};
 ghost use Rattle.json_data.specs.declared.token.TokenKind.TheVariants as TokenKind;
 ghost use Rattle.json_data.specs.Reading.{gives, whole_in, tree_integer, between, in_range, refuses, read_integer};
 ghost use Rattle.json_data.specs.Refusals.{is_refusal as spec_is_refusal, refusal as spec_refusal};
-ghost use Rattle.json_data.specs.Reader.{Reads, Finds, Stops};
-ghost use Rattle.json_data.specs.Stand.{NotWhole, WantsValue, TakesTree, Fails};
-ghost use Rattle.json_data.specs.Wholes.{IsWhole, below_of, plain_of};
+ghost use Rattle.json_data.specs.Reader.{ReadsTree, ReadsNonNull, StopsReading};
+ghost use Rattle.json_data.specs.Stand.{NotWhole, WantsValue, TakesTree, TokensFail};
+ghost use Rattle.json_data.specs.Wholes.{IntegerIsWhole, below_of, plain_of};
 
 use crate::lent::Lent;
 use crate::refusals::refusal;
@@ -48,7 +48,7 @@ fn is_digits(text: &str) -> bool
 }
 
 fn below_zero(digits: &str) -> Whole
-    ensures { IsWhole (below_of digits.now) result }
+    ensures { IntegerIsWhole (below_of digits.now) result }
 {
     if digits.is_empty() || !is_digits(digits) {
         return Whole::Nothing;
@@ -62,7 +62,7 @@ fn below_zero(digits: &str) -> Whole
 
 fn from_zero(digits: &str) -> Whole
     requires { 0 < length digits.now }
-    ensures { IsWhole (plain_of digits.now) result }
+    ensures { IntegerIsWhole (plain_of digits.now) result }
 {
     if !is_digits(digits) {
         return Whole::Nothing;
@@ -75,7 +75,7 @@ fn from_zero(digits: &str) -> Whole
 
 /// The integer of a number's literal.
 pub(crate) fn whole_of(literal: &str) -> Whole
-    ensures { IsWhole (whole_in literal.now) result }
+    ensures { IntegerIsWhole (whole_in literal.now) result }
 {
     if literal.is_empty() {
         return Whole::Nothing;
@@ -90,7 +90,7 @@ pub(crate) fn whole_of(literal: &str) -> Whole
 /// A number by value.
 #[inline(always)]
 pub(crate) fn whole_of_number(n: Number) -> Whole
-    ensures { (o : Option ℤ) → o ≡ Some (value_of n) → IsWhole o result }
+    ensures { (o : Option ℤ) → o ≡ Some (value_of n) → IntegerIsWhole o result }
 {
     match n.as_u64() {
         Some(n) => Whole::From(n as u128),
@@ -110,7 +110,7 @@ pub(crate) fn next_int<S: Lent, T: Tokens<S>>(tokens: &mut T) -> Result<Number>
         TakesTree T.taken T.stand tokens.old tokens.new (num (text_of_number n))) }
     ensures value { IfOk result (λ n. (integer_in (text_of_number n) ≡ Some (value_of n))
         × number (text_of_number n)) }
-    ensures err { IfErr result (λ e. Fails (T.stand tokens.old) (T.stand tokens.new) e) }
+    ensures err { IfErr result (λ e. TokensFail (T.stand tokens.old) (T.stand tokens.new) e) }
 {
     match tokens.next()? {
         Token::Int(n) => Ok(n),
@@ -126,7 +126,7 @@ pub(crate) fn next_raw<S: Lent, T: Tokens<S>>(tokens: &mut T) -> Result<S>
     ensures ok { IfOk result (λ l.
         TakesTree T.taken T.stand tokens.old tokens.new (num (S.bytes l))) }
     ensures value { IfOk result (λ l. (integer_in (S.bytes l) ≡ None) × number (S.bytes l)) }
-    ensures err { IfErr result (λ e. Fails (T.stand tokens.old) (T.stand tokens.new) e) }
+    ensures err { IfErr result (λ e. TokensFail (T.stand tokens.old) (T.stand tokens.new) e) }
 {
     match tokens.next()? {
         Token::Raw(literal) => Ok(literal),
@@ -139,8 +139,8 @@ pub(crate) fn next_raw<S: Lent, T: Tokens<S>>(tokens: &mut T) -> Result<S>
 pub(crate) fn read_whole<S: Lent, T: Tokens<S>>(tokens: &mut T) -> Result<Whole>
     requires { WantsValue (T.stand tokens.old) }
     ensures ok { IfOk result (λ w. (t : Tree) × TakesTree T.taken T.stand tokens.old tokens.new t
-        × IsWhole (tree_integer t) w) }
-    ensures err { IfErr result (λ e. Fails (T.stand tokens.old) (T.stand tokens.new) e) }
+        × IntegerIsWhole (tree_integer t) w) }
+    ensures err { IfErr result (λ e. TokensFail (T.stand tokens.old) (T.stand tokens.new) e) }
 {
     let kind = tokens.peek()?;
     if kind == TokenKind::Int {
@@ -160,9 +160,9 @@ pub(crate) fn read_whole<S: Lent, T: Tokens<S>>(tokens: &mut T) -> Result<Whole>
 pub(crate) fn fit(whole: Whole, low: u128, high: u128) -> Result<i128>
     requires low { low ≤ 2 ^ 127 }
     requires high { high ≤ 2 ^ 127 }
-    ensures ok { (o : Option ℤ) → IsWhole o whole → IfOk result (λ n. o ≡ Some n) }
+    ensures ok { (o : Option ℤ) → IntegerIsWhole o whole → IfOk result (λ n. o ≡ Some n) }
     ensures within { IfOk result (λ n. between low high n ≡ true) }
-    ensures err { (o : Option ℤ) → IsWhole o whole
+    ensures err { (o : Option ℤ) → IntegerIsWhole o whole
         → IfErr result (λ e. (in_range (between low high) o ≡ refuses e.code)
         × (e ≡ spec_refusal e.code) × (spec_is_refusal e.code ≡ true)) }
     ensures refusal { IfErr result (λ e. (e ≡ spec_refusal e.code)
@@ -182,7 +182,7 @@ pub(crate) fn integer_at_once<S: Lent, T: Tokens<S>>(tokens: &mut T, most: u64) 
     requires { NotWhole (T.stand tokens.old) }
     ensures most { IfSome result (λ n. n ≤ most) }
     ensures takes { MatchOption result (tokens.new ≡ tokens.old) (λ n. (low high : ℕ) → most < high
-        → Finds T.taken T.stand (read_integer (between low high)) tokens.old tokens.new
+        → ReadsNonNull T.taken T.stand (read_integer (between low high)) tokens.old tokens.new
         (gives (integer_datum (pos n)))) }
 {
     match tokens.integer(most) {
@@ -207,7 +207,7 @@ fn negative_at_once<S: Lent, T: Tokens<S>>(tokens: &mut T, least: u64) -> Option
     ensures within { IfSome result (λ n. (low high : ℕ) → least ≤ low
         → between low high n ≡ true) }
     ensures takes { MatchOption result (tokens.new ≡ tokens.old) (λ n. (low high : ℕ) → least ≤ low
-        → Finds T.taken T.stand (read_integer (between low high)) tokens.old tokens.new
+        → ReadsNonNull T.taken T.stand (read_integer (between low high)) tokens.old tokens.new
         (gives (integer_datum n))) }
 {
     match tokens.negative(least) {
@@ -223,7 +223,7 @@ pub(crate) fn signed_at_once<S: Lent, T: Tokens<S>>(tokens: &mut T, half: u64) -
     requires half { (0 < half) × (half ≤ 2 ^ 63) }
     ensures within { IfSome result (λ n. between half half n ≡ true) }
     ensures takes { MatchOption result (tokens.new ≡ tokens.old) (λ n.
-        Finds T.taken T.stand (read_integer (between half half)) tokens.old tokens.new
+        ReadsNonNull T.taken T.stand (read_integer (between half half)) tokens.old tokens.new
         (gives (integer_datum n))) }
 {
     if let Some(n) = integer_at_once(tokens, half - 1) {
@@ -267,11 +267,11 @@ fn between_by_kind<S: Lent, T: Tokens<S>>(tokens: &mut T, low: u128, high: u128)
     requires low { low ≤ 2 ^ 127 }
     requires high { high ≤ 2 ^ 127 }
     ensures ok { IfOk result (λ n.
-        Reads T.taken T.stand (read_integer (between low high)) tokens.old tokens.new
+        ReadsTree T.taken T.stand (read_integer (between low high)) tokens.old tokens.new
         (gives (integer_datum n))) }
     ensures within { IfOk result (λ n. between low high n ≡ true) }
     ensures err { IfErr result (λ e.
-        Stops T.taken T.stand (read_integer (between low high)) tokens.old tokens.new e) }
+        StopsReading T.taken T.stand (read_integer (between low high)) tokens.old tokens.new e) }
 {
     let whole = read_whole(tokens)?;
     match fit(whole, low, high) {
@@ -287,11 +287,11 @@ fn negative_or_by_kind<S: Lent, T: Tokens<S>>(tokens: &mut T, low: u128, high: u
     requires low { low ≤ 2 ^ 127 }
     requires high { high ≤ 2 ^ 127 }
     ensures ok { IfOk result (λ n.
-        Reads T.taken T.stand (read_integer (between low high)) tokens.old tokens.new
+        ReadsTree T.taken T.stand (read_integer (between low high)) tokens.old tokens.new
         (gives (integer_datum n))) }
     ensures within { IfOk result (λ n. between low high n ≡ true) }
     ensures err { IfErr result (λ e.
-        Stops T.taken T.stand (read_integer (between low high)) tokens.old tokens.new e) }
+        StopsReading T.taken T.stand (read_integer (between low high)) tokens.old tokens.new e) }
 {
     if let Some(n) = negative_at_once(tokens, least_of(low)) {
         return Ok(n);
@@ -310,11 +310,11 @@ pub(crate) fn read_between<S: Lent, T: Tokens<S>>(
     requires low { low ≤ 2 ^ 127 }
     requires high { (0 < high) × (high ≤ 2 ^ 127) }
     ensures ok { IfOk result (λ n.
-        Reads T.taken T.stand (read_integer (between low high)) tokens.old tokens.new
+        ReadsTree T.taken T.stand (read_integer (between low high)) tokens.old tokens.new
         (gives (integer_datum n))) }
     ensures within { IfOk result (λ n. between low high n ≡ true) }
     ensures err { IfErr result (λ e.
-        Stops T.taken T.stand (read_integer (between low high)) tokens.old tokens.new e) }
+        StopsReading T.taken T.stand (read_integer (between low high)) tokens.old tokens.new e) }
 {
     if let Some(n) = integer_at_once(tokens, most_below(high)) {
         return Ok(n as i128);
@@ -324,9 +324,9 @@ pub(crate) fn read_between<S: Lent, T: Tokens<S>>(
 
 /// An integer from 0 on, of at most 128 bits.
 pub(crate) fn fit_unsigned(whole: Whole) -> Result<u128>
-    ensures ok { (o : Option ℤ) → IsWhole o whole → IfOk result (λ n. o ≡ Some (pos n)) }
+    ensures ok { (o : Option ℤ) → IntegerIsWhole o whole → IfOk result (λ n. o ≡ Some (pos n)) }
     ensures within { IfOk result (λ n. n < 2 ^ 128) }
-    ensures err { (o : Option ℤ) → IsWhole o whole
+    ensures err { (o : Option ℤ) → IntegerIsWhole o whole
         → IfErr result (λ e. (in_range (between 0 (2 ^ 128)) o ≡ refuses e.code)
         × (e ≡ spec_refusal e.code) × (spec_is_refusal e.code ≡ true)) }
     ensures refusal { IfErr result (λ e. (e ≡ spec_refusal e.code)

@@ -6,12 +6,12 @@ use Rattle.json_data.specs.contracts.token.TokenKind.{the_type}
 use Rattle.json_data.specs.declared.token.TokenKind.{TokenKind}
 use Rattle.json_data.specs.declared.token.TokenKind.TheVariants.{BeginArray}
 use Rattle.json_data.specs.Kinds.{first_kind}
-use Rattle.json_data.specs.Reading.{Reading, Series, each, and_then, read_integer, between}
+use Rattle.json_data.specs.Reading.{Reading, Series, each, prepend_reading, read_integer, between}
 use Rattle.json_data_vectors.specs.Nested.{read_nested, each_nested}
 
 pub each-read : (ts : Trees) → each_nested ts ≡ each read_nested ts
 each-read no_trees = refl
-each-read (tree_and t ts) = ap (λ (s : Series). and_then (read_nested t) s) (each-read ts)
+each-read (tree_and t ts) = ap (λ (s : Series). prepend_reading (read_nested t) s) (each-read ts)
 
 pub no_list-kind : (k : TokenKind) (r : Bool) → r ≡ not (sameb the_type k BeginArray) → r ≡ true → k ≢ BeginArray
 no_list-kind k r e t = search rules

@@ -4,17 +4,17 @@ use Rattle.json_model.specs.Datum.{Datum, integer_datum}
 use Rattle.json_grammar.specs.Tree.{Tree}
 use Rattle.json_text.specs.declared.error.Error.{Error}
 use Rattle.json_data.specs.Reading.{Reading, read_integer, between}
-use Rattle.json_stream.specs.Streams.{InputState, TakesValues, Fails}
+use Rattle.json_stream.specs.Streams.{InputState, TakesValues, NextValueFails}
 
 abbrev pub numbers : List ℕ → List Datum
 numbers ns = map (λ n. integer_datum (pos n)) ns
 
-abbrev pub read_number : Tree → Reading
-read_number = read_integer (between 0 (2 ^ 64))
+abbrev pub read_damage_number : Tree → Reading
+read_damage_number = read_integer (between 0 (2 ^ 64))
 
 abbrev pub beginning : List ℕ → InputState
 beginning b = record { text = b; index = 0; lossy = false; repaired = None }
 
 -- values of these data stand in the text one after another, and this is why no further one is given
 abbrev pub UpToDamage : List ℕ → List Datum → Error → Type 0
-UpToDamage b ds e = (s new : InputState) × TakesValues read_number (beginning b) ds s × Fails read_number s e.code e.place new
+UpToDamage b ds e = (s new : InputState) × TakesValues read_damage_number (beginning b) ds s × NextValueFails read_damage_number s e.code e.place new

@@ -2,7 +2,7 @@
 use Rattle.std.specs.Prelude.{pos, ◌^◌, []}
 use Rattle.json_grammar.specs.Tree.{Tree, list, Trees, no_trees, tree_and}
 use Rattle.json_model.specs.Datum.{Datum, integer_datum, list_datum, list_data}
-use Rattle.json_data.specs.Reading.{Reading, Series, gives_all, and_then, as_list, read_integer, between}
+use Rattle.json_data.specs.Reading.{Reading, Series, gives_all, prepend_reading, as_list, read_integer, between}
 use Rattle.json_data_vectors.specs.declared.nested.Nested.{Nested, fold-Nested}
 use Rattle.json_data_vectors.specs.declared.nested.Nested.TheOpen.{Nested-F}
 
@@ -22,4 +22,4 @@ abbrev mutual
 
   pub each_nested : Trees → Series
   each_nested no_trees = gives_all []
-  each_nested (tree_and t ts) = and_then (read_nested t) (each_nested ts)
+  each_nested (tree_and t ts) = prepend_reading (read_nested t) (each_nested ts)

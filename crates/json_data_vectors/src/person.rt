@@ -2,7 +2,7 @@
 ghost use Rattle.std.specs.Prelude.{ℕ, pos, map, string_bytes};
 ghost use Rattle.json_model.specs.Datum.{null_datum, text_datum, integer_datum, list_datum, list_data, option_datum, no_data};
 ghost use Rattle.json_data.specs.Members.{read_object};
-ghost use Rattle.json_data_vectors.specs.Person.{parts, person_step, person_datum, person_made};
+ghost use Rattle.json_data_vectors.specs.Person.{person_parts, person_step, person_datum, person_made};
 
 use json_data::{DeserializeFrom, Lent, Members, Tokens, find_members, read_members, refusal};
 use json_print::Events;
@@ -30,7 +30,7 @@ pub struct PersonMembers {
 }
 
 impl<S: Lent> Members<S> for PersonMembers {
-    ghost so_far = { λ m. parts (option_datum (λ s. text_datum (string_bytes s)) m.name)
+    ghost so_far = { λ m. person_parts (option_datum (λ s. text_datum (string_bytes s)) m.name)
         (option_datum (λ n. integer_datum (pos n)) m.age)
         (list_datum (list_data (map (λ s. text_datum (string_bytes s)) m.phones.items))) };
 
@@ -60,7 +60,7 @@ impl<S: Lent> DeserializeFrom<S> for Person {
     ghost datum = { λ p. person_datum (string_bytes p.name) (integer_datum (pos p.age))
         (list_datum (list_data (map (λ s. text_datum (string_bytes s)) p.phones.items))) };
 
-    ghost from_tree = { read_object person_step (parts null_datum null_datum (list_datum no_data)) person_made };
+    ghost from_tree = { read_object person_step (person_parts null_datum null_datum (list_datum no_data)) person_made };
 
     fn deserialize<T: Tokens<S>>(alloc: Global, tokens: &mut T) -> Result<Person> {
         let mut members = PersonMembers {

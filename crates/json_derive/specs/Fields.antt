@@ -6,7 +6,7 @@ use Rattle.json_text.specs.Errors.{no_memory}
 use Rattle.json_text.specs.declared.error.Error.{Error}
 use Rattle.json_text.specs.declared.error.ErrorCode.TheVariants.{TypeUnmatched}
 use Rattle.json_data.specs.Members.{read_object, reading_then}
-use Rattle.json_data.specs.Reading.{Reading, gives, refuses, Series, gives_all, stops, and_then, as_list}
+use Rattle.json_data.specs.Reading.{Reading, gives, refuses, Series, gives_all, stops, prepend_reading, as_list}
 use Rattle.json_data.specs.Refusals.{is_refusal, refusal}
 
 -- a field: the name of its member, what is read of the member's value, and what the field is where the member is missing
@@ -61,12 +61,12 @@ unknown_member true = stops TypeUnmatched
 unknown_member false = gives_all []
 
 -- a member goes to its field, where it takes the place of an earlier one
-abbrev pub with_member : Bool → List Field → List Datum → List ℕ → Tree → Series
-with_member strict (f ∷ fs) (d ∷ ds) k t = if bytes_eq k f.name then and_then (present_reading (f.reads t)) (gives_all ds) else and_then (gives d) (with_member strict fs ds k t)
-with_member strict fs ds k t = unknown_member strict
+abbrev pub with_field_member : Bool → List Field → List Datum → List ℕ → Tree → Series
+with_field_member strict (f ∷ fs) (d ∷ ds) k t = if bytes_eq k f.name then prepend_reading (present_reading (f.reads t)) (gives_all ds) else prepend_reading (gives d) (with_field_member strict fs ds k t)
+with_field_member strict fs ds k t = unknown_member strict
 
 abbrev pub struct_step : Struct → Datum → List ℕ → Tree → Reading
-struct_step s (list_datum ds) k t = as_list (with_member s.strict s.fields (data_list ds) k t)
+struct_step s (list_datum ds) k t = as_list (with_field_member s.strict s.fields (data_list ds) k t)
 struct_step s d k t = refuses TypeUnmatched
 
 -- no member was read
@@ -80,7 +80,7 @@ field_value f (list_datum (datum_and d no_data)) = gives d
 field_value f d = f.missing
 
 abbrev pub field_values : List Field → List Datum → Series
-field_values (f ∷ fs) (d ∷ ds) = and_then (field_value f d) (field_values fs ds)
+field_values (f ∷ fs) (d ∷ ds) = prepend_reading (field_value f d) (field_values fs ds)
 field_values fs ds = gives_all []
 
 abbrev pub as_struct : Struct → Series → Reading

@@ -2,7 +2,7 @@
 ghost use Rattle.std.specs.Prelude.{◌≡◌, ℕ, List, None, Some, OnOk, IfOk, IfErr, IfSome};
 ghost use Rattle.json_model.specs.Datum.{Datum, Data, list_datum};
 ghost use Rattle.json_text.specs.declared.error.ErrorCode.TheVariants as ErrorCode;
-ghost use Rattle.json_data.specs.Reader.{Reads, Finds, Misses, Stops};
+ghost use Rattle.json_data.specs.Reader.{ReadsTree, ReadsNonNull, Misses, StopsReading};
 ghost use Rattle.json_data.specs.Reading.{gives};
 ghost use Rattle.json_data.specs.Refusals.{refusal as spec_refusal};
 ghost use Rattle.json_data.specs.Stand.{NotWhole, WantsValue};
@@ -41,10 +41,10 @@ pub trait Builder<S: Lent>: Sized {
     /// Takes the value of the member of that name. A refusal comes after the whole value was taken.
     fn member<T: Tokens<S>>(&mut self, alloc: Global, name: &str, tokens: &mut T) -> Result<()>
         requires { WantsValue (T.stand tokens.old) }
-        ensures ok { OnOk result (Reads T.taken T.stand
+        ensures ok { OnOk result (ReadsTree T.taken T.stand
             (struct_step shape (list_datum (so_far self.old)) name.now)
             tokens.old tokens.new (gives (list_datum (so_far self.new)))) }
-        ensures err { IfErr result (λ e. Stops T.taken T.stand
+        ensures err { IfErr result (λ e. StopsReading T.taken T.stand
             (struct_step shape (list_datum (so_far self.old)) name.now) tokens.old tokens.new e) };
 
     /// Returns the struct. Fails with `TypeUnmatched` if a member that must be there is missing, and
@@ -92,10 +92,10 @@ pub fn read_struct<S: Lent, B: Builder<S> + Drop, T: Tokens<S>>(
     tokens: &mut T,
 ) -> Result<B::Built>
     requires { WantsValue (T.stand tokens.old) }
-    ensures ok { IfOk result (λ v. Reads T.taken T.stand (spec_read_struct B.shape)
+    ensures ok { IfOk result (λ v. ReadsTree T.taken T.stand (spec_read_struct B.shape)
         tokens.old tokens.new (gives (struct_datum B.shape (B.values v)))) }
     ensures err { IfErr result (λ e.
-        Stops T.taken T.stand (spec_read_struct B.shape) tokens.old tokens.new e) }
+        StopsReading T.taken T.stand (spec_read_struct B.shape) tokens.old tokens.new e) }
 {
     let mut members = Building { builder: B::new() };
     match read_members(alloc, &mut members, tokens) {
@@ -118,7 +118,7 @@ pub fn find_struct<S: Lent, B: Builder<S> + Drop, T: Tokens<S>>(
     requires { NotWhole (T.stand tokens.old) }
     ensures none { IfOk result (λ o. o ≡ None → tokens.new ≡ tokens.old) }
     ensures ok { IfOk result (λ o. IfSome o (λ v.
-        Finds T.taken T.stand (spec_read_struct B.shape)
+        ReadsNonNull T.taken T.stand (spec_read_struct B.shape)
         tokens.old tokens.new (gives (struct_datum B.shape (B.values v))))) }
     ensures err { IfErr result (λ e.
         Misses T.taken T.stand (spec_read_struct B.shape) tokens.old tokens.new e) }

@@ -4,7 +4,7 @@ use Rattle.std.specs.Prelude.{option_and_then}
 use Rattle.json_grammar.specs.declared.Kind.{Kind}
 use Rattle.json_grammar.specs.declared.Kind.TheVariants.{Array as array, Object as object}
 use Rattle.json_grammar.specs.Tree.{Tree, null, boolean, num, text, list, pairs, Trees, no_trees, tree_and, Pairs, no_pairs, pair_and, Token, begin, end, tokens, trees_tokens, pairs_tokens}
-use Rattle.json_doc.specs.Awaited.{Slot, a_value, an_element, a_key, a_member, past_value, past_begin, past_token, past_tokens, inner_slot, awaits, Begins}
+use Rattle.json_doc.specs.Awaited.{Slot, a_value, an_element, a_key, a_member, past_value, past_begin, past_token, past_tokens, inner_slot, awaits, BeginsTree}
 
 -- the tokens ts, and more
 pub past_append : (w : List Slot) (ts us : List Token) → past_tokens w (ts ++ us) ≡ option_and_then (λ v. past_tokens v us) (past_tokens w ts)
@@ -65,12 +65,12 @@ was_some : {A B : Type 0} (o : Option A) (f : A → Option B) (b : B) → option
 was_some None f b e = absurd (cc)
 was_some (Some a) f b e = (a, refl)
 
-pub begins_awaits : (ts : List Token) → Begins ts → (w : List Slot) × (awaits ts ≡ Some w)
+pub begins_awaits : (ts : List Token) → BeginsTree ts → (w : List Slot) × (awaits ts ≡ Some w)
 begins_awaits ts (t, m, e) =
     was_some (awaits ts) (λ v. past_tokens v m) [] (sym (past_append (a_value ∷ []) ts m) ∙ ap awaits (sym e) ∙ awaits_tree t)
 
 -- where w has to come next, a token that goes on leads somewhere
-pub next_awaits : (ts : List Token) (x : Token) (w : List Slot) → awaits ts ≡ Some w → Begins (ts ++ x ∷ []) → (v : List Slot) × (past_token w x ≡ Some v) × (awaits (ts ++ x ∷ []) ≡ Some v)
+pub next_awaits : (ts : List Token) (x : Token) (w : List Slot) → awaits ts ≡ Some w → BeginsTree (ts ++ x ∷ []) → (v : List Slot) × (past_token w x ≡ Some v) × (awaits (ts ++ x ∷ []) ≡ Some v)
 next_awaits ts x w e b =
     let h = begins_awaits (ts ++ x ∷ []) b in
     let f : awaits (ts ++ x ∷ []) ≡ past_tokens w (x ∷ []) = past_append (a_value ∷ []) ts (x ∷ []) ∙ and_then_some (awaits ts) w (x ∷ []) e in

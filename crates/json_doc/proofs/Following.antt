@@ -9,8 +9,8 @@ use Rattle.json_grammar.specs.Tree.{Token, num_token}
 use Rattle.json_grammar.specs.Grammar.{chars}
 use Rattle.json_grammar.specs.Sizes.{token_nodes, nodes_of}
 use Rattle.json_grammar.proofs.Sizes.{nodes_append}
-use Rattle.json_doc.specs.Awaited.{Begins}
-use Rattle.json_doc.specs.State.{VisitorState, Fits, after_event, MayCome, HoldsMore}
+use Rattle.json_doc.specs.Awaited.{BeginsTree}
+use Rattle.json_doc.specs.State.{VisitorState, Fits, after_event, MayComeAfter, HoldsMore}
 use Rattle.json_doc.specs.Recorded.{visitor_state, Holds}
 use Rattle.json_text.specs.declared.event.Event.{Event}
 use Rattle.json_text.specs.declared.event.Event.TheVariants as event
@@ -35,7 +35,7 @@ kept_full b e f = let both : true ≡ false = sym e ∙ f in absurd (cc)
 pub follows_on : (old new : DocumentVisitor) (x : Token) (k m : ℕ) (r : Bool) (ts : List Token)
     → IsTrue r ↔ Fits (visitor_state old) (token_nodes x) m → visitor_state new ≡ after_event r (token_nodes x) k (visitor_state old)
     → OnTrue r (HoldsMore (Holds old) (Holds new) x)
-    → Follows old ts → Begins (ts ++ x ∷ []) → (old.full ≡ false → (visitor_state old).bytes + m ≤ (visitor_state old).text_room) → Follows new (ts ++ x ∷ [])
+    → Follows old ts → BeginsTree (ts ++ x ∷ []) → (old.full ≡ false → (visitor_state old).bytes + m ≤ (visitor_state old).text_room) → Follows new (ts ++ x ∷ [])
 follows_on old new x k m true ts answer after held f b h =
     let open_old : old.full ≡ false = (answer.0 refl).0 in
     let open_new : new.full ≡ false = ap (λ (s : VisitorState). s.full) after ∙ open_old in
@@ -61,27 +61,27 @@ held_of old new to raw t false h k = tt
 pub follows_event : (e e' : Event) (old new : DocumentVisitor) (y x : Token) (k : ℕ) (r : Bool) (ts : List Token) → e ≡ e' → x ≡ y
     → IsTrue r ↔ Fits (visitor_state old) (token_nodes y) (raw_size e') → visitor_state new ≡ after_event r (token_nodes y) k (visitor_state old)
     → OnTrue r (HoldsMore (Holds old) (Holds new) y)
-    → Follows old ts → Begins (ts ++ x ∷ []) → (old.full ≡ false → (visitor_state old).bytes + raw_size e ≤ (visitor_state old).text_room) → Follows new (ts ++ x ∷ [])
+    → Follows old ts → BeginsTree (ts ++ x ∷ []) → (old.full ≡ false → (visitor_state old).bytes + raw_size e ≤ (visitor_state old).text_room) → Follows new (ts ++ x ∷ [])
 follows_event e e' old new y x k r ts is same answer after held f b h =
     subst (λ (z : Token). Follows new (ts ++ z ∷ [])) (sym same)
-    (follows_on old new y k (raw_size e') r ts answer after held f (subst (λ (z : Token). Begins (ts ++ z ∷ [])) same b)
+    (follows_on old new y k (raw_size e') r ts answer after held f (subst (λ (z : Token). BeginsTree (ts ++ z ∷ [])) same b)
     (subst (λ (v : Event). old.full ≡ false → (visitor_state old).bytes + raw_size v ≤ (visitor_state old).text_room) is h))
 
 -- a number, whose literal has room behind what was recorded
 pub follows_number : (e : Event) (l : Bor (List ℕ)) (old new : DocumentVisitor) (x : Token) (ts : List Token) → e ≡ event.Number l → Means e x
-    → (Begins (ts ++ num_token l.now ∷ []) → HasRoomFor old (length l.now) → Follows new (ts ++ num_token l.now ∷ []))
-    → Begins (ts ++ x ∷ []) → HasRoomFor old (raw_size e) → Follows new (ts ++ x ∷ [])
+    → (BeginsTree (ts ++ num_token l.now ∷ []) → HasRoomFor old (length l.now) → Follows new (ts ++ num_token l.now ∷ []))
+    → BeginsTree (ts ++ x ∷ []) → HasRoomFor old (raw_size e) → Follows new (ts ++ x ∷ [])
 follows_number e l old new x ts is means f b h =
     let same = means_at e (event.Number l) x is means in
-    subst (λ (z : Token). Follows new (ts ++ z ∷ [])) (sym same) (f (subst (λ (z : Token). Begins (ts ++ z ∷ [])) same b) (subst (λ (v : Event). HasRoomFor old (raw_size v)) is h))
+    subst (λ (z : Token). Follows new (ts ++ z ∷ [])) (sym same) (f (subst (λ (z : Token). BeginsTree (ts ++ z ∷ [])) same b) (subst (λ (v : Event). HasRoomFor old (raw_size v)) is h))
 
-pub may_come_at : (old : DocumentVisitor) (k l : List ℕ) → k ≡ l → MayCome (Holds old) (num_token l) → MayCome (Holds old) (num_token k)
-may_come_at old k l is h = subst (λ (m : List ℕ). MayCome (Holds old) (num_token m)) (sym is) h
+pub may_come_at : (old : DocumentVisitor) (k l : List ℕ) → k ≡ l → MayComeAfter (Holds old) (num_token l) → MayComeAfter (Holds old) (num_token k)
+may_come_at old k l is h = subst (λ (m : List ℕ). MayComeAfter (Holds old) (num_token m)) (sym is) h
 
 -- a number by its literal l takes its bytes, or none
 pub follows_literal : (old new : DocumentVisitor) (l : List ℕ) (y : Token) (k m : ℕ) (r : Bool) (ts : List Token) → y ≡ num_token l → m ≤ length l
     → IsTrue r ↔ Fits (visitor_state old) 1 m → visitor_state new ≡ after_event r 1 k (visitor_state old)
     → OnTrue r (HoldsMore (Holds old) (Holds new) y)
-    → Follows old ts → Begins (ts ++ num_token l ∷ []) → HasRoomFor old (length l) → Follows new (ts ++ num_token l ∷ [])
+    → Follows old ts → BeginsTree (ts ++ num_token l ∷ []) → HasRoomFor old (length l) → Follows new (ts ++ num_token l ∷ [])
 follows_literal old new l y k m r ts is short answer after held f b h =
     follows_on old new (num_token l) k m r ts answer after (subst (λ (z : Token). OnTrue r (HoldsMore (Holds old) (Holds new) z)) is held) f b (λ full. omega (arith, h full))

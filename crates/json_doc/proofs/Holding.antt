@@ -12,7 +12,7 @@ use Rattle.json_grammar.specs.Sizes.{token_nodes, nodes_of}
 use Rattle.json_grammar.proofs.Sizes.{nodes_append}
 use Rattle.json_number.specs.Integers.{integer_in}
 use Rattle.json_number.proofs.Integers.{decimal_number, decimal_reads}
-use Rattle.json_doc.specs.Awaited.{Slot, a_value, past_value, past_token, awaits, Begins}
+use Rattle.json_doc.specs.Awaited.{Slot, a_value, past_value, past_token, awaits, BeginsTree}
 use Rattle.json_doc.specs.ByValue.{integer_cell}
 use Rattle.json_doc.specs.CellReadings.{cell_len}
 use Rattle.json_doc.specs.OpenCells.{link_of, outer_place, outer_count}
@@ -67,7 +67,7 @@ held_more cells bytes extra p n ts c x v m t u one is_extra u' a b = record {
 -- a scalar
 held_leaf : (cells : List Cell) (bytes extra : List ℕ) (p n : ℕ) (ts : List Token) (c : Cell) (t : Tree) (x : Token)
     → IsUtf8 extra → ((w : List Slot) → past_token w x ≡ past_value w) → tokens t ≡ x ∷ [] → token_nodes x ≡ 1 → token_text x ≡ extra → ((k : ℕ) → node (bytes ++ extra) k (c ∷ []) t)
-    → Held cells bytes p n ts → Begins (ts ++ x ∷ []) → Held (cells ++ c ∷ []) (bytes ++ extra) p (n + 1) (ts ++ x ∷ [])
+    → Held cells bytes p n ts → BeginsTree (ts ++ x ∷ []) → Held (cells ++ c ∷ []) (bytes ++ extra) p (n + 1) (ts ++ x ∷ [])
 held_leaf cells bytes extra p n ts c t x u is_value is_token one is_extra here h b =
     let next = next_awaits ts x h.slots h.awaited b in
     let built = builds_value (bytes ++ extra) next.0 (c ∷ []) t (builds_more extra u h.built) (sym (is_value h.slots) ∙ next.1) (here (length cells)) in
@@ -89,47 +89,47 @@ stands_last bytes s u = (
 )
 
 module _ (cells : List Cell) (bytes : List ℕ) (p n : ℕ) (ts : List Token) where
-  pub held_null : Held cells bytes p n ts → Begins (ts ++ null_token ∷ []) → Held (cells ++ cell.Null ∷ []) bytes p (n + 1) (ts ++ null_token ∷ [])
+  pub held_null : Held cells bytes p n ts → BeginsTree (ts ++ null_token ∷ []) → Held (cells ++ cell.Null ∷ []) bytes p (n + 1) (ts ++ null_token ∷ [])
   held_null h b = no_bytes _ bytes p _ _ (held_leaf cells bytes [] p n ts cell.Null null null_token IsUtf8-nil (λ w. refl) refl refl refl (λ k. refl) h b)
 
-  pub held_boolean : (v : Bool) → Held cells bytes p n ts → Begins (ts ++ boolean_token v ∷ []) → Held (cells ++ cell.Bool v ∷ []) bytes p (n + 1) (ts ++ boolean_token v ∷ [])
+  pub held_boolean : (v : Bool) → Held cells bytes p n ts → BeginsTree (ts ++ boolean_token v ∷ []) → Held (cells ++ cell.Bool v ∷ []) bytes p (n + 1) (ts ++ boolean_token v ∷ [])
   held_boolean v h b = no_bytes _ bytes p _ _ (held_leaf cells bytes [] p n ts (cell.Bool v) (boolean v) (boolean_token v) IsUtf8-nil (λ w. refl) refl refl refl (λ k. refl) h b)
 
   held_integer : (z : ℤ) → number (signed_decimal z) → integer_in (signed_decimal z) ≡ Some z
-      → Held cells bytes p n ts → Begins (ts ++ num_token (signed_decimal z) ∷ []) → Held (cells ++ integer_cell z ∷ []) bytes p (n + 1) (ts ++ num_token (signed_decimal z) ∷ [])
+      → Held cells bytes p n ts → BeginsTree (ts ++ num_token (signed_decimal z) ∷ []) → Held (cells ++ integer_cell z ∷ []) bytes p (n + 1) (ts ++ num_token (signed_decimal z) ∷ [])
   held_integer z is e h b =
       let l = signed_decimal z in
       no_bytes _ bytes p _ _ (held_leaf cells bytes [] p n ts (integer_cell z) (num l) (num_token l) IsUtf8-nil (λ w. refl) refl refl (integer_text l z e) (λ k. (is, integer_cell z, refl, integer_stands (bytes ++ []) l z e refl)) h b)
 
-  pub held_unsigned : (m : ℕ) → m < 2 ^ 64 → Held cells bytes p n ts → Begins (ts ++ num_token (signed_decimal (pos m)) ∷ [])
+  pub held_unsigned : (m : ℕ) → m < 2 ^ 64 → Held cells bytes p n ts → BeginsTree (ts ++ num_token (signed_decimal (pos m)) ∷ [])
       → Held (cells ++ cell.Unsigned m ∷ []) bytes p (n + 1) (ts ++ num_token (signed_decimal (pos m)) ∷ [])
   held_unsigned m k h b = held_integer (pos m) (decimal_number m k) (decimal_reads m k) h b
 
-  pub held_negative : (z : ℤ) → z <ℤ pos 0 → SFits w64 z → Held cells bytes p n ts → Begins (ts ++ num_token (signed_decimal z) ∷ [])
+  pub held_negative : (z : ℤ) → z <ℤ pos 0 → SFits w64 z → Held cells bytes p n ts → BeginsTree (ts ++ num_token (signed_decimal z) ∷ [])
       → Held (cells ++ cell.Negative z ∷ []) bytes p (n + 1) (ts ++ num_token (signed_decimal z) ∷ [])
   held_negative z k f h b =
       let t = negative_text z k f in
       subst (λ (c : Cell). Held (cells ++ c ∷ []) bytes p (n + 1) (ts ++ num_token (signed_decimal z) ∷ [])) t.2 (held_integer z t.0 t.1 h b)
 
   pub held_raw : (l : List ℕ) → IsUtf8 l → number l → integer_in l ≡ None
-      → Held cells bytes p n ts → Begins (ts ++ num_token l ∷ []) → Held (cells ++ cell.Raw (length bytes) (length l) ∷ []) (bytes ++ l) p (n + 1) (ts ++ num_token l ∷ [])
+      → Held cells bytes p n ts → BeginsTree (ts ++ num_token l ∷ []) → Held (cells ++ cell.Raw (length bytes) (length l) ∷ []) (bytes ++ l) p (n + 1) (ts ++ num_token l ∷ [])
   held_raw l u is e h b =
       let c = cell.Raw (length bytes) (length l) in
       held_leaf cells bytes l p n ts c (num l) (num_token l) u (λ w. refl) refl refl (raw_text l e) (λ k. (is, c, refl, raw_stands (bytes ++ l) l c e (length bytes, refl, stands_last bytes l u))) h b
 
-  pub held_text : (s : List ℕ) → IsUtf8 s → Held cells bytes p n ts → Begins (ts ++ text_token s ∷ []) → Held (cells ++ cell.Str (length bytes) (length s) ∷ []) (bytes ++ s) p (n + 1) (ts ++ text_token s ∷ [])
+  pub held_text : (s : List ℕ) → IsUtf8 s → Held cells bytes p n ts → BeginsTree (ts ++ text_token s ∷ []) → Held (cells ++ cell.Str (length bytes) (length s) ∷ []) (bytes ++ s) p (n + 1) (ts ++ text_token s ∷ [])
   held_text s u h b =
       let c = cell.Str (length bytes) (length s) in
       held_leaf cells bytes s p n ts c (text s) (text_token s) u (λ w. refl) refl refl refl (λ k. (c, refl, (length bytes, refl, stands_last bytes s u))) h b
 
-  pub held_key : (s : List ℕ) → IsUtf8 s → Held cells bytes p n ts → Begins (ts ++ key_token s ∷ []) → Held (cells ++ cell.Str (length bytes) (length s) ∷ []) (bytes ++ s) p (n + 1) (ts ++ key_token s ∷ [])
+  pub held_key : (s : List ℕ) → IsUtf8 s → Held cells bytes p n ts → BeginsTree (ts ++ key_token s ∷ []) → Held (cells ++ cell.Str (length bytes) (length s) ∷ []) (bytes ++ s) p (n + 1) (ts ++ key_token s ∷ [])
   held_key s u h b =
       let next = next_awaits ts (key_token s) h.slots h.awaited b in
       let c = cell.Str (length bytes) (length s) in
       let built = builds_key (bytes ++ s) next.0 c s (builds_more s u h.built) next.1 (length bytes, refl, stands_last bytes s u) in
       held_more cells bytes s p (n + 1) ts c (key_token s) next.0 h.counted h.texts h.utf8 refl refl u next.2 built
 
-  pub held_array : Held cells bytes p n ts → Begins (ts ++ begin array ∷ []) → Held (cells ++ cell.Array p n ∷ []) bytes (length cells) 0 (ts ++ begin array ∷ [])
+  pub held_array : Held cells bytes p n ts → BeginsTree (ts ++ begin array ∷ []) → Held (cells ++ cell.Array p n ∷ []) bytes (length cells) 0 (ts ++ begin array ∷ [])
   held_array h b =
       let next = next_awaits ts (begin array) h.slots h.awaited b in
       let value = value_where array h.slots next.0 next.1 in
@@ -137,7 +137,7 @@ module _ (cells : List Cell) (bytes : List ℕ) (p n : ℕ) (ts : List Token) wh
       no_bytes _ bytes (length cells) _ _ (held_more cells bytes [] (length cells) 0 ts (cell.Array p n) (begin array) next.0 h.counted h.texts h.utf8 refl refl IsUtf8-nil next.2
       (subst (λ (w : List Slot). Building (bytes ++ []) (cells ++ cell.Array p n ∷ []) (length cells) 0 w (ts ++ begin array ∷ [])) (sym value.2) built))
 
-  pub held_object : Held cells bytes p n ts → Begins (ts ++ begin object ∷ []) → Held (cells ++ cell.Object p n ∷ []) bytes (length cells) 0 (ts ++ begin object ∷ [])
+  pub held_object : Held cells bytes p n ts → BeginsTree (ts ++ begin object ∷ []) → Held (cells ++ cell.Object p n ∷ []) bytes (length cells) 0 (ts ++ begin object ∷ [])
   held_object h b =
       let next = next_awaits ts (begin object) h.slots h.awaited b in
       let value = value_where object h.slots next.0 next.1 in
@@ -178,12 +178,12 @@ held_end x c cells bytes p n ts v no_text no_node a h i =
       };
     }
 
-pub held_array_end : (cells : List Cell) (bytes : List ℕ) (p n : ℕ) (ts : List Token) → Held cells bytes p n ts → Begins (ts ++ end array ∷ []) → Ends (end array) (cell.Array (length cells) n) cells bytes p ts
+pub held_array_end : (cells : List Cell) (bytes : List ℕ) (p n : ℕ) (ts : List Token) → Held cells bytes p n ts → BeginsTree (ts ++ end array ∷ []) → Ends (end array) (cell.Array (length cells) n) cells bytes p ts
 held_array_end cells bytes p n ts h b =
     let next = next_awaits ts (end array) h.slots h.awaited b in
     held_end (end array) (cell.Array (length cells) n) cells bytes p n ts next.0 refl refl next.2 h (within_array next.0 h.built next.1)
 
-pub held_object_end : (cells : List Cell) (bytes : List ℕ) (p n : ℕ) (ts : List Token) → Held cells bytes p n ts → Begins (ts ++ end object ∷ []) → Ends (end object) (cell.Object (length cells) (n / 2)) cells bytes p ts
+pub held_object_end : (cells : List Cell) (bytes : List ℕ) (p n : ℕ) (ts : List Token) → Held cells bytes p n ts → BeginsTree (ts ++ end object ∷ []) → Ends (end object) (cell.Object (length cells) (n / 2)) cells bytes p ts
 held_object_end cells bytes p n ts h b =
     let next = next_awaits ts (end object) h.slots h.awaited b in
     held_end (end object) (cell.Object (length cells) (n / 2)) cells bytes p n ts next.0 refl refl next.2 h (within_object next.0 h.built next.1)

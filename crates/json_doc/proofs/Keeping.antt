@@ -30,10 +30,10 @@ use Rattle.json_text.specs.declared.error.Place.TheVariants as place
 use Rattle.json_text.specs.declared.event.Event.{Event}
 use Rattle.json_text.specs.declared.event.Event.TheVariants as event
 use Rattle.json_text.specs.Positions.{place_at}
-use Rattle.json_text.specs.Events.{Means, raw_size, token_bytes}
+use Rattle.json_text.specs.Events.{Means, raw_size, event_bytes}
 use Rattle.json_text.specs.Faults.{IsFault, IsFaultWith, FaultWithAt}
 use Rattle.json_text.specs.Parsing.{ParserState, input, HasGiven, SameInput, Goes, TakesToken, IsTight, IsDue}
-use Rattle.json_doc.specs.Awaited.{Begins}
+use Rattle.json_doc.specs.Awaited.{BeginsTree}
 use Rattle.json_doc.specs.State.{VisitorState}
 use Rattle.json_doc.specs.Recorded.{visitor_state, Holds, SameRoom}
 use Rattle.json_doc.specs.Reading.{ReadingFails, ReadingFailsWith, RefusesName, EventIsNumber, Follows}
@@ -90,7 +90,7 @@ tight_on p q event.BeginObject n g = g
 tight_on p q event.EndObject n g = g
 tight_on p q event.End n g = absurd (n refl)
 
-pub given_begins : (p : ParserState) (ts : List Token) → HasGiven p ts → Begins ts
+pub given_begins : (p : ParserState) (ts : List Token) → HasGiven p ts → BeginsTree ts
 given_begins p ts h = reading_begins p.lossy (take h.base (input p)) p.open_kinds p.spot ts h.given.at
 
 -- what was recorded is no longer than what was taken
@@ -110,7 +110,7 @@ module _ {limit : ℕ} {p q : ParserState} {v : DocumentVisitor} {b : List ℕ} 
       let h = next_token.2.given.at in
       event_number e next_token.0 (take next_token.2.base (input q)) q.open_kinds q.spot ts next_token.1 h
 
-  pub next_begins : Begins (ts ++ next_token.0 ∷ [])
+  pub next_begins : BeginsTree (ts ++ next_token.0 ∷ [])
   next_begins = given_begins q (ts ++ next_token.0 ∷ []) next_token.2
 
   pub goes_forward : (p.index < q.index) × (q.index ≤ length b)
@@ -120,7 +120,7 @@ module _ {limit : ℕ} {p q : ParserState} {v : DocumentVisitor} {b : List ℕ} 
       (t.forward, omega (arith, t.within, ap length whole))
 
   -- its token ends where the parser stands
-  pub next_behind : length (token_bytes e) ≤ q.index
+  pub next_behind : length (event_bytes e) ≤ q.index
   next_behind =
       let t = tight_on p q e other tight in
       let size = ap length t.bytes in

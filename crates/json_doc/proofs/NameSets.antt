@@ -20,7 +20,7 @@ use Rattle.std.proofs.lemmas.List.Folds.{list_any-append}
 use Rattle.std.proofs.lemmas.Slice.Eq.{bytes_eq-Decides}
 use Rattle.json_grammar.specs.Repeated.{Keys, innermost_keys, outer_keys, with_key}
 use Rattle.json_grammar.proofs.Lists.{cons_nil, none_behind}
-use Rattle.json_doc.specs.OpenNames.{Row, NameSet, front_of, row_has, set_has, names_have, AreNames, Around, nothing, around, NamesStand}
+use Rattle.json_doc.specs.OpenNames.{NameList, NameSet, front_of, row_has, set_has, names_have, AreNames, Around, nothing, around, NamesStand}
 use Rattle.json_doc.specs.declared.open_keys.OuterKeys.{OuterKeys}
 
 -- ---- the names of one container
@@ -72,14 +72,14 @@ no_names m e s = (λ h. absurd (by h), λ c. let l = c.1 in absurd (omega arith)
     by : set_has m s ≡ true → ⊥
     by h = let f : false ≡ true = rw e at h in absurd (cc)
 
-plain_added : (few : Row) (m : NameSet) (ks : Keys) (n : Bor (List ℕ)) → AreNames few m ks → AreNames (few ++ n ∷ []) m (ks ++ n.now ∷ [])
+plain_added : (few : NameList) (m : NameSet) (ks : Keys) (n : Bor (List ℕ)) → AreNames few m ks → AreNames (few ++ n ∷ []) m (ks ++ n.now ∷ [])
 plain_added few m ks n a s =
     let row : list_any (λ y. bytes_eq y.now s) (few ++ n ∷ []) ≡ (list_any (λ y. bytes_eq y.now s) few || (bytes_eq n.now s || false)) = list_any-append (λ y. bytes_eq y.now s) few (n ∷ []) in
     more_names ks n.now s (names_have few m s) (names_have (few ++ n ∷ []) m s) (a s)
     (λ h. row_there (row_has few s) (bytes_eq n.now s) (set_has m s) (subst (λ v. (v || set_has m s) ≡ true) row h))
     (λ h. subst (λ v. (v || set_has m s) ≡ true) (sym row) (row_here (row_has few s) (bytes_eq n.now s) (set_has m s) h))
 
-set_added : (few : Row) (m n : NameSet) (ks : Keys) (t : List ℕ) → AreNames few m ks → ((s : List ℕ) → set_has n s ≡ cond (bytes_eq t s) true (set_has m s)) → AreNames few n (ks ++ t ∷ [])
+set_added : (few : NameList) (m n : NameSet) (ks : Keys) (t : List ℕ) → AreNames few m ks → ((s : List ℕ) → set_has n s ≡ cond (bytes_eq t s) true (set_has m s)) → AreNames few n (ks ++ t ∷ [])
 set_added few m n ks t a e s =
     more_names ks t s (names_have few m s) (names_have few n s) (a s)
     (λ h. set_there (row_has few s) (bytes_eq t s) (set_has m s) (subst (λ v. (row_has few s || v) ≡ true) (e s) h))
@@ -109,18 +109,18 @@ set_updated m n f t e h s =
 
 -- ---- the containers around the innermost
 
-record Left (few : Row) (outer : List OuterKeys) (o : OuterKeys) (all : List Keys) : Type 0 where
+record Left (few : NameList) (outer : List OuterKeys) (o : OuterKeys) (all : List Keys) : Type 0 where
   ks : Keys
   rest : List Keys
-  front : Row
-  row : Row
+  front : NameList
+  row : NameList
   all_is : all ≡ ks ∷ rest
   few_is : few ≡ front ++ row
   outside : Around front outer rest
   starts : o.start ≡ length front
   names : AreNames row o.many (innermost_keys rest)
 
-left : (few : Row) (os outer : List OuterKeys) (o : OuterKeys) (all : List Keys) → Around few os all → os ≡ outer ++ o ∷ [] → Left few outer o all
+left : (few : NameList) (os outer : List OuterKeys) (o : OuterKeys) (all : List Keys) → Around few os all → os ≡ outer ++ o ∷ [] → Left few outer o all
 left _ _ outer o _ nothing e = absurd (cons_nil o [] (none_behind outer (o ∷ []) (sym e)))
 left _ _ outer o _ (around {few = front} {outer = os} {all = rest} row q ks a l n) e =
     let same = same_from_push os outer q o e in
@@ -137,24 +137,24 @@ left _ _ outer o _ (around {few = front} {outer = os} {all = rest} row q ks a l 
     }
 
 -- another name of the innermost leaves those around it
-around_same : (few : Row) (outer : List OuterKeys) (all : List Keys) (s : List ℕ) → Around few outer all → Around few outer (with_key all s)
+around_same : (few : NameList) (outer : List OuterKeys) (all : List Keys) (s : List ℕ) → Around few outer all → Around few outer (with_key all s)
 around_same _ _ _ s nothing = nothing
 around_same _ _ _ s (around row o ks a l n) = around row o (ks ++ s ∷ []) a l n
 
-nothing_around : (few : Row) (outer : List OuterKeys) (all : List Keys) → Around few outer all → outer ≡ [] → all ≡ []
+nothing_around : (few : NameList) (outer : List OuterKeys) (all : List Keys) → Around few outer all → outer ≡ [] → all ≡ []
 nothing_around _ _ _ nothing e = refl
 nothing_around _ _ _ (around {outer = os} row o ks a l n) e = absurd (cons_nil o [] (none_behind os (o ∷ []) e))
 
-some_around : (few : Row) (outer : List OuterKeys) (all : List Keys) → Around few outer all → 0 < length outer → (ks : Keys) × (rest : List Keys) × (all ≡ ks ∷ rest)
+some_around : (few : NameList) (outer : List OuterKeys) (all : List Keys) → Around few outer all → 0 < length outer → (ks : Keys) × (rest : List Keys) × (all ≡ ks ∷ rest)
 some_around _ _ _ nothing l = absurd (omega arith)
 some_around _ _ _ (around {all = rest} row o ks a n m) l = (ks, rest, refl)
 
 -- ---- event by event
 
-pub stand_start : (few : Row) (m : NameSet) (outer : List OuterKeys) → few ≡ [] → m.keys ≡ [] → outer ≡ [] → NamesStand few 0 m outer []
+pub stand_start : (few : NameList) (m : NameSet) (outer : List OuterKeys) → few ≡ [] → m.keys ≡ [] → outer ≡ [] → NamesStand few 0 m outer []
 stand_start few m outer f e g = rw (f, g) (record { within = omega arith; here = no_names m e; outside = nothing })
 
-pub stand_began : (few : Row) (start len : ℕ) (many none : NameSet) (outer : List OuterKeys) (o : OuterKeys) (all : List Keys)
+pub stand_began : (few : NameList) (start len : ℕ) (many none : NameSet) (outer : List OuterKeys) (o : OuterKeys) (all : List Keys)
     → NamesStand few start many outer all → none.keys ≡ [] → o.start ≡ start → o.many ≡ many → len ≡ length few
     → NamesStand few len none (outer ++ o ∷ []) ([] ∷ all)
 stand_began few start len many none outer o all h e a b l = record {
@@ -164,7 +164,7 @@ stand_began few start len many none outer o all h e a b l = record {
       (around (drop start few) o [] h.outside (let w = h.within in omega (arith, length-take start few)) (subst (λ m. AreNames (drop start few) m (innermost_keys all)) (sym b) h.here));
 }
 
-pub stand_ended : (few : Row) (start : ℕ) (many : NameSet) (os outer : List OuterKeys) (o : OuterKeys) (all : List Keys)
+pub stand_ended : (few : NameList) (start : ℕ) (many : NameSet) (os outer : List OuterKeys) (o : OuterKeys) (all : List Keys)
     → NamesStand few start many os all → os ≡ outer ++ o ∷ [] → NamesStand (take start few) o.start o.many outer (outer_keys all)
 stand_ended few start many os outer o all h e = by (left (take start few) os outer o all h.outside e)
   where
@@ -175,29 +175,29 @@ stand_ended few start many os outer o all h e = by (left (take start few) os out
       outside = subst (λ r. Around r outer l.rest) (sym (ap (λ n. take n (l.front ++ l.row)) l.starts ∙ take_front l.front l.row)) l.outside;
     })
       where
-        drop_front : (a b : Row) → drop (length a) (a ++ b) ≡ b
+        drop_front : (a b : NameList) → drop (length a) (a ++ b) ≡ b
         drop_front [] b = refl
         drop_front (x ∷ a) b = drop_front a b
 
-        take_front : (a b : Row) → take (length a) (a ++ b) ≡ a
+        take_front : (a b : NameList) → take (length a) (a ++ b) ≡ a
         take_front [] b = refl
         take_front (x ∷ a) b = ap (λ z. x ∷ z) (take_front a b)
 
 -- with nothing open nothing ends
-pub stand_none : (few : Row) (start : ℕ) (many : NameSet) (outer outer' : List OuterKeys) (all : List Keys) → NamesStand few start many outer all → outer ≡ [] → outer' ≡ [] → NamesStand few start many outer' (outer_keys all)
+pub stand_none : (few : NameList) (start : ℕ) (many : NameSet) (outer outer' : List OuterKeys) (all : List Keys) → NamesStand few start many outer all → outer ≡ [] → outer' ≡ [] → NamesStand few start many outer' (outer_keys all)
 stand_none few start many outer outer' all h e f =
     let a = nothing_around (take start few) outer all h.outside e in
     subst (λ z. NamesStand few start many z (outer_keys all)) (e ∙ sym f) (subst (λ z. NamesStand few start many outer z) (a ∙ sym (ap outer_keys a)) h)
 
 -- and no name repeats
-pub stand_outside : (few : Row) (start : ℕ) (many : NameSet) (outer : List OuterKeys) (all : List Keys) (t : List ℕ) → NamesStand few start many outer all → outer ≡ []
+pub stand_outside : (few : NameList) (start : ℕ) (many : NameSet) (outer : List OuterKeys) (all : List Keys) (t : List ℕ) → NamesStand few start many outer all → outer ≡ []
     → (IsTrue false ↔ Contains (innermost_keys all) t) × (false ≡ false → NamesStand few start many outer (with_key all t))
 stand_outside few start many outer all t h e =
     subst (λ z. NamesStand few start many outer z → (IsTrue false ↔ Contains (innermost_keys z) t) × (false ≡ false → NamesStand few start many outer (with_key z t)))
     (sym (nothing_around (take start few) outer all h.outside e))
     (λ k. ((λ g. absurd (cc), λ c. let l = c.1 in absurd (omega arith)), λ g. k)) h
 
-pub absent : (few : Row) (many : NameSet) (ks : Keys) (s : List ℕ) (r : Bool) → AreNames few many ks → r ≡ names_have few many s → r ≡ false → IsTrue false ↔ Contains ks s
+pub absent : (few : NameList) (many : NameSet) (ks : Keys) (s : List ℕ) (r : Bool) → AreNames few many ks → r ≡ names_have few many s → r ≡ false → IsTrue false ↔ Contains ks s
 absent few many ks s r a e f = (λ g. absurd (cc), λ c. sym f ∙ e ∙ (a s).1 c)
 
 twice : (b a : Bool) → a ≡ not b → not a ≡ b
@@ -205,14 +205,14 @@ twice true a e = ap not e
 twice false a e = ap not e
 
 -- a name that is not in the row is there exactly where the set has it
-pub told_by_set : (few : Row) (many : NameSet) (ks : Keys) (s : List ℕ) (row added : Bool) → AreNames few many ks → row ≡ row_has few s → row ≡ false → added ≡ not (set_has many s) → IsTrue (not added) ↔ Contains ks s
+pub told_by_set : (few : NameList) (many : NameSet) (ks : Keys) (s : List ℕ) (row added : Bool) → AreNames few many ks → row ≡ row_has few s → row ≡ false → added ≡ not (set_has many s) → IsTrue (not added) ↔ Contains ks s
 told_by_set few many ks s row added a r f e = subst (λ b. IsTrue b ↔ Contains ks s) (ap (λ b. b || set_has many s) (sym r ∙ f) ∙ sym (twice (set_has many s) added e)) (a s)
 
 pub nothing_there : {X : Type 0} (xs : List X) → length xs ≡ 0 → xs ≡ []
 nothing_there [] e = refl
 nothing_there (x ∷ xs) e = absurd (omega arith)
 
-pub stand_plain : (few : Row) (start : ℕ) (many : NameSet) (outer : List OuterKeys) (all : List Keys) (n : Bor (List ℕ))
+pub stand_plain : (few : NameList) (start : ℕ) (many : NameSet) (outer : List OuterKeys) (all : List Keys) (n : Bor (List ℕ))
     → NamesStand few start many outer all → 0 < length outer → NamesStand (few ++ n ∷ []) start many outer (with_key all n.now)
 stand_plain few start many outer all n h l =
     let some = some_around (take start few) outer all h.outside l in
@@ -223,7 +223,7 @@ stand_plain few start many outer all n h l =
       outside = subst (λ r. Around r outer (with_key all n.now)) (sym (take-append-le start few (n ∷ []) w)) (around_same (take start few) outer all n.now h.outside);
     }
 
-pub stand_set : (few : Row) (start : ℕ) (many more : NameSet) (outer : List OuterKeys) (all : List Keys) (t : List ℕ)
+pub stand_set : (few : NameList) (start : ℕ) (many more : NameSet) (outer : List OuterKeys) (all : List Keys) (t : List ℕ)
     → NamesStand few start many outer all → 0 < length outer → ((s : List ℕ) → set_has more s ≡ cond (bytes_eq t s) true (set_has many s))
     → NamesStand few start more outer (with_key all t)
 stand_set few start many more outer all t h l e =

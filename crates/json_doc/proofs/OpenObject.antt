@@ -10,7 +10,7 @@ use Rattle.json_grammar.proofs.OpenKeys.{key_inside}
 use Rattle.json_doc.specs.Awaited.{Slot, a_value, an_element, a_key, a_member, awaits, past_tokens}
 use Rattle.json_doc.specs.Building.{Building, nothing, whole, in_array, in_object, in_pair}
 use Rattle.json_doc.specs.Recorded.{Held}
-use Rattle.json_doc.specs.Segment.{Stands, text_cell}
+use Rattle.json_doc.specs.Segment.{SegmentAt, text_cell}
 use Rattle.json_doc.specs.Places.{place_behind}
 use Rattle.json_doc.specs.OpenObject.{NamesText, MembersStand, KeyStands}
 use Rattle.json_doc.specs.declared.cell.Cell.{Cell}
@@ -34,7 +34,7 @@ module _ (cells : List Cell) (bytes : List ℕ) where
   pub one_member : (at end : ℕ) (ps : Pairs) → MembersStand cells bytes at ps end → at < end → OneMember at end ps
   one_member at end no_pairs (cs, s, r, e) l = absurd (omega (arith, ap length r))
   one_member at end (pair_and k t ps) (cs, s, (key, a, b, e, n, h, r), f) l =
-      let there = subst (λ (x : List Cell). Stands cells at x) e s in
+      let there = subst (λ (x : List Cell). SegmentAt cells at x) e s in
       let inner = stands_rest cells at key (a ++ b) there in
       let some = node_some bytes (at + 1) a t h in
       let next : place_behind cells (at + 1) ≡ (at + 1) + length a = node_behind cells bytes (at + 1) a t h (stands_left cells (at + 1) a b inner) in
@@ -111,7 +111,7 @@ key_built {bytes = bytes} ts s v (in_pair {front = front} {p = p} {n = n} {ts = 
     let long : length all ≡ ((length front + 1) + length cs) + 1 = omega (arith, length-append front (header ∷ (cs ++ key ∷ [])), length-append cs (key ∷ [])) in
     let split : all ≡ (front ++ header ∷ cs) ++ key ∷ [] = sym (append_assoc front (header ∷ cs) (key ∷ [])) in
     let last : length (front ++ header ∷ cs) ≡ length all - 1 = omega (arith, long, length-append front (header ∷ cs)) in
-    let there : Stands all (length front + 1) cs = record {
+    let there : SegmentAt all (length front + 1) cs = record {
       before = front ++ header ∷ [];
       after = key ∷ [];
       row = sym (append_assoc front (header ∷ []) (cs ++ key ∷ []));

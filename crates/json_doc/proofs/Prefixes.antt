@@ -9,9 +9,9 @@ use Rattle.json_grammar.proofs.Numbers.{stops}
 use Rattle.json_grammar.proofs.Moves.{reading_space}
 use Rattle.json_grammar.proofs.Completing.{place_viable}
 use Rattle.json_grammar.proofs.Reading.{events_begin}
-use Rattle.json_doc.specs.Awaited.{Begins}
+use Rattle.json_doc.specs.Awaited.{BeginsTree}
 
-pub reading_begins : (lossy : Bool) (p : List ℕ) (c : List Kind) (w : Spot) (ts : List Token) → reading lossy p c w ts → Begins ts
+pub reading_begins : (lossy : Bool) (p : List ℕ) (c : List Kind) (w : Spot) (ts : List Token) → reading lossy p c w ts → BeginsTree ts
 reading_begins lossy p c w ts h =
     let f = place_viable lossy (p ++ 10 ∷ []) c w ts (reading_space lossy (10 ∷ []) (inr (inr (inl refl)), tt) h) in
     let whole = subst (λ (b : List ℕ). is_text lossy f.0 b) (append_assoc p (10 ∷ []) f.1) f.2 in

@@ -7,7 +7,7 @@ use Rattle.json_grammar.specs.Proper.{IsProper, AreProper, ArePairsProper}
 use Rattle.json_number.proofs.Integers.{integer_number}
 use Rattle.json_doc.specs.Docs.{doc_cells, doc_text, doc_tree}
 use Rattle.json_doc.specs.Shape.{CellInPlace}
-use Rattle.json_doc.specs.Trees.{text_of, tree_behind, pair_behind, tree_of_cell, trees_from}
+use Rattle.json_doc.specs.Trees.{text_of_tree, tree_behind, pair_behind, tree_of_cell, trees_from}
 use Rattle.json_doc.specs.declared.cell.Cell.{Cell}
 use Rattle.json_doc.specs.declared.cell.Cell.TheVariants as cell
 use Rattle.json_doc.specs.declared.doc.Doc.{Doc}
@@ -26,7 +26,7 @@ proper_get [] k h = tt
 proper_get (t ∷ ts) zero h = h.0
 proper_get (t ∷ ts) (suc k) h = proper_get ts k h.1
 
-text_proper : (t : Tree) → IsProper t → IsUtf8 (text_of t)
+text_proper : (t : Tree) → IsProper t → IsUtf8 (text_of_tree t)
 text_proper (text s) h = h
 text_proper _ h = IsUtf8-nil
 

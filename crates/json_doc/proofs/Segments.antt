@@ -5,7 +5,7 @@ use Rattle.std.proofs.lemmas.Str.{IsUtf8-append}
 use Rattle.json_grammar.specs.Tree.{Tree, null, boolean, num, text, list, pairs, Trees, no_trees, tree_and, Pairs, no_pairs, pair_and, Token, key_token, tokens, trees_tokens, pairs_tokens}
 use Rattle.json_number.specs.Integers.{integer_in}
 use Rattle.json_doc.specs.Texts.{trees_count, pairs_count}
-use Rattle.json_doc.specs.Segment.{Stands, TextStands, text_cell, number_cell, node, row, pair_row}
+use Rattle.json_doc.specs.Segment.{SegmentAt, TextStands, text_cell, number_cell, node, trees_row, pairs_row}
 use Rattle.json_doc.specs.declared.cell.Cell.{Cell}
 
 pub trees_push : Trees → Tree → Trees
@@ -37,7 +37,7 @@ unfolding pairs_push
 pairs_push_count no_pairs n u = refl
 pairs_push_count (pair_and k t ps) n u = let e = pairs_push_count ps n u in omega arith
 
-pub row_push : (bytes : List ℕ) (at : ℕ) (cs seg : List Cell) (us : Trees) (t : Tree) → row bytes at cs us → node bytes (at + length cs) seg t → row bytes at (cs ++ seg) (trees_push us t)
+pub row_push : (bytes : List ℕ) (at : ℕ) (cs seg : List Cell) (us : Trees) (t : Tree) → trees_row bytes at cs us → node bytes (at + length cs) seg t → trees_row bytes at (cs ++ seg) (trees_push us t)
 unfolding trees_push
 row_push bytes at cs seg no_trees t e n =
     let here : at + length cs ≡ at = omega (arith, ap length e) in
@@ -47,7 +47,7 @@ row_push bytes at cs seg (tree_and u us) t (a, b, e, h, r) n =
     (a, b ++ seg, ap (λ (x : List Cell). x ++ seg) e ∙ append_assoc a b seg, h, row_push bytes (at + length a) b seg us t r (subst (λ (x : ℕ). node bytes x seg t) there n))
 
 pub pair_row_push : (bytes : List ℕ) (at : ℕ) (cs seg : List Cell) (us : Pairs) (key : Cell) (n : List ℕ) (t : Tree)
-    → pair_row bytes at cs us → text_cell bytes key n → node bytes ((at + length cs) + 1) seg t → pair_row bytes at ((cs ++ key ∷ []) ++ seg) (pairs_push us n t)
+    → pairs_row bytes at cs us → text_cell bytes key n → node bytes ((at + length cs) + 1) seg t → pairs_row bytes at ((cs ++ key ∷ []) ++ seg) (pairs_push us n t)
 unfolding pairs_push
 pair_row_push bytes at cs seg no_pairs key n t e k h =
     let here : (at + length cs) + 1 ≡ at + 1 = omega (arith, ap length e) in
@@ -67,17 +67,17 @@ mutual
   node_some bytes at cs (list ts) (rest, e, r) = omega (arith, ap length e)
   node_some bytes at cs (pairs ps) (rest, e, r) = omega (arith, ap length e)
 
-  pub row_some : (bytes : List ℕ) (at : ℕ) (cs : List Cell) (ts : Trees) → row bytes at cs ts → trees_count ts ≤ length cs
+  pub row_some : (bytes : List ℕ) (at : ℕ) (cs : List Cell) (ts : Trees) → trees_row bytes at cs ts → trees_count ts ≤ length cs
   row_some bytes at cs no_trees e = omega arith
   row_some bytes at cs (tree_and t ts) (a, b, e, n, r) = omega (arith, ap length e, length-append a b, node_some bytes at a t n, row_some bytes (at + length a) b ts r)
 
-  pub pair_row_some : (bytes : List ℕ) (at : ℕ) (cs : List Cell) (ps : Pairs) → pair_row bytes at cs ps → 2 * pairs_count ps ≤ length cs
+  pub pair_row_some : (bytes : List ℕ) (at : ℕ) (cs : List Cell) (ps : Pairs) → pairs_row bytes at cs ps → 2 * pairs_count ps ≤ length cs
   pair_row_some bytes at cs no_pairs e = omega arith
   pair_row_some bytes at cs (pair_and k t ps) (key, a, b, e, f, n, r) = omega (arith, ap length e, length-append a b, node_some bytes (at + 1) a t n, pair_row_some bytes ((at + 1) + length a) b ps r)
 
 -- ---- more bytes behind
 
-pub stands_more : {X : Type 0} (xs : List X) (at : ℕ) (ys more : List X) → Stands xs at ys → Stands (xs ++ more) at ys
+pub stands_more : {X : Type 0} (xs : List X) (at : ℕ) (ys more : List X) → SegmentAt xs at ys → SegmentAt (xs ++ more) at ys
 stands_more xs at ys more s = record {
   before = s.before;
   after = s.after ++ more;
@@ -106,10 +106,10 @@ module _ (bytes extra : List ℕ) (u : IsUtf8 extra) where
     node_more at cs (list ts) (rest, e, h) = (rest, e, row_more (at + 1) rest ts h)
     node_more at cs (pairs ps) (rest, e, h) = (rest, e, pair_row_more (at + 1) rest ps h)
 
-    pub row_more : (at : ℕ) (cs : List Cell) (ts : Trees) → row bytes at cs ts → row (bytes ++ extra) at cs ts
+    pub row_more : (at : ℕ) (cs : List Cell) (ts : Trees) → trees_row bytes at cs ts → trees_row (bytes ++ extra) at cs ts
     row_more at cs no_trees h = h
     row_more at cs (tree_and t ts) (a, b, e, h, hs) = (a, b, e, node_more at a t h, row_more (at + length a) b ts hs)
 
-    pub pair_row_more : (at : ℕ) (cs : List Cell) (ps : Pairs) → pair_row bytes at cs ps → pair_row (bytes ++ extra) at cs ps
+    pub pair_row_more : (at : ℕ) (cs : List Cell) (ps : Pairs) → pairs_row bytes at cs ps → pairs_row (bytes ++ extra) at cs ps
     pair_row_more at cs no_pairs h = h
     pair_row_more at cs (pair_and k t ps) (key, a, b, e, kh, h, hs) = (key, a, b, e, text_more bytes key k extra u kh, node_more (at + 1) a t h, pair_row_more ((at + 1) + length a) b ps hs)

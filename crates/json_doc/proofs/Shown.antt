@@ -11,9 +11,9 @@ use Rattle.json_doc.specs.CellReadings.{cell_type, cell_bool, cell_len}
 use Rattle.json_doc.specs.Docs.{doc_cells, doc_text, doc_tree}
 use Rattle.json_doc.specs.Left.{doc_pair}
 use Rattle.json_doc.specs.Places.{place_behind, places_from, place_from, AllBelow, child_in, child_of}
-use Rattle.json_doc.specs.Readings.{type_of, bool_of, integer_of, literal_unless, literal_of, string_of, elements, keys, values, children}
+use Rattle.json_doc.specs.Readings.{type_of, bool_of, integer_of, literal_unless, literal_of, string_of, elements, object_keys, values, children}
 use Rattle.json_doc.specs.Shape.{is_str, AllKeys, CellInPlace}
-use Rattle.json_doc.specs.Trees.{text_of, tree_of_cell}
+use Rattle.json_doc.specs.Trees.{text_of_tree, tree_of_cell}
 use Rattle.json_doc.specs.declared.cell.Cell.{Cell}
 use Rattle.json_doc.specs.declared.cell.Cell.TheVariants as cell
 use Rattle.json_doc.specs.declared.doc.Doc.{Doc}
@@ -30,9 +30,9 @@ pairs_again : (ps : List (List ℕ × Tree)) → pairs_list (list_pairs ps) ≡ 
 pairs_again [] = refl
 pairs_again (p ∷ ps) = ap (λ (x : List (List ℕ × Tree)). p ∷ x) (pairs_again ps)
 
-keys_seen : (d : Doc) (ks : List ℕ) → map (λ p. p.0) (map (doc_pair d) ks) ≡ map (λ k. text_of (doc_tree d (k - 1))) ks
+keys_seen : (d : Doc) (ks : List ℕ) → map (λ p. p.0) (map (doc_pair d) ks) ≡ map (λ k. text_of_tree (doc_tree d (k - 1))) ks
 keys_seen d [] = refl
-keys_seen d (k ∷ ks) = ap (λ (x : List (List ℕ)). text_of (doc_tree d (k - 1)) ∷ x) (keys_seen d ks)
+keys_seen d (k ∷ ks) = ap (λ (x : List (List ℕ)). text_of_tree (doc_tree d (k - 1)) ∷ x) (keys_seen d ks)
 
 values_seen : (d : Doc) (ks : List ℕ) → map (λ p. p.1) (map (doc_pair d) ks) ≡ map (doc_tree d) ks
 values_seen d [] = refl
@@ -96,7 +96,7 @@ module _ (cells : List Cell) (bytes : List ℕ) (at : ℕ) (ts : List Tree) wher
   no_string_in (cell.Str start len) h = absurd (h start len refl)
   no_string_in _ h = refl
 
-  text_in : (c : Cell) → is_str c ≡ true → tree_of_cell cells bytes at ts c ≡ text (text_of (tree_of_cell cells bytes at ts c))
+  text_in : (c : Cell) → is_str c ≡ true → tree_of_cell cells bytes at ts c ≡ text (text_of_tree (tree_of_cell cells bytes at ts c))
   text_in (cell.Str start len) h = refl
   text_in _ h = absurd (cc)
 
@@ -104,7 +104,7 @@ module _ (cells : List Cell) (bytes : List ℕ) (at : ℕ) (ts : List Tree) wher
   no_elements_in (cell.Array link len) h = absurd (h link len refl)
   no_elements_in _ h = refl
 
-  no_pairs_in : (c : Cell) → ((link len : ℕ) → c ≢ cell.Object link len) → (keys (tree_of_cell cells bytes at ts c) ≡ []) × (values (tree_of_cell cells bytes at ts c) ≡ [])
+  no_pairs_in : (c : Cell) → ((link len : ℕ) → c ≢ cell.Object link len) → (object_keys (tree_of_cell cells bytes at ts c) ≡ []) × (values (tree_of_cell cells bytes at ts c) ≡ [])
   no_pairs_in (cell.Object link len) h = absurd (h link len refl)
   no_pairs_in _ h = (refl, refl)
 
@@ -165,8 +165,8 @@ module _ (d : Doc) (at : ℕ) (c : Cell) (inside : at < length (doc_cells d)) (i
   no_string_at h = ap string_of here ∙ no_string_in (doc_cells d) (doc_text d) at ahead c h
 
   -- a cell of a string is one
-  pub string_there : is_str c ≡ true → doc_tree d at ≡ text (text_of (doc_tree d at))
-  string_there h = here ∙ text_in (doc_cells d) (doc_text d) at ahead c h ∙ ap (λ (t : Tree). text (text_of t)) (sym here)
+  pub string_there : is_str c ≡ true → doc_tree d at ≡ text (text_of_tree (doc_tree d at))
+  string_there h = here ∙ text_in (doc_cells d) (doc_text d) at ahead c h ∙ ap (λ (t : Tree). text (text_of_tree t)) (sym here)
 
   -- the tree by the kind of the cell
 
@@ -182,8 +182,8 @@ module _ (d : Doc) (at : ℕ) (c : Cell) (inside : at < length (doc_cells d)) (i
   pub text_tree_at : (start len : ℕ) → c ≡ cell.Str start len → doc_tree d at ≡ text (slice_range (doc_text d) start (start + len))
   text_tree_at start len e = there _ e
 
-  pub text_of_at : (start len : ℕ) → c ≡ cell.Str start len → text_of (doc_tree d at) ≡ slice_range (doc_text d) start (start + len)
-  text_of_at start len e = ap text_of (text_tree_at start len e)
+  pub text_of_at : (start len : ℕ) → c ≡ cell.Str start len → text_of_tree (doc_tree d at) ≡ slice_range (doc_text d) start (start + len)
+  text_of_at start len e = ap text_of_tree (text_tree_at start len e)
 
   pub elements_at : (link len : ℕ) → c ≡ cell.Array link len → elements (doc_tree d at) ≡ map (doc_tree d) (places_from (doc_cells d) 0 (at + 1) len)
   unfolding ahead
@@ -199,14 +199,14 @@ module _ (d : Doc) (at : ℕ) (c : Cell) (inside : at < length (doc_cells d)) (i
   pub no_elements_at : ((link len : ℕ) → c ≢ cell.Array link len) → elements (doc_tree d at) ≡ []
   no_elements_at h = ap elements here ∙ no_elements_in (doc_cells d) (doc_text d) at ahead c h
 
-  pub keys_at : (link len : ℕ) → c ≡ cell.Object link len → keys (doc_tree d at) ≡ map (λ k. text_of (doc_tree d (k - 1))) (places_from (doc_cells d) 1 (at + 2) len)
-  keys_at link len e = let p = object_at link len e in ap keys p.1 ∙ ap (map (λ q. q.0)) (sym p.2) ∙ keys_seen d _
+  pub keys_at : (link len : ℕ) → c ≡ cell.Object link len → object_keys (doc_tree d at) ≡ map (λ k. text_of_tree (doc_tree d (k - 1))) (places_from (doc_cells d) 1 (at + 2) len)
+  keys_at link len e = let p = object_at link len e in ap object_keys p.1 ∙ ap (map (λ q. q.0)) (sym p.2) ∙ keys_seen d _
 
   pub values_at : (link len : ℕ) → c ≡ cell.Object link len → values (doc_tree d at) ≡ map (doc_tree d) (places_from (doc_cells d) 1 (at + 2) len)
   values_at link len e = let p = object_at link len e in ap values p.1 ∙ ap (map (λ q. q.1)) (sym p.2) ∙ values_seen d _
 
-  pub no_keys_at : ((link len : ℕ) → c ≢ cell.Object link len) → keys (doc_tree d at) ≡ []
-  no_keys_at h = ap keys here ∙ (no_pairs_in (doc_cells d) (doc_text d) at ahead c h).0
+  pub no_keys_at : ((link len : ℕ) → c ≢ cell.Object link len) → object_keys (doc_tree d at) ≡ []
+  no_keys_at h = ap object_keys here ∙ (no_pairs_in (doc_cells d) (doc_text d) at ahead c h).0
 
   pub no_values_at : ((link len : ℕ) → c ≢ cell.Object link len) → values (doc_tree d at) ≡ []
   no_values_at h = ap values here ∙ (no_pairs_in (doc_cells d) (doc_text d) at ahead c h).1
@@ -259,7 +259,7 @@ module _ (d : Doc) (at : ℕ) (c : Cell) (inside : at < length (doc_cells d)) (i
   count_at = counted_by c refl
 
 -- a key that is a string, by its place
-pub key_string : (d : Doc) (k : ℕ) → k < length (doc_cells d) → is_str (get_or (doc_cells d) k cell.Null) ≡ true → doc_tree d k ≡ text (text_of (doc_tree d k))
+pub key_string : (d : Doc) (k : ℕ) → k < length (doc_cells d) → is_str (get_or (doc_cells d) k cell.Null) ≡ true → doc_tree d k ≡ text (text_of_tree (doc_tree d k))
 key_string d k h e = string_there d k (get_or (doc_cells d) k cell.Null) h refl e
 
 -- ---- an iterator's steps

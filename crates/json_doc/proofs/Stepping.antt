@@ -7,7 +7,7 @@ use Rattle.json_text.specs.declared.error.ErrorCode.{ErrorCode}
 use Rattle.json_text.specs.declared.event.Event.{Event}
 use Rattle.json_text.specs.declared.event.Event.TheVariants as event
 use Rattle.json_text.specs.declared.span.Span.{Span}
-use Rattle.json_text.specs.Events.{token_bytes}
+use Rattle.json_text.specs.Events.{event_bytes}
 use Rattle.json_text.specs.Positions.{place_at}
 use Rattle.json_text.specs.Faults.{IsFault}
 use Rattle.json_text.specs.Due.{NextNeeds}
@@ -51,7 +51,7 @@ literal_lent l b j m w h =
     record { within = omega arith; bytes = h ∙ ap (piece b (j - length l)) e }
 
 -- what the event lends is right before its closing quote, and a literal right before its end
-pub lent_in : (b : List ℕ) (q : ParserState) (e : Event) (j : ℕ) → q.text ≡ b → q.index ≡ j → length (token_bytes e) ≤ j → j ≤ length b → IsLent e q → EventIsLentBy e b (from_of e j)
+pub lent_in : (b : List ℕ) (q : ParserState) (e : Event) (j : ℕ) → q.text ≡ b → q.index ≡ j → length (event_bytes e) ≤ j → j ≤ length b → IsLent e q → EventIsLentBy e b (from_of e j)
 lent_in b q event.Null j t i l w h = tt
 lent_in b q (event.Bool v) j t i l w h = tt
 lent_in b q (event.Number n) j t i l w h = literal_lent n.now b j l w (subst (λ y. n.now ≡ piece y (j - length n.now) j) t (subst (λ k. n.now ≡ piece q.text (k - length n.now) k) i h))

@@ -9,8 +9,8 @@ use Rattle.json_grammar.specs.Tree.{Tree, null, boolean, num, text, list, pairs,
 use Rattle.json_grammar.specs.Place.{reading}
 use Rattle.json_grammar.proofs.Closing.{whole_text}
 use Rattle.json_text.specs.Parsing.{ParserState, input, HasGiven, IsWhole}
-use Rattle.json_doc.specs.Awaited.{Slot, a_value, an_element, a_key, a_member, inner_slot, past_value, past_begin, past_end, past_key, past_token, past_tokens, awaits, Begins}
-use Rattle.json_doc.specs.OneValue.{BeginsValue, levels_behind}
+use Rattle.json_doc.specs.Awaited.{Slot, a_value, an_element, a_key, a_member, inner_slot, past_value, past_begin, past_end, past_key, past_token, past_tokens, awaits, BeginsTree}
+use Rattle.json_doc.specs.OneValue.{TokenBeginsValue, levels_behind}
 use Rattle.json_doc.proofs.Awaiting.{past_append, past_tree, awaits_tree, value_where}
 
 none_some : {A : Type 0} {x : A} → None ≡ Some x → ⊥
@@ -45,8 +45,8 @@ abbrev Stands : Token → List Token → Type 0
 Stands x us = (t : Tree) × (m : List Token) × (x ∷ us ≡ tokens t ++ m)
 
 -- an end alone has no value
-end_no : (k : Kind) (ts us : List Token) (x : Token) → BeginsValue x → end k ∷ [] ≡ ts ++ x ∷ us → ⊥
-end_no k [] us x b e = let i : x ≡ end k = cc in subst BeginsValue i b
+end_no : (k : Kind) (ts us : List Token) (x : Token) → TokenBeginsValue x → end k ∷ [] ≡ ts ++ x ∷ us → ⊥
+end_no k [] us x b e = let i : x ≡ end k = cc in subst TokenBeginsValue i b
 end_no k (y ∷ ts) us x b e = let i : [] ≡ ts ++ x ∷ us = cc in nil_no ts us x i
 
 -- a value with more behind it
@@ -54,7 +54,7 @@ more : (x : Token) (r us rest : List Token) → us ≡ r ++ rest → Stands x r 
 more x r us rest e (t, m, f) = (t, m ++ rest, ap (λ l. x ∷ l) e ∙ ap (λ l. l ++ rest) f ∙ append_assoc (tokens t) m rest)
 
 mutual
-  in_tree : (t : Tree) (ts us : List Token) (x : Token) → BeginsValue x → tokens t ≡ ts ++ x ∷ us → Stands x us
+  in_tree : (t : Tree) (ts us : List Token) (x : Token) → TokenBeginsValue x → tokens t ≡ ts ++ x ∷ us → Stands x us
   in_tree t [] us x b e = (t, [], sym e ∙ sym (append-nil (tokens t)))
   in_tree null (y ∷ ts) us x b e = let i : [] ≡ ts ++ x ∷ us = cc in absurd (nil_no ts us x i)
   in_tree (boolean v) (y ∷ ts) us x b e = let i : [] ≡ ts ++ x ∷ us = cc in absurd (nil_no ts us x i)
@@ -63,7 +63,7 @@ mutual
   in_tree (list ks) (y ∷ ts) us x b e = let i : trees_tokens ks ++ end array ∷ [] ≡ ts ++ x ∷ us = cc in in_trees ks ts us x b i
   in_tree (pairs ps) (y ∷ ts) us x b e = let i : pairs_tokens ps ++ end object ∷ [] ≡ ts ++ x ∷ us = cc in in_pairs ps ts us x b i
 
-  in_trees : (ks : Trees) (ts us : List Token) (x : Token) → BeginsValue x → trees_tokens ks ++ end array ∷ [] ≡ ts ++ x ∷ us → Stands x us
+  in_trees : (ks : Trees) (ts us : List Token) (x : Token) → TokenBeginsValue x → trees_tokens ks ++ end array ∷ [] ≡ ts ++ x ∷ us → Stands x us
   in_trees no_trees ts us x b e = absurd (end_no array ts us x b e)
   in_trees (tree_and t ks) ts us x b e =
       elim (split (tokens t) (trees_tokens ks ++ end array ∷ []) ts us x (sym (append_assoc (tokens t) (trees_tokens ks) (end array ∷ [])) ∙ e)) [
@@ -71,9 +71,9 @@ mutual
         | inr (r, p, q) ↦ more x r us (trees_tokens ks ++ end array ∷ []) q (in_tree t ts r x b p)
       ]
 
-  in_pairs : (ps : Pairs) (ts us : List Token) (x : Token) → BeginsValue x → pairs_tokens ps ++ end object ∷ [] ≡ ts ++ x ∷ us → Stands x us
+  in_pairs : (ps : Pairs) (ts us : List Token) (x : Token) → TokenBeginsValue x → pairs_tokens ps ++ end object ∷ [] ≡ ts ++ x ∷ us → Stands x us
   in_pairs no_pairs ts us x b e = absurd (end_no object ts us x b e)
-  in_pairs (pair_and k t ps) [] us x b e = let i : x ≡ key_token k = cc in absurd (subst BeginsValue i b)
+  in_pairs (pair_and k t ps) [] us x b e = let i : x ≡ key_token k = cc in absurd (subst TokenBeginsValue i b)
   in_pairs (pair_and k t ps) (y ∷ ts) us x b e =
       let i : (tokens t ++ pairs_tokens ps) ++ end object ∷ [] ≡ ts ++ x ∷ us = cc in
       elim (split (tokens t) (pairs_tokens ps ++ end object ∷ []) ts us x (sym (append_assoc (tokens t) (pairs_tokens ps) (end object ∷ [])) ∙ i)) [
@@ -171,10 +171,10 @@ after_tree t m us w e a = nothing_behind m w (sym (past_tree t (a_value ∷ []) 
 
 -- the tokens us have one that begins a value first
 abbrev pub Starts : List Token → Type 0
-Starts us = (y : Token) × (r : List Token) × (us ≡ y ∷ r) × BeginsValue y
+Starts us = (y : Token) × (r : List Token) × (us ≡ y ∷ r) × TokenBeginsValue y
 
 -- what begins a value that is not whole goes on to begin one
-pub begins_on : (ts us : List Token) (x : Token) (w : List Slot) → Starts (us ++ x ∷ []) → awaits us ≡ Some w → w ≢ [] → Begins (ts ++ (us ++ x ∷ [])) → Begins (us ++ x ∷ [])
+pub begins_on : (ts us : List Token) (x : Token) (w : List Slot) → Starts (us ++ x ∷ []) → awaits us ≡ Some w → w ≢ [] → BeginsTree (ts ++ (us ++ x ∷ [])) → BeginsTree (us ++ x ∷ [])
 begins_on ts us x w (y, r, s, b) a n (t, m, e) =
     let f : tokens t ≡ ts ++ y ∷ (r ++ m) = e ∙ append_assoc ts (us ++ x ∷ []) m ∙ ap (λ l. ts ++ (l ++ m)) s in
     let g = in_tree t ts (r ++ m) y b f in
@@ -185,7 +185,7 @@ begins_on ts us x w (y, r, s, b) a n (t, m, e) =
     ]
 
 -- what awaits nothing is a whole value
-pub whole_value : (us : List Token) → Begins us → awaits us ≡ Some [] → (t : Tree) × (tokens t ≡ us)
+pub whole_value : (us : List Token) → BeginsTree us → awaits us ≡ Some [] → (t : Tree) × (tokens t ≡ us)
 whole_value us (t, m, e) a =
     let f : past_tokens [] m ≡ Some [] = sym (past_append (a_value ∷ []) us m ∙ ap (option_and_then (λ v. past_tokens v m)) a) ∙ ap awaits (sym e) ∙ awaits_tree t in
     (t, e ∙ ap (λ l. us ++ l) (nothing_behind m [] f).0 ∙ append-nil us)
@@ -200,10 +200,10 @@ not_whole p ts us w h (y, r, s, b) a n (d, c) =
     n (after_tree g.0 g.1 us w (s ∙ g.2) a).1
 
 -- what begins the tokens of a value begins a value
-pub one_begins : (x : Token) → Begins (x ∷ []) → BeginsValue x
-one_begins x (null, m, e) = subst BeginsValue (head_is e) tt
-one_begins x (boolean b, m, e) = subst BeginsValue (head_is e) tt
-one_begins x (num l, m, e) = subst BeginsValue (head_is e) tt
-one_begins x (text s, m, e) = subst BeginsValue (head_is e) tt
-one_begins x (list ts, m, e) = subst BeginsValue (head_is e) tt
-one_begins x (pairs ps, m, e) = subst BeginsValue (head_is e) tt
+pub one_begins : (x : Token) → BeginsTree (x ∷ []) → TokenBeginsValue x
+one_begins x (null, m, e) = subst TokenBeginsValue (head_is e) tt
+one_begins x (boolean b, m, e) = subst TokenBeginsValue (head_is e) tt
+one_begins x (num l, m, e) = subst TokenBeginsValue (head_is e) tt
+one_begins x (text s, m, e) = subst TokenBeginsValue (head_is e) tt
+one_begins x (list ts, m, e) = subst TokenBeginsValue (head_is e) tt
+one_begins x (pairs ps, m, e) = subst TokenBeginsValue (head_is e) tt

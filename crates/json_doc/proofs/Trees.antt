@@ -10,10 +10,10 @@ use Rattle.json_grammar.specs.Tree.{Tree, null, boolean, num, text, list, pairs,
 use Rattle.json_number.specs.Integers.{integer_in}
 use Rattle.json_doc.specs.ByValue.{integer_cell}
 use Rattle.json_doc.specs.Texts.{trees_count, pairs_count}
-use Rattle.json_doc.specs.Places.{behind, place_behind, places_from, place_from}
+use Rattle.json_doc.specs.Places.{after_subtree, place_behind, places_from, place_from}
 use Rattle.json_doc.specs.Shape.{CellsInPlace}
 use Rattle.json_doc.specs.Spells.{spells_text, spells_number, spells, spells_trees, spells_pairs}
-use Rattle.json_doc.specs.Trees.{text_of, tree_behind, pair_behind, tree_of_cell, trees_from, tree_at}
+use Rattle.json_doc.specs.Trees.{text_of_tree, tree_behind, pair_behind, tree_of_cell, trees_from, tree_at_cell}
 use Rattle.json_doc.specs.declared.cell.Cell.{Cell}
 use Rattle.json_doc.specs.declared.cell.Cell.TheVariants as cell
 
@@ -32,7 +32,7 @@ places_more cells keys (suc m) n at e = let same : m ≡ n = omega arith in ap (
 -- what is behind a cell stands further on
 pub step_ahead : (cells : List Cell) (bytes : List ℕ) (at : ℕ) → CellsInPlace cells bytes → at < place_behind cells at
 step_ahead cells bytes at h =
-    ⊎_elim (λ l. (h at l).ahead) (λ l. subst (λ (c : Cell). at < behind at c) (sym (get_or_past cells at cell.Null l)) (let next : at < at + 1 = omega arith in next)) (cases_lt at (length cells))
+    ⊎_elim (λ l. (h at l).ahead) (λ l. subst (λ (c : Cell). at < after_subtree at c) (sym (get_or_past cells at cell.Null l)) (let next : at < at + 1 = omega arith in next)) (cases_lt at (length cells))
 
 -- places go up
 pub place_up : (cells : List Cell) (bytes : List ℕ) (keys at n : ℕ) → CellsInPlace cells bytes → at ≤ place_from cells keys at n
@@ -43,13 +43,13 @@ integer_tree : (cells : List Cell) (bytes : List ℕ) (at : ℕ) (ts : List Tree
 integer_tree cells bytes at ts (pos n) = refl
 integer_tree cells bytes at ts (negsuc n) = refl
 
-integer_behind : (at : ℕ) (n : ℤ) → behind at (integer_cell n) ≡ at + 1
+integer_behind : (at : ℕ) (n : ℤ) → after_subtree at (integer_cell n) ≡ at + 1
 integer_behind at (pos n) = refl
 integer_behind at (negsuc n) = refl
 
 -- the value at a place, and its key before it
 abbrev pub pair_at : List Cell → List ℕ → ℕ → List ℕ × Tree
-pair_at cells bytes k = (text_of (tree_at cells bytes (k - 1)), tree_at cells bytes k)
+pair_at cells bytes k = (text_of_tree (tree_at_cell cells bytes (k - 1)), tree_at_cell cells bytes k)
 
 module _ (cells : List Cell) (bytes : List ℕ) where
   -- the trees of the cells from a place on
@@ -71,17 +71,17 @@ module _ (cells : List Cell) (bytes : List ℕ) where
   from_next at = sym (dropped (at + 1) 0 cells ∙ (let e : 0 + (at + 1) ≡ at + 1 = omega arith in ap (λ (k : ℕ). trees_from cells bytes k (drop (at + 1) cells)) e))
 
   -- the tree where a cell stands
-  pub tree_where : (at : ℕ) → at < length cells → tree_at cells bytes at ≡ tree_of_cell cells bytes at (from (at + 1)) (get_or cells at cell.Null)
+  pub tree_where : (at : ℕ) → at < length cells → tree_at_cell cells bytes at ≡ tree_of_cell cells bytes at (from (at + 1)) (get_or cells at cell.Null)
   unfolding from
   tree_where at h =
       let zeroth : at + 0 ≡ at = omega arith in
       let same : 0 + at ≡ at = omega arith in
-      let first : get_or (drop at (trees_from cells bytes 0 cells)) 0 null ≡ tree_at cells bytes at = get_or-drop at (trees_from cells bytes 0 cells) 0 null ∙ ap (λ (k : ℕ). get_or (trees_from cells bytes 0 cells) k null) zeroth in
+      let first : get_or (drop at (trees_from cells bytes 0 cells)) 0 null ≡ tree_at_cell cells bytes at = get_or-drop at (trees_from cells bytes 0 cells) 0 null ∙ ap (λ (k : ℕ). get_or (trees_from cells bytes 0 cells) k null) zeroth in
       let here = dropped at 0 cells ∙ ap (λ (k : ℕ). trees_from cells bytes k (drop at cells)) same ∙ ap (trees_from cells bytes at) (drop_more cells at cell.Null h) ∙ opened at (get_or cells at cell.Null) (drop (at + 1) cells) in
       sym first ∙ ap (λ (ts : List Tree). get_or ts 0 null) here ∙ ap (λ (ts : List Tree). tree_of_cell cells bytes at ts (get_or cells at cell.Null)) (from_next at)
 
   -- what stands further on
-  pub looked : (at k : ℕ) → at + 1 ≤ k → tree_behind (from (at + 1)) at k ≡ tree_at cells bytes k
+  pub looked : (at k : ℕ) → at + 1 ≤ k → tree_behind (from (at + 1)) at k ≡ tree_at_cell cells bytes k
   unfolding from
   looked at k h =
       let same : (at + 1) + (k - (at + 1)) ≡ k = omega arith in
@@ -89,10 +89,10 @@ module _ (cells : List Cell) (bytes : List ℕ) where
 
   looked_pair : (at k : ℕ) → at + 2 ≤ k → pair_behind (from (at + 1)) at k ≡ pair_at cells bytes k
   looked_pair at k h =
-      ap (λ (t : Tree). (text_of t, tree_behind (from (at + 1)) at k)) (looked at (k - 1) (omega arith)) ∙ ap (λ (t : Tree). (text_of (tree_at cells bytes (k - 1)), t)) (looked at k (omega arith))
+      ap (λ (t : Tree). (text_of_tree t, tree_behind (from (at + 1)) at k)) (looked at (k - 1) (omega arith)) ∙ ap (λ (t : Tree). (text_of_tree (tree_at_cell cells bytes (k - 1)), t)) (looked at k (omega arith))
 
   module _ (h : CellsInPlace cells bytes) where
-    pub looked_all : (at keys k n : ℕ) → at + 1 ≤ k → map (tree_behind (from (at + 1)) at) (places_from cells keys k n) ≡ map (tree_at cells bytes) (places_from cells keys k n)
+    pub looked_all : (at keys k n : ℕ) → at + 1 ≤ k → map (tree_behind (from (at + 1)) at) (places_from cells keys k n) ≡ map (tree_at_cell cells bytes) (places_from cells keys k n)
     looked_all at keys k zero l = refl
     looked_all at keys k (suc n) l =
         let on = step_ahead cells bytes k h in
@@ -106,15 +106,15 @@ module _ (cells : List Cell) (bytes : List ℕ) where
 
     -- a tree stands at a place and takes the cells up to an end
     record Stood (at : ℕ) (t : Tree) (end : ℕ) : Type 0 where
-      is_tree : tree_at cells bytes at ≡ t
+      is_tree : tree_at_cell cells bytes at ≡ t
       is_end : place_behind cells at ≡ end
 
-    stood_at : (at end : ℕ) (t : Tree) (c : Cell) → slice_get cells at ≡ Some c → tree_of_cell cells bytes at (from (at + 1)) c ≡ t → behind at c ≡ end → Stood at t end
+    stood_at : (at end : ℕ) (t : Tree) (c : Cell) → slice_get cells at ≡ Some c → tree_of_cell cells bytes at (from (at + 1)) c ≡ t → after_subtree at c ≡ end → Stood at t end
     stood_at at end t c e f g =
         let is = get_or_from_slice_get cells at c cell.Null e in
         record {
           is_tree = tree_where at (slice_get_within cells at c e) ∙ ap (tree_of_cell cells bytes at (from (at + 1))) is ∙ f;
-          is_end = ap (behind at) is ∙ g;
+          is_end = ap (after_subtree at) is ∙ g;
         }
 
     stood_number : (o : Option ℤ) (at end : ℕ) (l : List ℕ) → spells_number o cells bytes at l → end ≡ at + 1 → Stood at (num l) end
@@ -138,13 +138,13 @@ module _ (cells : List Cell) (bytes : List ℕ) where
           stood_at at end (pairs ps) (cell.Object end (pairs_count ps)) e
           (ap (λ (us : List (List ℕ × Tree)). pairs (list_pairs us)) (looked_pairs at 1 (at + 2) (pairs_count ps) (omega arith) ∙ ap (λ (k : ℕ). map (pair_at cells bytes) (places_from cells 1 k (pairs_count ps))) first ∙ stood_pairs (at + 1) end ps r) ∙ ap pairs (pairs_back ps)) refl
 
-      stood_row : (at end : ℕ) (ts : Trees) → spells_trees cells bytes at ts end → map (tree_at cells bytes) (places_from cells 0 at (trees_count ts)) ≡ trees_list ts
+      stood_row : (at end : ℕ) (ts : Trees) → spells_trees cells bytes at ts end → map (tree_at_cell cells bytes) (places_from cells 0 at (trees_count ts)) ≡ trees_list ts
       stood_row at end no_trees e = refl
       stood_row at end (tree_and t ts) (mid, s, r) =
           let here = stood at mid t s in
           let next : place_behind cells at + 0 ≡ mid = omega (arith, here.is_end) in
-          ap (map (tree_at cells bytes)) (places_more cells 0 (1 + trees_count ts) (trees_count ts) at refl)
-          ∙ ap₂ (λ (u : Tree) (us : List Tree). u ∷ us) here.is_tree (ap (λ (k : ℕ). map (tree_at cells bytes) (places_from cells 0 k (trees_count ts))) next ∙ stood_row mid end ts r)
+          ap (map (tree_at_cell cells bytes)) (places_more cells 0 (1 + trees_count ts) (trees_count ts) at refl)
+          ∙ ap₂ (λ (u : Tree) (us : List Tree). u ∷ us) here.is_tree (ap (λ (k : ℕ). map (tree_at_cell cells bytes) (places_from cells 0 k (trees_count ts))) next ∙ stood_row mid end ts r)
 
       -- of objects the values
       stood_pairs : (at end : ℕ) (ps : Pairs) → spells_pairs cells bytes at ps end → map (pair_at cells bytes) (places_from cells 1 (at + 1) (pairs_count ps)) ≡ pairs_list ps
@@ -154,10 +154,10 @@ module _ (cells : List Cell) (bytes : List ℕ) where
           let here = stood (at + 1) mid t s in
           let before : (at + 1) - 1 ≡ at = omega arith in
           let next : place_behind cells (at + 1) + 1 ≡ mid + 1 = omega (arith, here.is_end) in
-          let is_key : text_of (tree_at cells bytes ((at + 1) - 1)) ≡ k = ap (λ (i : ℕ). text_of (tree_at cells bytes i)) before ∙ ap text_of key.is_tree in
+          let is_key : text_of_tree (tree_at_cell cells bytes ((at + 1) - 1)) ≡ k = ap (λ (i : ℕ). text_of_tree (tree_at_cell cells bytes i)) before ∙ ap text_of_tree key.is_tree in
           let first : pair_at cells bytes (at + 1) ≡ (k, t) = ap₂ (λ (x : List ℕ) (u : Tree). (x, u)) is_key here.is_tree in
           ap (map (pair_at cells bytes)) (places_more cells 1 (1 + pairs_count ps) (pairs_count ps) (at + 1) refl)
           ∙ ap₂ (λ (p : List ℕ × Tree) (us : List (List ℕ × Tree)). p ∷ us) first (ap (λ (i : ℕ). map (pair_at cells bytes) (places_from cells 1 i (pairs_count ps))) next ∙ stood_pairs mid end ps r)
 
-    pub spelled : (at end : ℕ) (t : Tree) → spells cells bytes at t end → tree_at cells bytes at ≡ t
+    pub spelled : (at end : ℕ) (t : Tree) → spells cells bytes at t end → tree_at_cell cells bytes at ≡ t
     spelled at end t s = (stood at end t s).is_tree

@@ -10,10 +10,10 @@ use Rattle.json_text.specs.declared.event.Event.TheVariants as event
 use Rattle.json_text.specs.Events.{Means, raw_size}
 use Rattle.json_text.specs.Faults.{IsInValue}
 use Rattle.json_text.specs.Parsing.{ParserState, input, HasGiven, SameInput, IsWhole, HasRead, Goes, IsTight, IsDue}
-use Rattle.json_doc.specs.Awaited.{Slot, a_value, awaits, Begins}
+use Rattle.json_doc.specs.Awaited.{Slot, a_value, awaits, BeginsTree}
 use Rattle.json_doc.specs.Recorded.{visitor_state, Holds, SameRoom}
 use Rattle.json_doc.specs.Reading.{EventIsNumber, HasRoomFor, Follows}
-use Rattle.json_doc.specs.OneValue.{BeginsValue, levels_behind, HandedOut, ReadsValue, RefusesValue}
+use Rattle.json_doc.specs.OneValue.{TokenBeginsValue, levels_behind, HandedOut, ReadsValue, RefusesValue}
 use Rattle.json_doc.specs.declared.document_visitor.DocumentVisitor.{DocumentVisitor}
 use Rattle.json_doc.proofs.Awaiting.{next_awaits}
 use Rattle.json_doc.proofs.Keeping.{goes_on, tight_on, given_begins}
@@ -40,7 +40,7 @@ pub record Records (old p : ParserState) (first here : Event) (v : DocumentVisit
   pub unfailed : p.failure ≡ None
   pub first_token : Token
   pub first_means : Means first first_token
-  pub first_begins : BeginsValue first_token
+  pub first_begins : TokenBeginsValue first_token
   pub us : List Token
   pub token : Token
   pub means : Means here token
@@ -91,7 +91,7 @@ module _ {old p : ParserState} {first here : Event} {v : DocumentVisitor} {level
   pub starting : Starts (k.us ++ k.token ∷ [])
   starting = (k.first_token, k.rest, k.starts, k.first_begins)
 
-  pub begins_here : Begins (k.us ++ k.token ∷ [])
+  pub begins_here : BeginsTree (k.us ++ k.token ∷ [])
   begins_here = begins_on k.before k.us k.token k.slots starting k.awaited (some_slots k.slots k.nested) (given_begins p (k.before ++ (k.us ++ k.token ∷ [])) k.given)
 
   pub number_here : EventIsNumber here
@@ -215,7 +215,7 @@ few_open x n m l h e = let f = levels_few x n m h in omega arith
 pub here_recorded : {old p : ParserState} {first here : Event} {v : DocumentVisitor} {levels : ℕ} (k : Records old p first here v levels) (roomy w : DocumentVisitor) (bytes : ℕ)
     → ((ts : List Token) → Holds v ts → Holds roomy ts) → roomy.full ≡ v.full → (visitor_state roomy).nodes + 1 ≤ (visitor_state roomy).cell_room
     → bytes ≡ raw_size here → (visitor_state roomy).bytes + bytes ≤ (visitor_state roomy).text_room → SameRoom roomy w
-    → ((x : Token) (ts : List Token) → Means here x → Follows roomy ts → Begins (ts ++ x ∷ []) → HasRoomFor roomy (raw_size here) → Follows w (ts ++ x ∷ []))
+    → ((x : Token) (ts : List Token) → Means here x → Follows roomy ts → BeginsTree (ts ++ x ∷ []) → HasRoomFor roomy (raw_size here) → Follows w (ts ++ x ∷ []))
     → Holds w (k.us ++ k.token ∷ []) × ((visitor_state w).full ≡ false) × (levels_behind k.token levels ≤ (visitor_state w).nodes)
 here_recorded {here = here} {levels = levels} k roomy w bytes holds full nodes size room same follows =
     let held = holds k.us k.held in

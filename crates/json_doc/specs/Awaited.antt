@@ -65,5 +65,5 @@ abbrev pub awaits : List Token → Option (List Slot)
 awaits ts = past_tokens (a_value ∷ []) ts
 
 -- some tree's tokens begin so
-abbrev pub Begins : List Token → Type 0
-Begins ts = (t : Tree) × (m : List Token) × (tokens t ≡ ts ++ m)
+abbrev pub BeginsTree : List Token → Type 0
+BeginsTree ts = (t : Tree) × (m : List Token) × (tokens t ≡ ts ++ m)

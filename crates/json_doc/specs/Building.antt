@@ -3,7 +3,7 @@ use Rattle.std.specs.Prelude.{ℕ, ◌+◌, ◌*◌, List, [], ◌∷◌, ◌++�
 use Rattle.json_grammar.specs.declared.Kind.TheVariants.{Array as array, Object as object}
 use Rattle.json_grammar.specs.Tree.{Tree, Trees, Pairs, Token, begin, key_token, tokens, trees_tokens, pairs_tokens}
 use Rattle.json_doc.specs.Awaited.{Slot, a_value, an_element, a_key, a_member}
-use Rattle.json_doc.specs.Segment.{node, row, pair_row, text_cell}
+use Rattle.json_doc.specs.Segment.{node, trees_row, pairs_row, text_cell}
 use Rattle.json_doc.specs.Texts.{trees_count, pairs_count}
 use Rattle.json_doc.specs.declared.cell.Cell.{Cell}
 use Rattle.json_doc.specs.declared.cell.Cell.TheVariants as cell
@@ -18,11 +18,11 @@ pub data Building (bytes : List ℕ) : List Cell → ℕ → ℕ → List Slot �
   nothing : Building bytes [] nowhere 0 (a_value ∷ []) []
   whole : {cs : List Cell} (t : Tree) → node bytes 0 cs t → Building bytes cs nowhere 1 [] (tokens t)
   in_array : {front : List Cell} {p n : ℕ} {w : List Slot} {ts : List Token} (cs : List Cell) (us : Trees)
-      → Building bytes front p n w ts → row bytes (length front + 1) cs us
+      → Building bytes front p n w ts → trees_row bytes (length front + 1) cs us
       → Building bytes (front ++ cell.Array p n ∷ cs) (length front) (trees_count us) (an_element ∷ w) (ts ++ begin array ∷ trees_tokens us)
   in_object : {front : List Cell} {p n : ℕ} {w : List Slot} {ts : List Token} (cs : List Cell) (us : Pairs)
-      → Building bytes front p n w ts → pair_row bytes (length front + 1) cs us
+      → Building bytes front p n w ts → pairs_row bytes (length front + 1) cs us
       → Building bytes (front ++ cell.Object p n ∷ cs) (length front) (2 * pairs_count us) (a_key ∷ w) (ts ++ begin object ∷ pairs_tokens us)
   in_pair : {front : List Cell} {p n : ℕ} {w : List Slot} {ts : List Token} {key : Cell} (cs : List Cell) (us : Pairs) (k : List ℕ)
-      → Building bytes front p n w ts → pair_row bytes (length front + 1) cs us → text_cell bytes key k
+      → Building bytes front p n w ts → pairs_row bytes (length front + 1) cs us → text_cell bytes key k
       → Building bytes (front ++ cell.Object p n ∷ (cs ++ key ∷ [])) (length front) (2 * pairs_count us + 1) (a_member ∷ w) (ts ++ begin object ∷ (pairs_tokens us ++ key_token k ∷ []))

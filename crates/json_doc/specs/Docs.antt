@@ -2,7 +2,7 @@
 use Rattle.std.specs.Prelude.{ℕ, List, string_bytes}
 use Rattle.json_grammar.specs.Tree.{Tree}
 use Rattle.json_doc.specs.Spells.{StandsFor}
-use Rattle.json_doc.specs.Trees.{tree_at}
+use Rattle.json_doc.specs.Trees.{tree_at_cell}
 use Rattle.json_doc.specs.declared.cell.Cell.{Cell}
 use Rattle.json_doc.specs.declared.doc.Doc.{Doc}
 
@@ -24,4 +24,4 @@ IsDocOf d t = StandsFor (doc_cells d) (doc_text d) (doc_root d) t
 
 -- the tree at a place
 abbrev pub doc_tree : Doc → ℕ → Tree
-doc_tree d at = tree_at (doc_cells d) (doc_text d) at
+doc_tree d at = tree_at_cell (doc_cells d) (doc_text d) at

@@ -7,7 +7,7 @@ use Rattle.json_grammar.specs.Grammar.{is_text}
 use Rattle.json_grammar.specs.Proper.{IsProper}
 use Rattle.json_grammar.specs.Sizes.{token_nodes}
 use Rattle.json_grammar.specs.Place.{reading}
-use Rattle.json_doc.specs.Awaited.{Begins}
+use Rattle.json_doc.specs.Awaited.{BeginsTree}
 use Rattle.json_doc.specs.State.{Fits}
 use Rattle.json_doc.specs.Recorded.{visitor_state, Holds}
 use Rattle.json_doc.specs.Docs.{doc_cells, doc_root, IsDocOf, doc_tree}
@@ -15,8 +15,8 @@ use Rattle.json_doc.specs.declared.doc.Doc.{Doc}
 use Rattle.json_doc.specs.declared.document_visitor.DocumentVisitor.{DocumentVisitor}
 
 -- a document stands for at most one tree
-abbrev pub OneTree : Type 0
-OneTree = (d : Doc) (t u : Tree) → IsDocOf d t → IsDocOf d u → t ≡ u
+abbrev pub OneTreeOfDoc : Type 0
+OneTreeOfDoc = (d : Doc) (t u : Tree) → IsDocOf d t → IsDocOf d u → t ≡ u
 
 -- the tree that a document stands for is the one at its root
 abbrev pub TreeAtRoot : Type 0
@@ -28,11 +28,11 @@ TreesAreProper d = (at : ℕ) → at < length (doc_cells d) → IsProper (doc_tr
 
 -- what is read of a prefix begins the tokens of a tree
 abbrev pub ReadingBegins : Type 0
-ReadingBegins = (lossy : Bool) (p : List ℕ) (c : List Kind) (w : Spot) (ts : List Token) → reading lossy p c w ts → Begins ts
+ReadingBegins = (lossy : Bool) (p : List ℕ) (c : List Kind) (w : Spot) (ts : List Token) → reading lossy p c w ts → BeginsTree ts
 
 -- a builder with the room that a text asks for records each event of the text: behind the bytes p, it brings a node at most, and m of the bytes r that follow
-abbrev pub EventsFit : Type 0
-EventsFit =
+abbrev pub EventsFitRoom : Type 0
+EventsFitRoom =
     (lossy : Bool) (v : DocumentVisitor) (p r : List ℕ) (c : List Kind) (w : Spot) (ts more : List Token) (x : Token) (t : Tree) (m : ℕ)
     → (visitor_state v).full ≡ false → (length (p ++ r) + 1) / 2 ≤ (visitor_state v).cell_room → length (p ++ r) ≤ (visitor_state v).text_room
     → Holds v ts → reading lossy p c w ts → is_text lossy t (p ++ r) → tokens t ≡ ts ++ x ∷ more → m ≤ length r → Fits (visitor_state v) (token_nodes x) m

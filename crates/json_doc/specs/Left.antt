@@ -5,7 +5,7 @@ use Rattle.std.specs.Borrow.{Bor}
 use Rattle.json_grammar.specs.Tree.{Tree}
 use Rattle.json_doc.specs.Docs.{doc_cells, doc_tree}
 use Rattle.json_doc.specs.Places.{places_from}
-use Rattle.json_doc.specs.Trees.{text_of}
+use Rattle.json_doc.specs.Trees.{text_of_tree}
 use Rattle.json_doc.specs.declared.doc.Doc.{Doc}
 use Rattle.json_doc.specs.Seen.{view_doc, view_place, view_tree}
 use Rattle.json_doc.specs.declared.children.DocChildren.{DocChildren}
@@ -31,7 +31,7 @@ GivesChild s r t =
 
 -- the value at a place, and its key before it
 abbrev pub doc_pair : Doc → ℕ → List ℕ × Tree
-doc_pair d at = (text_of (doc_tree d (at - 1)), doc_tree d at)
+doc_pair d at = (text_of_tree (doc_tree d (at - 1)), doc_tree d at)
 
 -- a key and the tree of a value, as they are given
 abbrev pub pair_seen : Bor (List ℕ) × DocView → List ℕ × Tree
@@ -46,14 +46,14 @@ abbrev pub pairs_doc : DocPairs → Doc
 pairs_doc s = s.doc.now
 
 -- the places of their values
-abbrev pub pairs_places : DocPairs → List ℕ
-pairs_places s = places_from (doc_cells (pairs_doc s)) 1 (s.next + 1) s.left
+abbrev pub places_of_pairs : DocPairs → List ℕ
+places_of_pairs s = places_from (doc_cells (pairs_doc s)) 1 (s.next + 1) s.left
 
 -- their keys, each with the tree of its value
 abbrev pub pairs_left : DocPairs → List (List ℕ × Tree)
-pairs_left s = map (doc_pair (pairs_doc s)) (pairs_places s)
+pairs_left s = map (doc_pair (pairs_doc s)) (places_of_pairs s)
 
 -- a call gave the first of what was left: its key and its value's tree, at its place of the same document
 abbrev pub GivesPair : DocPairs → Option (Bor (List ℕ) × DocView) → DocPairs → Type 0
 GivesPair s r t =
-    YieldsFirstBy pair_seen pairs_left s r t × YieldsFirstBy pair_place pairs_places s r t × (pairs_doc t ≡ pairs_doc s) × IfSome r (λ p. view_doc p.1 ≡ pairs_doc s)
+    YieldsFirstBy pair_seen pairs_left s r t × YieldsFirstBy pair_place places_of_pairs s r t × (pairs_doc t ≡ pairs_doc s) × IfSome r (λ p. view_doc p.1 ≡ pairs_doc s)

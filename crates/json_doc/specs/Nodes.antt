@@ -6,7 +6,7 @@ use Rattle.json_number.specs.Integers.{integer_in}
 use Rattle.json_number.specs.Numbers.{text_of_number}
 use Rattle.json_doc.specs.declared.doc.Doc.{Doc}
 use Rattle.json_doc.specs.Seen.{child_place}
-use Rattle.json_doc.specs.Left.{children_doc, children_places, children_left, pairs_doc, pairs_places, pairs_left}
+use Rattle.json_doc.specs.Left.{children_doc, children_places, children_left, pairs_doc, places_of_pairs, pairs_left}
 use Rattle.json_doc.specs.declared.node.DocNode.{DocNode}
 use Rattle.json_doc.specs.declared.node.DocNode.TheVariants as node
 
@@ -34,5 +34,5 @@ NodeIn _ d = ⊤
 -- what it goes over stands where the children of a place do: elements, or the values of pairs
 abbrev pub NodeAt : DocNode → Doc → ℕ → Type 0
 NodeAt (node.Array c) d at = (i : ℕ) → i < length (children_left c) → slice_get (children_places c) i ≡ Some (child_place d at i)
-NodeAt (node.Object p) d at = (i : ℕ) → i < length (pairs_left p) → slice_get (pairs_places p) i ≡ Some (child_place d at i)
+NodeAt (node.Object p) d at = (i : ℕ) → i < length (pairs_left p) → slice_get (places_of_pairs p) i ≡ Some (child_place d at i)
 NodeAt _ d at = ⊤

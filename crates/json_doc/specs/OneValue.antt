@@ -8,10 +8,10 @@ use Rattle.json_text.specs.Faults.{IsInValue}
 use Rattle.json_text.specs.Parsing.{ParserState, HasGiven, IsDue}
 
 -- the token is no name and no end
-abbrev pub BeginsValue : Token → Type 0
-BeginsValue (end k) = ⊥
-BeginsValue (key_token s) = ⊥
-BeginsValue _ = Unit {0}
+abbrev pub TokenBeginsValue : Token → Type 0
+TokenBeginsValue (end k) = ⊥
+TokenBeginsValue (key_token s) = ⊥
+TokenBeginsValue _ = Unit {0}
 
 -- how many containers are open behind a token, where n were before it
 abbrev pub levels_behind : Token → ℕ → ℕ
@@ -23,7 +23,7 @@ levels_behind _ n = n
 pub record HandedOut (p : ParserState) (first : Event) : Type 0 where
   pub token : Token
   pub means : Means first token
-  pub begins : BeginsValue token
+  pub begins : TokenBeginsValue token
   pub before : List Token
   pub given : HasGiven p (before ++ token ∷ [])
   pub unfailed : p.failure ≡ None

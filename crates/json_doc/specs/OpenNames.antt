@@ -16,8 +16,8 @@ use Rattle.json_doc.specs.declared.open_keys.OuterKeys.{OuterKeys}
 use Rattle.json_doc.specs.declared.open_keys.OpenKeys.{OpenKeys}
 
 -- the names in a row
-abbrev pub Row : Type 0
-Row = List (Bor (List ℕ))
+abbrev pub NameList : Type 0
+NameList = List (Bor (List ℕ))
 
 abbrev pub NameSet : Type 0
 NameSet = BTreeSet (ℕ × CowStr Global)
@@ -27,7 +27,7 @@ abbrev pub front_of : List ℕ → ℕ
 front_of s = from_be_bytes w64 (get_or s 0 0 ∷ get_or s 1 0 ∷ get_or s 2 0 ∷ get_or s 3 0 ∷ get_or s 4 0 ∷ get_or s 5 0 ∷ get_or s 6 0 ∷ get_or s 7 0 ∷ [])
 
 -- whether a name stands in the row
-abbrev pub row_has : Row → List ℕ → Bool
+abbrev pub row_has : NameList → List ℕ → Bool
 row_has few s = list_any (λ y. bytes_eq y.now s) few
 
 -- whether a name stands in the set
@@ -35,23 +35,23 @@ abbrev pub set_has : NameSet → List ℕ → Bool
 set_has many s = contains_by (λ y. ordering_then (nat_cmp (front_of s) y.0) (slice_cmp nat_cmp s (cow_str_bytes y.1))) many
 
 -- whether a name stands in the row or in the set
-abbrev pub names_have : Row → NameSet → List ℕ → Bool
+abbrev pub names_have : NameList → NameSet → List ℕ → Bool
 names_have few many s = row_has few s || set_has many s
 
 -- they are the names of one container
-abbrev pub AreNames : Row → NameSet → Keys → Type 0
+abbrev pub AreNames : NameList → NameSet → Keys → Type 0
 AreNames few many ks = (s : List ℕ) → IsTrue (names_have few many s) ↔ Contains ks s
 
 -- the rows of the containers around the innermost stand one behind another
-pub data Around : Row → List OuterKeys → List Keys → Type 0 where
+pub data Around : NameList → List OuterKeys → List Keys → Type 0 where
   nothing : Around [] [] []
-  around : {few : Row} {outer : List OuterKeys} {all : List Keys} (row : Row) (o : OuterKeys) (ks : Keys)
+  around : {few : NameList} {outer : List OuterKeys} {all : List Keys} (row : NameList) (o : OuterKeys) (ks : Keys)
       → Around few outer all → o.start ≡ length few → AreNames row o.many (innermost_keys all)
       → Around (few ++ row) (outer ++ o ∷ []) (ks ∷ all)
 
 -- the names so far of each open container, the innermost first: those of the innermost stand in the row from
 -- the start on, and in the set
-pub record NamesStand (few : Row) (start : ℕ) (many : NameSet) (outer : List OuterKeys) (all : List Keys) : Type 0 where
+pub record NamesStand (few : NameList) (start : ℕ) (many : NameSet) (outer : List OuterKeys) (all : List Keys) : Type 0 where
   pub within : start ≤ length few
   pub here : AreNames (drop start few) many (innermost_keys all)
   pub outside : Around (take start few) outer all

@@ -1,7 +1,7 @@
 -- An object that stands open in a builder of documents, with a key recorded last.
 use Rattle.std.specs.Prelude.{◌≡◌, ℕ, ◌+◌, List, Some, length, slice_get}
 use Rattle.json_grammar.specs.Tree.{Pairs}
-use Rattle.json_doc.specs.Segment.{Stands, text_cell, pair_row}
+use Rattle.json_doc.specs.Segment.{SegmentAt, text_cell, pairs_row}
 use Rattle.json_doc.specs.declared.cell.Cell.{Cell}
 
 -- the cell at a place names the bytes of a text
@@ -10,7 +10,7 @@ NamesText cells bytes at s = (c : Cell) × (slice_get cells at ≡ Some c) × te
 
 -- these members stand from a place up to an end
 abbrev pub MembersStand : List Cell → List ℕ → ℕ → Pairs → ℕ → Type 0
-MembersStand cells bytes at ps end = (cs : List Cell) × Stands cells at cs × pair_row bytes at cs ps × (at + length cs ≡ end)
+MembersStand cells bytes at ps end = (cs : List Cell) × SegmentAt cells at cs × pairs_row bytes at cs ps × (at + length cs ≡ end)
 
 -- and there a key
 abbrev pub KeyStands : List Cell → List ℕ → ℕ → Pairs → ℕ → List ℕ → Type 0

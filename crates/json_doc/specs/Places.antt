@@ -4,14 +4,14 @@ use Rattle.json_doc.specs.declared.cell.Cell.{Cell}
 use Rattle.json_doc.specs.declared.cell.Cell.TheVariants as cell
 
 -- the place behind the cell c at a place and all that stands below it
-abbrev pub behind : ℕ → Cell → ℕ
-behind at (cell.Array link len) = link
-behind at (cell.Object link len) = link
-behind at _ = at + 1
+abbrev pub after_subtree : ℕ → Cell → ℕ
+after_subtree at (cell.Array link len) = link
+after_subtree at (cell.Object link len) = link
+after_subtree at _ = at + 1
 
 -- the place behind what stands at a place
 abbrev pub place_behind : List Cell → ℕ → ℕ
-place_behind cells at = behind at (slice_index_or cells at cell.Null)
+place_behind cells at = after_subtree at (slice_index_or cells at cell.Null)
 
 -- n places, each behind what stands at the one before, and behind so many keys
 abbrev pub places_from : List Cell → ℕ → ℕ → ℕ → List ℕ
@@ -38,5 +38,5 @@ abbrev pub child_of : List Cell → ℕ → ℕ → ℕ
 child_of cells at i = child_in cells at (slice_index_or cells at cell.Null) i
 
 -- where the key of the pair i stands
-abbrev pub key_of : List Cell → ℕ → ℕ → ℕ
-key_of cells at i = child_of cells at i - 1
+abbrev pub key_position : List Cell → ℕ → ℕ → ℕ
+key_position cells at i = child_of cells at i - 1

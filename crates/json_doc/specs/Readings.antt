@@ -45,9 +45,9 @@ elements (list ts) = trees_list ts
 elements _ = []
 
 -- the keys of the object's pairs
-abbrev pub keys : Tree → List (List ℕ)
-keys (pairs ps) = map (λ p. p.0) (pairs_list ps)
-keys _ = []
+abbrev pub object_keys : Tree → List (List ℕ)
+object_keys (pairs ps) = map (λ p. p.0) (pairs_list ps)
+object_keys _ = []
 
 -- the values of the object's pairs
 abbrev pub values : Tree → List Tree

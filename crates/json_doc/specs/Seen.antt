@@ -2,7 +2,7 @@
 use Rattle.std.specs.Prelude.{ℕ}
 use Rattle.json_grammar.specs.Tree.{Tree}
 use Rattle.json_doc.specs.Docs.{doc_cells, doc_tree}
-use Rattle.json_doc.specs.Places.{child_of, key_of}
+use Rattle.json_doc.specs.Places.{child_of, key_position}
 use Rattle.json_doc.specs.declared.doc.Doc.{Doc}
 use Rattle.json_doc.specs.declared.view.DocView.{DocView}
 
@@ -24,4 +24,4 @@ child_place d at i = child_of (doc_cells d) at i
 
 -- where the key of the pair i of the object at a place stands
 abbrev pub key_place : Doc → ℕ → ℕ → ℕ
-key_place d at i = key_of (doc_cells d) at i
+key_place d at i = key_position (doc_cells d) at i

@@ -11,7 +11,7 @@ use Rattle.json_doc.specs.declared.cell.Cell.{Cell}
 use Rattle.json_doc.specs.declared.cell.Cell.TheVariants as cell
 
 -- ys stand in xs from the place at on
-pub record Stands {X : Type 0} (xs : List X) (at : ℕ) (ys : List X) : Type 0 where
+pub record SegmentAt {X : Type 0} (xs : List X) (at : ℕ) (ys : List X) : Type 0 where
   pub before : List X
   pub after : List X
   pub row : xs ≡ before ++ (ys ++ after)
@@ -19,7 +19,7 @@ pub record Stands {X : Type 0} (xs : List X) (at : ℕ) (ys : List X) : Type 0 w
 
 -- the bytes of a text stand from the place at on, with texts behind
 abbrev pub TextStands : List ℕ → ℕ → List ℕ → Type 0
-TextStands bytes at s = (h : Stands bytes at s) × IsUtf8 s × IsUtf8 h.after
+TextStands bytes at s = (h : SegmentAt bytes at s) × IsUtf8 s × IsUtf8 h.after
 
 -- c names the bytes of a text
 abbrev pub text_cell : List ℕ → Cell → List ℕ → Type 0
@@ -37,15 +37,15 @@ abbrev mutual
   node bytes at cs (boolean b) = cs ≡ cell.Bool b ∷ []
   node bytes at cs (num l) = number l × (c : Cell) × (cs ≡ c ∷ []) × number_cell (integer_in l) bytes c l
   node bytes at cs (text s) = (c : Cell) × (cs ≡ c ∷ []) × text_cell bytes c s
-  node bytes at cs (list ts) = (rest : List Cell) × (cs ≡ cell.Array ((at + 1) + length rest) (trees_count ts) ∷ rest) × row bytes (at + 1) rest ts
-  node bytes at cs (pairs ps) = (rest : List Cell) × (cs ≡ cell.Object ((at + 1) + length rest) (pairs_count ps) ∷ rest) × pair_row bytes (at + 1) rest ps
+  node bytes at cs (list ts) = (rest : List Cell) × (cs ≡ cell.Array ((at + 1) + length rest) (trees_count ts) ∷ rest) × trees_row bytes (at + 1) rest ts
+  node bytes at cs (pairs ps) = (rest : List Cell) × (cs ≡ cell.Object ((at + 1) + length rest) (pairs_count ps) ∷ rest) × pairs_row bytes (at + 1) rest ps
 
   -- these trees one after another
-  pub row : List ℕ → ℕ → List Cell → Trees → Type 0
-  row bytes at cs no_trees = cs ≡ []
-  row bytes at cs (tree_and t ts) = (a b : List Cell) × (cs ≡ a ++ b) × node bytes at a t × row bytes (at + length a) b ts
+  pub trees_row : List ℕ → ℕ → List Cell → Trees → Type 0
+  trees_row bytes at cs no_trees = cs ≡ []
+  trees_row bytes at cs (tree_and t ts) = (a b : List Cell) × (cs ≡ a ++ b) × node bytes at a t × trees_row bytes (at + length a) b ts
 
   -- a key and its value in turn
-  pub pair_row : List ℕ → ℕ → List Cell → Pairs → Type 0
-  pair_row bytes at cs no_pairs = cs ≡ []
-  pair_row bytes at cs (pair_and k t ps) = (key : Cell) × (a b : List Cell) × (cs ≡ key ∷ (a ++ b)) × text_cell bytes key k × node bytes (at + 1) a t × pair_row bytes ((at + 1) + length a) b ps
+  pub pairs_row : List ℕ → ℕ → List Cell → Pairs → Type 0
+  pairs_row bytes at cs no_pairs = cs ≡ []
+  pairs_row bytes at cs (pair_and k t ps) = (key : Cell) × (a b : List Cell) × (cs ≡ key ∷ (a ++ b)) × text_cell bytes key k × node bytes (at + 1) a t × pairs_row bytes ((at + 1) + length a) b ps

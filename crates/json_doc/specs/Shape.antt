@@ -6,7 +6,7 @@ use Rattle.json_grammar.specs.Grammar.{number}
 use Rattle.json_number.specs.Integers.{integer_in}
 use Rattle.json_doc.specs.ByValue.{value_of_cell}
 use Rattle.json_doc.specs.CellReadings.{cell_len}
-use Rattle.json_doc.specs.Places.{behind, place_from, child_in}
+use Rattle.json_doc.specs.Places.{after_subtree, place_from, child_in}
 use Rattle.json_doc.specs.declared.cell.Cell.{Cell}
 use Rattle.json_doc.specs.declared.cell.Cell.TheVariants as cell
 
@@ -45,7 +45,7 @@ AllKeys cells at n = (i : ℕ) → i < n → is_str (slice_index_or cells (place
 pub record CellInPlace (cells : List Cell) (bytes : List ℕ) (at : ℕ) (c : Cell) : Type 0 where
   pub begins : IsCharBoundary bytes (start_of c)
   pub ends : IsCharBoundary bytes (start_of c + span_of c)
-  pub ahead : at < behind at c
+  pub ahead : at < after_subtree at c
   pub inside : (i : ℕ) → i < cell_len c → child_in cells at c i < length cells
   pub keyed : (i : ℕ) → i < keys_of c → is_str (slice_index_or cells (child_in cells at c i - 1) cell.Null) ≡ true
   pub numeric : is_raw c ≡ true → ∥ number (slice_range bytes (start_of c) (start_of c + span_of c)) ∥₁

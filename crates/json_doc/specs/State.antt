@@ -1,7 +1,7 @@
 -- What clauses see of a builder, and what an event does to it.
 use Rattle.std.specs.Prelude.{◌≡◌, ℕ, ◌+◌, ◌≤◌, List, [], ◌∷◌, ◌++◌, Bool, true, false}
 use Rattle.json_grammar.specs.Tree.{Token}
-use Rattle.json_doc.specs.Awaited.{Begins}
+use Rattle.json_doc.specs.Awaited.{BeginsTree}
 
 -- the room for cells and for bytes of text, how many were recorded, and whether an event was refused
 pub record VisitorState : Type 0 where
@@ -21,9 +21,9 @@ after_event true n m s = record s { nodes = s.nodes + n; bytes = s.bytes + m }
 after_event false n m s = record s { full = true }
 
 -- the token may come behind what is held
-abbrev pub MayCome : (List Token → Type 0) → Token → Type 0
-MayCome holds x = (ts : List Token) × holds ts × Begins (ts ++ x ∷ [])
+abbrev pub MayComeAfter : (List Token → Type 0) → Token → Type 0
+MayComeAfter holds x = (ts : List Token) × holds ts × BeginsTree (ts ++ x ∷ [])
 
 -- what was held, and the token behind it
 abbrev pub HoldsMore : (List Token → Type 0) → (List Token → Type 0) → Token → Type 0
-HoldsMore old new x = (ts : List Token) → old ts → Begins (ts ++ x ∷ []) → new (ts ++ x ∷ [])
+HoldsMore old new x = (ts : List Token) → old ts → BeginsTree (ts ++ x ∷ []) → new (ts ++ x ∷ [])

@@ -7,9 +7,9 @@ use Rattle.json_doc.specs.declared.cell.Cell.{Cell}
 use Rattle.json_doc.specs.declared.cell.Cell.TheVariants as cell
 
 -- the bytes of a text
-abbrev pub text_of : Tree → List ℕ
-text_of (text s) = s
-text_of _ = []
+abbrev pub text_of_tree : Tree → List ℕ
+text_of_tree (text s) = s
+text_of_tree _ = []
 
 -- the tree at the place k, out of those of all cells behind the place at
 abbrev pub tree_behind : List Tree → ℕ → ℕ → Tree
@@ -17,7 +17,7 @@ tree_behind ts at k = slice_index_or ts (k - (at + 1)) null
 
 -- the value at the place k, and its key before it
 abbrev pub pair_behind : List Tree → ℕ → ℕ → List ℕ × Tree
-pair_behind ts at k = (text_of (tree_behind ts at (k - 1)), tree_behind ts at k)
+pair_behind ts at k = (text_of_tree (tree_behind ts at (k - 1)), tree_behind ts at k)
 
 -- what the cell c at a place stands for, over the trees of the cells behind it
 abbrev pub tree_of_cell : List Cell → List ℕ → ℕ → List Tree → Cell → Tree
@@ -36,5 +36,5 @@ trees_from cells bytes at [] = []
 trees_from cells bytes at (c ∷ cs) = tree_of_cell cells bytes at (trees_from cells bytes (at + 1) cs) c ∷ trees_from cells bytes (at + 1) cs
 
 -- the tree at a place
-abbrev pub tree_at : List Cell → List ℕ → ℕ → Tree
-tree_at cells bytes at = slice_index_or (trees_from cells bytes 0 cells) at null
+abbrev pub tree_at_cell : List Cell → List ℕ → ℕ → Tree
+tree_at_cell cells bytes at = slice_index_or (trees_from cells bytes 0 cells) at null

@@ -6,7 +6,7 @@ ghost use Rattle.json_text.specs.Events.{Means, raw_size};
 ghost use Rattle.json_text.specs.Faults.{IsFault};
 ghost use Rattle.json_text.specs.Steps.{Advances, StandsBehindGap};
 ghost use Rattle.json_text.specs.declared.event.Event.TheVariants as Event;
-ghost use Rattle.json_doc.specs.Awaited.{Begins};
+ghost use Rattle.json_doc.specs.Awaited.{BeginsTree};
 ghost use Rattle.json_doc.specs.Progress.{IsReading};
 ghost use Rattle.json_doc.specs.Reading.{HasRoomFor, Follows};
 ghost use Rattle.json_doc.specs.Recorded.{SameRoom};
@@ -34,7 +34,7 @@ fn advance<'a, const USE: u8>(
     ensures err { IfErr result (λ f. IsFault false limit text.now f.code f.offset) }
     ensures needs { IfErr result (λ f. NextNeeds false text.now at f.code f.offset) }
     ensures recorded { IfOk result (λ r. (x : Token) (ts : List Token) → Means r.event x
-        → Follows visitor.old ts → Begins (ts ++ x ∷ [])
+        → Follows visitor.old ts → BeginsTree (ts ++ x ∷ [])
         → HasRoomFor visitor.old (raw_size r.event) → Follows visitor.new (ts ++ x ∷ [])) }
     ensures room { IfOk result (λ r. (x : Token) → Means r.event x
         → SameRoom visitor.old visitor.new) }
@@ -72,7 +72,7 @@ pub(crate) fn advance_by_spot<'a>(
     ensures err { IfErr result (λ f. IsFault false limit text.now f.code f.offset) }
     ensures needs { IfErr result (λ f. NextNeeds false text.now at f.code f.offset) }
     ensures recorded { IfOk result (λ r. (x : Token) (ts : List Token) → Means r.event x
-        → Follows visitor.old ts → Begins (ts ++ x ∷ [])
+        → Follows visitor.old ts → BeginsTree (ts ++ x ∷ [])
         → HasRoomFor visitor.old (raw_size r.event) → Follows visitor.new (ts ++ x ∷ [])) }
     ensures room { IfOk result (λ r. (x : Token) → Means r.event x
         → SameRoom visitor.old visitor.new) }

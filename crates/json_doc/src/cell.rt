@@ -35,7 +35,7 @@ pub enum Cell {
 impl Cell {
     ghost use Rattle.std.specs.Prelude.{◌≡◌, ◌<◌, ◌≤◌, ◌^◌};
     ghost use Rattle.json_doc.specs.CellReadings.{cell_type, cell_bool, cell_len};
-    ghost use Rattle.json_doc.specs.Places.{behind};
+    ghost use Rattle.json_doc.specs.Places.{after_subtree};
 
     #[inline(always)]
     pub(crate) fn get_type(self) -> JsonType
@@ -73,11 +73,11 @@ impl Cell {
         }
     }
 
-    // The place behind it and all that stands below it, where it stands at a place.
+    // The position after this cell and all its descendants, where the cell is at `at`.
     #[inline(always)]
     pub(crate) fn behind(self, at: usize) -> usize
         requires { at < 2 ^ 32 }
-        ensures is { result ≡ behind at self }
+        ensures is { result ≡ after_subtree at self }
         ensures small { result ≤ 2 ^ 32 }
     {
         match self {

@@ -33,7 +33,7 @@ impl<'a> DocChildren<'a> {
     ghost use Rattle.json_doc.specs.Places.{places_from};
     ghost use Rattle.json_doc.specs.Left.{children_doc, children_places, children_left};
 
-    // What stands at `left` places from `next` on, each behind the one before and so many keys.
+    // The children at `left` positions from `next` on, each after the one before and `keys` keys.
     #[inline]
     pub(crate) fn new(doc: &'a Doc, keys: usize, next: usize, left: usize) -> DocChildren<'a>
         requires short { keys ≤ 1 }

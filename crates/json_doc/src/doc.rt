@@ -78,7 +78,7 @@ impl Doc {
         DocView { doc: self, at }
     }
 
-    // The place behind what stands at a place.
+    // The position after the value at a position.
     #[inline(always)]
     pub(crate) fn place_behind(&self, at: usize) -> usize
         requires { at < length (doc_cells self.now) }
@@ -88,7 +88,7 @@ impl Doc {
         self.cells[at].behind(at)
     }
 
-    // The place that follows so many children, each behind so many keys: a step for each of them.
+    // The position after that many children, each after that many keys: a step for each of them.
     #[inline]
     pub(crate) fn place_from(&self, keys: usize, first: usize, count: usize) -> usize
         requires short { keys ≤ 1 }

@@ -201,7 +201,7 @@ impl DocumentVisitor {
         }
     }
 
-    // The text of a string or a key appended, which stands in the input from `from` on, and its cell.
+    // Appends the text of a string or a key, which begins in the input at `from`, and its cell.
     #[inline(always)]
     fn push_text(&mut self, s: Span<'_>, input: &[u8], from: usize) -> Cell
         requires room { vec_len self.old.text + length s.raw.now ≤ self.old.text_room }
@@ -350,7 +350,7 @@ impl DocumentVisitor {
     }
 }
 
-// Appends a text for which there is room, and which stands in the input from `from` on.
+// Appends a text for which there is room, and which begins in the input at `from`.
 #[inline(always)]
 fn append_text(out: &mut Vec<u8>, s: Span<'_>, input: &[u8], from: usize)
     requires room { vec_len out.old + length s.raw.now ≤ vec_capacity out.old }

@@ -1,11 +1,11 @@
 // Laws over the definitions, and of each document.
-ghost use Rattle.json_doc.specs.Laws.{OneTree, TreeAtRoot, TreesAreProper, ReadingBegins, EventsFit};
+ghost use Rattle.json_doc.specs.Laws.{OneTreeOfDoc, TreeAtRoot, TreesAreProper, ReadingBegins, EventsFitRoom};
 
 use crate::doc::Doc;
 
 /// A document denotes at most one tree.
 pub fn one_tree()
-    ensures { OneTree }
+    ensures { OneTreeOfDoc }
 {}
 
 /// The tree that a document denotes is the one at its root.
@@ -26,5 +26,5 @@ pub fn reading_begins()
 
 /// A builder made for a text refuses none of its events.
 pub fn events_fit()
-    ensures { EventsFit }
+    ensures { EventsFitRoom }
 {}

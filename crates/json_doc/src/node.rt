@@ -1,4 +1,4 @@
-// What stands at a place of a document, by its kind.
+// The value at a position of a document, by its kind.
 
 use crate::children::DocChildren;
 use crate::pairs::DocPairs;

@@ -16,7 +16,7 @@ use std::mem;
 /// How many names of an object are compared one by one.
 const FEW: usize = 16;
 
-// A byte, or 0 behind the end.
+// A byte, or 0 after the end.
 #[inline(always)]
 fn byte_at(bytes: &[u8], at: usize) -> u8
     ensures { result ≡ get_or bytes.now at 0 }
@@ -114,7 +114,7 @@ impl<'a> OpenKeys<'a> {
         }
     }
 
-    // Whether the name stands in the row of the innermost container.
+    // Whether the innermost container has the name already.
     fn in_row(&self, name: &str) -> bool
         requires { self.now.start ≤ length self.now.few.items }
         ensures { result ≡ row_has (drop self.now.start self.now.few.items) name.now }
@@ -150,7 +150,7 @@ impl<'a> OpenKeys<'a> {
         Ok(!added)
     }
 
-    // The same of a name that stands in the text as it is: it goes into the row, where there is place.
+    // The same of a name without escapes: it joins the names of its container, where there is room.
     fn take_plain(&mut self, name: &'a str) -> Result<bool>
         requires some { HasSomeNames self.old }
         requires inside { 0 < length self.old.outer.items }

@@ -33,7 +33,7 @@ impl<'a> DocPairs<'a> {
     ghost use Rattle.json_doc.specs.Seen.{view_doc, view_place, view_tree};
     ghost use Rattle.json_doc.specs.Docs.{doc_cells};
     ghost use Rattle.json_doc.specs.Places.{places_from};
-    ghost use Rattle.json_doc.specs.Left.{pairs_doc, pairs_places, pairs_left, doc_pair};
+    ghost use Rattle.json_doc.specs.Left.{pairs_doc, places_of_pairs, pairs_left, doc_pair};
 
     // The `left` pairs from the key at `next` on.
     #[inline]
@@ -41,7 +41,7 @@ impl<'a> DocPairs<'a> {
         requires inside { AllBelow (doc_cells doc.now) 1 (next + 1) left }
         requires keyed { AllKeys (doc_cells doc.now) (next + 1) left }
         ensures doc { pairs_doc result ≡ doc.now }
-        ensures places { pairs_places result ≡ places_from (doc_cells doc.now) 1 (next + 1) left }
+        ensures places { places_of_pairs result ≡ places_from (doc_cells doc.now) 1 (next + 1) left }
         ensures pairs { pairs_left result
             ≡ map (doc_pair doc.now) (places_from (doc_cells doc.now) 1 (next + 1) left) }
     {
@@ -63,7 +63,7 @@ impl<'a> DocPairs<'a> {
             ≡ option_map (λ p. text p.0) (slice_get (pairs_left self.now) 0) }
         ensures doc { IfSome result (λ k. view_doc k ≡ pairs_doc self.now) }
         ensures place { IfSome result
-            (λ k. slice_get (pairs_places self.now) 0 ≡ Some (view_place k + 1)) }
+            (λ k. slice_get (places_of_pairs self.now) 0 ≡ Some (view_place k + 1)) }
     {
         if self.left == 0 {
             return None;

@@ -5,13 +5,13 @@ ghost use Rattle.json_grammar.specs.Grammar.{is_text, number};
 ghost use Rattle.json_grammar.specs.Fault.{reads};
 ghost use Rattle.json_grammar.specs.Rules.{fits};
 ghost use Rattle.json_text.specs.Errors.{no_memory};
-ghost use Rattle.json_text.specs.Events.{Means, raw_size, token_bytes};
+ghost use Rattle.json_text.specs.Events.{Means, raw_size, event_bytes};
 ghost use Rattle.json_text.specs.Parsing.{input, taken, HasGiven, IsWhole, SameInput};
 ghost use Rattle.json_text.specs.Positions.{place_at};
 ghost use Rattle.json_text.specs.Ruled.{rules_of};
-ghost use Rattle.json_doc.specs.Awaited.{Begins};
+ghost use Rattle.json_doc.specs.Awaited.{BeginsTree};
 ghost use Rattle.json_doc.specs.Lent.{IsPieceAt, EventIsLentBy, from_of};
-ghost use Rattle.json_doc.specs.State.{MayCome};
+ghost use Rattle.json_doc.specs.State.{MayComeAfter};
 ghost use Rattle.json_doc.specs.Recorded.{visitor_state, Holds, SameRoom};
 ghost use Rattle.json_doc.specs.Reading.{ReadingFails, ReadingFailsWith, FrontFails, RefusesName, EventIsNumber, HasRoomFor, Follows};
 ghost use Rattle.json_doc.specs.OpenNames.{HasSomeNames, TakesIn, Differ};
@@ -35,10 +35,10 @@ use std::rc::Rc;
 fn record_number(visitor: &mut DocumentVisitor, literal: &str, input: &[u8], from: usize) -> bool
     requires number { number literal.now }
     requires come { (visitor_state visitor.old).full ≡ false
-        → MayCome (Holds visitor.old) (num_token literal.now) }
+        → MayComeAfter (Holds visitor.old) (num_token literal.now) }
     requires lent { IsPieceAt literal.now input.now from }
     ensures follows { (ts : List Token) → Follows visitor.old ts
-        → Begins (ts ++ num_token literal.now ∷ [])
+        → BeginsTree (ts ++ num_token literal.now ∷ [])
         → HasRoomFor visitor.old (length literal.now)
         → Follows visitor.new (ts ++ num_token literal.now ∷ []) }
     ensures room { SameRoom visitor.old visitor.new }
@@ -55,7 +55,7 @@ fn record_number(visitor: &mut DocumentVisitor, literal: &str, input: &[u8], fro
     }
 }
 
-// Whether the event was recorded, whose text stands in the input from `from` on. There is nothing to record of the end.
+// Whether the event was recorded, whose text begins in the input at `from`. There is nothing to record of the end.
 #[inline(always)]
 pub(crate) fn record_event<const USE: u8>(
     visitor: &mut DocumentVisitor,
@@ -66,9 +66,9 @@ pub(crate) fn record_event<const USE: u8>(
     requires number { EventIsNumber event }
     requires lent { EventIsLentBy event input.now from }
     requires come { (visitor_state visitor.old).full ≡ false
-        → (x : Token) × Means event x × MayCome (Holds visitor.old) x }
+        → (x : Token) × Means event x × MayComeAfter (Holds visitor.old) x }
     ensures follows { (x : Token) (ts : List Token) → Means event.entry x
-        → Follows visitor.old ts → Begins (ts ++ x ∷ [])
+        → Follows visitor.old ts → BeginsTree (ts ++ x ∷ [])
         → HasRoomFor visitor.old (raw_size event.entry) → Follows visitor.new (ts ++ x ∷ []) }
     ensures room { (x : Token) → Means event.entry x → SameRoom visitor.old visitor.new }
 {
@@ -90,7 +90,7 @@ pub(crate) fn record_event<const USE: u8>(
 // after the token.
 #[inline(always)]
 pub(crate) fn lent_from(event: Event<'_>, end: usize) -> usize
-    requires { length (token_bytes event) ≤ end }
+    requires { length (event_bytes event) ≤ end }
     ensures { result ≡ from_of event.entry end }
 {
     match event {
@@ -100,7 +100,7 @@ pub(crate) fn lent_from(event: Event<'_>, end: usize) -> usize
     }
 }
 
-// The refusal of a name that repeats. `end` is the place behind it.
+// The error of a name that repeats. `end` is the offset after it.
 #[cold]
 #[inline(never)]
 fn repeated(name: Span<'_>, text: &str, end: usize) -> Error
@@ -117,7 +117,7 @@ fn repeated(name: Span<'_>, text: &str, end: usize) -> Error
     }
 }
 
-// Refuses a name that its object has already. `end` is the place behind the event.
+// Refuses a name that its object has already. `end` is the offset after the event.
 fn refuse_repeated<'a>(
     keys: &mut OpenKeys<'a>,
     event: Event<'a>,
@@ -126,7 +126,7 @@ fn refuse_repeated<'a>(
 ) -> Result<()>
     requires some { HasSomeNames keys.old }
     requires means { (x : Token) × Means event x }
-    requires begins { length (token_bytes event) ≤ end }
+    requires begins { length (event_bytes event) ≤ end }
     requires within { end ≤ length text.now }
     ensures ok { OnOk result ((x : Token) → Means event.entry x
         → TakesIn false keys.old keys.new x) }
@@ -156,7 +156,7 @@ fn check_names<'a>(
 ) -> Result<()>
     requires some { (rules_of rules).unique ≡ true → HasSomeNames keys.old }
     requires means { (x : Token) × Means event x }
-    requires begins { length (token_bytes event) ≤ end }
+    requires begins { length (event_bytes event) ≤ end }
     requires within { end ≤ length text.now }
     ensures ok { OnOk result ((x : Token) (ts : List Token) → Means event.entry x
         → Differ (rules_of rules) keys.old ts → Differ (rules_of rules) keys.new (ts ++ x ∷ [])) }

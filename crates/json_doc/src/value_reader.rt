@@ -41,7 +41,7 @@ fn lent_bytes(event: Event<'_>) -> &[u8]
     }
 }
 
-// How many containers are open behind the event, where `levels` were before it.
+// How many containers are open after the event, where `levels` were before it.
 fn levels_behind(event: Event<'_>, levels: usize) -> usize
     requires most { levels < 2 ^ 32 }
     ensures { (x : Token) → Means event.entry x → result ≡ spec_levels_behind x levels }

@@ -3,8 +3,8 @@ ghost use Rattle.std.specs.Prelude.{◌≡◌, ◌+◌, ◌-◌, ◌<◌, length
 ghost use Rattle.std.specs.Str.{IsCharBoundary};
 ghost use Rattle.json_doc.specs.Docs.{doc_cells, doc_text, doc_tree};
 ghost use Rattle.json_doc.specs.Shape.{is_str};
-ghost use Rattle.json_doc.specs.Trees.{text_of};
-ghost use Rattle.json_doc.specs.Readings.{type_of, bool_of, integer_of, literal_of, string_of, elements, keys, values, children};
+ghost use Rattle.json_doc.specs.Trees.{text_of_tree};
+ghost use Rattle.json_doc.specs.Readings.{type_of, bool_of, integer_of, literal_of, string_of, elements, object_keys, values, children};
 ghost use Rattle.json_doc.specs.declared.cell.Cell.TheVariants.{Null as null_cell};
 
 use crate::cell::Cell;
@@ -148,7 +148,7 @@ impl<'a> DocView<'a> {
         }
     }
 
-    // Where the value of the pair `i` stands, with its key before it.
+    // The position of the value of the pair `i`, with its key before it.
     #[inline]
     fn value_place(self, i: usize) -> Option<usize>
         ensures within { IfSome result (λ k. k < length (doc_cells (view_doc self.entry))) }
@@ -160,8 +160,8 @@ impl<'a> DocView<'a> {
             (λ k. k ≡ child_place (view_doc self.entry) (view_place self.entry) i) }
         ensures value { option_map (doc_tree (view_doc self.entry)) result
             ≡ slice_get (values (view_tree self.entry)) i }
-        ensures key { option_map (λ k. text_of (doc_tree (view_doc self.entry) (k - 1))) result
-            ≡ slice_get (keys (view_tree self.entry)) i }
+        ensures key { option_map (λ k. text_of_tree (doc_tree (view_doc self.entry) (k - 1))) result
+            ≡ slice_get (object_keys (view_tree self.entry)) i }
     {
         match self.cell() {
             Cell::Object { len, .. } => {
@@ -178,7 +178,7 @@ impl<'a> DocView<'a> {
     /// The key of the pair `i`, counted from 0; none of another kind, or past the last.
     #[inline]
     pub fn key(self, i: usize) -> Option<&'a str>
-        ensures { option_map (λ s. s.now) result ≡ slice_get (keys (view_tree self.entry)) i }
+        ensures { option_map (λ s. s.now) result ≡ slice_get (object_keys (view_tree self.entry)) i }
     {
         match self.value_place(i) {
             Some(at) => Some(key_text(self.doc, at - 1)),
@@ -190,7 +190,7 @@ impl<'a> DocView<'a> {
     #[inline]
     pub fn key_view(self, i: usize) -> Option<DocView<'a>>
         ensures tree { option_map view_tree result
-            ≡ option_map text (slice_get (keys (view_tree self.entry)) i) }
+            ≡ option_map text (slice_get (object_keys (view_tree self.entry)) i) }
         ensures doc { IfSome result (λ v. view_doc v ≡ view_doc self.entry) }
         ensures place { IfSome result (λ v. view_place v
             ≡ key_place (view_doc self.entry) (view_place self.entry) i) }
@@ -299,7 +299,7 @@ fn text_at(doc: &Doc, at: usize) -> Option<&str>
 pub(crate) fn key_text(doc: &Doc, at: usize) -> &str
     requires within { at < length (doc_cells doc.now) }
     requires keyed { is_str (slice_index_or (doc_cells doc.now) at null_cell) ≡ true }
-    ensures { result.now ≡ text_of (doc_tree doc.now at) }
+    ensures { result.now ≡ text_of_tree (doc_tree doc.now at) }
 {
     match cell_at(doc, at) {
         Cell::Str { start, len } => text_range(doc, start, len),

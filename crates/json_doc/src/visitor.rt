@@ -7,7 +7,7 @@ ghost use Rattle.json_grammar.specs.Grammar.{chars, number};
 ghost use Rattle.json_grammar.specs.declared.Kind.TheVariants.{Array as array, Object as object};
 ghost use Rattle.json_number.specs.Integers.{integer_in};
 ghost use Rattle.json_text.specs.Spelled.{NoEscape};
-ghost use Rattle.json_doc.specs.State.{VisitorState, Fits, after_event, MayCome, HoldsMore};
+ghost use Rattle.json_doc.specs.State.{VisitorState, Fits, after_event, MayComeAfter, HoldsMore};
 
 use json_text::Span;
 
@@ -37,7 +37,7 @@ pub trait JsonVisitor {
 
     /// `null`.
     fn visit_null(&mut self) -> bool
-        requires { (state self.old).full ≡ false → MayCome (holds self.old) null_token }
+        requires { (state self.old).full ≡ false → MayComeAfter (holds self.old) null_token }
         ensures answer { IsTrue result ↔ Fits (state self.old) 1 0 }
         ensures state { state self.new ≡ after_event result 1 0 (state self.old) }
         ensures held { OnTrue result (HoldsMore (holds self.old) (holds self.new) null_token) }
@@ -45,7 +45,7 @@ pub trait JsonVisitor {
 
     /// `true` or `false`.
     fn visit_bool(&mut self, b: bool) -> bool
-        requires { (state self.old).full ≡ false → MayCome (holds self.old) (boolean_token b) }
+        requires { (state self.old).full ≡ false → MayComeAfter (holds self.old) (boolean_token b) }
         ensures answer { IsTrue result ↔ Fits (state self.old) 1 0 }
         ensures state { state self.new ≡ after_event result 1 0 (state self.old) }
         ensures held { OnTrue result
@@ -55,7 +55,7 @@ pub trait JsonVisitor {
     /// A number by its integer from 0 on. It adds no text.
     fn visit_u64(&mut self, n: u64) -> bool
         requires { (state self.old).full ≡ false
-            → MayCome (holds self.old) (num_token (signed_decimal (pos n))) }
+            → MayComeAfter (holds self.old) (num_token (signed_decimal (pos n))) }
         ensures answer { IsTrue result ↔ Fits (state self.old) 1 0 }
         ensures state { state self.new ≡ after_event result 1 0 (state self.old) }
         ensures held { OnTrue result
@@ -66,7 +66,7 @@ pub trait JsonVisitor {
     fn visit_i64(&mut self, n: i64) -> bool
         requires negative { n <ℤ pos 0 }
         requires come { (state self.old).full ≡ false
-            → MayCome (holds self.old) (num_token (signed_decimal n)) }
+            → MayComeAfter (holds self.old) (num_token (signed_decimal n)) }
         ensures answer { IsTrue result ↔ Fits (state self.old) 1 0 }
         ensures state { state self.new ≡ after_event result 1 0 (state self.old) }
         ensures held { OnTrue result
@@ -78,7 +78,7 @@ pub trait JsonVisitor {
         requires number { number literal.now }
         requires raw { integer_in literal.now ≡ None }
         requires come { (state self.old).full ≡ false
-            → MayCome (holds self.old) (num_token literal.now) }
+            → MayComeAfter (holds self.old) (num_token literal.now) }
         ensures answer { IsTrue result ↔ Fits (state self.old) 1 (length literal.now) }
         ensures state { state self.new
             ≡ after_event result 1 (length literal.now) (state self.old) }
@@ -89,7 +89,7 @@ pub trait JsonVisitor {
     /// A string by what is between its quotes.
     fn visit_str(&mut self, s: Span<'_>) -> bool
         requires { (state self.old).full ≡ false
-            → (t : List ℕ) × chars s.lossy t s.raw.now × MayCome (holds self.old) (text_token t) }
+            → (t : List ℕ) × chars s.lossy t s.raw.now × MayComeAfter (holds self.old) (text_token t) }
         ensures answer { IsTrue result ↔ Fits (state self.old) 1 (length s.entry.raw.now) }
         ensures state { (t : List ℕ) → chars s.entry.lossy t s.entry.raw.now
             → state self.new ≡ after_event result 1 (length t) (state self.old) }
@@ -100,7 +100,7 @@ pub trait JsonVisitor {
     /// A key by what is between its quotes.
     fn visit_key(&mut self, s: Span<'_>) -> bool
         requires { (state self.old).full ≡ false
-            → (t : List ℕ) × chars s.lossy t s.raw.now × MayCome (holds self.old) (key_token t) }
+            → (t : List ℕ) × chars s.lossy t s.raw.now × MayComeAfter (holds self.old) (key_token t) }
         ensures answer { IsTrue result ↔ Fits (state self.old) 1 (length s.entry.raw.now) }
         ensures state { (t : List ℕ) → chars s.entry.lossy t s.entry.raw.now
             → state self.new ≡ after_event result 1 (length t) (state self.old) }
@@ -110,7 +110,7 @@ pub trait JsonVisitor {
 
     /// An array begins.
     fn visit_array_start(&mut self) -> bool
-        requires { (state self.old).full ≡ false → MayCome (holds self.old) (begin array) }
+        requires { (state self.old).full ≡ false → MayComeAfter (holds self.old) (begin array) }
         ensures answer { IsTrue result ↔ Fits (state self.old) 1 0 }
         ensures state { state self.new ≡ after_event result 1 0 (state self.old) }
         ensures held { OnTrue result (HoldsMore (holds self.old) (holds self.new) (begin array)) }
@@ -118,7 +118,7 @@ pub trait JsonVisitor {
 
     /// The innermost array ends.
     fn visit_array_end(&mut self) -> bool
-        requires { (state self.old).full ≡ false → MayCome (holds self.old) (end array) }
+        requires { (state self.old).full ≡ false → MayComeAfter (holds self.old) (end array) }
         ensures answer { IsTrue result ↔ Fits (state self.old) 0 0 }
         ensures state { state self.new ≡ after_event result 0 0 (state self.old) }
         ensures held { OnTrue result (HoldsMore (holds self.old) (holds self.new) (end array)) }
@@ -126,7 +126,7 @@ pub trait JsonVisitor {
 
     /// An object begins.
     fn visit_object_start(&mut self) -> bool
-        requires { (state self.old).full ≡ false → MayCome (holds self.old) (begin object) }
+        requires { (state self.old).full ≡ false → MayComeAfter (holds self.old) (begin object) }
         ensures answer { IsTrue result ↔ Fits (state self.old) 1 0 }
         ensures state { state self.new ≡ after_event result 1 0 (state self.old) }
         ensures held { OnTrue result (HoldsMore (holds self.old) (holds self.new) (begin object)) }
@@ -134,7 +134,7 @@ pub trait JsonVisitor {
 
     /// The innermost object ends.
     fn visit_object_end(&mut self) -> bool
-        requires { (state self.old).full ≡ false → MayCome (holds self.old) (end object) }
+        requires { (state self.old).full ≡ false → MayComeAfter (holds self.old) (end object) }
         ensures answer { IsTrue result ↔ Fits (state self.old) 0 0 }
         ensures state { state self.new ≡ after_event result 0 0 (state self.old) }
         ensures held { OnTrue result (HoldsMore (holds self.old) (holds self.new) (end object)) }

@@ -3,7 +3,7 @@ use Rattle.std.proofs.Common.{refl, ℕ, suc, List, [], Option, Some, None}
 use Rattle.json_grammar.specs.Tree.{Tree, null, boolean, num, text, list, pairs, Trees, no_trees, tree_and, Pairs, no_pairs, pair_and}
 use Rattle.json_model.specs.Datum.{Rows, no_rows}
 use Rattle.json_model.specs.Edit.{Step, key_step, index_step}
-use Rattle.json_data.specs.Reading.{Reading, gives, refuses, Series, gives_all, stops, and_then, as_list, each, row_step, rows_from, put}
+use Rattle.json_data.specs.Reading.{Reading, gives, refuses, Series, gives_all, stops, prepend_reading, as_list, each, row_step, rows_from, insert_row}
 use Rattle.json_explain.specs.Laws.{Agrees, Explained, WholeExplained, OptionExplained, ListExplained, MapExplained}
 use Rattle.json_explain.specs.Refused.{Refused, map_reading, reading_refused, first_refused, part_refused, elements_refused, members_refused}
 
@@ -22,7 +22,7 @@ option_explained f r h (text s) = h (text s)
 option_explained f r h (list ts) = h (list ts)
 option_explained f r h (pairs ps) = h (pairs ps)
 
-one_more : (x : Reading) (y : Option Refused) (s : Series) (o : Option Refused) (p : Step) → Agrees x y → Agrees (as_list s) o → Agrees (as_list (and_then x s)) (first_refused (part_refused p y) o)
+one_more : (x : Reading) (y : Option Refused) (s : Series) (o : Option Refused) (p : Step) → Agrees x y → Agrees (as_list s) o → Agrees (as_list (prepend_reading x s)) (first_refused (part_refused p y) o)
 one_more (gives d) None (gives_all ds) None p h k = tt
 one_more (gives d) None (gives_all ds) (Some r) p h k = absurd k
 one_more (gives d) None (stops c) None p h k = absurd k
@@ -48,7 +48,7 @@ row_more : (x y : Reading) (z : Option Refused) (g : Rows → Reading) (rs : Row
 row_more (refuses c) y z g rs o p h k = refl
 row_more (gives d) (refuses c) None g rs o p h k = absurd h
 row_more (gives d) (refuses c) (Some r) g rs o p h k = h
-row_more (gives d) (gives v) None g rs o p h k = k (put d v rs)
+row_more (gives d) (gives v) None g rs o p h k = k (insert_row d v rs)
 row_more (gives d) (gives v) (Some r) g rs o p h k = absurd h
 
 rows_explained : (k : List ℕ → Reading) (f : Tree → Reading) (r : Tree → Option Refused) → Explained f r → (ps : Pairs) (rs : Rows) → Agrees (rows_from k f rs ps) (members_refused (map_reading k r) [] ps)

@@ -5,7 +5,7 @@ use Rattle.json_model.specs.Edit.{key_step, index_step}
 use Rattle.json_data.proofs.Exits.{join-join}
 use Rattle.json_data.proofs.Lists.{join}
 use Rattle.json_data.proofs.Pairs.{join_pairs, join-join_pairs}
-use Rattle.json_explain.specs.Refused.{Refused, ObjectReading, within, part_refused, first_refused, elements_refused, members_refused}
+use Rattle.json_explain.specs.Refused.{Refused, ObjectReading, refused_within, part_refused, first_refused, elements_refused, members_refused}
 
 pub join-nil : (ts : Trees) → join ts no_trees ≡ ts
 join-nil no_trees = refl
@@ -25,7 +25,7 @@ passed-more r ts i t h n = record {
       ∙ ap (λ (o : Option Refused). first_refused (part_refused (index_step i) o) (elements_refused r (suc i) us)) n;
 }
 
-pub passed-stop : (r : Tree → Option Refused) (ts : Trees) (i : ℕ) (t : Tree) (us : Trees) (x : Refused) → Passed r ts i → r t ≡ Some x → elements_refused r 0 (join ts (tree_and t us)) ≡ Some (within (index_step i) x)
+pub passed-stop : (r : Tree → Option Refused) (ts : Trees) (i : ℕ) (t : Tree) (us : Trees) (x : Refused) → Passed r ts i → r t ≡ Some x → elements_refused r 0 (join ts (tree_and t us)) ≡ Some (refused_within (index_step i) x)
 passed-stop r ts i t us x h n = h.rest (tree_and t us) ∙ ap (λ (o : Option Refused). first_refused (part_refused (index_step i) o) (elements_refused r (suc i) us)) n
 
 pub passed-end : (r : Tree → Option Refused) (ts : Trees) (i : ℕ) → Passed r ts i → elements_refused r 0 ts ≡ None
@@ -42,7 +42,7 @@ members-more r start ps seen new k t h n e = record {
       ∙ ap (λ (bs : List Bool). members_refused r bs qs) (sym e);
 }
 
-pub members-stop : (r : ObjectReading) (start : List Bool) (ps : Pairs) (seen : List Bool) (k : List ℕ) (t : Tree) (qs : Pairs) (x : Refused) → PassedMembers r start ps seen → r.member k t ≡ Some x → members_refused r start (join_pairs ps (pair_and k t qs)) ≡ Some (within (key_step k) x)
+pub members-stop : (r : ObjectReading) (start : List Bool) (ps : Pairs) (seen : List Bool) (k : List ℕ) (t : Tree) (qs : Pairs) (x : Refused) → PassedMembers r start ps seen → r.member k t ≡ Some x → members_refused r start (join_pairs ps (pair_and k t qs)) ≡ Some (refused_within (key_step k) x)
 members-stop r start ps seen k t qs x h n = h.rest (pair_and k t qs) ∙ ap (λ (o : Option Refused). first_refused (part_refused (key_step k) o) (members_refused r (r.seen seen k) qs)) n
 
 pub members-end : (r : ObjectReading) (start : List Bool) (ps : Pairs) (seen : List Bool) → PassedMembers r start ps seen → members_refused r start ps ≡ r.missing seen

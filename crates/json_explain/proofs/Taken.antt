@@ -3,20 +3,20 @@ use Rattle.std.proofs.Common.{◌≡◌, ◌∙◌, ℕ, List, Bool, Option, Som
 use Rattle.json_grammar.specs.declared.Kind.TheVariants.{Object as object}
 use Rattle.json_grammar.specs.Tree.{Tree, Trees, no_trees, tree_and, Pairs, no_pairs, pair_and, list, pairs, Token as Tok, end}
 use Rattle.json_model.specs.Edit.{key_step, index_step}
-use Rattle.json_data.specs.Stand.{Stand, TakesTree, TakesOne, Leaves}
+use Rattle.json_data.specs.Stand.{TokensState, TakesTree, TakesOne, Leaves}
 use Rattle.json_data.proofs.Exits.{join-join}
 use Rattle.json_data.proofs.Lists.{InList, join, one_more, leaves}
 use Rattle.json_data.proofs.Pairs.{InPairs, InMember, join_pairs, join-join_pairs, one_member, leaves_pairs, ended_pairs}
-use Rattle.json_explain.specs.Refused.{Refused, ObjectReading, within, list_refused, object_refused}
+use Rattle.json_explain.specs.Refused.{Refused, ObjectReading, refused_within, list_refused, object_refused}
 use Rattle.json_explain.specs.Explaining.{Explains, refused_in}
 use Rattle.json_explain.specs.declared.refusal.Refusal.{Refusal}
 use Rattle.json_explain.proofs.Parts.{Passed, passed-stop, passed-end, PassedMembers, members-stop, members-end}
 
-module _ {S : Type 0} {taken : S → List Tok → Type 0} {stand : S → Stand} where
+module _ {S : Type 0} {taken : S → List Tok → Type 0} {stand : S → TokensState} where
   -- an element was refused, and then the array was left
   pub array_stops : {f : Tree → Option Refused} {a b c d : S} {ts : Trees} {i : ℕ} {x : Refused}
       → InList taken stand a b ts → Passed f ts i → Explains taken stand f b c (Some x) → Leaves taken stand c d
-      → Explains taken stand (list_refused f) a d (Some (within (index_step i) x))
+      → Explains taken stand (list_refused f) a d (Some (refused_within (index_step i) x))
   array_stops {f = f} {a = a} {d = d} {ts = ts} {i = i} {x = x} w h e l =
       let p = leaves (one_more w e.takes) l in
       let q : join (join ts (tree_and e.tree no_trees)) p.0 ≡ join ts (tree_and e.tree p.0) = join-join ts (tree_and e.tree no_trees) p.0 in
@@ -28,7 +28,7 @@ module _ {S : Type 0} {taken : S → List Tok → Type 0} {stand : S → Stand} 
 
   pub array_left : {f : Tree → Option Refused} {a b c : S} {ts : Trees} {i : ℕ} {x : Refused} {E : Type 0} (d : S) (r : Result (Option Refusal) E)
       → InList taken stand a b ts → Passed f ts i → Explains taken stand f b c (Some x) → OnOk r (Leaves taken stand c d)
-      → IfOk r (λ o. refused_in o ≡ Some (within (index_step i) x)) → IfOk r (λ o. Explains taken stand (list_refused f) a d (refused_in o))
+      → IfOk r (λ o. refused_in o ≡ Some (refused_within (index_step i) x)) → IfOk r (λ o. Explains taken stand (list_refused f) a d (refused_in o))
   array_left {f = f} {a = a} d (Ok o) w h e l p = subst (λ (q : Option Refused). Explains taken stand (list_refused f) a d q) (sym p) (array_stops w h e l)
   array_left d (Err e) w h x l p = tt
 
@@ -40,7 +40,7 @@ module _ {S : Type 0} {taken : S → List Tok → Type 0} {stand : S → Stand} 
   -- a member was refused, and then the object was left
   pub object_stops : {r : ObjectReading} {start seen : List Bool} {a b c d : S} {ps : Pairs} {k : List ℕ} {x : Refused}
       → InMember taken stand a b ps k → PassedMembers r start ps seen → Explains taken stand (r.member k) b c (Some x) → Leaves taken stand c d
-      → Explains taken stand (object_refused r start) a d (Some (within (key_step k) x))
+      → Explains taken stand (object_refused r start) a d (Some (refused_within (key_step k) x))
   object_stops {r = r} {start = start} {seen = seen} {a = a} {d = d} {ps = ps} {k = k} {x = x} w h e l =
       let p = leaves_pairs (one_member w e.takes) l in
       let q : join_pairs (join_pairs ps (pair_and k e.tree no_pairs)) p.0 ≡ join_pairs ps (pair_and k e.tree p.0) = join-join_pairs ps (pair_and k e.tree no_pairs) p.0 in
@@ -52,7 +52,7 @@ module _ {S : Type 0} {taken : S → List Tok → Type 0} {stand : S → Stand} 
 
   pub object_left : {m : ObjectReading} {start seen : List Bool} {a b c : S} {ps : Pairs} {k : List ℕ} {x : Refused} {E : Type 0} (d : S) (r : Result (Option Refusal) E)
       → InMember taken stand a b ps k → PassedMembers m start ps seen → Explains taken stand (m.member k) b c (Some x) → OnOk r (Leaves taken stand c d)
-      → IfOk r (λ o. refused_in o ≡ Some (within (key_step k) x)) → IfOk r (λ o. Explains taken stand (object_refused m start) a d (refused_in o))
+      → IfOk r (λ o. refused_in o ≡ Some (refused_within (key_step k) x)) → IfOk r (λ o. Explains taken stand (object_refused m start) a d (refused_in o))
   object_left {m = m} {start = start} {a = a} d (Ok o) w h e l p = subst (λ (q : Option Refused). Explains taken stand (object_refused m start) a d q) (sym p) (object_stops w h e l)
   object_left d (Err e) w h x l p = tt
 

@@ -9,17 +9,17 @@ use Rattle.json_text.specs.declared.error.ErrorCode.{ErrorCode}
 use Rattle.json_text.specs.declared.error.ErrorCode.TheVariants as code
 use Rattle.json_text.specs.declared.error.Place.{Place}
 use Rattle.json_text.specs.Parsing.{input, taken}
-use Rattle.json_data.specs.Calls.{ReadingFails}
+use Rattle.json_data.specs.Calls.{TypedReadingFails}
 use Rattle.json_data.specs.Reading.{Reading}
 use Rattle.json_data.specs.Refusals.{is_refusal}
 use Rattle.json_data.specs.Stand.{over_text, TakesTree}
-use Rattle.json_data.specs.Text.{TextState, text_taken, text_stand, HasReadValue}
+use Rattle.json_data.specs.Text.{TextTokensState, text_taken, text_tokens_state, HasReadValue}
 use Rattle.json_text.specs.Errors.{no_memory}
 use Rattle.json_text.specs.declared.error.Error.{Error}
 use Rattle.json_explain.specs.Refused.{Refused}
 use Rattle.json_explain.specs.Explaining.{TextRefused}
 
-module _ (s m : TextState) (same : (text_stand m).input ≡ (text_stand s).input) where
+module _ (s m : TextTokensState) (same : (text_tokens_state m).input ≡ (text_tokens_state s).input) where
   by_text : over_text m.parser.text m.parser.start m.parser.lossy m.parser.limit ≡ over_text s.parser.text s.parser.start s.parser.lossy s.parser.limit → m.parser.text ≡ s.parser.text
   by_text i = cc
 
@@ -30,7 +30,7 @@ module _ (s m : TextState) (same : (text_stand m).input ≡ (text_stand s).input
   by_mode i = cc
 
   -- a tree was taken from the beginning, and nothing more
-  pub reads_tree : (b : List ℕ) (i : ℕ) (t : Tree) → s.parser.text ≡ b → s.parser.start ≡ i → s.parser.lossy ≡ false → text_taken s [] → TakesTree text_taken text_stand s m t → HasReadValue m → (k : ℕ) × reads false (drop i b) t k
+  pub reads_tree : (b : List ℕ) (i : ℕ) (t : Tree) → s.parser.text ≡ b → s.parser.start ≡ i → s.parser.lossy ≡ false → text_taken s [] → TakesTree text_taken text_tokens_state s m t → HasReadValue m → (k : ℕ) × reads false (drop i b) t k
   reads_tree b i t e f g h r v =
       let x = v (tokens t) (r.takes.on [] h) in
       let one : x.0 ≡ t = sym (tokens_injective t x.0 x.2) in
@@ -39,7 +39,7 @@ module _ (s m : TextState) (same : (text_stand m).input ≡ (text_stand s).input
       (taken m.parser, subst (λ (u : Tree). reads false (drop i b) u (taken m.parser)) one (subst (λ (w : List ℕ). reads false w x.0 (taken m.parser)) y z))
 
 -- a text whose tree is refused is the text of a tree of at most so many levels
-pub refused_text : (n : ℕ) (f : Tree → Reading) (b : List ℕ) (c : ErrorCode) (p : Place) → is_refusal c ≡ true → ReadingFails n f b c p → (t : Tree) × is_text false t b × (depth t ≤ n)
+pub refused_text : (n : ℕ) (f : Tree → Reading) (b : List ℕ) (c : ErrorCode) (p : Place) → is_refusal c ≡ true → TypedReadingFails n f b c p → (t : Tree) × is_text false t b × (depth t ≤ n)
 refused_text n f b code.TypeUnmatched p e r = (r.0.0, r.0.1, r.0.2)
 refused_text n f b code.NumberOutOfRange p e r = (r.0.0, r.0.1, r.0.2)
 refused_text n f b code.ExpectedNumericKey p e r = (r.0.0, r.0.1, r.0.2)
@@ -54,7 +54,7 @@ text_of_reads n b t u k h d r =
 
 -- an error that is explained, or for which memory runs out
 pub explained_text : (n : ℕ) (f : Tree → Reading) (g : Tree → Option Refused) (b : List ℕ) (e x : Error) (r : Option Refused)
-    → ReadingFails n f b e.code e.place → (x ≡ e) ⊎ (x ≡ no_memory) → (is_refusal x.code ≡ true → (t : Tree) × (k : ℕ) × reads false b t k × (g t ≡ r))
+    → TypedReadingFails n f b e.code e.place → (x ≡ e) ⊎ (x ≡ no_memory) → (is_refusal x.code ≡ true → (t : Tree) × (k : ℕ) × reads false b t k × (g t ≡ r))
     → is_refusal x.code ≡ true → TextRefused n g b r
 explained_text n f g b e x r h (inl q) k p =
     let y = k p in

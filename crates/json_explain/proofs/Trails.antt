@@ -9,7 +9,7 @@ use Rattle.json_text.specs.Parsing.{ParserState, HasGiven, SameInput, Goes, inpu
 use Rattle.json_text.specs.Standing.{Stood}
 use Rattle.json_text.specs.declared.span.Span.{Span}
 use Rattle.json_grammar.specs.Grammar.{chars}
-use Rattle.json_explain.specs.Explaining.{step_of}
+use Rattle.json_explain.specs.Explaining.{explained_step}
 use Rattle.json_explain.specs.declared.refusal.Step.{Step as StepOf}
 use Rattle.json_model.specs.Edit.{Step, key_step, index_step}
 use Rattle.json_explain.specs.Paths.{Trail, after_value, outer, trail_step, trail_after, StandsAt, LevelsAfter}
@@ -70,15 +70,15 @@ took_key {b = b} {s = s} {m = m} {p = p} e v i q h g =
 
 -- ---- the steps
 
-pub steps-none : (xs : List StepOf) → map Some (map step_of (drop (length xs) xs)) ≡ []
-steps-none xs = ap (λ (ys : List StepOf). map Some (map step_of ys)) (drop-length xs)
+pub steps-none : (xs : List StepOf) → map Some (map explained_step (drop (length xs) xs)) ≡ []
+steps-none xs = ap (λ (ys : List StepOf). map Some (map explained_step ys)) (drop-length xs)
 
 pub steps-more : (xs : List StepOf) (i : ℕ) (x : StepOf) → 0 < i → i ≤ length xs → x ≡ get_or xs (i - 1) x
-    → Some (step_of x) ∷ map Some (map step_of (drop i xs)) ≡ map Some (map step_of (drop (i - 1) xs))
+    → Some (explained_step x) ∷ map Some (map explained_step (drop i xs)) ≡ map Some (map explained_step (drop (i - 1) xs))
 steps-more xs i x h k e =
     let n : suc (i - 1) ≡ i = omega arith in
     let d : drop (i - 1) xs ≡ x ∷ drop i xs = drop-cons xs (i - 1) x (omega arith) ∙ ap (λ (y : StepOf). y ∷ drop (suc (i - 1)) xs) (sym e) ∙ ap (λ (j : ℕ). x ∷ drop j xs) n in
-    sym (ap (λ (ys : List StepOf). map Some (map step_of ys)) d)
+    sym (ap (λ (ys : List StepOf). map Some (map explained_step ys)) d)
 
 -- the tokens so far, at an offset of the whole text
 pub stood_in : {b : List ℕ} {s : ParserState} {p : Trail} → (h : StandsAt b s p) → Stood false 254 b s.index s.open_kinds s.spot h.tokens

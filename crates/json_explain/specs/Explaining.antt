@@ -8,26 +8,26 @@ use Rattle.json_text.specs.declared.error.Place.{Place}
 use Rattle.json_text.specs.Positions.{place_at}
 use Rattle.json_doc.specs.declared.json_type.JsonType.{JsonType}
 use Rattle.json_doc.specs.Readings.{type_of}
-use Rattle.json_data.specs.Stand.{Stand, TakesTree}
+use Rattle.json_data.specs.Stand.{TokensState, TakesTree}
 use Rattle.json_explain.specs.Refused.{Refused}
-use Rattle.json_explain.specs.Paths.{LeadsTo}
+use Rattle.json_explain.specs.Paths.{LeadsToOffset}
 use Rattle.json_explain.specs.declared.refusal.Step.{Step}
 use Rattle.json_explain.specs.declared.refusal.Step.TheVariants as step
 use Rattle.json_explain.specs.declared.refusal.Refusal.{Refusal}
 
-abbrev pub step_of : Step → StepOf
-step_of (step.Key k) = key_step (string_bytes k)
-step_of (step.Index i) = index_step i
+abbrev pub explained_step : Step → StepOf
+explained_step (step.Key k) = key_step (string_bytes k)
+explained_step (step.Index i) = index_step i
 
 -- what a refusal says
 abbrev pub refused_of : Refusal → Refused
-refused_of r = record { path = reverse (map step_of r.steps.items); code = r.code; member = option_map string_bytes r.member }
+refused_of r = record { path = reverse (map explained_step r.steps.items); code = r.code; member = option_map string_bytes r.member }
 
 abbrev pub refused_in : Option Refusal → Option Refused
 refused_in o = option_map refused_of o
 
 -- one tree was taken, and r is where it is refused
-pub record Explains {S : Type 0} (taken : S → List Tok → Type 0) (stand : S → Stand) (f : Tree → Option Refused) (a b : S) (r : Option Refused) : Type 0 where
+pub record Explains {S : Type 0} (taken : S → List Tok → Type 0) (stand : S → TokensState) (f : Tree → Option Refused) (a b : S) (r : Option Refused) : Type 0 where
   pub tree : Tree
   pub takes : TakesTree taken stand a b tree
   pub answer : f tree ≡ r
@@ -37,9 +37,9 @@ abbrev pub TextRefused : ℕ → (Tree → Option Refused) → List ℕ → Opti
 TextRefused limit f b r = (t : Tree) × is_text false t b × (depth t ≤ limit) × (f t ≡ r)
 
 -- the steps of a refusal, the innermost first
-abbrev pub steps_of : Refusal → List StepOf
-steps_of r = map step_of r.steps.items
+abbrev pub refusal_steps : Refusal → List StepOf
+refusal_steps r = map explained_step r.steps.items
 
 -- the value to which these steps lead, the innermost step first, begins at p and is of the kind j
 abbrev pub FoundAt : List ℕ → List StepOf → Place → JsonType → Type 0
-FoundAt b steps p j = (i : ℕ) × LeadsTo b steps i × (t : Tree) × (k : ℕ) × reads false (drop i b) t k × (type_of t ≡ j) × (p ≡ place_at b i)
+FoundAt b steps p j = (i : ℕ) × LeadsToOffset b steps i × (t : Tree) × (k : ℕ) × reads false (drop i b) t k × (type_of t ≡ j) × (p ≡ place_at b i)

@@ -62,7 +62,7 @@ abbrev pub IsMark : List ℕ → Type 0
 IsMark g = (g ≡ []) ⊎ ((g ≡ 44 ∷ []) ⊎ (g ≡ 58 ∷ []))
 
 -- the value to which these steps lead, the innermost step first, begins at i: the bytes up to `end` have the tokens before it, and a gap follows
-pub record LeadsTo (b : List ℕ) (steps : List Step) (i : ℕ) : Type 0 where
+pub record LeadsToOffset (b : List ℕ) (steps : List Step) (i : ℕ) : Type 0 where
   pub tokens : List Tok
   pub trail : trail_after [] tokens ≡ map Some steps
   pub opened : List Kind

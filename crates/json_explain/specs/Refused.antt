@@ -20,11 +20,11 @@ abbrev pub lacks_member : List ℕ → Refused
 lacks_member k = record { path = []; code = TypeUnmatched; member = Some k }
 
 -- as seen from the container around it
-abbrev pub within : Step → Refused → Refused
-within s r = record r { path = s ∷ r.path }
+abbrev pub refused_within : Step → Refused → Refused
+refused_within s r = record r { path = s ∷ r.path }
 
 abbrev pub part_refused : Step → Option Refused → Option Refused
-part_refused s o = option_map (within s) o
+part_refused s o = option_map (refused_within s) o
 
 abbrev pub first_refused : Option Refused → Option Refused → Option Refused
 first_refused (Some r) o = Some r

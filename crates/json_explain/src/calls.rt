@@ -4,12 +4,12 @@ ghost use Rattle.json_doc.specs.Readings.{type_of as spec_type_of};
 ghost use Rattle.json_grammar.specs.Fault.{reads};
 ghost use Rattle.json_grammar.specs.Tree.{Tree};
 ghost use Rattle.json_text.specs.Errors.{no_memory, line_of, column_of};
-ghost use Rattle.json_data.specs.Calls.{ReadsText, ReadingFails};
+ghost use Rattle.json_data.specs.Calls.{ReadsTypedText, TypedReadingFails};
 ghost use Rattle.json_data.specs.Kinds.{first_kind};
 ghost use Rattle.json_data.specs.Reading.{gives};
 ghost use Rattle.json_data.specs.Refusals.{is_refusal as spec_is_refusal};
-ghost use Rattle.json_data.specs.TextValues.{IsPacked};
-ghost use Rattle.json_explain.specs.Explaining.{step_of, steps_of, refused_of, refused_in, TextRefused, FoundAt};
+ghost use Rattle.json_data.specs.TextValues.{IsPackedAtRoot};
+ghost use Rattle.json_explain.specs.Explaining.{explained_step, refusal_steps, refused_of, refused_in, TextRefused, FoundAt};
 
 use crate::explain::Explain;
 use crate::place::offset_of;
@@ -193,7 +193,7 @@ fn found_at(text: &str, offset: usize) -> Option<JsonType>
 
 // The kind of the value to which steps lead, the innermost step first, and its place.
 fn find(alloc: Global, text: &str, steps: &[Step]) -> Option<(JsonType, Place)>
-    ensures { IfSome result (λ r. FoundAt text.now (map step_of steps.now) r.1 r.0) }
+    ensures { IfSome result (λ r. FoundAt text.now (map explained_step steps.now) r.1 r.0) }
 {
     let offset = offset_of(alloc, text, steps)?;
     let kind = found_at(text, offset)?;
@@ -205,7 +205,7 @@ fn located(alloc: Global, text: &str, error: Error, refusal: Refusal) -> Explana
     ensures error { result.error ≡ error }
     ensures refusal { result.refusal ≡ Some refusal }
     ensures found { IfSome result.found (λ j.
-        FoundAt text.now (steps_of refusal) result.place j) }
+        FoundAt text.now (refusal_steps refusal) result.place j) }
     ensures plain { result.found ≡ None → result.place ≡ error.place }
 {
     match find(alloc, text, refusal.steps()) {
@@ -231,7 +231,7 @@ fn explained<'a, T: Explain<&'a str>>(alloc: Global, text: &'a str, error: Error
         × reads false text.now t k × (T.refused t ≡ option_map refused_of result.refusal) }
     ensures plain { spec_is_refusal result.error.code ≡ false → result.refusal ≡ None }
     ensures found { IfSome result.refusal (λ r. IfSome result.found (λ j.
-        FoundAt text.now (steps_of r) result.place j)) }
+        FoundAt text.now (refusal_steps r) result.place j)) }
     ensures place { result.found ≡ None → result.place ≡ result.error.place }
 {
     if !is_refusal(error.code) {
@@ -251,15 +251,15 @@ pub fn from_str<'a, T: Explain<&'a str>>(
     alloc: Global,
     text: &'a str,
 ) -> std::result::Result<T, Explanation>
-    ensures ok { IfOk result (λ v. ReadsText 254 T.from_tree text.now (gives (T.datum v))) }
-    ensures place { IfOk result (T.placed IsPacked) }
+    ensures ok { IfOk result (λ v. ReadsTypedText 254 T.from_tree text.now (gives (T.datum v))) }
+    ensures place { IfOk result (T.placed IsPackedAtRoot) }
     ensures err { IfErr result (λ x.
-        ReadingFails 254 T.from_tree text.now x.error.code x.error.place) }
+        TypedReadingFails 254 T.from_tree text.now x.error.code x.error.place) }
     ensures refused { IfErr result (λ x. spec_is_refusal x.error.code ≡ true
         → TextRefused 254 T.refused text.now (option_map refused_of x.refusal)) }
     ensures plain { IfErr result (λ x. spec_is_refusal x.error.code ≡ false → x.refusal ≡ None) }
     ensures found { IfErr result (λ x. IfSome x.refusal (λ r. IfSome x.found (λ j.
-        FoundAt text.now (steps_of r) x.place j))) }
+        FoundAt text.now (refusal_steps r) x.place j))) }
     ensures unfound { IfErr result (λ x. x.found ≡ None → x.place ≡ x.error.place) }
 {
     match json_data::from_str::<T>(alloc, text) {

@@ -7,8 +7,8 @@ ghost use Rattle.json_data.specs.Pieces.{Says};
 ghost use Rattle.json_data.specs.Reader.{GivesUp};
 ghost use Rattle.json_data.specs.Spots.{IsOpen, InArray, InObject};
 ghost use Rattle.json_data.specs.Stand.{WantsValue, TakesOne, Leaves};
-ghost use Rattle.json_explain.specs.Refused.{ObjectReading, list_refused, object_refused, within as spec_within};
-ghost use Rattle.json_explain.specs.Explaining.{Explains, refused_in, refused_of, step_of};
+ghost use Rattle.json_explain.specs.Refused.{ObjectReading, list_refused, object_refused, refused_within as spec_within};
+ghost use Rattle.json_explain.specs.Explaining.{Explains, refused_in, refused_of, explained_step};
 
 use crate::brackets::{next_name, open, pass};
 use crate::explain::Explain;
@@ -89,7 +89,7 @@ fn leave_within<S: Lent, T: Tokens<S>>(
     requires { IsOpen (T.stand tokens.old).spot }
     ensures leaves { OnOk result (Leaves T.taken T.stand tokens.old tokens.new) }
     ensures refused { IfOk result (λ o.
-        refused_in o ≡ Some (spec_within (step_of step) (refused_of refused))) }
+        refused_in o ≡ Some (spec_within (explained_step step) (refused_of refused))) }
     ensures err { IfErr result (λ e. GivesUp (T.stand tokens.old) (T.stand tokens.new) e) }
 {
     match tokens.leave() {

@@ -4,8 +4,8 @@ ghost use Rattle.json_grammar.specs.Given.{piece};
 ghost use Rattle.json_grammar.specs.Grammar.{chars};
 ghost use Rattle.json_grammar.specs.Needs.{IsGap};
 ghost use Rattle.json_model.specs.Edit.{index_step, key_step};
-ghost use Rattle.json_explain.specs.Explaining.{step_of};
-ghost use Rattle.json_explain.specs.Paths.{Trail, after_value, LevelsAfter, StandsAt, IsMark, LeadsTo};
+ghost use Rattle.json_explain.specs.Explaining.{explained_step};
+ghost use Rattle.json_explain.specs.Paths.{Trail, after_value, LevelsAfter, StandsAt, IsMark, LeadsToOffset};
 
 use crate::refusal::Step;
 use json_text::{Event, Parser, Span, ws_run};
@@ -108,7 +108,7 @@ fn enter_object(alloc: Global, parser: &mut Parser<'_>, key: &str, events: usize
 // Takes what comes before the value to which a step leads, and returns whether there is one.
 fn enter(alloc: Global, parser: &mut Parser<'_>, step: &Step, events: usize) -> bool
     ensures { result ≡ true → (b : List ℕ) (q : Trail) → StandsAt b parser.old q
-        → StandsAt b parser.new (Some (step_of step.now) ∷ q) }
+        → StandsAt b parser.new (Some (explained_step step.now) ∷ q) }
 {
     match step {
         Step::Index(index) => enter_array(parser, *index, events),
@@ -147,7 +147,7 @@ fn gap_end(bytes: &[u8], from: usize) -> usize
 
 /// The offset of the value to which steps lead in a text, the innermost step first.
 pub(crate) fn offset_of(alloc: Global, text: &str, steps: &[Step]) -> Option<usize>
-    ensures { IfSome result (λ i. LeadsTo text.now (map step_of steps.now) i) }
+    ensures { IfSome result (λ i. LeadsToOffset text.now (map explained_step steps.now) i) }
 {
     let mut parser = Parser::new(text);
     let mut left = steps.len();

@@ -1,8 +1,8 @@
 // Where a value is refused.
 ghost use Rattle.std.specs.Prelude.{◌≡◌, Some, None, IfOk, IfErr, option_map};
 ghost use Rattle.json_text.specs.Errors.{no_memory};
-ghost use Rattle.json_explain.specs.Refused.{here as spec_here, lacks_member, within as spec_within};
-ghost use Rattle.json_explain.specs.Explaining.{step_of, refused_of};
+ghost use Rattle.json_explain.specs.Refused.{here as spec_here, lacks_member, refused_within as spec_within};
+ghost use Rattle.json_explain.specs.Explaining.{explained_step, refused_of};
 
 use json_text::{ErrorCode, Result};
 use std::alloc::Global;
@@ -165,7 +165,7 @@ impl Refusal {
     /// out.
     pub fn within(self, step: Step) -> Result<Refusal>
         ensures ok { IfOk result (λ r. refused_of r
-            ≡ spec_within (step_of step) (refused_of self)) }
+            ≡ spec_within (explained_step step) (refused_of self)) }
         ensures only { IfErr result (λ e. e ≡ no_memory) }
     {
         let Refusal {

@@ -3,7 +3,7 @@ use Rattle.std.proofs.Common.{◌≡◌, ℕ, ◌+◌, ◌-◌, ◌<◌, ◌≤�
 use Rattle.std.specs.Prelude.{codes}
 use Rattle.std.specs.List.{after_last, before_first, flat_map}
 use Rattle.std.proofs.lemmas.List.{take-append-drop, take_rest}
-use Rattle.json_files.specs.Excerpts.{IsFront, IsBack, IsExcerpt, line_before, line_after, shown_byte, space_under}
+use Rattle.json_files.specs.Excerpts.{IsFront, IsBack, IsExcerpt, line_before, line_after, excerpt_byte, space_under}
 
 pub IsFront-take : (b : List ℕ) (max n : ℕ) → n ≤ max → max < length b → IsFront b max (take n b)
 IsFront-take b max n few long = record { rest = drop n b; whole = sym (take-append-drop n b); few = omega (arith, few, length-take n b); all = λ l. absurd (omega (arith, l, long)) }
@@ -19,7 +19,7 @@ IsBack-drop b max n few within long =
 
 -- the parts of a line that are shown
 pub excerpt_of : (b : List ℕ) (k : ℕ) (lb la before after : List ℕ) (m : ℕ) → m ≤ length lb → lb ≡ line_before b k → la ≡ line_after b k → IsFront la (76 - m) after → IsBack lb (76 - length after) before
-    → IsExcerpt b k (map shown_byte before ++ map shown_byte after ++ codes "\n" ++ flat_map space_under before ++ codes "^\n")
+    → IsExcerpt b k (map excerpt_byte before ++ map excerpt_byte after ++ codes "\n" ++ flat_map space_under before ++ codes "^\n")
 excerpt_of b k lb la before after m some is_before is_after front back =
     record {
       cut_before = back.rest;
@@ -37,6 +37,6 @@ excerpt_of b k lb la before after m some is_before is_after front back =
     }
 
 -- what is appended to a text in turn
-pub shown_after : (text before after : List ℕ) → text ++ map shown_byte before ++ map shown_byte after ++ codes "\n" ++ flat_map space_under before ++ codes "^\n"
-    ≡ text ++ (map shown_byte before ++ map shown_byte after ++ codes "\n" ++ flat_map space_under before ++ codes "^\n")
+pub shown_after : (text before after : List ℕ) → text ++ map excerpt_byte before ++ map excerpt_byte after ++ codes "\n" ++ flat_map space_under before ++ codes "^\n"
+    ≡ text ++ (map excerpt_byte before ++ map excerpt_byte after ++ codes "\n" ++ flat_map space_under before ++ codes "^\n")
 shown_after text before after = simp append_assoc

@@ -6,8 +6,8 @@ use Rattle.std.specs.List.{onto_first}
 use Rattle.json_grammar.specs.Grammar.{ws, IsWhitespace}
 use Rattle.json_grammar.specs.Given.{piece}
 use Rattle.memchr.specs.Find.{Passes, is_byte, Nowhere}
-use Rattle.json_files.specs.Lines.{BlankTest}
 use Rattle.json_files.specs.Parts.{lines_of}
+use Rattle.json_command.specs.Input.{BlankTest}
 
 -- ---- lines
 

@@ -8,40 +8,40 @@ use Rattle.json_text.specs.Errors.{no_memory, reading_failed}
 use Rattle.json_text.specs.FaultText.{text_of}
 use Rattle.json_text.specs.Outside.{SinkState}
 use Rattle.json_text.specs.declared.error.Error.{Error}
-use Rattle.json_command.specs.Reporting.{Reports}
+use Rattle.json_command.specs.Reporting.{Reports, ReportsUnlessMuted}
 use Rattle.json_command.specs.Statuses.{status_of}
 use Rattle.json_files.specs.declared.document.Document.{Document}
 use Rattle.json_files.specs.declared.document_error.DocumentError.{DocumentError}
 use Rattle.json_files.specs.declared.document_error.DocumentError.TheVariants.{Input, Change}
 use Rattle.json_files.specs.declared.run.Tally.{Tally}
-use Rattle.json_files.specs.Documents.{bytes_of, BytesHave, DocumentHas, DocumentsHave}
-use Rattle.json_files.specs.Outcomes.{Task, Outcome, Printed, Refused, HasOutcome, LineOutcome, IsUnread, PartsHave, outcome_line, outcome_report, output_of, reports_of, greatest_status}
+use Rattle.json_files.specs.Documents.{document_bytes, BytesHave, DocumentHas, DocumentsHave}
+use Rattle.json_files.specs.Outcomes.{Task, PartOutcome, Printed, Refused, HasPartOutcome, LineOutcome, IsUnread, PartsHave, outcome_line, outcome_report, output_of, reports_of, greatest_status}
 use Rattle.json_files.specs.Parts.{Part, whole_part, line_part, line_parts, lines_of}
-use Rattle.json_files.specs.Running.{PrintsBytes, PrintingStops, BytesStop, ReportsError, ReportingFails, Handles, Stops, PrintsAll, PrintsSome}
-use Rattle.json_files.specs.Writing.{WritesText, WritingFails, ReportsUnlessMuted}
+use Rattle.json_files.specs.Running.{PrintsBytes, PrintingStops, BytesStop, ReportsError, ReportingFails, Handles, StopsRunning, PrintsAll, PrintsSome}
+use Rattle.json_files.specs.Writing.{WritesOutput, WritingFails}
 use Rattle.json_files.proofs.SmallStatuses.{greatest_small, stops_high}
-use Rattle.json_files.proofs.TextWriting.{WritesText-nil, WritesText-then, fails_then, written_then_none, muted_nil, ReportsUnlessMuted-then, Reports-from, Reports-last}
+use Rattle.json_files.proofs.TextWriting.{WritesOutput-nil, WritesOutput-then, fails_then, written_then_none, muted_nil, ReportsUnlessMuted-then, Reports-from, Reports-last}
 use Rattle.json_files.proofs.Totals.{max_assoc, greatest_status-append}
 
 -- ---- one after another
 
-pub Handles-none : (P : List Outcome → Type 0) (t : Tally) (s e : SinkState) → P [] → Handles P t t s s e e
-Handles-none P t s e h = record { outcomes = []; have = h; output = WritesText-nil s; reports = muted_nil t.muted e; status = omega arith }
+pub Handles-none : (P : List PartOutcome → Type 0) (t : Tally) (s e : SinkState) → P [] → Handles P t t s s e e
+Handles-none P t s e h = record { outcomes = []; have = h; output = WritesOutput-nil s; reports = muted_nil t.muted e; status = omega arith }
 
-pub Handles-then : (P Q R : List Outcome → Type 0) (t u v : Tally) (a b c d e f : SinkState) → Handles P t u a b d e → Handles Q u v b c e f → ((xs ys : List Outcome) → P xs → Q ys → R (xs ++ ys)) → Handles R t v a c d f
+pub Handles-then : (P Q R : List PartOutcome → Type 0) (t u v : Tally) (a b c d e f : SinkState) → Handles P t u a b d e → Handles Q u v b c e f → ((xs ys : List PartOutcome) → P xs → Q ys → R (xs ++ ys)) → Handles R t v a c d f
 Handles-then P Q R t u v a b c d e f h k join =
     let os = h.outcomes in
     let ps = k.outcomes in
     record {
       outcomes = os ++ ps;
       have = join os ps h.have k.have;
-      output = subst (λ l. WritesText a c l (Ok tt)) (sym (flat_map-append outcome_line os ps)) (WritesText-then a b c (output_of os) (output_of ps) tt (Ok tt) h.output k.output);
+      output = subst (λ l. WritesOutput a c l (Ok tt)) (sym (flat_map-append outcome_line os ps)) (WritesOutput-then a b c (output_of os) (output_of ps) tt (Ok tt) h.output k.output);
       reports = subst (ReportsUnlessMuted t.muted v.muted d f) (sym (flat_map-append outcome_report os ps)) (ReportsUnlessMuted-then t.muted u.muted v.muted d e f (reports_of os) (reports_of ps) h.reports k.reports);
       status = k.status ∙ ap (λ n. max n (greatest_status ps)) h.status ∙ sym (max_assoc t.status (greatest_status os) (greatest_status ps)) ∙ ap (max t.status) (sym (greatest_status-append os ps));
     }
 
-pub Stops-then : (P Q R : List Outcome → Type 0) (t u v : Tally) (a b c d e f : SinkState) (error : Error) → Handles P t u a b d e → Stops Q u v b c e f error → ((xs ys : List Outcome) → P xs → Q ys → R (xs ++ ys)) → Stops R t v a c d f error
-Stops-then P Q R t u v a b c d e f error h k join =
+pub StopsRunning-then : (P Q R : List PartOutcome → Type 0) (t u v : Tally) (a b c d e f : SinkState) (error : Error) → Handles P t u a b d e → StopsRunning Q u v b c e f error → ((xs ys : List PartOutcome) → P xs → Q ys → R (xs ++ ys)) → StopsRunning R t v a c d f error
+StopsRunning-then P Q R t u v a b c d e f error h k join =
     let os = h.outcomes in
     let ps = k.outcomes in
     record {
@@ -51,53 +51,53 @@ Stops-then P Q R t u v a b c d e f error h k join =
       reports = subst (ReportsUnlessMuted t.muted v.muted d f) (sym (flat_map-append outcome_report os ps)) (ReportsUnlessMuted-then t.muted u.muted v.muted d e f (reports_of os) (reports_of ps) h.reports k.reports);
     }
 
-pub Handles-as : (P Q : List Outcome → Type 0) (t u : Tally) (a b d e : SinkState) → Handles P t u a b d e → ((xs : List Outcome) → P xs → Q xs) → Handles Q t u a b d e
+pub Handles-as : (P Q : List PartOutcome → Type 0) (t u : Tally) (a b d e : SinkState) → Handles P t u a b d e → ((xs : List PartOutcome) → P xs → Q xs) → Handles Q t u a b d e
 Handles-as P Q t u a b d e h f = record { outcomes = h.outcomes; have = f h.outcomes h.have; output = h.output; reports = h.reports; status = h.status }
 
-pub Stops-as : (P Q : List Outcome → Type 0) (t u : Tally) (a b d e : SinkState) (error : Error) → Stops P t u a b d e error → ((xs : List Outcome) → P xs → Q xs) → Stops Q t u a b d e error
-Stops-as P Q t u a b d e error h f = record { outcomes = h.outcomes; have = f h.outcomes h.have; output = h.output; reports = h.reports }
+pub StopsRunning-as : (P Q : List PartOutcome → Type 0) (t u : Tally) (a b d e : SinkState) (error : Error) → StopsRunning P t u a b d e error → ((xs : List PartOutcome) → P xs → Q xs) → StopsRunning Q t u a b d e error
+StopsRunning-as P Q t u a b d e error h f = record { outcomes = h.outcomes; have = f h.outcomes h.have; output = h.output; reports = h.reports }
 
 -- nothing was done, and memory ran out
-pub stops_none : (P : List Outcome → Type 0) (t v : Tally) (s u e f : SinkState) (error : Error) → P [] → error ≡ no_memory → u ≡ s → v ≡ t → f ≡ e → Stops P t v s u e f error
+pub stops_none : (P : List PartOutcome → Type 0) (t v : Tally) (s u e f : SinkState) (error : Error) → P [] → error ≡ no_memory → u ≡ s → v ≡ t → f ≡ e → StopsRunning P t v s u e f error
 stops_none P t v s u e f error h only same kept silent =
     record {
       outcomes = [];
       have = h;
-      output = written_then_none s s u [] tt error (WritesText-nil s) only same;
+      output = written_then_none s s u [] tt error (WritesOutput-nil s) only same;
       reports = subst (λ (w : Tally). ReportsUnlessMuted t.muted w.muted e f []) (sym kept) (subst (λ x. ReportsUnlessMuted t.muted t.muted e x []) (sym silent) (muted_nil t.muted e));
     }
 
 -- ---- one part
 
 -- a line was written
-pub handles_line : (P : List Outcome → Type 0) (t : Tally) (s u e : SinkState) (line : List ℕ) → P (Printed line ∷ []) → WritesText s u line (Ok tt) → Handles P t t s u e e
+pub handles_line : (P : List PartOutcome → Type 0) (t : Tally) (s u e : SinkState) (line : List ℕ) → P (Printed line ∷ []) → WritesOutput s u line (Ok tt) → Handles P t t s u e e
 handles_line P t s u e line h writes =
-    record { outcomes = Printed line ∷ []; have = h; output = subst (λ l. WritesText s u l (Ok tt)) (sym (append-nil line)) writes; reports = muted_nil t.muted e; status = omega arith }
+    record { outcomes = Printed line ∷ []; have = h; output = subst (λ l. WritesOutput s u l (Ok tt)) (sym (append-nil line)) writes; reports = muted_nil t.muted e; status = omega arith }
 
 -- an error was reported
-pub handles_error : (P : List Outcome → Type 0) (part : Part) (error : DocumentError) (t v : Tally) (s u e f : SinkState) → (h : ReportsError part error t v e f) → P (Refused error h.report ∷ []) → u ≡ s → Handles P t v s u e f
+pub handles_error : (P : List PartOutcome → Type 0) (part : Part) (error : DocumentError) (t v : Tally) (s u e f : SinkState) → (h : ReportsError part error t v e f) → P (Refused error h.report ∷ []) → u ≡ s → Handles P t v s u e f
 handles_error P part error t v s u e f h have same =
     record {
       outcomes = Refused error h.report ∷ [];
       have = have;
-      output = subst (λ x. WritesText s x [] (Ok tt)) (sym same) (WritesText-nil s);
+      output = subst (λ x. WritesOutput s x [] (Ok tt)) (sym same) (WritesOutput-nil s);
       reports = subst (ReportsUnlessMuted t.muted v.muted e f) (sym (append-nil h.report)) h.reported;
       status = omega (arith, h.status);
     }
 
 module _ (task : Task) (part : Part) where
-  abbrev Whole : List Outcome → Type 0
-  Whole os = PartsHave true (HasOutcome task) (part ∷ []) os
+  abbrev Whole : List PartOutcome → Type 0
+  Whole os = PartsHave true (HasPartOutcome task) (part ∷ []) os
 
-  abbrev First : List Outcome → Type 0
-  First os = PartsHave false (HasOutcome task) (part ∷ []) os
+  abbrev First : List PartOutcome → Type 0
+  First os = PartsHave false (HasPartOutcome task) (part ∷ []) os
 
   -- its line was written
-  pub handles_printed : (t : Tally) (s u e : SinkState) → PrintsBytes task part.bytes s u None → Handles (PartsHave true (HasOutcome task) (part ∷ [])) t t s u e e
+  pub handles_printed : (t : Tally) (s u e : SinkState) → PrintsBytes task part.bytes s u None → Handles (PartsHave true (HasPartOutcome task) (part ∷ [])) t t s u e e
   handles_printed t s u e (tree, input, (changed, applied, writes)) = handles_line Whole t s u e (task.line changed) ((tree, input, (changed, applied, refl)), tt) writes
 
   -- its error was reported
-  pub handles_refused : (error : DocumentError) (t v : Tally) (s u e f : SinkState) → PrintsBytes task part.bytes s u (Some error) → ReportsError part error t v e f → Handles (PartsHave true (HasOutcome task) (part ∷ [])) t v s u e f
+  pub handles_refused : (error : DocumentError) (t v : Tally) (s u e f : SinkState) → PrintsBytes task part.bytes s u (Some error) → ReportsError part error t v e f → Handles (PartsHave true (HasPartOutcome task) (part ∷ [])) t v s u e f
   handles_refused (Input error) t v s u e f h k = handles_error Whole part (Input error) t v s u e f k ((h.0, k.is_report), tt) h.1
   handles_refused (Change error) t v s u e f (tree, input, (fails, same)) k = handles_error Whole part (Change error) t v s u e f k ((tree, input, (fails, k.is_report)), tt) same
 
@@ -107,11 +107,11 @@ module _ (task : Task) (part : Part) where
   silent_refused (Change error) s u (tree, input, (fails, same)) = same
 
   -- memory ran out for its report
-  pub reporting_stops : (error : Error) (d : DocumentError) (t v : Tally) (s u e f : SinkState) → PrintsBytes task part.bytes s u (Some d) → ReportingFails t v e f error → Stops (PartsHave false (HasOutcome task) (part ∷ [])) t v s u e f error
+  pub reporting_stops : (error : Error) (d : DocumentError) (t v : Tally) (s u e f : SinkState) → PrintsBytes task part.bytes s u (Some d) → ReportingFails t v e f error → StopsRunning (PartsHave false (HasPartOutcome task) (part ∷ [])) t v s u e f error
   reporting_stops error d t v s u e f h k = stops_none First t v s u e f error refl k.only (silent_refused d s u h) k.kept k.silent
 
   -- its line was not written
-  pub printing_stops : (t : Tally) (s u e : SinkState) (error : Error) → BytesStop task part.bytes s u error → Stops (PartsHave false (HasOutcome task) (part ∷ [])) t t s u e e error
+  pub printing_stops : (t : Tally) (s u e : SinkState) (error : Error) → BytesStop task part.bytes s u error → StopsRunning (PartsHave false (HasPartOutcome task) (part ∷ [])) t t s u e e error
   printing_stops t s u e error (inl (only, same)) = stops_none First t t s u e e error refl only same refl refl
   printing_stops t s u e error (inr (tree, input, inl (only, same))) = stops_none First t t s u e e error refl only same refl refl
   printing_stops t s u e error (inr (tree, input, inr (changed, applied, writes))) =
@@ -123,7 +123,7 @@ module _ (task : Task) (part : Part) where
       }
 
 -- a document that could not be read
-unread_is : (whole : Bool) (task : Task) (d : Document) (os : List Outcome) → d.bytes ≡ None → PartsHave whole IsUnread (whole_part (string_bytes d.name) [] ∷ []) os → DocumentHas whole task d os
+unread_is : (whole : Bool) (task : Task) (d : Document) (os : List PartOutcome) → d.bytes ≡ None → PartsHave whole IsUnread (whole_part (string_bytes d.name) [] ∷ []) os → DocumentHas whole task d os
 unread_is whole task d os is h = subst (λ b. BytesHave whole task (string_bytes d.name) b task.form os) (sym (ap (option_map (λ v. v.items)) is)) h
 
 pub handles_unread : (task : Task) (d : Document) (part : Part) (t v : Tally) (s e f : SinkState) → d.bytes ≡ None → part ≡ whole_part (string_bytes d.name) [] → ReportsError part (Input reading_failed) t v e f → Handles (DocumentHas true task d) t v s s e f
@@ -131,39 +131,39 @@ handles_unread task d part t v s e f is whole k =
     let h : ReportsError (whole_part (string_bytes d.name) []) (Input reading_failed) t v e f = subst (λ (p : Part). ReportsError p (Input reading_failed) t v e f) whole k in
     handles_error (DocumentHas true task d) (whole_part (string_bytes d.name) []) (Input reading_failed) t v s s e f h (unread_is true task d (Refused (Input reading_failed) h.report ∷ []) is ((refl, h.is_report), tt)) refl
 
-pub unread_stops : (task : Task) (d : Document) (t v : Tally) (s e f : SinkState) (error : Error) → d.bytes ≡ None → ReportingFails t v e f error → Stops (DocumentHas false task d) t v s s e f error
+pub unread_stops : (task : Task) (d : Document) (t v : Tally) (s e f : SinkState) (error : Error) → d.bytes ≡ None → ReportingFails t v e f error → StopsRunning (DocumentHas false task d) t v s s e f error
 unread_stops task d t v s e f error is k = stops_none (DocumentHas false task d) t v s s e f error (unread_is false task d [] is refl) k.only refl k.kept k.silent
 
 -- a document whose bytes were read
-bytes_are : (whole : Bool) (task : Task) (d : Document) (part : Part) (b : List ℕ) (os : List Outcome) → part ≡ whole_part (string_bytes d.name) b → bytes_of d ≡ Some b → BytesHave whole task part.name (Some part.bytes) task.form os → DocumentHas whole task d os
+bytes_are : (whole : Bool) (task : Task) (d : Document) (part : Part) (b : List ℕ) (os : List PartOutcome) → part ≡ whole_part (string_bytes d.name) b → document_bytes d ≡ Some b → BytesHave whole task part.name (Some part.bytes) task.form os → DocumentHas whole task d os
 bytes_are whole task d part b os is read h =
     subst (λ o. BytesHave whole task (string_bytes d.name) o task.form os) (sym read) (subst (λ (p : Part). BytesHave whole task p.name (Some p.bytes) task.form os) is h)
 
-module _ (task : Task) (d : Document) (part : Part) (b : List ℕ) (t v : Tally) (s u e f : SinkState) (is : part ≡ whole_part (string_bytes d.name) b) (read : bytes_of d ≡ Some b) where
+module _ (task : Task) (d : Document) (part : Part) (b : List ℕ) (t v : Tally) (s u e f : SinkState) (is : part ≡ whole_part (string_bytes d.name) b) (read : document_bytes d ≡ Some b) where
   pub handles_bytes : Handles (BytesHave true task part.name (Some part.bytes) task.form) t v s u e f → Handles (DocumentHas true task d) t v s u e f
   handles_bytes h = Handles-as (BytesHave true task part.name (Some part.bytes) task.form) (DocumentHas true task d) t v s u e f h (λ os. bytes_are true task d part b os is read)
 
-  pub bytes_stop : (error : Error) → Stops (BytesHave false task part.name (Some part.bytes) task.form) t v s u e f error → Stops (DocumentHas false task d) t v s u e f error
-  bytes_stop error h = Stops-as (BytesHave false task part.name (Some part.bytes) task.form) (DocumentHas false task d) t v s u e f error h (λ os. bytes_are false task d part b os is read)
+  pub bytes_stop : (error : Error) → StopsRunning (BytesHave false task part.name (Some part.bytes) task.form) t v s u e f error → StopsRunning (DocumentHas false task d) t v s u e f error
+  bytes_stop error h = StopsRunning-as (BytesHave false task part.name (Some part.bytes) task.form) (DocumentHas false task d) t v s u e f error h (λ os. bytes_are false task d part b os is read)
 
 -- ---- lines
 
 pub handles_blank : (task : Task) (part : Part) (t : Tally) (s e : SinkState) → ws part.bytes → Handles (PartsHave true (LineOutcome task) (part ∷ [])) t t s s e e
-handles_blank task part t s e blank = handles_line (PartsHave true (LineOutcome task) (part ∷ [])) t s s e [] (inl (blank, refl), tt) (WritesText-nil s)
+handles_blank task part t s e blank = handles_line (PartsHave true (LineOutcome task) (part ∷ [])) t s s e [] (inl (blank, refl), tt) (WritesOutput-nil s)
 
-full_line : (task : Task) (part : Part) (whole : Bool) (os : List Outcome) → ¬ (ws part.bytes) → PartsHave whole (HasOutcome task) (part ∷ []) os → PartsHave whole (LineOutcome task) (part ∷ []) os
+full_line : (task : Task) (part : Part) (whole : Bool) (os : List PartOutcome) → ¬ (ws part.bytes) → PartsHave whole (HasPartOutcome task) (part ∷ []) os → PartsHave whole (LineOutcome task) (part ∷ []) os
 full_line task part whole [] full h = h
 full_line task part whole (o ∷ []) full h = (inr (full, h.0), tt)
 full_line task part whole (o ∷ p ∷ os) full h = absurd h.1
 
-pub handles_full : (task : Task) (part : Part) (t v : Tally) (s u e f : SinkState) → ¬ (ws part.bytes) → Handles (PartsHave true (HasOutcome task) (part ∷ [])) t v s u e f → Handles (PartsHave true (LineOutcome task) (part ∷ [])) t v s u e f
-handles_full task part t v s u e f full h = Handles-as (PartsHave true (HasOutcome task) (part ∷ [])) (PartsHave true (LineOutcome task) (part ∷ [])) t v s u e f h (λ os. full_line task part true os full)
+pub handles_full : (task : Task) (part : Part) (t v : Tally) (s u e f : SinkState) → ¬ (ws part.bytes) → Handles (PartsHave true (HasPartOutcome task) (part ∷ [])) t v s u e f → Handles (PartsHave true (LineOutcome task) (part ∷ [])) t v s u e f
+handles_full task part t v s u e f full h = Handles-as (PartsHave true (HasPartOutcome task) (part ∷ [])) (PartsHave true (LineOutcome task) (part ∷ [])) t v s u e f h (λ os. full_line task part true os full)
 
-pub full_stops : (task : Task) (part : Part) (t v : Tally) (s u e f : SinkState) (error : Error) → ¬ (ws part.bytes) → Stops (PartsHave false (HasOutcome task) (part ∷ [])) t v s u e f error → Stops (PartsHave false (LineOutcome task) (part ∷ [])) t v s u e f error
-full_stops task part t v s u e f error full h = Stops-as (PartsHave false (HasOutcome task) (part ∷ [])) (PartsHave false (LineOutcome task) (part ∷ [])) t v s u e f error h (λ os. full_line task part false os full)
+pub full_stops : (task : Task) (part : Part) (t v : Tally) (s u e f : SinkState) (error : Error) → ¬ (ws part.bytes) → StopsRunning (PartsHave false (HasPartOutcome task) (part ∷ [])) t v s u e f error → StopsRunning (PartsHave false (LineOutcome task) (part ∷ [])) t v s u e f error
+full_stops task part t v s u e f error full h = StopsRunning-as (PartsHave false (HasPartOutcome task) (part ∷ [])) (PartsHave false (LineOutcome task) (part ∷ [])) t v s u e f error h (λ os. full_line task part false os full)
 
 -- the outcomes of a part, and of those after it
-part_then : (whole : Bool) (Has : Part → Outcome → Type 0) (p : Part) (ps : List Part) (xs ys : List Outcome) → PartsHave true Has (p ∷ []) xs → PartsHave whole Has ps ys → PartsHave whole Has (p ∷ ps) (xs ++ ys)
+part_then : (whole : Bool) (Has : Part → PartOutcome → Type 0) (p : Part) (ps : List Part) (xs ys : List PartOutcome) → PartsHave true Has (p ∷ []) xs → PartsHave whole Has ps ys → PartsHave whole Has (p ∷ ps) (xs ++ ys)
 part_then whole Has p ps [] ys h k = absurd (true_false h)
   where
     true_false : true ≡ false → ⊥
@@ -171,45 +171,45 @@ part_then whole Has p ps [] ys h k = absurd (true_false h)
 part_then whole Has p ps (o ∷ []) ys h k = (h.0, k)
 part_then whole Has p ps (o ∷ x ∷ xs) ys h k = absurd h.1
 
-none_first : (Has : Part → Outcome → Type 0) (ps : List Part) → PartsHave false Has ps []
+none_first : (Has : Part → PartOutcome → Type 0) (ps : List Part) → PartsHave false Has ps []
 none_first Has [] = tt
 none_first Has (p ∷ ps) = refl
 
-part_first : (Has : Part → Outcome → Type 0) (p : Part) (ps : List Part) (xs : List Outcome) → PartsHave false Has (p ∷ []) xs → PartsHave false Has (p ∷ ps) xs
+part_first : (Has : Part → PartOutcome → Type 0) (p : Part) (ps : List Part) (xs : List PartOutcome) → PartsHave false Has (p ∷ []) xs → PartsHave false Has (p ∷ ps) xs
 part_first Has p ps [] h = refl
 part_first Has p ps (o ∷ []) h = (h.0, none_first Has ps)
 part_first Has p ps (o ∷ x ∷ xs) h = absurd h.1
 
 -- with any outcomes of the lines that are left, the outcomes so far are outcomes of all lines
-abbrev pub LinesLeft : Task → List ℕ → List ℕ → ℕ → List ℕ → List Outcome → Type 0
+abbrev pub LinesLeft : Task → List ℕ → List ℕ → ℕ → List ℕ → List PartOutcome → Type 0
 LinesLeft task name bytes n rest os =
-    (whole : Bool) (ps : List Outcome) → PartsHave whole (LineOutcome task) (line_parts name n (lines_of rest)) ps → PartsHave whole (LineOutcome task) (line_parts name 0 (lines_of bytes)) (os ++ ps)
+    (whole : Bool) (ps : List PartOutcome) → PartsHave whole (LineOutcome task) (line_parts name n (lines_of rest)) ps → PartsHave whole (LineOutcome task) (line_parts name 0 (lines_of bytes)) (os ++ ps)
 
 module _ (task : Task) (name bytes : List ℕ) where
   pub lines_none : LinesLeft task name bytes 0 bytes []
   lines_none whole ps h = h
 
-  pub lines_more : (n : ℕ) (rest line later : List ℕ) → lines_of rest ≡ line ∷ lines_of later → (os qs : List Outcome) → LinesLeft task name bytes n rest os → PartsHave true (LineOutcome task) (line_part name n line ∷ []) qs → LinesLeft task name bytes (n + 1) later (os ++ qs)
+  pub lines_more : (n : ℕ) (rest line later : List ℕ) → lines_of rest ≡ line ∷ lines_of later → (os qs : List PartOutcome) → LinesLeft task name bytes n rest os → PartsHave true (LineOutcome task) (line_part name n line ∷ []) qs → LinesLeft task name bytes (n + 1) later (os ++ qs)
   lines_more n rest line later is os qs left h whole ps k =
       subst (PartsHave whole (LineOutcome task) (line_parts name 0 (lines_of bytes))) (sym (append_assoc os qs ps))
       (left whole (qs ++ ps) (subst (λ ls. PartsHave whole (LineOutcome task) (line_parts name n ls) (qs ++ ps)) (sym is)
       (part_then whole (LineOutcome task) (line_part name n line) (line_parts name (n + 1) (lines_of later)) qs ps h k)))
 
-  pub lines_stop : (n : ℕ) (rest line later : List ℕ) → lines_of rest ≡ line ∷ lines_of later → (os qs : List Outcome) → LinesLeft task name bytes n rest os → PartsHave false (LineOutcome task) (line_part name n line ∷ []) qs → PartsHave false (LineOutcome task) (line_parts name 0 (lines_of bytes)) (os ++ qs)
+  pub lines_stop : (n : ℕ) (rest line later : List ℕ) → lines_of rest ≡ line ∷ lines_of later → (os qs : List PartOutcome) → LinesLeft task name bytes n rest os → PartsHave false (LineOutcome task) (line_part name n line ∷ []) qs → PartsHave false (LineOutcome task) (line_parts name 0 (lines_of bytes)) (os ++ qs)
   lines_stop n rest line later is os qs left h =
       left false qs (subst (λ ls. PartsHave false (LineOutcome task) (line_parts name n ls) qs) (sym is) (part_first (LineOutcome task) (line_part name n line) (line_parts name (n + 1) (lines_of later)) qs h))
 
-  pub lines_all : (n : ℕ) (rest : List ℕ) → length rest ≡ 0 → (os : List Outcome) → LinesLeft task name bytes n rest os → PartsHave true (LineOutcome task) (line_parts name 0 (lines_of bytes)) os
+  pub lines_all : (n : ℕ) (rest : List ℕ) → length rest ≡ 0 → (os : List PartOutcome) → LinesLeft task name bytes n rest os → PartsHave true (LineOutcome task) (line_parts name 0 (lines_of bytes)) os
   lines_all n rest is os left =
       subst (PartsHave true (LineOutcome task) (line_parts name 0 (lines_of bytes))) (append-nil os) (left true [] (subst (λ r. PartsHave true (LineOutcome task) (line_parts name n (lines_of r)) []) (sym (nil_from_length rest is)) tt))
 
 -- ---- documents
 
 -- with any outcomes of the documents that are left, the outcomes so far are outcomes of all documents
-abbrev pub DocumentsLeft : Task → List Document → ℕ → List Outcome → Type 0
-DocumentsLeft task ds i os = (whole : Bool) (ps : List Outcome) → DocumentsHave whole task (drop i ds) ps → DocumentsHave whole task ds (os ++ ps)
+abbrev pub DocumentsLeft : Task → List Document → ℕ → List PartOutcome → Type 0
+DocumentsLeft task ds i os = (whole : Bool) (ps : List PartOutcome) → DocumentsHave whole task (drop i ds) ps → DocumentsHave whole task ds (os ++ ps)
 
-document_then : (task : Task) (whole : Bool) (d : Document) (ds : List Document) (xs ys : List Outcome) → DocumentHas true task d xs → DocumentsHave whole task ds ys → DocumentsHave whole task (d ∷ ds) (xs ++ ys)
+document_then : (task : Task) (whole : Bool) (d : Document) (ds : List Document) (xs ys : List PartOutcome) → DocumentHas true task d xs → DocumentsHave whole task ds ys → DocumentsHave whole task (d ∷ ds) (xs ++ ys)
 document_then task true d ds xs ys h k = (xs, ys, h, k, refl)
 document_then task false d ds xs ys h k = inr (xs, ys, h, k, refl)
 
@@ -220,15 +220,15 @@ module _ (task : Task) (ds : List Document) where
   next_is : (i : ℕ) (d : Document) → i < length ds → d ≡ slice_index_or ds i d → drop i ds ≡ d ∷ drop (i + 1) ds
   next_is i d l is = drop_more ds i d l ∙ ap (λ x. x ∷ drop (i + 1) ds) (sym is)
 
-  pub documents_more : (i : ℕ) (d : Document) → i < length ds → d ≡ slice_index_or ds i d → (os qs : List Outcome) → DocumentsLeft task ds i os → DocumentHas true task d qs → DocumentsLeft task ds (i + 1) (os ++ qs)
+  pub documents_more : (i : ℕ) (d : Document) → i < length ds → d ≡ slice_index_or ds i d → (os qs : List PartOutcome) → DocumentsLeft task ds i os → DocumentHas true task d qs → DocumentsLeft task ds (i + 1) (os ++ qs)
   documents_more i d l is os qs left h whole ps k =
       subst (DocumentsHave whole task ds) (sym (append_assoc os qs ps))
       (left whole (qs ++ ps) (subst (λ xs. DocumentsHave whole task xs (qs ++ ps)) (sym (next_is i d l is)) (document_then task whole d (drop (i + 1) ds) qs ps h k)))
 
-  pub documents_stop : (i : ℕ) (d : Document) → i < length ds → d ≡ slice_index_or ds i d → (os qs : List Outcome) → DocumentsLeft task ds i os → DocumentHas false task d qs → DocumentsHave false task ds (os ++ qs)
+  pub documents_stop : (i : ℕ) (d : Document) → i < length ds → d ≡ slice_index_or ds i d → (os qs : List PartOutcome) → DocumentsLeft task ds i os → DocumentHas false task d qs → DocumentsHave false task ds (os ++ qs)
   documents_stop i d l is os qs left h = left false qs (subst (λ xs. DocumentsHave false task xs qs) (sym (next_is i d l is)) (inl h))
 
-  pub documents_all : (i : ℕ) → length ds ≤ i → (os : List Outcome) → DocumentsLeft task ds i os → DocumentsHave true task ds os
+  pub documents_all : (i : ℕ) → length ds ≤ i → (os : List PartOutcome) → DocumentsLeft task ds i os → DocumentsHave true task ds os
   documents_all i l os left = subst (DocumentsHave true task ds) (append-nil os) (left true [] (subst (λ xs. DocumentsHave true task xs []) (sym (drop_all i ds l)) refl))
 
 -- ---- the top call
@@ -241,7 +241,7 @@ module _ (task : Task) (ds : List Document) (t : Tally) (a u b f : SinkState) wh
   pub small : Handles (DocumentsHave true task ds) (record { status = 0; muted = false }) t a u b f → t.status < 5
   small h = omega (arith, h.status, greatest_small task ds h.outcomes h.have)
 
-  pub prints_some : (g : SinkState) (error : Error) (n : ℕ) → n ≡ status_of error.code error.place → Stops (DocumentsHave false task ds) (record { status = 0; muted = false }) t a u b f error → (t.muted ≡ false → Reports (text_of error) f g) → (t.muted ≡ true → g ≡ f)
+  pub prints_some : (g : SinkState) (error : Error) (n : ℕ) → n ≡ status_of error.code error.place → StopsRunning (DocumentsHave false task ds) (record { status = 0; muted = false }) t a u b f error → (t.muted ≡ false → Reports (text_of error) f g) → (t.muted ≡ true → g ≡ f)
       → PrintsSome task ds a u b g n
   prints_some g error n is h reported silent =
       record {
@@ -253,7 +253,7 @@ module _ (task : Task) (ds : List Document) (t : Tally) (a u b f : SinkState) wh
         reports = Reports-last t.muted b f g (reports_of h.outcomes) (text_of error) h.reports reported silent;
       }
 
-  pub high : (error : Error) (n : ℕ) → n ≡ status_of error.code error.place → Stops (DocumentsHave false task ds) (record { status = 0; muted = false }) t a u b f error → (n ≡ 5) ⊎ (n ≡ 6)
+  pub high : (error : Error) (n : ℕ) → n ≡ status_of error.code error.place → StopsRunning (DocumentsHave false task ds) (record { status = 0; muted = false }) t a u b f error → (n ≡ 5) ⊎ (n ≡ 6)
   high error n is h = subst (λ m. (m ≡ 5) ⊎ (m ≡ 6)) (sym is) (stops_high a u (output_of h.outcomes) error.code error.place h.output)
 
 pub not_high : (n : ℕ) → n < 5 → (n ≡ 5) ⊎ (n ≡ 6) → ⊥

@@ -12,12 +12,12 @@ use Rattle.json_command.specs.Input.{max_bytes}
 use Rattle.json_files.specs.declared.change_error.ChangeError.{ChangeError}
 use Rattle.json_files.specs.declared.document_error.DocumentError.TheVariants.{Input, Change}
 use Rattle.json_files.specs.declared.run.Tally.{Tally}
-use Rattle.json_files.specs.Outcomes.{Task, Outcome, Printed, Refused, PartsHave}
+use Rattle.json_files.specs.Outcomes.{Task, PartOutcome, Printed, Refused, PartsHave}
 use Rattle.json_files.specs.Parts.{Part, whole_part, value_part}
-use Rattle.json_files.specs.Running.{PrintsTree, PrintingStops, ReportsError, ReportingFails, Handles, Stops}
-use Rattle.json_files.specs.Streams.{ReadsAt, StreamHas, ends, stops, fails, more, ValuePlace, ValueHas, ValuesHave, IsNoText, TextFault}
+use Rattle.json_files.specs.Running.{PrintsTree, PrintingStops, ReportsError, ReportingFails, Handles, StopsRunning}
+use Rattle.json_files.specs.Streams.{ReadsAt, StreamHas, ends, stops, fails, more, ValuePlace, ValueHas, ValuesHave, OutcomeIsNoText, TextFault}
 use Rattle.json_files.specs.Writing.{WritingFails}
-use Rattle.json_files.proofs.Handled.{stops_none, handles_line, handles_error, Handles-as, Stops-as}
+use Rattle.json_files.proofs.Handled.{stops_none, handles_line, handles_error, Handles-as, StopsRunning-as}
 use Rattle.json_files.proofs.TextWriting.{muted_nil}
 
 -- ---- one value
@@ -41,15 +41,15 @@ module _ (task : Task) (p : ValuePlace) where
       let k : ReportsError (whole_part p.name p.text) (Input error) t v e f = subst (λ (x : Part). ReportsError x (Input error) t v e f) is h in
       handles_error (ValueHas task p None) (whole_part p.name p.text) (Input error) t v s s e f k (error, k.report, fault, k.is_report, refl) refl
 
-  abbrev First : List Outcome → Type 0
+  abbrev First : List PartOutcome → Type 0
   First os = StreamHas task p.name p.text false p.offset p.number os
 
   -- memory ran out, and nothing was written
-  pub value_none : (t v : Tally) (s u e f : SinkState) (error : Error) → error ≡ no_memory → u ≡ s → v ≡ t → f ≡ e → Stops (StreamHas task p.name p.text false p.offset p.number) t v s u e f error
+  pub value_none : (t v : Tally) (s u e f : SinkState) (error : Error) → error ≡ no_memory → u ≡ s → v ≡ t → f ≡ e → StopsRunning (StreamHas task p.name p.text false p.offset p.number) t v s u e f error
   value_none t v s u e f error only same kept silent = stops_none First t v s u e f error (stops refl) only same kept silent
 
   -- its line was not written
-  pub value_stops : (tree : Tree) (j : ℕ) (t : Tally) (s u e : SinkState) (error : Error) → ReadsAt p.text p.offset tree j → PrintingStops task tree s u error → Stops (StreamHas task p.name p.text false p.offset p.number) t t s u e e error
+  pub value_stops : (tree : Tree) (j : ℕ) (t : Tally) (s u e : SinkState) (error : Error) → ReadsAt p.text p.offset tree j → PrintingStops task tree s u error → StopsRunning (StreamHas task p.name p.text false p.offset p.number) t t s u e e error
   value_stops tree j t s u e error reads (inl (only, same)) = value_none t t s u e e error only same refl refl
   value_stops tree j t s u e error reads (inr (changed, applied, writes)) =
       record {
@@ -62,24 +62,24 @@ module _ (task : Task) (p : ValuePlace) where
 -- ---- one value after another
 
 -- with any outcomes of the values that are left, the outcomes so far are outcomes of all values
-abbrev pub ValuesLeft : Task → List ℕ → List ℕ → ℕ → ℕ → List Outcome → Type 0
-ValuesLeft task name b i n os = (whole : Bool) (ps : List Outcome) → StreamHas task name b whole i n ps → StreamHas task name b whole 0 0 (os ++ ps)
+abbrev pub ValuesLeft : Task → List ℕ → List ℕ → ℕ → ℕ → List PartOutcome → Type 0
+ValuesLeft task name b i n os = (whole : Bool) (ps : List PartOutcome) → StreamHas task name b whole i n ps → StreamHas task name b whole 0 0 (os ++ ps)
 
 module _ (task : Task) (name b : List ℕ) where
   pub values_none : ValuesLeft task name b 0 0 []
   values_none whole ps h = h
 
-  pub values_more : (i n j : ℕ) (os qs : List Outcome) → ValuesLeft task name b i n os → ValueHas task (record { name = name; text = b; offset = i; number = n }) (Some j) qs → ValuesLeft task name b j (n + 1) (os ++ qs)
+  pub values_more : (i n j : ℕ) (os qs : List PartOutcome) → ValuesLeft task name b i n os → ValueHas task (record { name = name; text = b; offset = i; number = n }) (Some j) qs → ValuesLeft task name b j (n + 1) (os ++ qs)
   values_more i n j os qs left (tree, outcome, reads, has, is) whole ps k =
       subst (StreamHas task name b whole 0 0) (sym (append_assoc os qs ps)) (left whole (qs ++ ps) (subst (λ xs. StreamHas task name b whole i n (xs ++ ps)) (sym is) (more j tree outcome ps reads has k)))
 
-  pub values_fail : (i n : ℕ) (os qs : List Outcome) → ValuesLeft task name b i n os → ValueHas task (record { name = name; text = b; offset = i; number = n }) None qs → StreamHas task name b true 0 0 (os ++ qs)
+  pub values_fail : (i n : ℕ) (os qs : List PartOutcome) → ValuesLeft task name b i n os → ValueHas task (record { name = name; text = b; offset = i; number = n }) None qs → StreamHas task name b true 0 0 (os ++ qs)
   values_fail i n os qs left (error, report, fault, is_report, is) = left true qs (subst (StreamHas task name b true i n) (sym is) (fails error report fault is_report))
 
-  pub values_stop : (i n : ℕ) (os qs : List Outcome) → ValuesLeft task name b i n os → StreamHas task name b false i n qs → StreamHas task name b false 0 0 (os ++ qs)
+  pub values_stop : (i n : ℕ) (os qs : List PartOutcome) → ValuesLeft task name b i n os → StreamHas task name b false i n qs → StreamHas task name b false 0 0 (os ++ qs)
   values_stop i n os qs left h = left false qs h
 
-  pub values_all : (i n : ℕ) → ws (drop i b) → (os : List Outcome) → ValuesLeft task name b i n os → StreamHas task name b true 0 0 os
+  pub values_all : (i n : ℕ) → ws (drop i b) → (os : List PartOutcome) → ValuesLeft task name b i n os → StreamHas task name b true 0 0 os
   values_all i n space os left = subst (StreamHas task name b true 0 0) (append-nil os) (left true [] (ends space))
 
 -- ---- the bytes of a document
@@ -88,8 +88,8 @@ module _ (task : Task) (name b : List ℕ) (t v : Tally) (s u e f : SinkState) w
   pub handles_values : (x : List ℕ) → x ≡ b → length b ≤ max_bytes → IsUtf8 b → Handles (StreamHas task name x true 0 0) t v s u e f → Handles (ValuesHave true task name b) t v s u e f
   handles_values x is few utf8 h = Handles-as (StreamHas task name x true 0 0) (ValuesHave true task name b) t v s u e f h (λ os k. inl (few, utf8, subst (λ y. StreamHas task name y true 0 0 os) is k))
 
-  pub values_stops : (x : List ℕ) → x ≡ b → length b ≤ max_bytes → IsUtf8 b → (error : Error) → Stops (StreamHas task name x false 0 0) t v s u e f error → Stops (ValuesHave false task name b) t v s u e f error
-  values_stops x is few utf8 error h = Stops-as (StreamHas task name x false 0 0) (ValuesHave false task name b) t v s u e f error h (λ os k. inl (few, utf8, subst (λ y. StreamHas task name y false 0 0 os) is k))
+  pub values_stops : (x : List ℕ) → x ≡ b → length b ≤ max_bytes → IsUtf8 b → (error : Error) → StopsRunning (StreamHas task name x false 0 0) t v s u e f error → StopsRunning (ValuesHave false task name b) t v s u e f error
+  values_stops x is few utf8 error h = StopsRunning-as (StreamHas task name x false 0 0) (ValuesHave false task name b) t v s u e f error h (λ os k. inl (few, utf8, subst (λ y. StreamHas task name y false 0 0 os) is k))
 
 module _ (task : Task) (name b : List ℕ) (t v : Tally) (s e f : SinkState) where
   pub handles_no_text : (error : Error) (part : Part) → part ≡ whole_part name b → TextFault b error.code error.place → ReportsError part (Input error) t v e f → Handles (ValuesHave true task name b) t v s s e f
@@ -97,7 +97,7 @@ module _ (task : Task) (name b : List ℕ) (t v : Tally) (s e f : SinkState) whe
       let k : ReportsError (whole_part name b) (Input error) t v e f = subst (λ (x : Part). ReportsError x (Input error) t v e f) is h in
       handles_error (ValuesHave true task name b) (whole_part name b) (Input error) t v s s e f k (inr ((fault, k.is_report), tt)) refl
 
-  pub no_text_stops : (error : Error) → ReportingFails t v e f error → Stops (ValuesHave false task name b) t v s s e f error
+  pub no_text_stops : (error : Error) → ReportingFails t v e f error → StopsRunning (ValuesHave false task name b) t v s s e f error
   no_text_stops error k = stops_none (ValuesHave false task name b) t v s s e f error (inr refl) k.only refl k.kept k.silent
 
 -- only whitespace is left

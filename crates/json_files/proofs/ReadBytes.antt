@@ -14,16 +14,16 @@ use Rattle.json_doc.specs.Docs.{IsDocOf, doc_tree, doc_root}
 use Rattle.json_doc.specs.Reading.{ReadingFailsWith}
 use Rattle.json_command.specs.Input.{max_bytes, IsInput, not_utf8, no_text}
 use Rattle.json_command.proofs.Documents.{root_is}
-use Rattle.json_files.specs.Running.{ReadingFails}
+use Rattle.json_files.specs.Running.{ReadingDocumentFails}
 
 module _ (rules : Rules) (b : List ℕ) (short : length b ≤ max_bytes) where
   -- bytes that are not UTF-8
-  pub utf8_fails : (code : ErrorCode) (place : Place) → Utf8Cause b code place → ReadingFails rules b code place
+  pub utf8_fails : (code : ErrorCode) (place : Place) → Utf8Cause b code place → ReadingDocumentFails rules b code place
   utf8_fails InvalidUTF8 place h = not_utf8 short h
   utf8_fails code place h = absurd h
 
   -- a text with a fault
-  pub text_fails : (seen : List ℕ) (code : ErrorCode) (place : Place) → seen ≡ b → IsUtf8 b → ReadingFailsWith rules seen code place → ReadingFails rules b code place
+  pub text_fails : (seen : List ℕ) (code : ErrorCode) (place : Place) → seen ≡ b → IsUtf8 b → ReadingFailsWith rules seen code place → ReadingDocumentFails rules b code place
   text_fails seen NoMemory nowhere same u h = tt
   text_fails seen code place same u h = no_text short u (subst (λ s. FaultWithAt false rules s code place) same h)
 

@@ -14,13 +14,13 @@ use Rattle.json_text.specs.declared.error.Place.TheVariants.{None as nowhere, Wr
 use Rattle.json_text.proofs.Known.{Appends-nil, Appends-trans}
 use Rattle.json_text.proofs.Putting.{AppendsFront-first, AppendsFront-then, Puts-nil, Puts-first, Puts-then}
 use Rattle.json_command.specs.Printing.{PrintingFails, Prints}
-use Rattle.json_command.specs.Reporting.{Reports}
-use Rattle.json_files.specs.Writing.{WritingFails, WritesText, ReportsUnlessMuted}
+use Rattle.json_command.specs.Reporting.{Reports, ReportsUnlessMuted}
+use Rattle.json_files.specs.Writing.{WritingFails, WritesOutput}
 
 -- ---- one text
 
-pub WritesText-nil : (s : SinkState) → WritesText s s [] (Ok tt)
-WritesText-nil s = record { ok = Appends-nil s.gained; flushed = λ h. h; err = tt; told = λ l. absurd (omega (arith, l)) }
+pub WritesOutput-nil : (s : SinkState) → WritesOutput s s [] (Ok tt)
+WritesOutput-nil s = record { ok = Appends-nil s.gained; flushed = λ h. h; err = tt; told = λ l. absurd (omega (arith, l)) }
 
 front_none : (a : Option (List ℕ)) (text : List ℕ) → AppendsFront a a text
 front_none a text = record { front = []; back = text; whole = refl; gains = Appends-nil a }
@@ -32,9 +32,9 @@ fails_from old new text Io Writing h = (h.1, record { before = old; gained = fro
 fails_from old new text code place h = absurd h
 
 -- what is printed and flushed is written
-pub WritesText-from : (old new : SinkState) (text : List ℕ) (r : Result (Unit {0}) Error) → Prints old new text r → WritesText old new text r
-WritesText-from old new text (Ok u) h = record { ok = h.ok; flushed = λ _. h.flushed; err = tt; told = h.told }
-WritesText-from old new text (Err e) h = record { ok = tt; flushed = tt; err = fails_from old new text e.code e.place h.err; told = h.told }
+pub WritesOutput-from : (old new : SinkState) (text : List ℕ) (r : Result (Unit {0}) Error) → Prints old new text r → WritesOutput old new text r
+WritesOutput-from old new text (Ok u) h = record { ok = h.ok; flushed = λ _. h.flushed; err = tt; told = h.told }
+WritesOutput-from old new text (Err e) h = record { ok = tt; flushed = tt; err = fails_from old new text e.code e.place h.err; told = h.told }
 
 -- ---- one text after another
 
@@ -53,20 +53,20 @@ pub ok_no_error : (u : Unit {0}) (e : Error) → Ok u ≡ Err e → ⊥
 ok_no_error u e h = cc
 
 -- a failed call behind written text is told
-pub told_then : {A : Type 0} (a b c : SinkState) (p : List ℕ) (u : Unit {0}) (r : Result A Error) → WritesText a b p (Ok u) → (b.faults < c.faults → r ≡ Err writing_failed) → a.faults < c.faults → r ≡ Err writing_failed
+pub told_then : {A : Type 0} (a b c : SinkState) (p : List ℕ) (u : Unit {0}) (r : Result A Error) → WritesOutput a b p (Ok u) → (b.faults < c.faults → r ≡ Err writing_failed) → a.faults < c.faults → r ≡ Err writing_failed
 told_then a b c p u r g h l = elim (cases_lt a.faults b.faults) [ inl m ↦ absurd (ok_no_error u writing_failed (g.told m)) | inr m ↦ h (omega (arith, l, m)) ]
 
-pub WritesText-then : (a b c : SinkState) (p q : List ℕ) (u : Unit {0}) (r : Result (Unit {0}) Error) → WritesText a b p (Ok u) → WritesText b c q r → WritesText a c (p ++ q) r
-WritesText-then a b c p q u (Ok v) g h =
+pub WritesOutput-then : (a b c : SinkState) (p q : List ℕ) (u : Unit {0}) (r : Result (Unit {0}) Error) → WritesOutput a b p (Ok u) → WritesOutput b c q r → WritesOutput a c (p ++ q) r
+WritesOutput-then a b c p q u (Ok v) g h =
     record { ok = Appends-trans a.gained b.gained c.gained p q g.ok h.ok; flushed = λ s. h.flushed (g.flushed s); err = tt; told = told_then a b c p u (Ok v) g h.told }
-WritesText-then a b c p q u (Err e) g h =
+WritesOutput-then a b c p q u (Err e) g h =
     record { ok = tt; flushed = tt; err = fails_then a b c p q e.code e.place g.ok h.err; told = told_then a b c p u (Err e) g h.told }
 
-pub WritesText-first : (a b : SinkState) (p q : List ℕ) (e : Error) → WritesText a b p (Err e) → WritesText a b (p ++ q) (Err e)
-WritesText-first a b p q e h = record { ok = tt; flushed = tt; err = fails_first a b p q e.code e.place h.err; told = h.told }
+pub WritesOutput-first : (a b : SinkState) (p q : List ℕ) (e : Error) → WritesOutput a b p (Err e) → WritesOutput a b (p ++ q) (Err e)
+WritesOutput-first a b p q e h = record { ok = tt; flushed = tt; err = fails_first a b p q e.code e.place h.err; told = h.told }
 
 -- memory ran out behind written text
-pub written_then_none : (a b c : SinkState) (p : List ℕ) (u : Unit {0}) (e : Error) → WritesText a b p (Ok u) → e ≡ no_memory → c ≡ b → WritingFails a c p e.code e.place
+pub written_then_none : (a b c : SinkState) (p : List ℕ) (u : Unit {0}) (e : Error) → WritesOutput a b p (Ok u) → e ≡ no_memory → c ≡ b → WritingFails a c p e.code e.place
 written_then_none a b c p u e g is same = rw (is, same) (record { front = p; back = []; whole = sym (append-nil p); gains = g.ok })
 
 -- ---- reports

@@ -4,5 +4,5 @@ use Rattle.json_model.specs.Edit.{Edit}
 use Rattle.json_value.specs.Edits.{edit_of}
 use Rattle.json_files.specs.declared.edit_all.EditAll.{EditAll}
 
-abbrev pub edits_of : EditAll → List Edit
-edits_of change = map edit_of change.edits.now
+abbrev pub listed_edits : EditAll → List Edit
+listed_edits change = map edit_of change.edits.now

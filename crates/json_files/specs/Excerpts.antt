@@ -10,8 +10,8 @@ abbrev pub line_after : List ℕ → ℕ → List ℕ
 line_after bytes offset = before_first (λ x. x == 10) (drop offset bytes)
 
 -- the byte that is shown: a space for a control character
-abbrev pub shown_byte : ℕ → ℕ
-shown_byte x = cond (nat_lt x 32 || x == 127) 32 x
+abbrev pub excerpt_byte : ℕ → ℕ
+excerpt_byte x = cond (nat_lt x 32 || x == 127) 32 x
 
 -- a space for each character: one for its first byte, and none for the others
 abbrev pub space_under : ℕ → List ℕ
@@ -40,4 +40,4 @@ pub record IsExcerpt (bytes : List ℕ) (offset : ℕ) (excerpt : List ℕ) : Ty
   pub line_after_is : line_after bytes offset ≡ after ++ cut_after
   pub narrow : length before + length after ≤ 76
   pub whole_line : length (line_before bytes offset) + length (line_after bytes offset) ≤ 76 → (cut_before ≡ []) × (cut_after ≡ [])
-  pub shown : excerpt ≡ map shown_byte before ++ map shown_byte after ++ codes "\n" ++ flat_map space_under before ++ codes "^\n"
+  pub shown : excerpt ≡ map excerpt_byte before ++ map excerpt_byte after ++ codes "\n" ++ flat_map space_under before ++ codes "^\n"

@@ -1,5 +1,4 @@
 pub mod Changes
-pub mod Lines
 pub mod Parts
 pub mod Excerpts
 pub mod Reports

@@ -52,32 +52,32 @@ task_of changed job = record { form = job.input; rules = rules_of job.rules; cha
 -- ---- the outcome of a part of a document
 
 -- the line that is printed, or the error with its report
-pub data Outcome : Type 0 where
-  Printed : List ℕ → Outcome
-  Refused : DocumentError → List ℕ → Outcome
+pub data PartOutcome : Type 0 where
+  Printed : List ℕ → PartOutcome
+  Refused : DocumentError → List ℕ → PartOutcome
 
 -- the outcome of a tree that was read: the line of the changed tree, or the error of the change
-abbrev pub TreeOutcome : Task → Part → Tree → Outcome → Type 0
+abbrev pub TreeOutcome : Task → Part → Tree → PartOutcome → Type 0
 TreeOutcome task part tree (Printed line) = (changed : Tree) × (task.changed tree ≡ Ok changed) × (line ≡ task.line changed)
 TreeOutcome task part tree (Refused (Change e) report) = (task.changed tree ≡ Err e) × IsReport part (Change e) report
 TreeOutcome task part tree (Refused (Input e) report) = ⊥
 
 -- the outcome of bytes: that of their tree, or their error
-abbrev pub HasOutcome : Task → Part → Outcome → Type 0
-HasOutcome task part (Refused (Input e) report) = InputFault task.rules part.bytes e.code e.place × IsReport part (Input e) report
-HasOutcome task part outcome = (tree : Tree) × IsInput task.rules part.bytes tree × TreeOutcome task part tree outcome
+abbrev pub HasPartOutcome : Task → Part → PartOutcome → Type 0
+HasPartOutcome task part (Refused (Input e) report) = InputFault task.rules part.bytes e.code e.place × IsReport part (Input e) report
+HasPartOutcome task part outcome = (tree : Tree) × IsInput task.rules part.bytes tree × TreeOutcome task part tree outcome
 
 -- the outcome of a line: nothing is printed of one that has only whitespace (RFC 8259, section 2)
-abbrev pub LineOutcome : Task → Part → Outcome → Type 0
-LineOutcome task part outcome = (ws part.bytes × (outcome ≡ Printed [])) ⊎ (¬ (ws part.bytes) × HasOutcome task part outcome)
+abbrev pub LineOutcome : Task → Part → PartOutcome → Type 0
+LineOutcome task part outcome = (ws part.bytes × (outcome ≡ Printed [])) ⊎ (¬ (ws part.bytes) × HasPartOutcome task part outcome)
 
 -- the outcome of a document that could not be read
-abbrev pub IsUnread : Part → Outcome → Type 0
+abbrev pub IsUnread : Part → PartOutcome → Type 0
 IsUnread part (Refused (Input e) report) = (e ≡ reading_failed) × IsReport part (Input e) report
 IsUnread part _ = ⊥
 
 -- these parts have these outcomes; if not of the whole, the first of them
-abbrev pub PartsHave : Bool → (Part → Outcome → Type 0) → List Part → List Outcome → Type 0
+abbrev pub PartsHave : Bool → (Part → PartOutcome → Type 0) → List Part → List PartOutcome → Type 0
 PartsHave whole Has [] [] = ⊤
 PartsHave whole Has (part ∷ later) [] = whole ≡ false
 PartsHave whole Has [] (outcome ∷ outcomes) = ⊥
@@ -85,28 +85,28 @@ PartsHave whole Has (part ∷ later) (outcome ∷ outcomes) = Has part outcome �
 
 -- ---- the output, the reports and the status
 
-abbrev pub outcome_line : Outcome → List ℕ
+abbrev pub outcome_line : PartOutcome → List ℕ
 outcome_line (Printed line) = line
 outcome_line (Refused error report) = []
 
-abbrev pub outcome_report : Outcome → List ℕ
+abbrev pub outcome_report : PartOutcome → List ℕ
 outcome_report (Printed line) = []
 outcome_report (Refused error report) = report
 
-abbrev pub error_status : DocumentError → ℕ
-error_status (Input e) = status_of e.code e.place
-error_status (Change e) = 3
+abbrev pub document_error_status : DocumentError → ℕ
+document_error_status (Input e) = status_of e.code e.place
+document_error_status (Change e) = 3
 
-abbrev pub outcome_status : Outcome → ℕ
+abbrev pub outcome_status : PartOutcome → ℕ
 outcome_status (Printed line) = 0
-outcome_status (Refused error report) = error_status error
+outcome_status (Refused error report) = document_error_status error
 
-abbrev pub output_of : List Outcome → List ℕ
+abbrev pub output_of : List PartOutcome → List ℕ
 output_of outcomes = flat_map outcome_line outcomes
 
-abbrev pub reports_of : List Outcome → List ℕ
+abbrev pub reports_of : List PartOutcome → List ℕ
 reports_of outcomes = flat_map outcome_report outcomes
 
-abbrev pub greatest_status : List Outcome → ℕ
+abbrev pub greatest_status : List PartOutcome → ℕ
 greatest_status [] = 0
 greatest_status (outcome ∷ later) = max (outcome_status outcome) (greatest_status later)

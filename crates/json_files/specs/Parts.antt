@@ -13,8 +13,8 @@ pub record Part : Type 0 where
   pub before : ℕ
   pub scope : Scope
 
-abbrev pub part_of : code.Part → Part
-part_of p = record { name = p.name.now; bytes = p.bytes.now; before = p.before; scope = p.scope }
+abbrev pub part_view : code.Part → Part
+part_view p = record { name = p.name.now; bytes = p.bytes.now; before = p.before; scope = p.scope }
 
 -- a whole document
 abbrev pub whole_part : List ℕ → List ℕ → Part

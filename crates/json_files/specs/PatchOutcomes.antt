@@ -8,13 +8,13 @@ use Rattle.json_files.specs.declared.change_error.ChangeCode.TheVariants as code
 use Rattle.json_files.specs.declared.change_error.ChangeError.{ChangeError}
 
 -- the code of a patch that fails
-abbrev pub code_of_failure : PatchFailure → ChangeCode
-code_of_failure (lookup_failed not_found) = code.NotFound
-code_of_failure (lookup_failed type_unmatched) = code.TypeUnmatched
-code_of_failure bad_patch = code.BadPatch
-code_of_failure test_failed = code.TestFailed
+abbrev pub change_code_of : PatchFailure → ChangeCode
+change_code_of (lookup_failed not_found) = code.NotFound
+change_code_of (lookup_failed type_unmatched) = code.TypeUnmatched
+change_code_of bad_patch = code.BadPatch
+change_code_of test_failed = code.TestFailed
 
 -- what a patch makes of a tree
 abbrev pub outcome_of_patch : Result Tree (PatchFailure × Option ℕ) → Result Tree ChangeError
 outcome_of_patch (Ok tree) = Ok tree
-outcome_of_patch (Err (failure, number)) = Err (record { code = code_of_failure failure; number = number })
+outcome_of_patch (Err (failure, number)) = Err (record { code = change_code_of failure; number = number })

@@ -43,9 +43,9 @@ change_name TypeUnmatched = codes "TypeUnmatched"
 change_name BadPatch = codes "BadPatch"
 change_name TestFailed = codes "TestFailed"
 
-abbrev pub code_name : DocumentError → List ℕ
-code_name (Input e) = name_of e.code
-code_name (Change e) = change_name e.code
+abbrev pub document_error_name : DocumentError → List ℕ
+document_error_name (Input e) = name_of e.code
+document_error_name (Change e) = change_name e.code
 
 -- a change that does not apply is reported at the beginning of its line, and of a document without a place
 abbrev pub scope_place : Scope → Place
@@ -57,9 +57,9 @@ error_place scope (Input e) = e.place
 error_place scope (Change e) = scope_place scope
 
 -- the offset of a place in the bytes
-abbrev pub offset_in : List ℕ → Place → Option ℕ
-offset_in bytes (At offset line column) = cond (nat_le offset (length bytes)) (Some offset) None
-offset_in bytes _ = None
+abbrev pub report_offset : List ℕ → Place → Option ℕ
+report_offset bytes (At offset line column) = cond (nat_le offset (length bytes)) (Some offset) None
+report_offset bytes _ = None
 
 -- its line and its column, if so many lines come before the bytes
 abbrev pub position_of : ℕ → List ℕ → Option ℕ → Option Position
@@ -74,8 +74,8 @@ IsExcerptAt bytes (Some offset) excerpt = IsExcerpt bytes offset excerpt
 -- the first line, the excerpt, and a hint or nothing
 pub record IsReport (part : Part) (error : DocumentError) (report : List ℕ) : Type 0 where
   pub line : List ℕ
-  pub headline : IsHeadline part.name (position_of part.before part.bytes (offset_in part.bytes (error_place part.scope error))) (code_name error) line
+  pub headline : IsHeadline part.name (position_of part.before part.bytes (report_offset part.bytes (error_place part.scope error))) (document_error_name error) line
   pub excerpt : List ℕ
-  pub excerpt_is : IsExcerptAt part.bytes (offset_in part.bytes (error_place part.scope error)) excerpt
+  pub excerpt_is : IsExcerptAt part.bytes (report_offset part.bytes (error_place part.scope error)) excerpt
   pub hint : List ℕ
   pub whole : report ≡ line ++ excerpt ++ hint

@@ -13,7 +13,7 @@ use Rattle.json_text.specs.FaultText.{text_of}
 use Rattle.json_text.specs.Known.{Appends}
 use Rattle.json_text.specs.Outside.{SinkState}
 use Rattle.json_command.specs.Input.{IsInput, InputFault}
-use Rattle.json_command.specs.Reporting.{Reports}
+use Rattle.json_command.specs.Reporting.{Reports, ReportsUnlessMuted}
 use Rattle.json_command.specs.Statuses.{status_of}
 use Rattle.json_value.specs.Denotes.{tree_of}
 use Rattle.json_value.specs.declared.value.Value.{Value}
@@ -23,17 +23,17 @@ use Rattle.json_files.specs.declared.document_error.DocumentError.{DocumentError
 use Rattle.json_files.specs.declared.document_error.DocumentError.TheVariants.{Input, Change}
 use Rattle.json_files.specs.declared.run.Tally.{Tally}
 use Rattle.json_files.specs.Documents.{DocumentsHave}
-use Rattle.json_files.specs.Outcomes.{Task, Outcome, output_of, reports_of, error_status, greatest_status}
+use Rattle.json_files.specs.Outcomes.{Task, PartOutcome, output_of, reports_of, document_error_status, greatest_status}
 use Rattle.json_files.specs.Parts.{Part}
 use Rattle.json_files.specs.Reports.{IsReport}
-use Rattle.json_files.specs.Writing.{WritesText, WritingFails, ReportsUnlessMuted}
+use Rattle.json_files.specs.Writing.{WritesOutput, WritingFails}
 
 -- ---- of one tree, or of bytes
 
 -- memory ran out, or the bytes have this fault
-abbrev pub ReadingFails : Rules → List ℕ → ErrorCode → Place → Type 0
-ReadingFails rules b NoMemory nowhere = Unit {0}
-ReadingFails rules b code place = InputFault rules b code place
+abbrev pub ReadingDocumentFails : Rules → List ℕ → ErrorCode → Place → Type 0
+ReadingDocumentFails rules b NoMemory nowhere = Unit {0}
+ReadingDocumentFails rules b code place = InputFault rules b code place
 
 -- the value has the changed tree, or the error is that of the change
 abbrev pub IsMade : Result Tree ChangeError → Result Value ChangeError → Type 0
@@ -42,13 +42,13 @@ IsMade made (Err error) = made ≡ Err error
 
 -- the line of the changed tree was written, or the error of the change is returned and nothing written
 abbrev pub PrintsTree : Task → Tree → SinkState → SinkState → Option ChangeError → Type 0
-PrintsTree task tree old new None = (changed : Tree) × (task.changed tree ≡ Ok changed) × WritesText old new (task.line changed) (Ok tt)
+PrintsTree task tree old new None = (changed : Tree) × (task.changed tree ≡ Ok changed) × WritesOutput old new (task.line changed) (Ok tt)
 PrintsTree task tree old new (Some error) = (task.changed tree ≡ Err error) × (new ≡ old)
 
 -- memory ran out and nothing was written, or the line of the changed tree was not written
 abbrev pub PrintingStops : Task → Tree → SinkState → SinkState → Error → Type 0
 PrintingStops task tree old new error =
-    ((error ≡ no_memory) × (new ≡ old)) ⊎ ((changed : Tree) × (task.changed tree ≡ Ok changed) × WritesText old new (task.line changed) (Err error))
+    ((error ≡ no_memory) × (new ≡ old)) ⊎ ((changed : Tree) × (task.changed tree ≡ Ok changed) × WritesOutput old new (task.line changed) (Err error))
 
 -- the line of the changed tree of the bytes was written, or their error is returned and nothing written
 abbrev pub PrintsBytes : Task → List ℕ → SinkState → SinkState → Option DocumentError → Type 0
@@ -66,7 +66,7 @@ pub record ReportsError (part : Part) (error : DocumentError) (old new : Tally) 
   pub report : List ℕ
   pub is_report : IsReport part error report
   pub reported : ReportsUnlessMuted old.muted new.muted errs errs' report
-  pub status : new.status ≡ max old.status (error_status error)
+  pub status : new.status ≡ max old.status (document_error_status error)
 
 -- memory ran out for it, and nothing was done
 pub record ReportingFails (old new : Tally) (errs errs' : SinkState) (error : Error) : Type 0 where
@@ -75,16 +75,16 @@ pub record ReportingFails (old new : Tally) (errs errs' : SinkState) (error : Er
   pub silent : errs' ≡ errs
 
 -- each line was written, each report made, and the status is the greatest
-pub record Handles (Has : List Outcome → Type 0) (old new : Tally) (sink sink' errs errs' : SinkState) : Type 0 where
-  pub outcomes : List Outcome
+pub record Handles (Has : List PartOutcome → Type 0) (old new : Tally) (sink sink' errs errs' : SinkState) : Type 0 where
+  pub outcomes : List PartOutcome
   pub have : Has outcomes
-  pub output : WritesText sink sink' (output_of outcomes) (Ok tt)
+  pub output : WritesOutput sink sink' (output_of outcomes) (Ok tt)
   pub reports : ReportsUnlessMuted old.muted new.muted errs errs' (reports_of outcomes)
   pub status : new.status ≡ max old.status (greatest_status outcomes)
 
 -- the lines were written but for the last ones, and the reports made
-pub record Stops (Has : List Outcome → Type 0) (old new : Tally) (sink sink' errs errs' : SinkState) (error : Error) : Type 0 where
-  pub outcomes : List Outcome
+pub record StopsRunning (Has : List PartOutcome → Type 0) (old new : Tally) (sink sink' errs errs' : SinkState) (error : Error) : Type 0 where
+  pub outcomes : List PartOutcome
   pub have : Has outcomes
   pub output : WritingFails sink sink' (output_of outcomes) error.code error.place
   pub reports : ReportsUnlessMuted old.muted new.muted errs errs' (reports_of outcomes)
@@ -94,7 +94,7 @@ pub record Stops (Has : List Outcome → Type 0) (old new : Tally) (sink sink' e
 -- status 0 to 4: the output is the lines of the changed trees, in order; each error was reported, or a prefix of the
 -- reports if that sink failed or memory ran out; the status is the greatest
 pub record PrintsAll (task : Task) (documents : List Document) (sink sink' errs errs' : SinkState) (status : ℕ) : Type 0 where
-  pub outcomes : List Outcome
+  pub outcomes : List PartOutcome
   pub have : DocumentsHave true task documents outcomes
   pub output : Appends sink.gained sink'.gained (output_of outcomes)
   pub flushed : sink.unflushed ≡ false → sink'.unflushed ≡ false
@@ -106,7 +106,7 @@ pub record PrintsAll (task : Task) (documents : List Document) (sink sink' errs 
 pub record PrintsSome (task : Task) (documents : List Document) (sink sink' errs errs' : SinkState) (status : ℕ) : Type 0 where
   pub error : Error
   pub status_is : status ≡ status_of error.code error.place
-  pub outcomes : List Outcome
+  pub outcomes : List PartOutcome
   pub have : DocumentsHave false task documents outcomes
   pub output : WritingFails sink sink' (output_of outcomes) error.code error.place
   pub reports : Reports (reports_of outcomes ++ text_of error) errs errs'

@@ -1,5 +1,5 @@
 -- What becomes of a sink to which a text is written, and of a sink for errors that is given up once a write fails.
-use Rattle.std.specs.Prelude.{◌≡◌, ℕ, ◌<◌, Bool, true, false, List, Result, Ok, Err, OnOk, IfErr, IsErrOf}
+use Rattle.std.specs.Prelude.{◌≡◌, ℕ, ◌<◌, false, List, Result, OnOk, IfErr, IsErrOf}
 use Rattle.json_text.specs.declared.error.Error.{Error}
 use Rattle.json_text.specs.declared.error.ErrorCode.{ErrorCode}
 use Rattle.json_text.specs.declared.error.ErrorCode.TheVariants.{NoMemory, Io}
@@ -8,7 +8,7 @@ use Rattle.json_text.specs.declared.error.Place.TheVariants.{None as nowhere, Wr
 use Rattle.json_text.specs.Errors.{writing_failed}
 use Rattle.json_text.specs.Known.{Appends}
 use Rattle.json_text.specs.Outside.{SinkState, Rose}
-use Rattle.json_text.specs.Transfer.{AppendsFront, Puts}
+use Rattle.json_text.specs.Transfer.{AppendsFront}
 
 -- a call of the sink failed, when the sink had gained a prefix of the text
 pub record CallFails (old new : SinkState) (text : List ℕ) : Type 0 where
@@ -23,15 +23,8 @@ WritingFails old new text Io Writing = AppendsFront old.gained new.gained text �
 WritingFails old new text code place = ⊥
 
 -- the text was written, and nothing waits for a flush if nothing waited before, or writing failed
-pub record WritesText (old new : SinkState) (text : List ℕ) (result : Result (Unit {0}) Error) : Type 0 where
+pub record WritesOutput (old new : SinkState) (text : List ℕ) (result : Result (Unit {0}) Error) : Type 0 where
   pub ok : OnOk result (Appends old.gained new.gained text)
   pub flushed : OnOk result (old.unflushed ≡ false → new.unflushed ≡ false)
   pub err : IfErr result (λ e. WritingFails old new text e.code e.place)
   pub told : old.faults < new.faults → IsErrOf result writing_failed
-
--- this text was reported, unless reports were given up, as they are if a call fails
-abbrev pub ReportsUnlessMuted : Bool → Bool → SinkState → SinkState → List ℕ → Type 0
-ReportsUnlessMuted false false old new text = Puts old new text (Ok tt)
-ReportsUnlessMuted false true old new text = (error : Error) × Puts old new text (Err error)
-ReportsUnlessMuted true true old new text = new ≡ old
-ReportsUnlessMuted true false old new text = ⊥

@@ -2,8 +2,8 @@
 ghost use Rattle.std.specs.Prelude.{◌≡◌, Some, IfOk, IfErr, string_bytes};
 ghost use Rattle.json_doc.specs.Docs.{doc_root, doc_tree};
 ghost use Rattle.json_command.specs.Input.{IsInput};
-ghost use Rattle.json_files.specs.Documents.{bytes_of};
-ghost use Rattle.json_files.specs.Running.{ReadingFails};
+ghost use Rattle.json_files.specs.Documents.{document_bytes};
+ghost use Rattle.json_files.specs.Running.{ReadingDocumentFails};
 ghost use Rattle.json_text.specs.Errors.{no_memory};
 ghost use Rattle.json_text.specs.Ruled.{rules_of};
 
@@ -34,7 +34,7 @@ impl Document {
     /// Copies a name and bytes. Fails with `NoMemory` if memory runs out.
     pub fn new(alloc: Global, name: &str, bytes: &[u8]) -> Result<Document>
         ensures name { IfOk result (λ d. string_bytes d.name ≡ name.now) }
-        ensures bytes { IfOk result (λ d. bytes_of d ≡ Some bytes.now) }
+        ensures bytes { IfOk result (λ d. document_bytes d ≡ Some bytes.now) }
         ensures only { IfErr result (λ e. e ≡ no_memory) }
     {
         Ok(Document {
@@ -50,7 +50,7 @@ impl Document {
 pub(crate) fn read_bytes(alloc: Global, bytes: &[u8], rules: Rules) -> Result<Rc<Doc>>
     ensures ok { IfOk result (λ d. IsInput (rules_of rules) bytes.now
         (doc_tree d.value (doc_root d.value))) }
-    ensures err { IfErr result (λ e. ReadingFails (rules_of rules) bytes.now e.code e.place) }
+    ensures err { IfErr result (λ e. ReadingDocumentFails (rules_of rules) bytes.now e.code e.place) }
 {
     if bytes.len() > MAX_BYTES {
         return Err(Error {

@@ -1,6 +1,6 @@
 // Why a document is not printed.
 ghost use Rattle.std.specs.Prelude.{◌≡◌};
-ghost use Rattle.json_files.specs.Outcomes.{error_status};
+ghost use Rattle.json_files.specs.Outcomes.{document_error_status};
 
 use crate::change_error::ChangeError;
 use json_command::Status;
@@ -27,7 +27,7 @@ pub enum DocumentError {
 impl DocumentError {
     /// Returns the number of the status of the error.
     pub(crate) fn status(&self) -> u8
-        ensures { result ≡ error_status self.now }
+        ensures { result ≡ document_error_status self.now }
     {
         match self {
             DocumentError::Input(error) => Status::of_error(error).number(),

@@ -31,12 +31,12 @@ pub struct EditAll<'a> {
 }
 
 impl<'a> EditAll<'a> {
-    ghost use Rattle.json_files.specs.EditLists.{edits_of};
+    ghost use Rattle.json_files.specs.EditLists.{listed_edits};
 
     /// Returns the change by these edits; `None` if there are 4,294,967,296 or more.
     pub fn new(edits: &'a [Edit]) -> Option<EditAll<'a>>
         ensures some { IsSome result ↔ (length edits.now < 2 ^ 32) }
-        ensures edits { IfSome result (λ change. edits_of change ≡ map edit_of edits.now) }
+        ensures edits { IfSome result (λ change. listed_edits change ≡ map edit_of edits.now) }
     {
         if edits.len() > u32::MAX as usize {
             return None;
@@ -68,9 +68,9 @@ fn change_error(error: Error) -> ChangeError
 }
 
 impl<'a> Change for EditAll<'a> {
-    ghost use Rattle.json_files.specs.EditLists.{edits_of};
+    ghost use Rattle.json_files.specs.EditLists.{listed_edits};
 
-    ghost changed = { λ change tree. outcome_of_edits (edited (edits_of change) tree) };
+    ghost changed = { λ change tree. outcome_of_edits (edited (listed_edits change) tree) };
 
     fn apply(&self, alloc: Global, value: &mut Value) -> Result<(), ChangeError> {
         match apply_all(alloc, value, self.edits) {

@@ -1,7 +1,7 @@
 // The line of the input that an error is at, with a caret under its column.
 ghost use Rattle.std.specs.Prelude.{◌≡◌, ◌≤◌, ◌==◌, ◌+◌, ◌&&◌, ◌++◌, List, ℕ, [], length, map, codes, nat_le, nat_lt, OnOk, IfErr};
 ghost use Rattle.std.specs.List.{after_last, before_first, flat_map};
-ghost use Rattle.json_files.specs.Excerpts.{IsExcerpt, IsFront, IsBack, shown_byte, space_under};
+ghost use Rattle.json_files.specs.Excerpts.{IsExcerpt, IsFront, IsBack, excerpt_byte, space_under};
 ghost use Rattle.json_text.specs.Errors.{no_memory};
 
 use json_text::Result;
@@ -71,7 +71,7 @@ fn first_bytes(bytes: &[u8], max: usize) -> &[u8]
 
 // Appends bytes of the line, each of a control character as a space.
 fn push_shown(text: &mut Vec<u8>, part: &[u8]) -> Result<()>
-    ensures ok { OnOk result (text.new.items ≡ text.old.items ++ map shown_byte part.now) }
+    ensures ok { OnOk result (text.new.items ≡ text.old.items ++ map excerpt_byte part.now) }
     ensures only { IfErr result (λ e. e ≡ no_memory) }
 {
     for byte in part {
@@ -100,8 +100,8 @@ fn push_spaces(text: &mut Vec<u8>, part: &[u8]) -> Result<()>
 
 // Appends the bytes of a line before the caret and from it on, and below them the caret.
 fn push_lines(text: &mut Vec<u8>, before: &[u8], after: &[u8]) -> Result<()>
-    ensures ok { OnOk result (text.new.items ≡ text.old.items ++ map shown_byte before.now
-        ++ map shown_byte after.now ++ codes "\n" ++ flat_map space_under before.now
+    ensures ok { OnOk result (text.new.items ≡ text.old.items ++ map excerpt_byte before.now
+        ++ map excerpt_byte after.now ++ codes "\n" ++ flat_map space_under before.now
         ++ codes "^\n") }
     ensures only { IfErr result (λ e. e ≡ no_memory) }
 {

@@ -5,7 +5,7 @@ ghost use Rattle.json_doc.specs.Docs.{doc_root, doc_tree};
 ghost use Rattle.json_files.specs.Outcomes.{task_of, line_in, text_in};
 ghost use Rattle.json_text.specs.Errors.{no_memory};
 ghost use Rattle.json_files.specs.Running.{IsMade, PrintsTree, PrintingStops, PrintsBytes, BytesStop};
-ghost use Rattle.json_files.specs.Writing.{WritesText};
+ghost use Rattle.json_files.specs.Writing.{WritesOutput};
 ghost use Rattle.json_files.specs.declared.job.InputForm.TheVariants.{One};
 ghost use Rattle.json_value.specs.Denotes.{tree_of};
 
@@ -117,7 +117,7 @@ fn write_line<K: Sink>(
     raw: bool,
     sink: &mut K,
 ) -> Result<()>
-    ensures { WritesText (K.state sink.old) (K.state sink.new)
+    ensures { WritesOutput (K.state sink.old) (K.state sink.new)
         (line_in raw style.entry (tree_of value.now)) result }
 {
     let Some(style) = style else {

@@ -1,7 +1,7 @@
 // The parts of a document that are read by themselves.
 ghost use Rattle.std.specs.Prelude.{◌≡◌, ◌<◌, ◌≤◌, ◌+◌, ◌∷◌, length};
-ghost use Rattle.json_files.specs.Lines.{BlankTest};
-ghost use Rattle.json_files.specs.Parts.{part_of, lines_of, whole_part as spec_whole_part};
+ghost use Rattle.json_files.specs.Parts.{part_view, lines_of, whole_part as spec_whole_part};
+ghost use Rattle.json_command.specs.Input.{BlankTest};
 
 use json_text::ws_run;
 use memchr::memchr;
@@ -32,7 +32,7 @@ pub(crate) struct Part<'a> {
 
 /// Returns the part that is a whole document.
 pub(crate) fn whole_part<'a>(name: &'a str, bytes: &'a [u8]) -> Part<'a>
-    ensures { part_of result ≡ spec_whole_part name.now bytes.now }
+    ensures { part_view result ≡ spec_whole_part name.now bytes.now }
 {
     Part {
         name,

@@ -5,7 +5,7 @@ ghost use Rattle.json_files.specs.Changes.{ChangeFails};
 ghost use Rattle.json_files.specs.PatchOutcomes.{outcome_of_patch};
 ghost use Rattle.json_grammar.specs.Tree.{Tree};
 ghost use Rattle.json_patch.specs.Errors.{PatchFails};
-ghost use Rattle.json_patch.specs.Merge.{merged};
+ghost use Rattle.json_patch.specs.Merge.{merge_patched};
 ghost use Rattle.json_patch.specs.Patch.{PatchFailure, patched};
 ghost use Rattle.json_value.specs.Seen.{seen};
 
@@ -138,7 +138,7 @@ impl<'a> Change for ApplyPatch<'a> {
 impl<'a> Change for ApplyMerge<'a> {
     ghost use Rattle.json_files.specs.Patches.{merge_tree};
 
-    ghost changed = { λ change tree. Ok (merged tree (merge_tree change)) };
+    ghost changed = { λ change tree. Ok (merge_patched tree (merge_tree change)) };
 
     fn apply(&self, alloc: Global, value: &mut Value) -> Result<(), ChangeError> {
         match apply_merge(alloc, value, self.patch) {

@@ -1,8 +1,8 @@
 // The reports of errors.
 ghost use Rattle.std.specs.Prelude.{◌≡◌, ◌≤◌, ◌<◌, ◌+◌, ◌^◌, ◌++◌, List, ℕ, Option, length, codes, decimal, IfOk, IfErr, OnOk, IfSome};
 ghost use Rattle.json_files.specs.Excerpts.{IsExcerpt};
-ghost use Rattle.json_files.specs.Parts.{part_of, whole_part as spec_whole_part};
-ghost use Rattle.json_files.specs.Reports.{IsReport, IsHeadline, IsExcerptAt, location, place_position, error_place, code_name, change_name, offset_in, position_of};
+ghost use Rattle.json_files.specs.Parts.{part_view, whole_part as spec_whole_part};
+ghost use Rattle.json_files.specs.Reports.{IsReport, IsHeadline, IsExcerptAt, location, place_position, error_place, document_error_name, change_name, report_offset, position_of};
 ghost use Rattle.json_text.specs.Errors.{no_memory, name_of};
 
 use crate::change_error::ChangeError;
@@ -180,7 +180,7 @@ fn place_of_error(scope: Scope, error: &DocumentError) -> Place
 
 // Returns the offset of a place in the bytes.
 fn find_offset(bytes: &[u8], place: Place) -> Option<usize>
-    ensures offset { result ≡ offset_in bytes.now place }
+    ensures offset { result ≡ report_offset bytes.now place }
     ensures within { IfSome result (λ offset. offset ≤ length bytes.now) }
 {
     match place {
@@ -192,10 +192,10 @@ fn find_offset(bytes: &[u8], place: Place) -> Option<usize>
 // Returns the line and the column of an offset.
 #[tactic(auto, unfolding(json_text::specs::Positions::place_at))]
 fn find_position(part: Part<'_>, offset: Option<usize>) -> Option<Position>
-    requires few { (part_of part).before + length (part_of part).bytes + 1 < 2 ^ 64 }
-    requires within { IfSome offset (λ offset. offset ≤ length (part_of part).bytes) }
+    requires few { (part_view part).before + length (part_view part).bytes + 1 < 2 ^ 64 }
+    requires within { IfSome offset (λ offset. offset ≤ length (part_view part).bytes) }
     ensures { result
-        ≡ position_of (part_of part.entry).before (part_of part.entry).bytes offset }
+        ≡ position_of (part_view part.entry).before (part_view part.entry).bytes offset }
 {
     match offset {
         Some(offset) => match place_of(part.bytes, offset) {
@@ -243,8 +243,8 @@ fn document_headline(
     error: &DocumentError,
     part_name: &str,
 ) -> Result<Vec<u8>>
-    ensures ok { IfOk result (λ line. IsHeadline (part_of part.entry).name position
-        (code_name error.now) line.items) }
+    ensures ok { IfOk result (λ line. IsHeadline (part_view part.entry).name position
+        (document_error_name error.now) line.items) }
     ensures only { IfErr result (λ e. e ≡ no_memory) }
 {
     match error {
@@ -265,8 +265,8 @@ pub(crate) fn document_report(
     error: &DocumentError,
     part_name: &str,
 ) -> Result<Vec<u8>>
-    requires few { (part_of part).before + length (part_of part).bytes + 1 < 2 ^ 64 }
-    ensures ok { IfOk result (λ report. IsReport (part_of part.entry) error.now report.items) }
+    requires few { (part_view part).before + length (part_view part).bytes + 1 < 2 ^ 64 }
+    ensures ok { IfOk result (λ report. IsReport (part_view part.entry) error.now report.items) }
     ensures only { IfErr result (λ e. e ≡ no_memory) }
 {
     let offset = find_offset(part.bytes, place_of_error(part.scope, error));

@@ -1,10 +1,10 @@
 // The documents, one after another.
 ghost use Rattle.std.specs.Prelude.{◌≡◌, ◌<◌, ◌≤◌, ◌+◌, ◌^◌, ◌⊎◌, ◌∷◌, List, ℕ, [], true, false, Some, length, max, IfOk, OnOk, IfErr, IfSome};
 ghost use Rattle.json_command.specs.Printing.{ReturnsWriteError};
-ghost use Rattle.json_command.specs.Reporting.{Reports};
+ghost use Rattle.json_command.specs.Reporting.{Reports, ReportsUnlessMuted};
 ghost use Rattle.json_files.specs.Documents.{DocumentsHave};
 ghost use Rattle.json_files.specs.Outcomes.{task_of};
-ghost use Rattle.json_files.specs.Running.{Handles, Stops, PrintsAll, PrintsSome};
+ghost use Rattle.json_files.specs.Running.{Handles, StopsRunning, PrintsAll, PrintsSome};
 ghost use Rattle.json_text.specs.FaultText.{text_of};
 
 use crate::change::Change;
@@ -34,20 +34,19 @@ pub(crate) struct Tally {
 }
 
 impl Tally {
-    ghost use Rattle.json_files.specs.Writing.{ReportsUnlessMuted};
     ghost use Rattle.json_files.specs.Documents.{BytesHave, DocumentHas};
-    ghost use Rattle.json_files.specs.Outcomes.{HasOutcome, LineOutcome, PartsHave, error_status};
-    ghost use Rattle.json_files.specs.Streams.{IsNextPlace, ValueFails, StreamHas, ValueHas, ValuesHave, place_of};
+    ghost use Rattle.json_files.specs.Outcomes.{HasPartOutcome, LineOutcome, PartsHave, document_error_status};
+    ghost use Rattle.json_files.specs.Streams.{IsNextPlace, ValueFails, StreamHas, ValueHas, ValuesHave, stream_value_place};
     ghost use Rattle.json_text.specs.Faults.{ValueFaultFrom};
     ghost use Rattle.std.specs.Str.{IsCharBoundary};
-    ghost use Rattle.json_files.specs.Parts.{part_of, line_parts, lines_of, whole_part as spec_whole_part};
+    ghost use Rattle.json_files.specs.Parts.{part_view, line_parts, lines_of, whole_part as spec_whole_part};
     ghost use Rattle.json_files.specs.Running.{ReportsError, ReportingFails};
 
     // Reports an error, unless a report failed.
     fn put_report<E: Sink>(&mut self, errs: &mut E, error: &DocumentError, text: &[u8])
         ensures reports { ReportsUnlessMuted self.old.muted self.new.muted
             (E.state errs.old) (E.state errs.new) text.now }
-        ensures status { self.new.status ≡ max self.old.status (error_status error.now) }
+        ensures status { self.new.status ≡ max self.old.status (document_error_status error.now) }
     {
         self.status = self.status.max(error.status());
         if self.muted {
@@ -68,8 +67,8 @@ impl Tally {
         part_name: &str,
         errs: &mut E,
     ) -> Result<()>
-        requires few { (part_of part).before + length (part_of part).bytes + 1 < 2 ^ 64 }
-        ensures ok { OnOk result (ReportsError (part_of part.entry) error.now self.old self.new
+        requires few { (part_view part).before + length (part_view part).bytes + 1 < 2 ^ 64 }
+        ensures ok { OnOk result (ReportsError (part_view part.entry) error.now self.old self.new
             (E.state errs.old) (E.state errs.new)) }
         ensures err { IfErr result (ReportingFails self.old self.new
             (E.state errs.old) (E.state errs.new)) }
@@ -92,13 +91,13 @@ impl Tally {
         sink: &mut K,
         errs: &mut E,
     ) -> Result<()>
-        requires few { (part_of part).before + length (part_of part).bytes + 1 < 2 ^ 64 }
+        requires few { (part_view part).before + length (part_view part).bytes + 1 < 2 ^ 64 }
         ensures ok { OnOk result (Handles
-            (PartsHave true (HasOutcome (task_of C.changed job.now)) (part_of part.entry ∷ []))
+            (PartsHave true (HasPartOutcome (task_of C.changed job.now)) (part_view part.entry ∷ []))
             self.old self.new
             (K.state sink.old) (K.state sink.new) (E.state errs.old) (E.state errs.new)) }
-        ensures err { IfErr result (Stops
-            (PartsHave false (HasOutcome (task_of C.changed job.now)) (part_of part.entry ∷ []))
+        ensures err { IfErr result (StopsRunning
+            (PartsHave false (HasPartOutcome (task_of C.changed job.now)) (part_view part.entry ∷ []))
             self.old self.new
             (K.state sink.old) (K.state sink.new) (E.state errs.old) (E.state errs.new)) }
         ensures told { ReturnsWriteError (K.state sink.old) (K.state sink.new) result }
@@ -123,12 +122,12 @@ impl Tally {
     ) -> Result<()>
         ensures ok { OnOk result (Handles
             (PartsHave true (LineOutcome (task_of C.changed job.now))
-            (line_parts (part_of whole.entry).name 0 (lines_of (part_of whole.entry).bytes)))
+            (line_parts (part_view whole.entry).name 0 (lines_of (part_view whole.entry).bytes)))
             self.old self.new
             (K.state sink.old) (K.state sink.new) (E.state errs.old) (E.state errs.new)) }
-        ensures err { IfErr result (Stops
+        ensures err { IfErr result (StopsRunning
             (PartsHave false (LineOutcome (task_of C.changed job.now))
-            (line_parts (part_of whole.entry).name 0 (lines_of (part_of whole.entry).bytes)))
+            (line_parts (part_view whole.entry).name 0 (lines_of (part_view whole.entry).bytes)))
             self.old self.new
             (K.state sink.old) (K.state sink.new) (E.state errs.old) (E.state errs.new)) }
         ensures told { ReturnsWriteError (K.state sink.old) (K.state sink.new) result }
@@ -164,10 +163,10 @@ impl Tally {
         error: Error,
         errs: &mut E,
     ) -> Result<()>
-        requires few { (part_of whole).before + length (part_of whole).bytes + 1 < 2 ^ 64 }
+        requires few { (part_view whole).before + length (part_view whole).bytes + 1 < 2 ^ 64 }
         ensures fault { OnOk result ((b : List ℕ) (i : ℕ) → ValueFails b i error.code error.place
             → ValueFaultFrom false 254 i b error.code error.place) }
-        ensures ok { OnOk result (ReportsError (part_of whole.entry) (DocumentError.Input error)
+        ensures ok { OnOk result (ReportsError (part_view whole.entry) (DocumentError.Input error)
             self.old self.new (E.state errs.old) (E.state errs.new)) }
         ensures err { IfErr result (ReportingFails self.old self.new
             (E.state errs.old) (E.state errs.new)) }
@@ -190,14 +189,14 @@ impl Tally {
     ) -> Result<Option<usize>>
         requires { IsCharBoundary place.text.now place.offset }
         ensures ok { IfOk result (λ next. Handles
-            (ValueHas (task_of C.changed job.now) (place_of place.entry) next) self.old self.new
+            (ValueHas (task_of C.changed job.now) (stream_value_place place.entry) next) self.old self.new
             (K.state sink.old) (K.state sink.new) (E.state errs.old) (E.state errs.new)) }
         ensures next { IfOk result (λ next. IfSome next
             (IsNextPlace place.entry.text.now place.entry.offset)) }
-        ensures err { IfErr result (Stops
-            (StreamHas (task_of C.changed job.now) (place_of place.entry).name
-            (place_of place.entry).text false
-            (place_of place.entry).offset (place_of place.entry).number) self.old self.new
+        ensures err { IfErr result (StopsRunning
+            (StreamHas (task_of C.changed job.now) (stream_value_place place.entry).name
+            (stream_value_place place.entry).text false
+            (stream_value_place place.entry).offset (stream_value_place place.entry).number) self.old self.new
             (K.state sink.old) (K.state sink.new) (E.state errs.old) (E.state errs.new)) }
         ensures told { ReturnsWriteError (K.state sink.old) (K.state sink.new) result }
     {
@@ -232,12 +231,12 @@ impl Tally {
     ) -> Result<()>
         requires { IsCharBoundary start.text.now 0 }
         ensures ok { OnOk result (Handles
-            (StreamHas (task_of C.changed job.now) (place_of start.entry).name
-            (place_of start.entry).text true 0 0) self.old self.new
+            (StreamHas (task_of C.changed job.now) (stream_value_place start.entry).name
+            (stream_value_place start.entry).text true 0 0) self.old self.new
             (K.state sink.old) (K.state sink.new) (E.state errs.old) (E.state errs.new)) }
-        ensures err { IfErr result (Stops
-            (StreamHas (task_of C.changed job.now) (place_of start.entry).name
-            (place_of start.entry).text false 0 0) self.old self.new
+        ensures err { IfErr result (StopsRunning
+            (StreamHas (task_of C.changed job.now) (stream_value_place start.entry).name
+            (stream_value_place start.entry).text false 0 0) self.old self.new
             (K.state sink.old) (K.state sink.new) (E.state errs.old) (E.state errs.new)) }
         ensures told { ReturnsWriteError (K.state sink.old) (K.state sink.new) result }
     {
@@ -272,13 +271,13 @@ impl Tally {
         sink: &mut K,
         errs: &mut E,
     ) -> Result<()>
-        requires { part_of whole
-            ≡ spec_whole_part (part_of whole).name (part_of whole).bytes }
+        requires { part_view whole
+            ≡ spec_whole_part (part_view whole).name (part_view whole).bytes }
         ensures ok { OnOk result (Handles (ValuesHave true (task_of C.changed job.now)
-            (part_of whole.entry).name (part_of whole.entry).bytes) self.old self.new
+            (part_view whole.entry).name (part_view whole.entry).bytes) self.old self.new
             (K.state sink.old) (K.state sink.new) (E.state errs.old) (E.state errs.new)) }
-        ensures err { IfErr result (Stops (ValuesHave false (task_of C.changed job.now)
-            (part_of whole.entry).name (part_of whole.entry).bytes) self.old self.new
+        ensures err { IfErr result (StopsRunning (ValuesHave false (task_of C.changed job.now)
+            (part_view whole.entry).name (part_view whole.entry).bytes) self.old self.new
             (K.state sink.old) (K.state sink.new) (E.state errs.old) (E.state errs.new)) }
         ensures told { ReturnsWriteError (K.state sink.old) (K.state sink.new) result }
     {
@@ -307,14 +306,14 @@ impl Tally {
         sink: &mut K,
         errs: &mut E,
     ) -> Result<()>
-        requires { part_of whole
-            ≡ spec_whole_part (part_of whole).name (part_of whole).bytes }
+        requires { part_view whole
+            ≡ spec_whole_part (part_view whole).name (part_view whole).bytes }
         ensures ok { OnOk result (Handles (BytesHave true (task_of C.changed job.now)
-            (part_of whole.entry).name (Some (part_of whole.entry).bytes) job.now.input)
+            (part_view whole.entry).name (Some (part_view whole.entry).bytes) job.now.input)
             self.old self.new
             (K.state sink.old) (K.state sink.new) (E.state errs.old) (E.state errs.new)) }
-        ensures err { IfErr result (Stops (BytesHave false (task_of C.changed job.now)
-            (part_of whole.entry).name (Some (part_of whole.entry).bytes) job.now.input)
+        ensures err { IfErr result (StopsRunning (BytesHave false (task_of C.changed job.now)
+            (part_view whole.entry).name (Some (part_view whole.entry).bytes) job.now.input)
             self.old self.new
             (K.state sink.old) (K.state sink.new) (E.state errs.old) (E.state errs.new)) }
         ensures told { ReturnsWriteError (K.state sink.old) (K.state sink.new) result }
@@ -338,7 +337,7 @@ impl Tally {
         ensures ok { OnOk result (Handles
             (DocumentHas true (task_of C.changed job.now) document.now) self.old self.new
             (K.state sink.old) (K.state sink.new) (E.state errs.old) (E.state errs.new)) }
-        ensures err { IfErr result (Stops
+        ensures err { IfErr result (StopsRunning
             (DocumentHas false (task_of C.changed job.now) document.now) self.old self.new
             (K.state sink.old) (K.state sink.new) (E.state errs.old) (E.state errs.new)) }
         ensures told { ReturnsWriteError (K.state sink.old) (K.state sink.new) result }
@@ -363,7 +362,7 @@ fn print_each<C: Change, K: Sink, E: Sink>(
     ensures ok { OnOk result (Handles
         (DocumentsHave true (task_of C.changed job.now) documents.now) tally.old tally.new
         (K.state sink.old) (K.state sink.new) (E.state errs.old) (E.state errs.new)) }
-    ensures err { IfErr result (Stops
+    ensures err { IfErr result (StopsRunning
         (DocumentsHave false (task_of C.changed job.now) documents.now) tally.old tally.new
         (K.state sink.old) (K.state sink.new) (E.state errs.old) (E.state errs.new)) }
     ensures told { ReturnsWriteError (K.state sink.old) (K.state sink.new) result }

@@ -3,7 +3,7 @@ ghost use Rattle.std.specs.Prelude.{◌≡◌, ◌≤◌, length, IfOk, IfErr, I
 ghost use Rattle.std.specs.Str.{IsCharBoundary};
 ghost use Rattle.json_doc.specs.Docs.{doc_root, doc_tree};
 ghost use Rattle.json_command.specs.Input.{max_bytes};
-ghost use Rattle.json_files.specs.Parts.{part_of, value_part as spec_value_part};
+ghost use Rattle.json_files.specs.Parts.{part_view, value_part as spec_value_part};
 ghost use Rattle.json_files.specs.Streams.{ReadsAt, TextFault, ValueFails};
 
 use crate::document::MAX_BYTES;
@@ -61,7 +61,7 @@ pub(crate) fn read_value_at(alloc: Global, text: &str, offset: usize) -> Result<
 
 /// Returns the part that is the value at a place.
 pub(crate) fn value_part(place: StreamPlace<'_>) -> Part<'_>
-    ensures { part_of result
+    ensures { part_view result
         ≡ spec_value_part place.entry.name.now place.entry.text.now place.entry.number }
 {
     Part {

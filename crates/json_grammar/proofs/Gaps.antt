@@ -8,7 +8,7 @@ use Rattle.json_grammar.specs.Grammar.{IsWhitespace, ws, is_text}
 use Rattle.json_grammar.specs.declared.Spot.{Spot}
 use Rattle.json_grammar.specs.declared.Spot.TheVariants.{Value as at_value, First as first, Key as key, KeyOrEnd as key_or_end, Colon as colon, Done as done}
 use Rattle.json_grammar.specs.Place.{viable_prefix, reading, after_comma, read_comma, read_colon}
-use Rattle.json_grammar.specs.Given.{piece, LastEnds, Given}
+use Rattle.json_grammar.specs.Given.{piece, LastEnds, PrefixAt}
 use Rattle.json_grammar.specs.Needs.{IsGap}
 use Rattle.json_grammar.specs.Allows.{BeginsValue, Closes, Allows}
 use Rattle.json_grammar.proofs.Lists.{ws-append}
@@ -70,7 +70,7 @@ module _ (lossy : Bool) where
   behind_colon done (k ∷ c) v r s (inl h) = absurd (apart 58 h refl)
   behind_colon done c v r s (inr h) = absurd (no_end c 58 (inr refl) h)
 
-  module _ (b : List ℕ) (i j : ℕ) (c : List Kind) (w : Spot) (ts : List Token) (g : Given lossy b i c w ts) (l : i ≤ j) (u v : List ℕ) (hu : ws u) where
+  module _ (b : List ℕ) (i j : ℕ) (c : List Kind) (w : Spot) (ts : List Token) (g : PrefixAt lossy b i c w ts) (l : i ≤ j) (u v : List ℕ) (hu : ws u) where
     -- the byte behind whitespace may come there
     mark_allowed : (x : ℕ) → (x ≡ 44) ⊎ (x ≡ 58) → piece b i j ≡ u ++ x ∷ v → viable_prefix lossy (take j b) → Allows w c x
     mark_allowed x m e (t, rest, h) =
@@ -87,7 +87,7 @@ pub data Across (lossy : Bool) (b : List ℕ) (i j : ℕ) (c : List Kind) (w : S
   spaced : ws (piece b i j) → Across lossy b i j c w ts
   marked : Behind lossy (take j b) ts → Across lossy b i j c w ts
 
-pub across : (lossy : Bool) (b : List ℕ) (i j : ℕ) (c : List Kind) (w : Spot) (ts : List Token) → Given lossy b i c w ts → i ≤ j → IsGap (piece b i j) → viable_prefix lossy (take j b) → Across lossy b i j c w ts
+pub across : (lossy : Bool) (b : List ℕ) (i j : ℕ) (c : List Kind) (w : Spot) (ts : List Token) → PrefixAt lossy b i c w ts → i ≤ j → IsGap (piece b i j) → viable_prefix lossy (take j b) → Across lossy b i j c w ts
 across lossy b i j c w ts g l h n = by h.is_mark
   where
     u : List ℕ
@@ -112,7 +112,7 @@ across lossy b i j c w ts g l h n = by h.is_mark
     by (inr (inr e)) =
         let m = row_of 58 e in moved 58 m (behind_colon lossy w c v at h.space_behind (mark_allowed lossy b i j c w ts g l u v h.space_before 58 (inr refl) m n))
 
-pub gap_has_no_token : (lossy : Bool) (b : List ℕ) (i j : ℕ) (c : List Kind) (w : Spot) (ts : List Token) → Given lossy b i c w ts → i ≤ j → IsGap (piece b i j) → viable_prefix lossy (take j b) → (c' : List Kind) × (w' : Spot) × reading lossy (take j b) c' w' ts
+pub gap_has_no_token : (lossy : Bool) (b : List ℕ) (i j : ℕ) (c : List Kind) (w : Spot) (ts : List Token) → PrefixAt lossy b i c w ts → i ≤ j → IsGap (piece b i j) → viable_prefix lossy (take j b) → (c' : List Kind) × (w' : Spot) × reading lossy (take j b) c' w' ts
 gap_has_no_token lossy b i j c w ts g l h n = by (across lossy b i j c w ts g l h n)
   where
     by : Across lossy b i j c w ts → (c' : List Kind) × (w' : Spot) × reading lossy (take j b) c' w' ts

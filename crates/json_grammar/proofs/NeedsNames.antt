@@ -9,7 +9,7 @@ use Rattle.json_grammar.specs.Tree.{text, Token, text_token, key_token}
 use Rattle.json_grammar.specs.Grammar.{IsWhitespace, number, string, is_text}
 use Rattle.json_grammar.specs.Fault.{is_word}
 use Rattle.json_grammar.specs.Place.{viable_prefix, reading, read_value, TakesValue, TakesKey, takes_at_value, takes_first, takes_key, takes_key_or_end}
-use Rattle.json_grammar.specs.Given.{piece, LastEnds, Given, NamesTold, NoNameEnds}
+use Rattle.json_grammar.specs.Given.{piece, LastEnds, PrefixAt, NamesTold, NoNameEnds}
 use Rattle.json_grammar.specs.Needs.{IsGap, IsBegun, IsLeadingZero, NeedsByte}
 use Rattle.json_grammar.specs.Allows.{Closes, Separates, Allows}
 use Rattle.std.proofs.lemmas.List.{append_cancel_left}
@@ -98,7 +98,7 @@ zero_number r (inr e) = subst number (sym (append-nil r ∙ e)) (number_by_state
 
 -- ---- behind the gap
 
-module _ (lossy : Bool) (b : List ℕ) (i j k : ℕ) (c : List Kind) (w : Spot) (ts : List Token) (g : Given lossy b i c w ts) (l : i ≤ j) (m : j ≤ k) (within : k ≤ length b) (v : viable_prefix lossy (take k b)) where
+module _ (lossy : Bool) (b : List ℕ) (i j k : ℕ) (c : List Kind) (w : Spot) (ts : List Token) (g : PrefixAt lossy b i c w ts) (l : i ≤ j) (m : j ≤ k) (within : k ≤ length b) (v : viable_prefix lossy (take k b)) where
   -- the place behind the gap allows the byte there
   abbrev Allowing : ℕ → Type 0
   Allowing x = (c' : List Kind) × (w' : Spot) × reading lossy (take j b) c' w' ts × Allows w' c' x
@@ -147,7 +147,7 @@ zero_some [] (inl e) f = cc
 zero_some [] (inr e) f = cc
 zero_some (x ∷ r) h f = cc
 
-pub names_before : (lossy : Bool) (zero : Type 0) (b : List ℕ) (i k : ℕ) (c : List Kind) (w : Spot) (ts : List Token) → Given lossy b i c w ts → k ≤ length b → viable_prefix lossy (take k b) → NeedsByte lossy zero b i k → NamesTold lossy b i k
+pub names_before : (lossy : Bool) (zero : Type 0) (b : List ℕ) (i k : ℕ) (c : List Kind) (w : Spot) (ts : List Token) → PrefixAt lossy b i c w ts → k ≤ length b → viable_prefix lossy (take k b) → NeedsByte lossy zero b i k → NamesTold lossy b i k
 names_before lossy zero b i k c w ts g within v n = by n.begun
   where
     l : i ≤ n.at
@@ -183,7 +183,7 @@ no_text_name : (ts : List Token) (s : List ℕ) → ts ++ text_token s ∷ [] �
 no_text_name ts s e = let f : text_token s ∷ [] ≡ key_token s ∷ [] = append_cancel_left ts (text_token s ∷ []) (key_token s ∷ []) e in absurd (cc)
 
 pub name_behind_gap : (lossy : Bool) (b : List ℕ) (i j n : ℕ) (c c' : List Kind) (w w' : Spot) (ts : List Token) (s : List ℕ)
-    → Given lossy b i c w ts
+    → PrefixAt lossy b i c w ts
     → i ≤ j
     → j ≤ n
     → n ≤ length b

@@ -10,7 +10,7 @@ use Rattle.json_grammar.specs.declared.Spot.TheVariants.{Colon as colon}
 use Rattle.json_grammar.specs.Tree.{Tree, null, boolean, num, Token, key_token}
 use Rattle.json_grammar.specs.Grammar.{number, string, value}
 use Rattle.json_grammar.specs.Place.{TakesValue, TakesKey, viable_prefix, reading, read_value, read_key}
-use Rattle.json_grammar.specs.Given.{piece, LastEnds, Given, NamesTold, NoNameEnds}
+use Rattle.json_grammar.specs.Given.{piece, LastEnds, PrefixAt, NamesTold, NoNameEnds}
 use Rattle.json_grammar.specs.Levels.{peak}
 use Rattle.json_grammar.specs.Fault.{opens, FaultCode, eof_while_parsing, recursion_limit_exceeded, duplicate_key, is_word, fault, row, longest}
 use Rattle.json_grammar.specs.Repeated.{open_keys, TokensRepeat, repeated}
@@ -183,7 +183,7 @@ module _ (lossy : Bool) where
   -- ---- each name was told
 
   pub names_told : (b : List ℕ) (i j k : ℕ) (c c' : List Kind) (w w' : Spot) (ts : List Token)
-      → Given lossy b i c w ts
+      → PrefixAt lossy b i c w ts
       → i ≤ j
       → j ≤ length b
       → reading lossy (take j b) c' w' ts

@@ -4,7 +4,7 @@ use Rattle.std.specs.Prelude.{◌≡◌, ℕ, zero, suc, ◌≤◌, List, [], �
 use Rattle.json_grammar.specs.declared.Kind.TheVariants.{Array as array, Object as object}
 use Rattle.json_grammar.specs.Tree.{Tree, null, boolean, num, text, list, pairs, no_trees, tree_and, no_pairs, list_trees, list_pairs, depth, num_token, begin, end, key_token, tokens}
 use Rattle.json_grammar.specs.Grammar.{is_text}
-use Rattle.json_grammar.specs.Sizes.{nodes, text_bytes}
+use Rattle.json_grammar.specs.Sizes.{nodes, tree_text_bytes}
 use Rattle.json_grammar.specs.Fault.{FaultCode, eof_while_parsing, invalid_literal, invalid_number, expected_colon, expected_array_comma_or_end, expected_object_comma_or_end, expect_object_key_or_end, trailing_comma, invalid_json_value, control_character, invalid_escape, invalid_surrogate, trailing_characters, recursion_limit_exceeded, fault, reads}
 
 -- b is a strict text of t and of no other tree, and where 254 levels are allowed it has no fault
@@ -133,7 +133,7 @@ small_tree = pairs (list_pairs ((codes "a", list (list_trees (num (codes "1") �
 
 -- 3 levels; 5 nodes, the name among them; and 2 bytes of text, `a` and `1`
 abbrev pub SmallTreeCounted : Type 0
-SmallTreeCounted = (depth small_tree ≡ 3) × (nodes small_tree ≡ 5) × (text_bytes small_tree ≡ 2)
+SmallTreeCounted = (depth small_tree ≡ 3) × (nodes small_tree ≡ 5) × (tree_text_bytes small_tree ≡ 2)
 
 -- its tokens, from left to right
 abbrev pub SmallTreeTold : Type 0

@@ -17,7 +17,7 @@ abbrev pub LastEnds : Spot → List Token → List ℕ → Type 0
 LastEnds w ts r = w ≡ done → (l : List ℕ) (a : List Token) → ts ≡ a ++ num_token l ∷ [] → EndsNumber l r
 
 -- the first i bytes of b stand in the open containers c, the innermost first, at the spot w, behind the tokens ts
-pub record Given (lossy : Bool) (b : List ℕ) (i : ℕ) (c : List Kind) (w : Spot) (ts : List Token) : Type 0 where
+pub record PrefixAt (lossy : Bool) (b : List ℕ) (i : ℕ) (c : List Kind) (w : Spot) (ts : List Token) : Type 0 where
   pub fits : i ≤ length b
   pub at : reading lossy (take i b) c w ts
   pub ends : LastEnds w ts (drop i b)

@@ -8,7 +8,7 @@ use Rattle.json_grammar.specs.Grammar.{ws, is_text}
 use Rattle.json_grammar.specs.Place.{viable_prefix, place, reading}
 use Rattle.json_grammar.specs.Given.{LastEnds}
 use Rattle.json_grammar.specs.Fault.{opens, FaultCode, in_word, in_number, in_string, fault, viable_value, reads, value_fault}
-use Rattle.json_grammar.specs.Sizes.{nodes, text_bytes, nodes_of, bytes_of}
+use Rattle.json_grammar.specs.Sizes.{nodes, tree_text_bytes, nodes_of, bytes_of}
 use Rattle.json_grammar.specs.Levels.{peak}
 use Rattle.json_grammar.specs.Proper.{IsProper}
 
@@ -97,7 +97,7 @@ TextHasNoFault =
 
 -- a text of n bytes has at most (n + 1) / 2 nodes, and its strings, names and number literals are at most n bytes
 abbrev pub TextFits : Type 0
-TextFits = (lossy : Bool) (t : Tree) (b : List ℕ) → is_text lossy t b → (nodes t ≤ (length b + 1) / 2) × (text_bytes t ≤ length b)
+TextFits = (lossy : Bool) (t : Tree) (b : List ℕ) → is_text lossy t b → (nodes t ≤ (length b + 1) / 2) × (tree_text_bytes t ≤ length b)
 
 -- the tokens of a prefix bring no more nodes than it has bytes, and no more bytes of strings, names and literals
 abbrev pub PrefixFits : Type 0
@@ -117,7 +117,7 @@ EventsFit =
 
 -- the tokens of a tree bring its nodes, and the bytes of its strings, names and literals
 abbrev pub TokensBring : Type 0
-TokensBring = (t : Tree) → (nodes_of (tokens t) ≡ nodes t) × (bytes_of (tokens t) ≡ text_bytes t)
+TokensBring = (t : Tree) → (nodes_of (tokens t) ≡ nodes t) × (bytes_of (tokens t) ≡ tree_text_bytes t)
 
 -- ---- one value, whatever follows it
 

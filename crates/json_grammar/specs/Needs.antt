@@ -8,7 +8,7 @@ use Rattle.json_grammar.specs.Tree.{Token, key_token}
 use Rattle.json_grammar.specs.Grammar.{ws, number, string}
 use Rattle.json_grammar.specs.Fault.{is_word}
 use Rattle.json_grammar.specs.Place.{TakesKey, reading, viable_prefix}
-use Rattle.json_grammar.specs.Given.{piece, Given}
+use Rattle.json_grammar.specs.Given.{piece, PrefixAt}
 
 -- whitespace, with at most one comma or colon before, in or behind it (RFC 8259, section 2)
 pub record IsGap (g : List ℕ) : Type 0 where
@@ -49,7 +49,7 @@ pub record NeedsByte (lossy : Bool) (zero : Type 0) (b : List ℕ) (i k : ℕ) :
 abbrev pub GapHasNoToken : Type 0
 GapHasNoToken =
     (lossy : Bool) (b : List ℕ) (i j : ℕ) (c : List Kind) (w : Spot) (ts : List Token)
-    → Given lossy b i c w ts
+    → PrefixAt lossy b i c w ts
     → i ≤ j
     → IsGap (piece b i j)
     → viable_prefix lossy (take j b)
@@ -61,7 +61,7 @@ abbrev pub NameBehindGap : Type 0
 NameBehindGap =
     (lossy : Bool) (b : List ℕ) (i j n : ℕ)
     (c c' : List Kind) (w w' : Spot) (ts : List Token) (s : List ℕ)
-    → Given lossy b i c w ts
+    → PrefixAt lossy b i c w ts
     → i ≤ j
     → j ≤ n
     → n ≤ length b

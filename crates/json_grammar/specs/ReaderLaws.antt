@@ -6,7 +6,7 @@ use Rattle.json_grammar.specs.declared.Spot.TheVariants.{Done as done}
 use Rattle.json_grammar.specs.Tree.{Tree, Token, num_token, tokens}
 use Rattle.json_grammar.specs.Grammar.{IsWhitespace, IsDigit, ws, number, Atom, Atoms, is_text}
 use Rattle.json_grammar.specs.Place.{place, reading}
-use Rattle.json_grammar.specs.Given.{piece, Given}
+use Rattle.json_grammar.specs.Given.{piece, PrefixAt}
 use Rattle.json_grammar.specs.Allows.{Allows}
 use Rattle.json_grammar.specs.Fault.{opens, FaultCode, eof_while_parsing, trailing_characters, is_word, in_word, in_number, in_string, fault, faulty, reads, value_fault}
 
@@ -16,7 +16,7 @@ use Rattle.json_grammar.specs.Fault.{opens, FaultCode, eof_while_parsing, traili
 abbrev pub StuckAtPlace : Type 0
 StuckAtPlace =
     (lossy : Bool) (b : List ℕ) (i j : ℕ) (c : List Kind) (w : Spot) (ts : List Token)
-    → Given lossy b i c w ts
+    → PrefixAt lossy b i c w ts
     → i ≤ j
     → ws (piece b i j)
     → (j < length b → ¬ (IsWhitespace (get_or b j 0)))
@@ -75,7 +75,7 @@ FaultyIsFault =
 abbrev pub GivenReads : Type 0
 GivenReads =
     (lossy : Bool) (b : List ℕ) (k : ℕ) (ts : List Token)
-    → Given lossy b (k + 1) [] done ts
+    → PrefixAt lossy b (k + 1) [] done ts
     → ¬ (IsWhitespace (get_or b k 0))
     → ((x : ℕ) (m : List ℕ) → drop (k + 1) b ≡ x ∷ m → IsDigit x → ¬ ((ts ≡ num_token (48 ∷ []) ∷ []) ⊎ (ts ≡ num_token (45 ∷ 48 ∷ []) ∷ [])))
     → (t : Tree) × reads lossy b t (k + 1) × (ts ≡ tokens t)

@@ -7,7 +7,7 @@ use Rattle.json_grammar.specs.declared.Spot.{Spot}
 use Rattle.json_grammar.specs.Tree.{Tree, Pairs, Token, begin, key_token, tokens, pairs_tokens}
 use Rattle.json_grammar.specs.Grammar.{number, string}
 use Rattle.json_grammar.specs.Place.{TakesValue, TakesKey, reading}
-use Rattle.json_grammar.specs.Given.{piece, Given, NamesTold, NoNameEnds}
+use Rattle.json_grammar.specs.Given.{piece, PrefixAt, NamesTold, NoNameEnds}
 use Rattle.json_grammar.specs.Levels.{peak}
 use Rattle.json_grammar.specs.Fault.{FaultCode, duplicate_key, is_word, fault}
 use Rattle.json_grammar.specs.Repeated.{names, RepeatsKey, keys_from, open_keys, RepeatsAt, TokensRepeat, repeated}
@@ -89,7 +89,7 @@ FaultStands =
 abbrev pub NamesAreTold : Type 0
 NamesAreTold =
     (lossy : Bool) (b : List ℕ) (i j k : ℕ) (c c' : List Kind) (w w' : Spot) (ts : List Token)
-    → Given lossy b i c w ts
+    → PrefixAt lossy b i c w ts
     → i ≤ j
     → j ≤ length b
     → reading lossy (take j b) c' w' ts

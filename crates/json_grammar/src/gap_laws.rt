@@ -1,4 +1,4 @@
-// Laws of what stands between two tokens, over the definitions alone.
+// Laws of the gap between two tokens, over the definitions alone.
 ghost use Rattle.json_grammar.specs.Needs.{GapHasNoToken, NameBehindGap};
 
 /// In what begins some text, the tokens up to the end of a gap are those before it.

@@ -6,9 +6,8 @@ use Rattle.json_text.specs.declared.error.ErrorCode.{ErrorCode}
 use Rattle.json_text.specs.declared.error.ErrorCode.TheVariants.{NoMemory, NotFound, TypeUnmatched}
 use Rattle.json_text.specs.declared.error.Place.{Place}
 use Rattle.json_text.specs.declared.error.Place.TheVariants.{None as nowhere}
-use Rattle.json_model.specs.Edit.{Edit, Changed, Refusal, not_found, type_unmatched, edited_once}
+use Rattle.json_model.specs.Edit.{Edit, Changed, Refusal, not_found, type_unmatched, edited_once, and_then}
 use Rattle.json_value.specs.Edits.{RefusesChange}
-use Rattle.json_history.specs.Lookup.{and_then}
 use Rattle.json_history.specs.Calls.{CallsFail, numbered_place}
 use Rattle.json_history.specs.Change.{change}
 use Rattle.json_history.specs.History.{TreeHistory, TreeCall, edit, undo, redo, after_edit, after_call, run_calls_from, run_call, ChangeLog, log_edit, history_of}

@@ -16,7 +16,7 @@ use Rattle.json_data.specs.Reading.{gives}
 use Rattle.json_data.specs.ReadingValues.{edit_datum, spelled, read_edit}
 use Rattle.json_data.proofs.ValueData.{same_edit}
 use Rattle.json_history.specs.History.{TreeCall, edit}
-use Rattle.json_history.specs.Spelling.{call_in, calls_in, Spells}
+use Rattle.json_history.specs.Spelling.{call_in, calls_in, SpellsCalls}
 
 none_some : {A : Type 0} {x : A} → None ≡ Some x → ⊥
 none_some e = cc
@@ -35,24 +35,24 @@ edit_in_read t e h = by (edit_in t) h
 calls_in_elements : (t : Tree) (ts : List Tree) → Some ts ≡ list_of t → calls_in t ≡ each_in call_in ts
 calls_in_elements t ts e = ap (option_and_then (each_in call_in)) (sym e)
 
-pub word_spells : (word : List ℕ) (t : Tree) (ts : List Tree) (cs : List TreeCall) → IsInput usual_rules word t → Some ts ≡ list_of t → each_in call_in ts ≡ Some cs → Spells word cs
+pub word_spells : (word : List ℕ) (t : Tree) (ts : List Tree) (cs : List TreeCall) → IsInput usual_rules word t → Some ts ≡ list_of t → each_in call_in ts ≡ Some cs → SpellsCalls word cs
 word_spells word t ts cs i e f = record { tree = t; input = i; calls = calls_in_elements t ts e ∙ f }
 
-spells_none : (word : List ℕ) (t : Tree) → IsInput usual_rules word t → calls_in t ≡ None → (cs : List TreeCall) → ¬ (Spells word cs)
+spells_none : (word : List ℕ) (t : Tree) → IsInput usual_rules word t → calls_in t ≡ None → (cs : List TreeCall) → ¬ (SpellsCalls word cs)
 spells_none word t i e cs s = none_some (sym e ∙ ap calls_in (one_tree false t s.tree word i.text s.input.text) ∙ s.calls)
 
-pub no_array_spells_none : (word : List ℕ) (t : Tree) → IsInput usual_rules word t → None ≡ list_of t → (cs : List TreeCall) → ¬ (Spells word cs)
+pub no_array_spells_none : (word : List ℕ) (t : Tree) → IsInput usual_rules word t → None ≡ list_of t → (cs : List TreeCall) → ¬ (SpellsCalls word cs)
 no_array_spells_none word t i e = spells_none word t i (ap (option_and_then (each_in call_in)) (sym e))
 
-pub bad_element_spells_none : (word : List ℕ) (t : Tree) (ts : List Tree) → IsInput usual_rules word t → Some ts ≡ list_of t → each_in call_in ts ≡ None → (cs : List TreeCall) → ¬ (Spells word cs)
+pub bad_element_spells_none : (word : List ℕ) (t : Tree) (ts : List Tree) → IsInput usual_rules word t → Some ts ≡ list_of t → each_in call_in ts ≡ None → (cs : List TreeCall) → ¬ (SpellsCalls word cs)
 bad_element_spells_none word t ts i e f = spells_none word t i (calls_in_elements t ts e ∙ f)
 
 -- a word that is no valid input spells none
-pub invalid_spells_none : (word : List ℕ) → ¬ (IsValid usual_rules word) → (cs : List TreeCall) → ¬ (Spells word cs)
+pub invalid_spells_none : (word : List ℕ) → ¬ (IsValid usual_rules word) → (cs : List TreeCall) → ¬ (SpellsCalls word cs)
 invalid_spells_none word n cs s = n (record { tree = s.tree; input = s.input })
 
 -- a word that could not be read as an argument spells none, or memory ran out
-pub argument_fails : {A : Type 0} (r : Result A Error) (word : List ℕ) → IfErr r (λ e. (e ≡ no_memory) ⊎ ((e ≡ bad_words) × ¬ (IsValid usual_rules word))) → IfErr r (λ e. (e ≡ no_memory) ⊎ ((e ≡ bad_words) × ((cs : List TreeCall) → ¬ (Spells word cs))))
+pub argument_fails : {A : Type 0} (r : Result A Error) (word : List ℕ) → IfErr r (λ e. (e ≡ no_memory) ⊎ ((e ≡ bad_words) × ¬ (IsValid usual_rules word))) → IfErr r (λ e. (e ≡ no_memory) ⊎ ((e ≡ bad_words) × ((cs : List TreeCall) → ¬ (SpellsCalls word cs))))
 argument_fails (Ok x) word h = tt
 argument_fails (Err e) word (inl lacks) = inl lacks
 argument_fails (Err e) word (inr bad) = inr (bad.0, invalid_spells_none word bad.1)
@@ -83,5 +83,5 @@ calls_below_nodes (num l) cs e = absurd (none_some e)
 calls_below_nodes (text s) cs e = absurd (none_some e)
 calls_below_nodes (pairs ps) cs e = absurd (none_some e)
 
-pub spelled_calls_below_max : (word : List ℕ) (cs : List TreeCall) → Spells word cs → length cs < 2 ^ 32
+pub spelled_calls_below_max : (word : List ℕ) (cs : List TreeCall) → SpellsCalls word cs → length cs < 2 ^ 32
 spelled_calls_below_max word cs s = omega (arith, calls_below_nodes s.tree cs s.calls, (text_fits false s.tree word s.input.text).0, s.input.short)

@@ -1,7 +1,6 @@
 -- Two steps that may fail, taken apart.
 use Rattle.std.proofs.Common.{◌≡◌, Ok, Err, refl}
-use Rattle.json_model.specs.Edit.{Changed, Refusal, within}
-use Rattle.json_history.specs.Lookup.{and_then}
+use Rattle.json_model.specs.Edit.{Changed, Refusal, within, and_then}
 
 pub ok_injective : {A : Type 0} (x y : A) → ◌≡◌ {A = Changed A} (Ok x) (Ok y) → x ≡ y
 ok_injective x y e = cc

@@ -4,10 +4,10 @@ use Rattle.std.proofs.lemmas.Bool.{eqb-true, eqb-false}
 use Rattle.std.specs.Prelude.{option_map, ◌==◌}
 use Rattle.std.specs.Result.{result_ok}
 use Rattle.json_grammar.specs.Tree.{Tree, null, boolean, num, text, list, pairs, list_trees, trees_list, Pairs, no_pairs, pair_and, pairs_list, list_pairs}
-use Rattle.json_model.specs.Edit.{Step, key_step, index_step, Changed, not_found, within, has_key}
+use Rattle.json_model.specs.Edit.{Step, key_step, index_step, Changed, not_found, within, has_key, and_then}
 use Rattle.json_model.specs.Same.{first_value}
-use Rattle.json_value.specs.Edits.{edit_of, path_of, path_steps}
-use Rattle.json_value.specs.Seen.{first_of, pairs_of, list_of}
+use Rattle.json_value.specs.Edits.{edit_of, edit_path, path_steps}
+use Rattle.json_value.specs.Seen.{first_of, object_pairs, list_of}
 use Rattle.json_value.specs.Steps.{tree_at}
 use Rattle.json_value.specs.declared.path.Edit.{Edit}
 use Rattle.json_value.specs.declared.pair.Keyed.{Keyed}
@@ -17,14 +17,14 @@ use Rattle.json_value.specs.declared.path.Edit.TheVariants.{Set, Insert, Push, R
 use Rattle.json_value.specs.declared.path.PointerNode.TheVariants.{Key, Index}
 use Rattle.json_value.proofs.Trees.{pairs_back, pairs_again}
 use Rattle.json_doc.proofs.Trees.{list_back}
-use Rattle.json_history.specs.Lookup.{and_then, lookup_step, lookup}
+use Rattle.json_history.specs.Lookup.{lookup_step, lookup}
 use Rattle.json_history.specs.Change.{TreeChange, put, put_pairs, insert_change, change, members_named, put_back}
 use Rattle.json_history.specs.Target.{insert_change_in, remove_change_in, change_in}
 use Rattle.json_history.proofs.LookupViews.{first_value_first_of, lookup_some, lookup_tree_at}
 use Rattle.json_history.proofs.LookupChanges.{lookup_append}
 
 -- a tree with members is an object, and one with elements an array
-pub object_of : (t : Tree) (ms : List (List ℕ × Tree)) → pairs_of t ≡ Some ms → t ≡ pairs (list_pairs ms)
+pub object_of : (t : Tree) (ms : List (List ℕ × Tree)) → object_pairs t ≡ Some ms → t ≡ pairs (list_pairs ms)
 object_of (pairs ps) ms e = let s : pairs_list ps ≡ ms = cc in ap pairs (sym (pairs_back ps) ∙ ap list_pairs s)
 object_of null ms e = absurd (cc)
 object_of (boolean b) ms e = absurd (cc)
@@ -46,7 +46,7 @@ first_value_listed k ms = first_value_first_of k (list_pairs ms) ∙ ap (λ (ps 
 
 -- an insertion into an object
 pub insert_change_found : (p : List Step) (k : List ℕ) (t : Tree) (ms : List (List ℕ × Tree)) (o : Option Tree)
-    → pairs_of t ≡ Some ms → option_map (λ (q : List ℕ × Tree). q.1) (first_of k ms) ≡ o → Some (insert_change p k o) ≡ result_ok (insert_change_in p k t)
+    → object_pairs t ≡ Some ms → option_map (λ (q : List ℕ × Tree). q.1) (first_of k ms) ≡ o → Some (insert_change p k o) ≡ result_ok (insert_change_in p k t)
 insert_change_found p k t ms o e f =
     sym (ap (λ (u : Tree). result_ok (insert_change_in p k u)) (object_of t ms e) ∙ ap (λ (x : Option Tree). Some (insert_change p k x)) (first_value_listed k ms ∙ f))
 
@@ -71,11 +71,11 @@ members_named_some n k (pair_and m t ps) e = by (bytes_eq m k) e (members_named_
 abbrev pub key_change : List Step → List ℕ → Pairs → Bool → Option TreeChange
 key_change p k ps b = result_ok (cond b (Ok (put_pairs p (members_named 0 k ps))) (Err not_found))
 
-pub key_change_none : (p : List Step) (k : List ℕ) (t : Tree) (ms : List (List ℕ × Tree)) → pairs_of t ≡ Some ms → members_named 0 k (list_pairs ms) ≡ [] → None ≡ result_ok (remove_change_in p (key_step k) t)
+pub key_change_none : (p : List Step) (k : List ℕ) (t : Tree) (ms : List (List ℕ × Tree)) → object_pairs t ≡ Some ms → members_named 0 k (list_pairs ms) ≡ [] → None ≡ result_ok (remove_change_in p (key_step k) t)
 key_change_none p k t ms e f =
     sym (ap (λ (u : Tree). result_ok (remove_change_in p (key_step k) u)) (object_of t ms e) ∙ ap (key_change p k (list_pairs ms)) (members_named_none 0 k (list_pairs ms) f))
 
-pub key_change_some : (p : List Step) (k : List ℕ) (t : Tree) (ms : List (List ℕ × Tree)) → pairs_of t ≡ Some ms → (members_named 0 k (list_pairs ms) ≡ [] → ⊥)
+pub key_change_some : (p : List Step) (k : List ℕ) (t : Tree) (ms : List (List ℕ × Tree)) → object_pairs t ≡ Some ms → (members_named 0 k (list_pairs ms) ≡ [] → ⊥)
     → Some (put_pairs p (members_named 0 k (list_pairs ms))) ≡ result_ok (remove_change_in p (key_step k) t)
 key_change_some p k t ms e f =
     sym (ap (λ (u : Tree). result_ok (remove_change_in p (key_step k) u)) (object_of t ms e) ∙ ap (key_change p k (list_pairs ms)) (members_named_some 0 k (list_pairs ms) f))
@@ -100,7 +100,7 @@ lookup_one_step s t = by (lookup_step s t)
     by (Ok c) = refl
     by (Err e) = refl
 
-pub change_by_target : (e : Edit) (t : Tree) → change t (edit_of e) ≡ and_then (lookup (path_of e) t) (change_in e)
+pub change_by_target : (e : Edit) (t : Tree) → change t (edit_of e) ≡ and_then (lookup (edit_path e) t) (change_in e)
 change_by_target (Set p v) t = within_as_and_then (lookup (path_steps p) t) (put (path_steps p))
 change_by_target (Insert p k v) t = refl
 change_by_target (Push p v) t = refl
@@ -115,16 +115,16 @@ change_by_target (Remove p (Index i)) t =
     by (Err e) = refl
 
 -- the value at the end of an edit's path decides its change
-pub change_at_target : (e : Edit) (p : List Step) (t c : Tree) → p ≡ path_of e → tree_at p t ≡ Some c → change t (edit_of e) ≡ change_in e c
+pub change_at_target : (e : Edit) (p : List Step) (t c : Tree) → p ≡ edit_path e → tree_at p t ≡ Some c → change t (edit_of e) ≡ change_in e c
 change_at_target e p t c is here = change_by_target e t ∙ ap (λ (r : Changed Tree). and_then r (change_in e)) (ap (λ (q : List Step). lookup q t) (sym is) ∙ lookup_some p t c here)
 
 and_then_none : {A : Type 0} (r : Changed Tree) (f : Tree → Changed A) → result_ok r ≡ None → result_ok (and_then r f) ≡ None
 and_then_none (Ok c) f e = absurd (cc)
 and_then_none (Err r) f e = refl
 
-pub change_missing : (e : Edit) (p : List Step) (t : Tree) → p ≡ path_of e → tree_at p t ≡ None → None ≡ result_ok (change t (edit_of e))
+pub change_missing : (e : Edit) (p : List Step) (t : Tree) → p ≡ edit_path e → tree_at p t ≡ None → None ≡ result_ok (change t (edit_of e))
 change_missing e p t is here =
-    sym (ap result_ok (change_by_target e t) ∙ and_then_none (lookup (path_of e) t) (change_in e) (ap (λ (q : List Step). result_ok (lookup q t)) (sym is) ∙ lookup_tree_at p t ∙ here))
+    sym (ap result_ok (change_by_target e t) ∙ and_then_none (lookup (edit_path e) t) (change_in e) (ap (λ (q : List Step). result_ok (lookup q t)) (sym is) ∙ lookup_tree_at p t ∙ here))
 
 -- whether a list has entries
 pub removed_members_empty : (xs : List (ℕ × Keyed Value)) (n : ℕ) → n ≡ length xs → (n == 0) ≡ true → map removed_member xs ≡ []

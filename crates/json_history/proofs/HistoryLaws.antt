@@ -1,8 +1,7 @@
 -- Laws of undo and redo, and of change logs.
 use Rattle.std.proofs.Common.{◌≡◌, ℕ, zero, suc, ◌≤◌, List, [], ◌∷◌, ◌++◌, length, map, replicate, Result, Ok, Err, IfOk, refl, sym, ap, ◌∙◌, subst, append_assoc, arith}
 use Rattle.json_grammar.specs.Tree.{Tree}
-use Rattle.json_model.specs.Edit.{Edit, Changed, Refusal, edited_once}
-use Rattle.json_history.specs.Lookup.{and_then}
+use Rattle.json_model.specs.Edit.{Edit, Changed, Refusal, edited_once, and_then}
 use Rattle.json_history.specs.Change.{TreeChange, change, undone, redo_edit}
 use Rattle.json_history.specs.History.{TreeHistory, TreeCall, edit, undo, redo, new_history, after_edit, after_undo, after_redo, after_call, after_calls, run_calls_from, TreeRedo, ChangeLog, new_log, past_of, future_of, Represents, ArePastSteps, AreFutureSteps, IsValidLog, log_undo, log_or, log_call, log_calls, IsStep, trees_or_empty, history_of}
 use Rattle.json_history.specs.Laws.{UndoAfterEdit, RedoAfterUndo, UndoAfterRedo, RedosAfterUndos, AllApply, UndosAfterEdits, EmptyPastOrFuture, LogRepresentsHistory, RunCallsIsAfterCalls, LogFollowsCall, LogApplies}

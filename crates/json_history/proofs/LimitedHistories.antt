@@ -5,9 +5,8 @@ use Rattle.std.proofs.Math.Logic.{∥∥₁_map}
 use Rattle.json_grammar.specs.Tree.{Tree}
 use Rattle.json_value.specs.Denotes.{tree_of}
 use Rattle.json_value.specs.declared.value.Value.{Value}
-use Rattle.json_history.specs.Lookup.{and_then}
 use Rattle.json_history.specs.Change.{TreeChange, undone}
-use Rattle.json_history.specs.ChangeTrees.{change_of}
+use Rattle.json_history.specs.ChangeTrees.{tree_change_of}
 use Rattle.json_history.specs.History.{ChangeLog, past_of, future_of, ArePastSteps, IsValidLog, trees_or_empty, history_of}
 use Rattle.json_history.specs.Limits.{limit_past, limit_changes, without_future, without_redos}
 use Rattle.json_history.specs.Logs.{log_in, changes_of, redos_of}
@@ -16,6 +15,7 @@ use Rattle.json_history.specs.declared.redo.Redo.{Redo}
 use Rattle.json_history.proofs.ChangedResults.{ok_injective, and_then_ok}
 use Rattle.json_history.proofs.HistoryEquality.{history_equal_from}
 use Rattle.json_history.proofs.HistoryLaws.{past_of_valid}
+use Rattle.json_model.specs.Edit.{and_then}
 
 -- ---- the list of changes
 
@@ -26,8 +26,8 @@ map_reverse f (x ∷ xs) =
 
 changes_of_last : (n : ℕ) (cs ds : List Change) → ds ≡ reverse (take n (reverse cs)) → changes_of ds ≡ take n (changes_of cs)
 changes_of_last n cs ds e =
-    ap changes_of e ∙ ap reverse (map_reverse change_of (take n (reverse cs))) ∙ reverse-reverse (map change_of (take n (reverse cs))) ∙ sym (take-map change_of n (reverse cs))
-    ∙ ap (take n) (map_reverse change_of cs)
+    ap changes_of e ∙ ap reverse (map_reverse tree_change_of (take n (reverse cs))) ∙ reverse-reverse (map tree_change_of (take n (reverse cs))) ∙ sym (take-map tree_change_of n (reverse cs))
+    ∙ ap (take n) (map_reverse tree_change_of cs)
 
 pub log_limited : (n : ℕ) (v : Value) (cs ds : List Change) (rs : List Redo) → ds ≡ reverse (take n (reverse cs)) → log_in v ds rs ≡ limit_changes n (log_in v cs rs)
 log_limited n v cs ds rs e = ap (λ xs. record { value = tree_of v; changes = xs; redos = redos_of rs }) (changes_of_last n cs ds e)

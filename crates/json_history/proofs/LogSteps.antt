@@ -10,15 +10,14 @@ use Rattle.json_text.specs.declared.error.ErrorCode.{ErrorCode}
 use Rattle.json_text.specs.declared.error.ErrorCode.TheVariants.{NoMemory, NotFound, TypeUnmatched}
 use Rattle.json_text.specs.declared.error.Place.{Place}
 use Rattle.json_text.specs.declared.error.Place.TheVariants.{None as nowhere}
-use Rattle.json_model.specs.Edit.{Changed, Refusal, not_found, type_unmatched, edited_once}
+use Rattle.json_model.specs.Edit.{Changed, Refusal, not_found, type_unmatched, edited_once, and_then}
 use Rattle.json_model.specs.Edit as model
 use Rattle.json_value.specs.Denotes.{tree_of}
 use Rattle.json_value.specs.Edits.{edit_of, RefusesChange}
 use Rattle.json_value.specs.declared.value.Value.{Value}
 use Rattle.json_value.specs.declared.path.Edit.{Edit}
-use Rattle.json_history.specs.Lookup.{and_then}
 use Rattle.json_history.specs.Change.{TreeChange, change, undone, redo_edit}
-use Rattle.json_history.specs.ChangeTrees.{change_of}
+use Rattle.json_history.specs.ChangeTrees.{tree_change_of}
 use Rattle.json_history.specs.History.{ChangeLog, IsValidLog, TreeRedo, log_edit, log_call, log_undo, log_redo, log_or, undo, redo, is_nonempty}
 use Rattle.json_history.specs.Logs.{log_in, changes_of, redos_of, redo_of}
 use Rattle.json_history.specs.declared.change.Change.{Change}
@@ -27,8 +26,8 @@ use Rattle.json_history.proofs.HistoryLaws.{log_applies}
 use Rattle.json_history.proofs.UndoLaws.{edit_undone_by}
 
 -- the last of a list is the first of the log
-pub changes_of_push : (cs : List Change) (c : Change) → changes_of (cs ++ c ∷ []) ≡ change_of c ∷ changes_of cs
-changes_of_push cs c = ap reverse (map-append change_of cs (c ∷ [])) ∙ reverse-append (map change_of cs) (change_of c ∷ [])
+pub changes_of_push : (cs : List Change) (c : Change) → changes_of (cs ++ c ∷ []) ≡ tree_change_of c ∷ changes_of cs
+changes_of_push cs c = ap reverse (map-append tree_change_of cs (c ∷ [])) ∙ reverse-append (map tree_change_of cs) (tree_change_of c ∷ [])
 
 pub redos_of_push : (rs : List Redo) (r : Redo) → redos_of (rs ++ r ∷ []) ≡ redo_of r ∷ redos_of rs
 redos_of_push rs r = ap reverse (map-append redo_of rs (r ∷ [])) ∙ reverse-append (map redo_of rs) (redo_of r ∷ [])
@@ -51,10 +50,10 @@ result_some (Ok y) x e = let s : y ≡ x = cc in ap Ok s
 result_some (Err r) x e = absurd (cc)
 
 -- an edit that was applied, with its change appended
-pub log_edit_of_value : (v w : Value) (e : Edit) (c : Change) (cs ds : List Change) (rs qs : List Redo) → Some (change_of c) ≡ result_ok (change (tree_of v) (edit_of e))
+pub log_edit_of_value : (v w : Value) (e : Edit) (c : Change) (cs ds : List Change) (rs qs : List Redo) → Some (tree_change_of c) ≡ result_ok (change (tree_of v) (edit_of e))
     → edited_once (edit_of e) (tree_of v) ≡ Ok (tree_of w) → ds ≡ cs ++ c ∷ [] → qs ≡ [] → log_edit (log_in v cs rs) (edit_of e) ≡ Ok (log_in w ds qs)
 log_edit_of_value v w e c cs ds rs qs told made more none =
-    log_edit_ok (log_in v cs rs) (edit_of e) (tree_of w) (change_of c) made (result_some (change (tree_of v) (edit_of e)) (change_of c) told)
+    log_edit_ok (log_in v cs rs) (edit_of e) (tree_of w) (tree_change_of c) made (result_some (change (tree_of v) (edit_of e)) (tree_change_of c) told)
     ∙ ap (λ ts. Ok (log (tree_of w) ts [])) (sym (ap changes_of more ∙ changes_of_push cs c)) ∙ ap (λ xs. Ok (log (tree_of w) (changes_of ds) (redos_of xs))) (sym none)
 
 -- an edit without a change does not apply
@@ -74,11 +73,11 @@ from_truncated true t f = refl
 from_truncated false t f = absurd (not_there t (λ p. (cc (f p))))
 
 module _ (v : Value) (cs : List Change) (c : Change) (rs : List Redo) (kept : ∥ IsValidLog (log_in v (cs ++ c ∷ []) rs) ∥₁) where
-  pub last_change_undone : IsOk (undone (tree_of v) (change_of c))
-  last_change_undone = from_truncated (is_ok (undone (tree_of v) (change_of c))) kept (λ k. let a = (log_applies (log_in v (cs ++ c ∷ []) rs) k).0 (change_of c) (changes_of cs) (changes_of_push cs c) in ok_is_ok (undone (tree_of v) (change_of c)) a.0 a.2)
+  pub last_change_undone : IsOk (undone (tree_of v) (tree_change_of c))
+  last_change_undone = from_truncated (is_ok (undone (tree_of v) (tree_change_of c))) kept (λ k. let a = (log_applies (log_in v (cs ++ c ∷ []) rs) k).0 (tree_change_of c) (changes_of cs) (changes_of_push cs c) in ok_is_ok (undone (tree_of v) (tree_change_of c)) a.0 a.2)
 
-  pub last_change_redo_edit : IsOk (redo_edit (tree_of v) (change_of c))
-  last_change_redo_edit = from_truncated (is_ok (redo_edit (tree_of v) (change_of c))) kept (λ k. let a = (log_applies (log_in v (cs ++ c ∷ []) rs) k).0 (change_of c) (changes_of cs) (changes_of_push cs c) in ok_is_ok (redo_edit (tree_of v) (change_of c)) a.1 a.3)
+  pub last_change_redo_edit : IsOk (redo_edit (tree_of v) (tree_change_of c))
+  last_change_redo_edit = from_truncated (is_ok (redo_edit (tree_of v) (tree_change_of c))) kept (λ k. let a = (log_applies (log_in v (cs ++ c ∷ []) rs) k).0 (tree_change_of c) (changes_of cs) (changes_of_push cs c) in ok_is_ok (redo_edit (tree_of v) (tree_change_of c)) a.1 a.3)
 
 module _ (v : Value) (cs : List Change) (rs : List Redo) (r : Redo) (kept : ∥ IsValidLog (log_in v cs (rs ++ r ∷ [])) ∥₁) where
   pub next_redo_applies : IsOk (edited_once (edit_of r.edit) (tree_of v))
@@ -86,14 +85,14 @@ module _ (v : Value) (cs : List Change) (rs : List Redo) (r : Redo) (kept : ∥ 
 
 -- ---- an undo and a redo
 
-pub log_undo_of_value : (v w : Value) (cs : List Change) (c : Change) (rs qs : List Redo) (e : Edit) → undone (tree_of v) (change_of c) ≡ Ok (tree_of w) → redo_edit (tree_of v) (change_of c) ≡ Ok (edit_of e)
+pub log_undo_of_value : (v w : Value) (cs : List Change) (c : Change) (rs qs : List Redo) (e : Edit) → undone (tree_of v) (tree_change_of c) ≡ Ok (tree_of w) → redo_edit (tree_of v) (tree_change_of c) ≡ Ok (edit_of e)
     → qs ≡ rs ++ record { edit = e; change = c } ∷ [] → log_in w cs qs ≡ log_call (log_in v (cs ++ c ∷ []) rs) undo
 log_undo_of_value v w cs c rs qs e a b more =
     ap (log (tree_of w) (changes_of cs)) (ap redos_of more ∙ redos_of_push rs (record { edit = e; change = c }))
     ∙ sym (
     ap (λ xs. log_or (log (tree_of v) xs (redos_of rs)) (log_undo (log (tree_of v) xs (redos_of rs)) xs)) (changes_of_push cs c)
-    ∙ ap (λ r. log_or (log (tree_of v) (change_of c ∷ changes_of cs) (redos_of rs)) (and_then r (λ t. and_then (redo_edit (tree_of v) (change_of c)) (λ e. Ok (log t (changes_of cs) ((e, change_of c) ∷ redos_of rs)))))) a
-    ∙ ap (λ r. log_or (log (tree_of v) (change_of c ∷ changes_of cs) (redos_of rs)) (and_then r (λ e. Ok (log (tree_of w) (changes_of cs) ((e, change_of c) ∷ redos_of rs))))) b
+    ∙ ap (λ r. log_or (log (tree_of v) (tree_change_of c ∷ changes_of cs) (redos_of rs)) (and_then r (λ t. and_then (redo_edit (tree_of v) (tree_change_of c)) (λ e. Ok (log t (changes_of cs) ((e, tree_change_of c) ∷ redos_of rs)))))) a
+    ∙ ap (λ r. log_or (log (tree_of v) (tree_change_of c ∷ changes_of cs) (redos_of rs)) (and_then r (λ e. Ok (log (tree_of w) (changes_of cs) ((e, tree_change_of c) ∷ redos_of rs))))) b
     )
 
 pub log_redo_of_value : (v w : Value) (cs ds : List Change) (rs : List Redo) (r : Redo) → edited_once (edit_of r.edit) (tree_of v) ≡ Ok (tree_of w)
@@ -102,7 +101,7 @@ log_redo_of_value v w cs ds rs r a more =
     ap (λ xs. log (tree_of w) xs (redos_of rs)) (ap changes_of more ∙ changes_of_push cs r.change)
     ∙ sym (
     ap (λ xs. log_or (log (tree_of v) (changes_of cs) xs) (log_redo (log (tree_of v) (changes_of cs) xs) xs)) (redos_of_push rs r)
-    ∙ ap (λ s. log_or (log (tree_of v) (changes_of cs) (redo_of r ∷ redos_of rs)) (and_then s (λ u. Ok (log u (change_of r.change ∷ changes_of cs) (redos_of rs))))) a
+    ∙ ap (λ s. log_or (log (tree_of v) (changes_of cs) (redo_of r ∷ redos_of rs)) (and_then s (λ u. Ok (log u (tree_change_of r.change ∷ changes_of cs) (redos_of rs))))) a
     )
 
 pub changes_of_nonempty : (cs : List Change) (c : Change) → true ≡ is_nonempty (changes_of (cs ++ c ∷ []))

@@ -3,15 +3,15 @@ use Rattle.std.proofs.Common.{◌≡◌, ℕ, suc, ◌-◌, List, [], ◌∷◌,
 use Rattle.std.specs.Prelude.{option_map, slice_get}
 use Rattle.std.specs.Result.{result_ok}
 use Rattle.json_grammar.specs.Tree.{Tree, list_pairs, list_trees}
-use Rattle.json_model.specs.Edit.{Step, Edit, set_at, insert_at, push_at, Changed, within}
+use Rattle.json_model.specs.Edit.{Step, Edit, set_at, insert_at, push_at, Changed, within, and_then}
 use Rattle.json_value.specs.Edits.{path_steps}
-use Rattle.json_value.specs.Seen.{pairs_of, list_of}
+use Rattle.json_value.specs.Seen.{object_pairs, list_of}
 use Rattle.json_value.specs.Steps.{tree_at}
 use Rattle.json_value.specs.declared.path.Path.{Path}
 use Rattle.json_value.specs.declared.value.Value.{Value}
-use Rattle.json_history.specs.Lookup.{and_then, lookup}
+use Rattle.json_history.specs.Lookup.{lookup}
 use Rattle.json_history.specs.Change.{redo_edit, edit_of_last, last_member, last_element}
-use Rattle.json_history.specs.ChangeTrees.{change_of}
+use Rattle.json_history.specs.ChangeTrees.{tree_change_of}
 use Rattle.json_history.specs.declared.change.Change.{Change}
 use Rattle.json_history.specs.declared.change.Change.TheVariants.{Put, DropLast}
 use Rattle.json_history.proofs.LookupViews.{lookup_some, lookup_tree_at}
@@ -46,29 +46,29 @@ pub last_push_edit : (p : List Step) (ts : List Tree) (n : ℕ) (o : Option Tree
     → option_map (push_at p) o ≡ result_ok (within (push_at p) (last_element (list_trees ts)))
 last_push_edit p ts n o e f = sym (result_ok_within (push_at p) (last_element (list_trees ts)) ∙ ap (option_map (push_at p)) (last_element_listed ts ∙ ap (λ m. slice_get ts (m - 1)) (sym e) ∙ sym f))
 
-pub object_last_edit : (p : List Step) (t : Tree) (ms : List (List ℕ × Tree)) → pairs_of t ≡ Some ms → result_ok (within (insert_edit_of p) (last_member (list_pairs ms))) ≡ result_ok (edit_of_last p t)
+pub object_last_edit : (p : List Step) (t : Tree) (ms : List (List ℕ × Tree)) → object_pairs t ≡ Some ms → result_ok (within (insert_edit_of p) (last_member (list_pairs ms))) ≡ result_ok (edit_of_last p t)
 object_last_edit p t ms e = sym (ap (λ (u : Tree). result_ok (edit_of_last p u)) (object_of t ms e))
 
 pub array_last_edit : (p : List Step) (t : Tree) (ts : List Tree) → list_of t ≡ Some ts → result_ok (within (push_at p) (last_element (list_trees ts))) ≡ result_ok (edit_of_last p t)
 array_last_edit p t ts e = sym (ap (λ (u : Tree). result_ok (edit_of_last p u)) (array_of t ts e))
 
 module _ (c : Change) (p : Path) (q : List Step) (t : Tree) (is : q ≡ path_steps p) where
-  put_redo_edit : (old : Value) → c ≡ Put p old → redo_edit t (change_of c) ≡ within (set_at (path_steps p)) (lookup q t)
-  put_redo_edit old e = ap (λ (d : Change). redo_edit t (change_of d)) e ∙ ap (λ r. within (set_at (path_steps p)) (lookup r t)) (sym is)
+  put_redo_edit : (old : Value) → c ≡ Put p old → redo_edit t (tree_change_of c) ≡ within (set_at (path_steps p)) (lookup q t)
+  put_redo_edit old e = ap (λ (d : Change). redo_edit t (tree_change_of d)) e ∙ ap (λ r. within (set_at (path_steps p)) (lookup r t)) (sym is)
 
-  drop_redo_edit : c ≡ DropLast p → redo_edit t (change_of c) ≡ and_then (lookup q t) (edit_of_last (path_steps p))
-  drop_redo_edit e = ap (λ (d : Change). redo_edit t (change_of d)) e ∙ ap (λ r. and_then (lookup r t) (edit_of_last (path_steps p))) (sym is)
+  drop_redo_edit : c ≡ DropLast p → redo_edit t (tree_change_of c) ≡ and_then (lookup q t) (edit_of_last (path_steps p))
+  drop_redo_edit e = ap (λ (d : Change). redo_edit t (tree_change_of d)) e ∙ ap (λ r. and_then (lookup r t) (edit_of_last (path_steps p))) (sym is)
 
-  pub put_redo_found : (old : Value) (u : Tree) → c ≡ Put p old → tree_at q t ≡ Some u → Some (set_at (path_steps p) u) ≡ result_ok (redo_edit t (change_of c))
+  pub put_redo_found : (old : Value) (u : Tree) → c ≡ Put p old → tree_at q t ≡ Some u → Some (set_at (path_steps p) u) ≡ result_ok (redo_edit t (tree_change_of c))
   put_redo_found old u e here = sym (ap result_ok (put_redo_edit old e ∙ ap (within (set_at (path_steps p))) (lookup_some q t u here)))
 
-  pub put_redo_missing : (old : Value) → c ≡ Put p old → tree_at q t ≡ None → None ≡ result_ok (redo_edit t (change_of c))
+  pub put_redo_missing : (old : Value) → c ≡ Put p old → tree_at q t ≡ None → None ≡ result_ok (redo_edit t (tree_change_of c))
   put_redo_missing old e here = sym (ap result_ok (put_redo_edit old e) ∙ result_ok_within (set_at (path_steps p)) (lookup q t) ∙ ap (option_map (set_at (path_steps p))) (lookup_tree_at q t ∙ here))
 
-  pub drop_redo_found : (u : Tree) → c ≡ DropLast p → tree_at q t ≡ Some u → result_ok (edit_of_last (path_steps p) u) ≡ result_ok (redo_edit t (change_of c))
+  pub drop_redo_found : (u : Tree) → c ≡ DropLast p → tree_at q t ≡ Some u → result_ok (edit_of_last (path_steps p) u) ≡ result_ok (redo_edit t (tree_change_of c))
   drop_redo_found u e here = sym (ap result_ok (drop_redo_edit e ∙ ap (λ (r : Changed Tree). and_then r (edit_of_last (path_steps p))) (lookup_some q t u here)))
 
-  pub drop_redo_missing : c ≡ DropLast p → tree_at q t ≡ None → None ≡ result_ok (redo_edit t (change_of c))
+  pub drop_redo_missing : c ≡ DropLast p → tree_at q t ≡ None → None ≡ result_ok (redo_edit t (tree_change_of c))
   drop_redo_missing e here = sym (ap result_ok (drop_redo_edit e) ∙ by (lookup q t) (lookup_tree_at q t ∙ here))
     where
       by : (r : Changed Tree) → result_ok r ≡ None → result_ok (and_then r (edit_of_last (path_steps p))) ≡ None

@@ -2,10 +2,10 @@
 use Rattle.std.proofs.Common.{◌≡◌, ◌⊎◌, inl, inr, List, [], ◌∷◌, refl, sym, ap, subst, ◌∙◌}
 use Rattle.json_model.specs.Edit.{Step, key_step, index_step, set_at}
 use Rattle.json_value.specs.Denotes.{tree_of}
-use Rattle.json_value.specs.Edits.{edit_of, path_of, path_steps}
-use Rattle.json_value.specs.Lending.{Puts}
-use Rattle.json_value.specs.Places.{origin_of}
-use Rattle.json_value.specs.Touched.{ArrayTouched, ObjectTouched, ArrayKept, ObjectKept, Same, Along, ReplacedBy, KeptAlong, Keeps, Touches, ChangeTouches, ChangeKeeps}
+use Rattle.json_value.specs.Edits.{edit_of, edit_path, path_steps}
+use Rattle.json_value.specs.Lending.{PutsAtPath}
+use Rattle.json_value.specs.Places.{value_origin}
+use Rattle.json_value.specs.Touched.{ArrayTouched, ObjectTouched, ArrayKept, ObjectKept, Same, Along, ReplacedBy, KeptAlong, KeepsOnRefusal, Touches, ChangeTouches, ChangeKeeps}
 use Rattle.json_value.specs.declared.container.Container.{Container}
 use Rattle.json_value.specs.declared.pair.Keyed.{Keyed}
 use Rattle.json_value.specs.declared.path.Edit.{Edit}
@@ -72,8 +72,8 @@ pub undo_same : (p : List Step) (v w : Value) → w ≡ v → KeptAlong p Restor
 undo_same p v w e = subst (λ u. KeptAlong p RestoreKeeps v u) (sym e) (same_along p RestoreKeeps v (inl (inl refl)))
 
 -- an edit that was not applied keeps the value
-pub edit_same : (d : Edit) (v w : Value) → w ≡ v → Keeps (path_of d) d v w
-edit_same d v w e = subst (λ u. Keeps (path_of d) d v u) (sym e) (same_along (path_of d) _ v (change_as_was d v v refl))
+pub edit_same : (d : Edit) (v w : Value) → w ≡ v → KeepsOnRefusal (edit_path d) d v w
+edit_same d v w e = subst (λ u. KeepsOnRefusal (edit_path d) d v u) (sym e) (same_along (edit_path d) _ v (change_as_was d v v refl))
 
 -- ---- a value that was put at the end of a path, and an edit that sets it
 
@@ -81,18 +81,18 @@ module _ (d : Edit) (p : Path) (v : Value) (is : d ≡ Set p v) (q : List Step) 
   pub set_edit : edit_of d ≡ set_at q (tree_of v)
   set_edit = ap edit_of is ∙ ap (λ r. set_at r (tree_of v)) (sym same)
 
-  pub set_touches : (old new : Value) → Along q (λ before after. after ≡ v) old new → Touches (path_of d) d old new
+  pub set_touches : (old new : Value) → Along q (λ before after. after ≡ v) old new → Touches (edit_path d) d old new
   set_touches old new t =
-      subst (λ e. Touches (path_of e) e old new) (sym is)
-      (subst (λ r. Along r (ChangeTouches (Set p v)) old new) same (along_as q (λ before after. after ≡ v) (ChangeTouches (Set p v)) (λ before after e. ap origin_of e) old new t))
+      subst (λ e. Touches (edit_path e) e old new) (sym is)
+      (subst (λ r. Along r (ChangeTouches (Set p v)) old new) same (along_as q (λ before after. after ≡ v) (ChangeTouches (Set p v)) (λ before after e. ap value_origin e) old new t))
 
-  pub set_keeps : (old new : Value) → KeptAlong q Same old new → Keeps (path_of d) d old new
-  set_keeps old new t = subst (λ e. Keeps (path_of e) e old new) (sym is) (subst (λ r. KeptAlong r (ChangeKeeps (Set p v)) old new) same t)
+  pub set_keeps : (old new : Value) → KeptAlong q Same old new → KeepsOnRefusal (edit_path d) d old new
+  set_keeps old new t = subst (λ e. KeepsOnRefusal (edit_path e) e old new) (sym is) (subst (λ r. KeptAlong r (ChangeKeeps (Set p v)) old new) same t)
 
 -- ---- through a lent place
 
 module _ (c : Change) (p : List Step) (is : p ≡ change_path c) (old new : Value) where
-  module _ (x y : Value) (puts : Puts p x y old new) where
+  module _ (x y : Value) (puts : PutsAtPath p x y old new) where
     pub restored_along : RestoresAt c x y → Along (change_path c) (RestoresAt c) old new
     restored_along h = subst (λ q. Along q (RestoresAt c) old new) is (along_as p (ReplacedBy x y) (RestoresAt c) (λ before after. became (RestoresAt c) x y before after h) old new puts.1)
 

@@ -3,7 +3,7 @@ use Rattle.std.proofs.Common.{◌≡◌, ℕ, zero, suc, ◌-◌, ◌≤◌, Lis
 use Rattle.std.specs.Prelude.{insert}
 use Rattle.std.proofs.lemmas.List.{take-map, length-map}
 use Rattle.json_grammar.specs.Tree.{Tree, list, pairs, tree_and, pair_and, list_trees, list_pairs}
-use Rattle.json_model.specs.Edit.{Step, set_at, edited_once, at_path, Changed, Refusal, not_found, type_unmatched, within, on_list, on_pairs}
+use Rattle.json_model.specs.Edit.{Step, set_at, edited_once, at_path, Changed, Refusal, not_found, type_unmatched, within, on_list, on_pairs, and_then}
 use Rattle.json_text.specs.Errors.{no_memory}
 use Rattle.json_text.specs.declared.error.Error.{Error}
 use Rattle.json_text.specs.declared.error.ErrorCode.{ErrorCode}
@@ -17,9 +17,8 @@ use Rattle.json_value.specs.declared.container.Container.{Container}
 use Rattle.json_value.specs.declared.pair.Keyed.{Keyed}
 use Rattle.json_value.specs.declared.value.Value.{Value, Array, Object}
 use Rattle.json_value.proofs.ValueLevels.{array_tree, object_tree}
-use Rattle.json_history.specs.Lookup.{and_then}
 use Rattle.json_history.specs.Change.{undone, without_last, without_last_element, without_last_member, insert_element_at, insert_member_at, insert_members, RemovedMembers}
-use Rattle.json_history.specs.ChangeTrees.{removed_member, change_of, change_path}
+use Rattle.json_history.specs.ChangeTrees.{removed_member, tree_change_of, change_path}
 use Rattle.json_history.specs.declared.change.Change.{Change}
 use Rattle.json_history.specs.declared.change.Change.TheVariants.{Put, DropLast, PutBack, PutPairs}
 use Rattle.json_history.proofs.LookupViews.{lookup_some}
@@ -171,35 +170,35 @@ first_member_inserted e es ps qs l is =
 at_path_some : (p : List Step) (f : Tree → Changed Tree) (t x : Tree) → tree_at p t ≡ Some x → at_path p f t ≡ within (λ n. replaced p n t) (f x)
 at_path_some p f t x here = at_path_lookup p f t ∙ ap (λ (r : Changed Tree). and_then r (λ c. within (λ n. replaced p n t) (f c))) (lookup_some p t x here)
 
-pub undone_by_target : (c : Change) (t : Tree) → undone t (change_of c) ≡ at_path (change_path c) (undone_in c) t
+pub undone_by_target : (c : Change) (t : Tree) → undone t (tree_change_of c) ≡ at_path (change_path c) (undone_in c) t
 undone_by_target (Put p old) t = refl
 undone_by_target (DropLast p) t = refl
 undone_by_target (PutBack p i old) t = refl
 undone_by_target (PutPairs p es) t = refl
 
 module _ (c : Change) (p : List Step) (is : p ≡ change_path c) where
-  by_target : (t : Tree) → undone t (change_of c) ≡ at_path p (undone_in c) t
+  by_target : (t : Tree) → undone t (tree_change_of c) ≡ at_path p (undone_in c) t
   by_target t = undone_by_target c t ∙ ap (λ q. at_path q (undone_in c) t) (sym is)
 
   -- a change that applies does so at the value at its path
-  pub undone_in_is_ok : (t x : Tree) → tree_at p t ≡ Some x → IsOk (undone t (change_of c)) → IsOk (undone_in c x)
+  pub undone_in_is_ok : (t x : Tree) → tree_at p t ≡ Some x → IsOk (undone t (tree_change_of c)) → IsOk (undone_in c x)
   undone_in_is_ok t x here h = within_is_ok (λ n. replaced p n t) (undone_in c x) (subst IsOk (by_target t ∙ at_path_some p (undone_in c) t x here) h)
 
   -- the path leads somewhere, so the call fails only for want of memory
-  pub target_exists : (t : Tree) (e : Error) → IsOk (undone t (change_of c)) → RefusesChange (at_path p (undone_in c) t) e.code e.place → e ≡ no_memory
+  pub target_exists : (t : Tree) (e : Error) → IsOk (undone t (tree_change_of c)) → RefusesChange (at_path p (undone_in c) t) e.code e.place → e ≡ no_memory
   target_exists t e h r = by e.code e.place r
     where
       by : (code : ErrorCode) (place : Place) → RefusesChange (at_path p (undone_in c) t) code place → record { code = code; place = place } ≡ no_memory
       by NoMemory nowhere r = refl
-      by NotFound nowhere r = absurd (err_not_is_ok (undone t (change_of c)) not_found (by_target t ∙ r) h)
-      by TypeUnmatched nowhere r = absurd (err_not_is_ok (undone t (change_of c)) type_unmatched (by_target t ∙ r) h)
+      by NotFound nowhere r = absurd (err_not_is_ok (undone t (tree_change_of c)) not_found (by_target t ∙ r) h)
+      by TypeUnmatched nowhere r = absurd (err_not_is_ok (undone t (tree_change_of c)) type_unmatched (by_target t ∙ r) h)
       by code place r = absurd r
 
   module _ (x y old new : Tree) (here : tree_at p old ≡ Some x) (puts : edited_once (set_at p y) old ≡ Ok new) where
     whole : ◌≡◌ {A = Changed Tree} (Ok (replaced p y old)) (Ok new)
     whole = sym (at_path_some p (λ _. Ok y) old x here) ∙ puts
 
-    pub undone_by_place : undone_in c x ≡ Ok y → undone old (change_of c) ≡ Ok new
+    pub undone_by_place : undone_in c x ≡ Ok y → undone old (tree_change_of c) ≡ Ok new
     undone_by_place e = by_target old ∙ at_path_some p (undone_in c) old x here ∙ ap (within (λ n. replaced p n old)) e ∙ whole
 
     pub unchanged_by_place : y ≡ x → new ≡ old

@@ -21,7 +21,7 @@ use Rattle.json_command.proofs.KnownBytes.{large_known, fault_known, no_fault, s
 use Rattle.json_history.specs.Calls.{edit_error}
 use Rattle.json_history.specs.History.{TreeHistory, TreeCall, run_calls}
 use Rattle.json_history.specs.Replay.{Replays, ReadsInapplicable, GainsPrefix, ReplayFails}
-use Rattle.json_history.specs.Spelling.{Asks, calls_in}
+use Rattle.json_history.specs.Spelling.{AsksForCalls, calls_in}
 use Rattle.json_history.specs.Run.{WithCalls, RunFails, KnownApplicable, KnownInapplicable, IsApplicable, IsInapplicable, IsInvalid}
 
 -- ---- the calls that the words ask for
@@ -29,16 +29,16 @@ use Rattle.json_history.specs.Run.{WithCalls, RunFails, KnownApplicable, KnownIn
 some_injective : {A : Type 0} {x y : A} → Some x ≡ Some y → x ≡ y
 some_injective e = cc
 
-asks_once : (words : List (List ℕ)) (cs ds : List TreeCall) → Asks words cs → Asks words ds → cs ≡ ds
+asks_once : (words : List (List ℕ)) (cs ds : List TreeCall) → AsksForCalls words cs → AsksForCalls words ds → cs ≡ ds
 asks_once [] cs ds h k = absurd h
 asks_once (w ∷ []) cs ds h k = some_injective (sym h.calls ∙ ap calls_in (one_tree false h.tree k.tree w h.input.text k.input.text) ∙ k.calls)
 asks_once (w ∷ v ∷ ws) cs ds h k = absurd h
 
-of_asked_calls : (words : List (List ℕ)) (cs : List TreeCall) (P : List TreeCall → Type 0) → Asks words cs → WithCalls words P → P cs
+of_asked_calls : (words : List (List ℕ)) (cs : List TreeCall) (P : List TreeCall → Type 0) → AsksForCalls words cs → WithCalls words P → P cs
 of_asked_calls words cs P asked h = subst P (asks_once words h.calls cs h.asked asked) h.so
 
 -- why a run failed, of the calls that the words ask for
-replay_fails : (words : List (List ℕ)) (cs : List TreeCall) (source source' : SourceState) (sink sink' : SinkState) (code : ErrorCode) (place : Place) → Asks words cs → RunFails words source source' sink sink' code place
+replay_fails : (words : List (List ℕ)) (cs : List TreeCall) (source source' : SourceState) (sink sink' : SinkState) (code : ErrorCode) (place : Place) → AsksForCalls words cs → RunFails words source source' sink sink' code place
     → ReplayFails cs source source' sink sink' code place
 replay_fails words cs source source' sink sink' NoMemory nowhere asked (inl same) = inl same
 replay_fails words cs source source' sink sink' NoMemory nowhere asked (inr h) = inr (of_asked_calls words cs (λ cs. GainsPrefix cs source source' sink sink') asked h)
@@ -60,7 +60,7 @@ exact_of answer e found errs errs' is reports (inr same) = inr (ap (λ (e : Erro
 
 -- ---- words of another form
 
-pub bad_words_status : (words : List (List ℕ)) (source source' : SourceState) (sink sink' : SinkState) (code : ErrorCode) (place : Place) → RunFails words source source' sink sink' code place → ((cs : List TreeCall) → ¬ (Asks words cs))
+pub bad_words_status : (words : List (List ℕ)) (source source' : SourceState) (sink sink' : SinkState) (code : ErrorCode) (place : Place) → RunFails words source source' sink sink' code place → ((cs : List TreeCall) → ¬ (AsksForCalls words cs))
     → (status_of code place ≡ 2) ⊎ (status_of code place ≡ 6)
 bad_words_status words source source' sink sink' NoMemory nowhere cause none = inr refl
 bad_words_status words source source' sink sink' BadWords nowhere cause none = inl refl

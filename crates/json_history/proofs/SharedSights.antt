@@ -10,7 +10,7 @@ use Rattle.json_doc.specs.Readings.{elements}
 use Rattle.json_model.specs.Edit.{Step, key_step}
 use Rattle.json_value.specs.Readings.{members}
 use Rattle.json_value.specs.Seen.{array_form_seen, elements_seen, first_of, members_seen, object_form_seen}
-use Rattle.json_value.specs.SightParts.{array_form_sights, elements_sights, members_of, members_sights, object_form_sights, sight_after, sight_along}
+use Rattle.json_value.specs.SightParts.{array_form_sights, elements_sights, sight_members, members_sights, object_form_sights, sight_after, sight_along}
 use Rattle.json_value.specs.Sights.{Sight}
 use Rattle.json_value.specs.Written.{value_in}
 use Rattle.json_value.specs.declared.array_view.ArrayForm.{ArrayForm}
@@ -38,7 +38,7 @@ sight_one_more (y ∷ p) x s t u e f = by (sight_after y s) (λ w. sight_one_mor
     by (Some w) h e = h w e f
 
 -- the value of the key in an object of these members
-pub sight_of_key : (k : List ℕ) (t u : Sight) (ms : List (List ℕ × Sight)) → members_of t ≡ Some ms → option_map (λ (q : List ℕ × Sight). q.1) (first_of k ms) ≡ Some u → sight_after (key_step k) t ≡ Some u
+pub sight_of_key : (k : List ℕ) (t u : Sight) (ms : List (List ℕ × Sight)) → sight_members t ≡ Some ms → option_map (λ (q : List ℕ × Sight). q.1) (first_of k ms) ≡ Some u → sight_after (key_step k) t ≡ Some u
 sight_of_key k t u ms e f = ap (option_and_then (λ (ps : List (List ℕ × Sight)). option_map (λ (q : List ℕ × Sight). q.1) (first_of k ps))) e ∙ f
 
 -- ---- lists

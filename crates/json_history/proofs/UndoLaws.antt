@@ -3,11 +3,11 @@ use Rattle.std.proofs.Common.{◌≡◌, ℕ, zero, suc, List, [], ◌∷◌, �
 use Rattle.std.specs.Prelude.{ok_or, slice_get}
 use Rattle.std.proofs.lemmas.Slice.Eq.{bytes_eq-Decides}
 use Rattle.json_grammar.specs.Tree.{Tree, null, boolean, num, text, list, pairs, Trees, no_trees, tree_and, trees_list, Pairs, no_pairs, pair_and}
-use Rattle.json_model.specs.Edit.{Step, key_step, index_step, Edit, set_at, insert_at, push_at, remove_at, Changed, Refusal, not_found, type_unmatched, within, at_key, on_pairs, on_list, at_path, inserted, pushed, without_key, has_key, without_index, edited_once, edited}
+use Rattle.json_model.specs.Edit.{Step, key_step, index_step, Edit, set_at, insert_at, push_at, remove_at, Changed, Refusal, not_found, type_unmatched, within, at_key, on_pairs, on_list, at_path, inserted, pushed, without_key, has_key, without_index, edited_once, edited, and_then}
 use Rattle.json_model.specs.Same.{first_value}
-use Rattle.json_history.specs.Lookup.{and_then, lookup_step, lookup}
+use Rattle.json_history.specs.Lookup.{lookup_step, lookup}
 use Rattle.json_history.specs.Change.{insert_element_at}
-use Rattle.json_history.specs.Change.{TreeChange, put, drop_last, put_back, put_pairs, members_named, members_of, elements_of, insert_change, change, without_last_member, without_last_element, without_last, insert_member_at, insert_members, undone, last_member, last_element, edit_of_last, edit_of_removal, redo_edit}
+use Rattle.json_history.specs.Change.{TreeChange, put, drop_last, put_back, put_pairs, members_named, members_if_object, elements_if_array, insert_change, change, without_last_member, without_last_element, without_last, insert_member_at, insert_members, undone, last_member, last_element, edit_of_last, edit_of_removal, redo_edit}
 use Rattle.json_history.proofs.ChangedResults.{ok_injective, err_not_ok, within_ok_parts}
 use Rattle.json_history.proofs.LookupChanges.{PathChange, path_change, lookup_changed, at_path_again, at_path_back, lookup_append, at_path_append, at_path_lookup, replaced}
 
@@ -214,7 +214,7 @@ edit_undone_by t u (insert_at p k v) h = by (first_value k a.0) refl
     stands_now = lookup_changed p f t u s ∙ ap Ok new_is
 
     told_is : change t (insert_at p k v) ≡ Ok (insert_change p k (first_value k a.0))
-    told_is = ap (λ r. and_then r (λ c. within (λ ps. insert_change p k (first_value k ps)) (members_of c))) old_is
+    told_is = ap (λ r. and_then r (λ c. within (λ ps. insert_change p k (first_value k ps)) (members_if_object c))) old_is
 
     by : (o : Option Tree) → first_value k a.0 ≡ o → UndoneBy t u (insert_at p k v)
     by None e =
@@ -246,7 +246,7 @@ edit_undone_by t u (push_at p v) h =
     let s = path_change p f t u h in
     let a = on_list_ok (λ ts. Ok (pushed v ts)) s.old s.new s.made in
     let new_is : s.new ≡ list (pushed v a.0) = a.4 ∙ ap list (sym (ok_injective (pushed v a.0) a.1 a.3)) in
-    let c : change t (push_at p v) ≡ Ok (drop_last p) = ap (λ r. and_then r (λ c. within (λ ts. drop_last p) (elements_of c))) (s.stood ∙ ap Ok a.2) in
+    let c : change t (push_at p v) ≡ Ok (drop_last p) = ap (λ r. and_then r (λ c. within (λ ts. drop_last p) (elements_if_array c))) (s.stood ∙ ap Ok a.2) in
     record {
       told = drop_last p;
       told_so = c;
@@ -280,7 +280,7 @@ edit_undone_by t u (remove_at p (key_step k)) h =
     let b = has_key_ok k a.0 a.1 a.3 in
     let new_is : s.new ≡ pairs (without_key k a.0) = a.4 ∙ ap pairs (sym b.1) in
     let c : change t (remove_at p (key_step k)) ≡ Ok (put_pairs p (members_named 0 k a.0)) =
-    ap (λ r. and_then r (λ c. and_then (members_of c) (λ ps. cond (has_key k ps) (Ok (put_pairs p (members_named 0 k ps))) (Err not_found)))) (s.stood ∙ ap Ok a.2)
+    ap (λ r. and_then r (λ c. and_then (members_if_object c) (λ ps. cond (has_key k ps) (Ok (put_pairs p (members_named 0 k ps))) (Err not_found)))) (s.stood ∙ ap Ok a.2)
     ∙ ap (λ b. cond b (Ok (put_pairs p (members_named 0 k a.0))) (Err not_found)) b.0 in
     record {
       told = put_pairs p (members_named 0 k a.0);
@@ -340,7 +340,7 @@ at_path_err p f t r h = by (lookup p t) (sym (at_path_lookup p f t) ∙ h)
     by (Ok c) h = inr (c, refl, more c (f c) h)
     by (Err e) h = inl (ap Err (err_injective {A = Tree} e r h))
 
-on_pairs_err : (f : Pairs → Changed Pairs) (t : Tree) (r : Refusal) → on_pairs f t ≡ Err r → (members_of t ≡ Err r) ⊎ ((ps : Pairs) × (t ≡ pairs ps) × (f ps ≡ Err r))
+on_pairs_err : (f : Pairs → Changed Pairs) (t : Tree) (r : Refusal) → on_pairs f t ≡ Err r → (members_if_object t ≡ Err r) ⊎ ((ps : Pairs) × (t ≡ pairs ps) × (f ps ≡ Err r))
 on_pairs_err f (pairs ps) r h = inr (ps, refl, by (f ps) h)
   where
     by : (s : Changed Pairs) → within pairs s ≡ Err r → s ≡ Err r
@@ -352,7 +352,7 @@ on_pairs_err f (num l) r h = inl (ap Err (err_injective {A = Tree} type_unmatche
 on_pairs_err f (text s) r h = inl (ap Err (err_injective {A = Tree} type_unmatched r h))
 on_pairs_err f (list ts) r h = inl (ap Err (err_injective {A = Tree} type_unmatched r h))
 
-on_list_err : (f : Trees → Changed Trees) (t : Tree) (r : Refusal) → on_list f t ≡ Err r → (elements_of t ≡ Err r) ⊎ ((ts : Trees) × (t ≡ list ts) × (f ts ≡ Err r))
+on_list_err : (f : Trees → Changed Trees) (t : Tree) (r : Refusal) → on_list f t ≡ Err r → (elements_if_array t ≡ Err r) ⊎ ((ts : Trees) × (t ≡ list ts) × (f ts ≡ Err r))
 on_list_err f (list ts) r h = inr (ts, refl, by (f ts) h)
   where
     by : (s : Changed Trees) → within list s ≡ Err r → s ≡ Err r
@@ -373,7 +373,7 @@ without_index_err (suc i) (tree_and t ts) r h = without_index_err i ts r (by (wi
     by (Ok x) h = absurd (ok_not_err (tree_and t x) r h)
     by (Err e) h = h
 
-lookup_step_err : (i : ℕ) (c : Tree) (r : Refusal) → elements_of c ≡ Err r → lookup_step (index_step i) c ≡ Err r
+lookup_step_err : (i : ℕ) (c : Tree) (r : Refusal) → elements_if_array c ≡ Err r → lookup_step (index_step i) c ≡ Err r
 lookup_step_err i (list ts) r h = absurd (ok_not_err ts r h)
 lookup_step_err i null r h = ap Err (err_injective {A = Trees} type_unmatched r h)
 lookup_step_err i (boolean b) r h = ap Err (err_injective {A = Trees} type_unmatched r h)
@@ -396,17 +396,17 @@ change_fails_as_edit t (set_at p v) r h =
     ]
 change_fails_as_edit t (insert_at p k v) r h =
     elim (at_path_err p (on_pairs (λ ps. Ok (inserted k v ps))) t r h) [
-      | inl a ↦ ap (λ s. and_then s (λ c. within (λ ps. insert_change p k (first_value k ps)) (members_of c))) a
+      | inl a ↦ ap (λ s. and_then s (λ c. within (λ ps. insert_change p k (first_value k ps)) (members_if_object c))) a
       | inr a ↦ elim (on_pairs_err (λ ps. Ok (inserted k v ps)) a.0 r a.2) [
-        | inl b ↦ ap (λ s. and_then s (λ c. within (λ ps. insert_change p k (first_value k ps)) (members_of c))) a.1 ∙ ap (within (λ ps. insert_change p k (first_value k ps))) b
+        | inl b ↦ ap (λ s. and_then s (λ c. within (λ ps. insert_change p k (first_value k ps)) (members_if_object c))) a.1 ∙ ap (within (λ ps. insert_change p k (first_value k ps))) b
         | inr b ↦ absurd (ok_not_err (inserted k v b.0) r b.2)
       ]
     ]
 change_fails_as_edit t (push_at p v) r h =
     elim (at_path_err p (on_list (λ ts. Ok (pushed v ts))) t r h) [
-      | inl a ↦ ap (λ s. and_then s (λ c. within (λ ts. drop_last p) (elements_of c))) a
+      | inl a ↦ ap (λ s. and_then s (λ c. within (λ ts. drop_last p) (elements_if_array c))) a
       | inr a ↦ elim (on_list_err (λ ts. Ok (pushed v ts)) a.0 r a.2) [
-        | inl b ↦ ap (λ s. and_then s (λ c. within (λ ts. drop_last p) (elements_of c))) a.1 ∙ ap (within (λ ts. drop_last p)) b
+        | inl b ↦ ap (λ s. and_then s (λ c. within (λ ts. drop_last p) (elements_if_array c))) a.1 ∙ ap (within (λ ts. drop_last p)) b
         | inr b ↦ absurd (ok_not_err (pushed v b.0) r b.2)
       ]
     ]
@@ -426,7 +426,7 @@ change_fails_as_edit t (remove_at p (index_step i)) r h =
     )
 change_fails_as_edit t (remove_at p (key_step k)) r h =
     let f : Pairs → Changed Pairs = λ ps. cond (has_key k ps) (Ok (without_key k ps)) (Err not_found) in
-    let g : Tree → Changed TreeChange = λ c. and_then (members_of c) (λ ps. cond (has_key k ps) (Ok (put_pairs p (members_named 0 k ps))) (Err not_found)) in
+    let g : Tree → Changed TreeChange = λ c. and_then (members_if_object c) (λ ps. cond (has_key k ps) (Ok (put_pairs p (members_named 0 k ps))) (Err not_found)) in
     elim (at_path_err p (on_pairs f) t r h) [
       | inl a ↦ ap (λ s. and_then s g) a
       | inr a ↦ ap (λ s. and_then s g) a.1 ∙ elim (on_pairs_err f a.0 r a.2) [

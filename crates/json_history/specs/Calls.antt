@@ -10,6 +10,7 @@ use Rattle.json_value.specs.Edits.{edit_of}
 use Rattle.json_history.specs.History.{TreeHistory, TreeCall, edit, undo, redo, run_calls_from}
 use Rattle.json_history.specs.declared.call.Call.{Call}
 use Rattle.json_history.specs.declared.call.Call.TheVariants.{Edit, Undo, Redo}
+use Rattle.json_command.specs.Statuses.{code_of_refusal}
 
 -- the call on trees that a call stands for
 abbrev pub call_of : Call → TreeCall
@@ -29,11 +30,6 @@ CallsFail h cs NotFound (in_edit number) = run_calls_from 0 h cs ≡ Err (number
 CallsFail h cs TypeUnmatched (in_edit number) = run_calls_from 0 h cs ≡ Err (number, type_unmatched)
 CallsFail h cs code place = ⊥
 
--- the code of an edit that does not apply
-abbrev pub code_of : Refusal → ErrorCode
-code_of not_found = NotFound
-code_of type_unmatched = TypeUnmatched
-
 -- the error where the call with this number is an edit that does not apply
 abbrev pub edit_error : ℕ → Refusal → Error
-edit_error number why = record { code = code_of why; place = in_edit number }
+edit_error number why = record { code = code_of_refusal why; place = in_edit number }

@@ -1,9 +1,9 @@
 -- What an edit changes of a tree, and how that is undone and redone.
 use Rattle.std.specs.Prelude.{ℕ, zero, suc, List, [], ◌∷◌, ◌++◌, cond, Option, Some, None, Ok, Err, bytes_eq}
 use Rattle.json_grammar.specs.Tree.{Tree, list, pairs, Trees, no_trees, tree_and, Pairs, no_pairs, pair_and}
-use Rattle.json_model.specs.Edit.{Step, key_step, index_step, Edit, set_at, insert_at, push_at, remove_at, Changed, not_found, type_unmatched, within, on_pairs, on_list, at_path, has_key}
+use Rattle.json_model.specs.Edit.{Step, key_step, index_step, Edit, set_at, insert_at, push_at, remove_at, Changed, not_found, type_unmatched, within, on_pairs, on_list, at_path, has_key, and_then}
 use Rattle.json_model.specs.Same.{first_value}
-use Rattle.json_history.specs.Lookup.{and_then, lookup}
+use Rattle.json_history.specs.Lookup.{lookup}
 
 -- members that were removed, each with its index in the object from 0
 abbrev pub RemovedMembers : Type 0
@@ -24,13 +24,13 @@ abbrev pub members_named : ℕ → List ℕ → Pairs → RemovedMembers
 members_named n k no_pairs = []
 members_named n k (pair_and m t ps) = cond (bytes_eq m k) ((n, m, t) ∷ members_named (suc n) k ps) (members_named (suc n) k ps)
 
-abbrev pub members_of : Tree → Changed Pairs
-members_of (pairs ps) = Ok ps
-members_of _ = Err type_unmatched
+abbrev pub members_if_object : Tree → Changed Pairs
+members_if_object (pairs ps) = Ok ps
+members_if_object _ = Err type_unmatched
 
-abbrev pub elements_of : Tree → Changed Trees
-elements_of (list ts) = Ok ts
-elements_of _ = Err type_unmatched
+abbrev pub elements_if_array : Tree → Changed Trees
+elements_if_array (list ts) = Ok ts
+elements_if_array _ = Err type_unmatched
 
 -- what an insertion changes, where o is the value of the key's first member
 abbrev pub insert_change : List Step → List ℕ → Option Tree → TreeChange
@@ -40,10 +40,10 @@ insert_change p k (Some old) = put (p ++ key_step k ∷ []) old
 -- what an edit changes of a tree, or why it does not apply
 abbrev pub change : Tree → Edit → Changed TreeChange
 change t (set_at p u) = within (λ old. put p old) (lookup p t)
-change t (insert_at p k u) = and_then (lookup p t) (λ c. within (λ ps. insert_change p k (first_value k ps)) (members_of c))
-change t (push_at p u) = and_then (lookup p t) (λ c. within (λ ts. drop_last p) (elements_of c))
+change t (insert_at p k u) = and_then (lookup p t) (λ c. within (λ ps. insert_change p k (first_value k ps)) (members_if_object c))
+change t (push_at p u) = and_then (lookup p t) (λ c. within (λ ts. drop_last p) (elements_if_array c))
 change t (remove_at p (index_step i)) = within (λ old. put_back p i old) (lookup (p ++ index_step i ∷ []) t)
-change t (remove_at p (key_step k)) = and_then (lookup p t) (λ c. and_then (members_of c) (λ ps. cond (has_key k ps) (Ok (put_pairs p (members_named 0 k ps))) (Err not_found)))
+change t (remove_at p (key_step k)) = and_then (lookup p t) (λ c. and_then (members_if_object c) (λ ps. cond (has_key k ps) (Ok (put_pairs p (members_named 0 k ps))) (Err not_found)))
 
 -- ---- undo
 

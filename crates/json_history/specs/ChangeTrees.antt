@@ -20,11 +20,11 @@ abbrev pub removed_members : Taken → RemovedMembers
 removed_members t = map removed_member t.list.items
 
 -- the change of trees that a change stands for
-abbrev pub change_of : Change → TreeChange
-change_of (Put p old) = put (path_steps p) (tree_of old)
-change_of (DropLast p) = drop_last (path_steps p)
-change_of (PutBack p i old) = put_back (path_steps p) i (tree_of old)
-change_of (PutPairs p es) = put_pairs (path_steps p) (removed_members es)
+abbrev pub tree_change_of : Change → TreeChange
+tree_change_of (Put p old) = put (path_steps p) (tree_of old)
+tree_change_of (DropLast p) = drop_last (path_steps p)
+tree_change_of (PutBack p i old) = put_back (path_steps p) i (tree_of old)
+tree_change_of (PutPairs p es) = put_pairs (path_steps p) (removed_members es)
 
 -- the path of a change
 abbrev pub change_path : Change → List Step

@@ -1,8 +1,7 @@
 -- Histories: the current tree, the trees to undo to, and those to redo to.
 use Rattle.std.specs.Prelude.{◌≡◌, ℕ, suc, Bool, true, false, List, [], ◌∷◌, Result, Ok, Err}
 use Rattle.json_grammar.specs.Tree.{Tree}
-use Rattle.json_model.specs.Edit.{Edit, Changed, Refusal, edited_once}
-use Rattle.json_history.specs.Lookup.{and_then}
+use Rattle.json_model.specs.Edit.{Edit, Changed, Refusal, edited_once, and_then}
 use Rattle.json_history.specs.Change.{TreeChange, change, undone, redo_edit}
 
 -- the current tree, the past with the latest tree first, and the future with the next tree first

@@ -13,5 +13,4 @@ pub mod Replay
 pub mod Spelling
 pub mod Run
 pub mod Laws
-pub mod ExampleTrees
 pub mod HistoryExamples

@@ -12,8 +12,8 @@ abbrev pub log_of : History → ChangeLog
 log_of h = log_in h.value h.changes.items h.redos.items
 
 -- its value, its changes with the latest last, and its edits to redo with the next last
-abbrev pub value_of : History → Value
-value_of h = h.value
+abbrev pub history_value : History → Value
+history_value h = h.value
 
 abbrev pub changes_in : History → List Change
 changes_in h = h.changes.items

@@ -4,18 +4,18 @@ use Rattle.json_value.specs.Denotes.{tree_of}
 use Rattle.json_value.specs.Edits.{edit_of}
 use Rattle.json_value.specs.declared.value.Value.{Value}
 use Rattle.json_history.specs.Change.{TreeChange}
-use Rattle.json_history.specs.ChangeTrees.{change_of}
+use Rattle.json_history.specs.ChangeTrees.{tree_change_of}
 use Rattle.json_history.specs.History.{ChangeLog, TreeRedo}
 use Rattle.json_history.specs.declared.change.Change.{Change}
 use Rattle.json_history.specs.declared.redo.Redo.{Redo}
 
 -- an edit to redo, with the change that undoes it again
 abbrev pub redo_of : Redo → TreeRedo
-redo_of r = (edit_of r.edit, change_of r.change)
+redo_of r = (edit_of r.edit, tree_change_of r.change)
 
 -- the changes of a list, whose last one is the latest
 abbrev pub changes_of : List Change → List TreeChange
-changes_of cs = reverse (map change_of cs)
+changes_of cs = reverse (map tree_change_of cs)
 
 -- the edits to redo of a list, whose last one is the next
 abbrev pub redos_of : List Redo → List TreeRedo

@@ -1,13 +1,8 @@
 -- The value at a path of a tree (paths as those of edits).
 use Rattle.std.specs.Prelude.{List, [], ◌∷◌, Ok, Err, ok_or, slice_get}
 use Rattle.json_grammar.specs.Tree.{Tree, list, pairs, trees_list}
-use Rattle.json_model.specs.Edit.{Step, key_step, index_step, Changed, not_found, type_unmatched}
+use Rattle.json_model.specs.Edit.{Step, key_step, index_step, Changed, not_found, type_unmatched, and_then}
 use Rattle.json_model.specs.Same.{first_value}
-
--- the second of two steps, which takes what the first one makes
-abbrev pub and_then : {A B : Type 0} → Changed A → (A → Changed B) → Changed B
-and_then (Ok x) f = f x
-and_then (Err e) f = Err e
 
 -- the first value of a key, or the element of an index
 abbrev pub lookup_step : Step → Tree → Changed Tree

@@ -14,19 +14,19 @@ use Rattle.json_command.specs.Reading.{KnownInput, KnownFault}
 use Rattle.json_command.specs.Reporting.{Reports}
 use Rattle.json_command.specs.Statuses.{status_of}
 use Rattle.json_history.specs.History.{TreeHistory, TreeCall, run_calls}
-use Rattle.json_history.specs.Spelling.{Asks}
+use Rattle.json_history.specs.Spelling.{AsksForCalls}
 use Rattle.json_history.specs.Replay.{Replays, GainsPrefix, ReplayFails}
 
 -- the words ask for calls, and of them this holds
 pub record WithCalls (words : List (List ℕ)) (holds : List TreeCall → Type 0) : Type 0 where
   pub calls : List TreeCall
-  pub asked : Asks words calls
+  pub asked : AsksForCalls words calls
   pub so : holds calls
 
 -- why it failed: the words are read before the source is
 abbrev pub RunFails : List (List ℕ) → SourceState → SourceState → SinkState → SinkState → ErrorCode → Place → Type 0
 RunFails words source source' sink sink' NoMemory nowhere = (sink' ≡ sink) ⊎ WithCalls words (λ cs. GainsPrefix cs source source' sink sink')
-RunFails words source source' sink sink' BadWords nowhere = ((cs : List TreeCall) → ¬ (Asks words cs)) × (source' ≡ source) × (sink' ≡ sink)
+RunFails words source source' sink sink' BadWords nowhere = ((cs : List TreeCall) → ¬ (AsksForCalls words cs)) × (source' ≡ source) × (sink' ≡ sink)
 RunFails words source source' sink sink' code place = WithCalls words (λ cs. ReplayFails cs source source' sink sink' code place)
 
 -- status 0

@@ -6,7 +6,7 @@ use Rattle.json_text.specs.declared.error.Error.{Error}
 use Rattle.json_model.specs.Edit.{Step, index_step}
 use Rattle.json_value.specs.Edits.{path_steps}
 use Rattle.json_value.specs.Places.{places_in}
-use Rattle.json_value.specs.SightParts.{elements_of, members_of, sight_along}
+use Rattle.json_value.specs.SightParts.{sight_elements, sight_members, sight_along}
 use Rattle.json_value.specs.Sights.{Sight, whole_value, sight_kept, sight_places}
 use Rattle.json_value.specs.Spots.{spot_of}
 use Rattle.json_value.specs.Written.{value_in}
@@ -37,7 +37,7 @@ pub record MembersShareAt (p : List Step) (root : Sight) (removed : List (ℕ ×
   pub target : Sight
   pub members : List (List ℕ × Sight)
   pub there : sight_along p root ≡ Some target
-  pub object : members_of target ≡ Some members
+  pub object : sight_members target ≡ Some members
   pub shared : All (MemberShares members) removed
 
 -- what a change keeps shares with what it was taken from, below the root
@@ -67,7 +67,7 @@ pub record LastElementShares (p : List Step) (root : Sight) (v : Value) : Type 0
   pub elements : List Sight
   pub element : Sight
   pub there : sight_along p root ≡ Some target
-  pub array : elements_of target ≡ Some elements
+  pub array : sight_elements target ≡ Some elements
   pub last : last_of elements ≡ Some element
   pub shared : SharesWith element v
 
@@ -77,7 +77,7 @@ pub record LastMemberShares (p : List Step) (root : Sight) (v : Value) : Type 0 
   pub members : List (List ℕ × Sight)
   pub member : List ℕ × Sight
   pub there : sight_along p root ≡ Some target
-  pub object : members_of target ≡ Some members
+  pub object : sight_members target ≡ Some members
   pub last : last_of members ≡ Some member
   pub shared : SharesWith member.1 v
 
@@ -94,10 +94,10 @@ EditShares p target r = (root : Sight) → sight_along p root ≡ Some target �
 
 -- where they lead to an array of these elements, or to an object of these members
 abbrev pub EditSharesElement : List Step → List Sight → Result (Option Edit) Error → Type 0
-EditSharesElement p elements r = (target : Sight) → elements_of target ≡ Some elements → EditShares p target r
+EditSharesElement p elements r = (target : Sight) → sight_elements target ≡ Some elements → EditShares p target r
 
 abbrev pub EditSharesMember : List Step → List (List ℕ × Sight) → Result (Option Edit) Error → Type 0
-EditSharesMember p members r = (target : Sight) → members_of target ≡ Some members → EditShares p target r
+EditSharesMember p members r = (target : Sight) → sight_members target ≡ Some members → EditShares p target r
 
 -- the last change became the last edit to redo, or there was no change
 abbrev pub MovesToRedos : Value → (changes changes' : List Change) → (redos redos' : List Redo) → Type 0

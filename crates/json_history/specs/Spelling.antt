@@ -33,16 +33,16 @@ abbrev pub calls_in : Tree → Option (List TreeCall)
 calls_in t = option_and_then (each_in call_in) (list_of t)
 
 -- the word is a text, by the usual rules, of a tree that spells these calls
-pub record Spells (word : List ℕ) (cs : List TreeCall) : Type 0 where
+pub record SpellsCalls (word : List ℕ) (cs : List TreeCall) : Type 0 where
   pub tree : Tree
   pub input : IsInput usual_rules word tree
   pub calls : calls_in tree ≡ Some cs
 
 -- the words ask for these calls: one word that spells them
-abbrev pub Asks : List (List ℕ) → List TreeCall → Type 0
-Asks (w ∷ []) cs = Spells w cs
-Asks _ cs = ⊥
+abbrev pub AsksForCalls : List (List ℕ) → List TreeCall → Type 0
+AsksForCalls (w ∷ []) cs = SpellsCalls w cs
+AsksForCalls _ cs = ⊥
 
 -- memory ran out, or nothing is spelled and the words are bad
-abbrev pub Unspelled : {A : Type 0} → Option A → Error → Type 0
-Unspelled o e = (e ≡ no_memory) ⊎ ((e ≡ bad_words) × (o ≡ None))
+abbrev pub SpellsNoCalls : {A : Type 0} → Option A → Error → Type 0
+SpellsNoCalls o e = (e ≡ no_memory) ⊎ ((e ≡ bad_words) × (o ≡ None))

@@ -5,14 +5,14 @@ ghost use Rattle.std.specs.Result.{result_ok};
 ghost use Rattle.json_grammar.specs.Tree.{list_pairs};
 ghost use Rattle.json_model.specs.Edit.{index_step, key_step};
 ghost use Rattle.json_value.specs.Denotes.{tree_of, text_bytes};
-ghost use Rattle.json_value.specs.Edits.{edit_of, path_of, path_steps};
+ghost use Rattle.json_value.specs.Edits.{edit_of, edit_path, path_steps};
 ghost use Rattle.json_value.specs.Failures.{OnlyNoMemory};
 ghost use Rattle.json_value.specs.Seen.{seen, members_seen};
 ghost use Rattle.json_value.specs.SightParts.{members_sights};
 ghost use Rattle.json_value.specs.Sights.{sight_of, whole_value};
 ghost use Rattle.json_value.specs.Written.{value_in};
 ghost use Rattle.json_history.specs.Change.{change, members_named};
-ghost use Rattle.json_history.specs.ChangeTrees.{change_of, removed_member};
+ghost use Rattle.json_history.specs.ChangeTrees.{tree_change_of, removed_member};
 ghost use Rattle.json_history.specs.SharedParts.{SharesWith, MemberShares, SharesParts, ChangeShares};
 ghost use Rattle.json_history.specs.Target.{change_in, insert_change_in, push_change_in, remove_change_in};
 
@@ -30,7 +30,7 @@ fn change_of_insert(
     path: &Path,
     key: &Text,
 ) -> Result<Option<Change>>
-    ensures told { IfOk result (λ o. option_map change_of o
+    ensures told { IfOk result (λ o. option_map tree_change_of o
         ≡ result_ok (insert_change_in (path_steps path.now) (text_bytes key.now)
         (seen target.entry))) }
     ensures shares { ChangeShares (path_steps path.now) (sight_of target.entry) result }
@@ -54,7 +54,7 @@ fn change_of_insert(
 
 // The change of a push; `None` if there is no array.
 fn change_of_push(alloc: Global, target: View<'_>, path: &Path) -> Result<Option<Change>>
-    ensures told { IfOk result (λ o. option_map change_of o
+    ensures told { IfOk result (λ o. option_map tree_change_of o
         ≡ result_ok (push_change_in (path_steps path.now) (seen target.entry))) }
     ensures shares { ChangeShares (path_steps path.now) (sight_of target.entry) result }
     ensures only { OnlyNoMemory result }
@@ -75,7 +75,7 @@ fn change_of_removed_element(
     path: &Path,
     index: usize,
 ) -> Result<Option<Change>>
-    ensures told { IfOk result (λ o. option_map change_of o
+    ensures told { IfOk result (λ o. option_map tree_change_of o
         ≡ result_ok (remove_change_in (path_steps path.now) (index_step index)
         (seen target.entry))) }
     ensures shares { ChangeShares (path_steps path.now) (sight_of target.entry) result }
@@ -130,7 +130,7 @@ fn change_of_removed_members(
     path: &Path,
     key: &Text,
 ) -> Result<Option<Change>>
-    ensures told { IfOk result (λ o. option_map change_of o
+    ensures told { IfOk result (λ o. option_map tree_change_of o
         ≡ result_ok (remove_change_in (path_steps path.now) (key_step (text_bytes key.now))
         (seen target.entry))) }
     ensures shares { ChangeShares (path_steps path.now) (sight_of target.entry) result }
@@ -152,9 +152,9 @@ fn change_of_removed_members(
 
 // The change of the edit, where `target` is the value at its path; `None` if it does not apply.
 fn change_at(alloc: Global, target: View<'_>, edit: &Edit) -> Result<Option<Change>>
-    ensures told { IfOk result (λ o. option_map change_of o
+    ensures told { IfOk result (λ o. option_map tree_change_of o
         ≡ result_ok (change_in edit.now (seen target.entry))) }
-    ensures shares { ChangeShares (path_of edit.now) (sight_of target.entry) result }
+    ensures shares { ChangeShares (edit_path edit.now) (sight_of target.entry) result }
     ensures only { OnlyNoMemory result }
 {
     match edit {
@@ -174,7 +174,7 @@ fn change_at(alloc: Global, target: View<'_>, edit: &Edit) -> Result<Option<Chan
 
 // The change of the edit; `None` if it does not apply.
 pub(crate) fn change_of_edit(alloc: Global, value: &Value, edit: &Edit) -> Result<Option<Change>>
-    ensures told { IfOk result (λ o. option_map change_of o
+    ensures told { IfOk result (λ o. option_map tree_change_of o
         ≡ result_ok (change (tree_of value.now) (edit_of edit.now))) }
     ensures shares { IfOk result (λ o. IfSome o (SharesParts (whole_value value.now))) }
     ensures only { OnlyNoMemory result }

@@ -2,9 +2,9 @@
 ghost use Rattle.std.specs.Prelude.{◌≡◌, IfOk, Ok, OnOk, OnErr, [], length};
 ghost use Rattle.json_model.specs.Edit.{edited_once};
 ghost use Rattle.json_value.specs.Denotes.{tree_of};
-ghost use Rattle.json_value.specs.Edits.{edit_of, path_of, FailsAs};
+ghost use Rattle.json_value.specs.Edits.{edit_of, edit_path, FailsAs};
 ghost use Rattle.json_value.specs.Failures.{OnlyNoMemory};
-ghost use Rattle.json_value.specs.Touched.{Touches, Keeps};
+ghost use Rattle.json_value.specs.Touched.{Touches, KeepsOnRefusal};
 ghost use Rattle.json_history.specs.History.{IsValidLog, new_log, log_edit, log_call, undo, redo, is_nonempty};
 ghost use Rattle.json_history.specs.History.{new_history, after_call, edit as edits, history_of};
 ghost use Rattle.json_history.specs.Limits.{limit_changes, limit_past, without_redos, without_future};
@@ -46,7 +46,7 @@ pub struct History {
 }
 
 impl History {
-    ghost use Rattle.json_history.specs.LogOfHistory.{log_of, value_of, changes_in, redos_in};
+    ghost use Rattle.json_history.specs.LogOfHistory.{log_of, history_value, changes_in, redos_in};
 
     /// Creates a history of the value, with nothing to undo or redo. Takes no memory.
     pub fn new(alloc: Global, value: Value) -> History
@@ -63,7 +63,7 @@ impl History {
     /// Returns the current value.
     pub fn value(&self) -> &Value
         ensures tree { tree_of result.now ≡ (log_of self.now).value }
-        ensures value { result.now ≡ value_of self.now }
+        ensures value { result.now ≡ history_value self.now }
     {
         &self.value
     }
@@ -102,11 +102,11 @@ impl History {
         ensures kept { OnErr result (log_of self.new ≡ log_of self.old) }
         ensures refused { FailsAs (edited_once (edit_of edit) (log_of self.old).value) result }
         ensures children { OnOk result
-            (Touches (path_of edit) edit (value_of self.old) (value_of self.new)) }
+            (Touches (edit_path edit) edit (history_value self.old) (history_value self.new)) }
         ensures kept_along { OnErr result
-            (Keeps (path_of edit) edit (value_of self.old) (value_of self.new)) }
+            (KeepsOnRefusal (edit_path edit) edit (history_value self.old) (history_value self.new)) }
         ensures shares { OnOk result
-            (AppendsChange (value_of self.old) (changes_in self.old) (changes_in self.new)) }
+            (AppendsChange (history_value self.old) (changes_in self.old) (changes_in self.new)) }
     {
         apply_and_log(
             alloc,
@@ -127,11 +127,11 @@ impl History {
             ≡ after_call (history_of (log_of self.old)) undo) }
         ensures kept { OnErr result (log_of self.new ≡ log_of self.old) }
         ensures children { OnOk result
-            (UndoTouches (changes_in self.old) (value_of self.old) (value_of self.new)) }
-        ensures moves { OnOk result (MovesToRedos (value_of self.old)
+            (UndoTouches (changes_in self.old) (history_value self.old) (history_value self.new)) }
+        ensures moves { OnOk result (MovesToRedos (history_value self.old)
             (changes_in self.old) (changes_in self.new) (redos_in self.old) (redos_in self.new)) }
         ensures kept_along { OnErr result
-            (UndoKeeps (changes_in self.old) (value_of self.old) (value_of self.new)) }
+            (UndoKeeps (changes_in self.old) (history_value self.old) (history_value self.new)) }
         ensures only { OnlyNoMemory result }
     {
         undo_last(alloc, &mut self.value, &mut self.changes, &mut self.redos)
@@ -147,11 +147,11 @@ impl History {
             ≡ after_call (history_of (log_of self.old)) redo) }
         ensures kept { OnErr result (log_of self.new ≡ log_of self.old) }
         ensures children { OnOk result
-            (RedoTouches (redos_in self.old) (value_of self.old) (value_of self.new)) }
+            (RedoTouches (redos_in self.old) (history_value self.old) (history_value self.new)) }
         ensures moves { OnOk result (MovesToChanges
             (changes_in self.old) (changes_in self.new) (redos_in self.old) (redos_in self.new)) }
         ensures kept_along { OnErr result
-            (RedoKeeps (redos_in self.old) (value_of self.old) (value_of self.new)) }
+            (RedoKeeps (redos_in self.old) (history_value self.old) (history_value self.new)) }
         ensures only { OnlyNoMemory result }
     {
         redo_next(alloc, &mut self.value, &mut self.changes, &mut self.redos)

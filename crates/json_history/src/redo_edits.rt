@@ -10,7 +10,7 @@ ghost use Rattle.json_value.specs.Seen.{seen, members_seen, elements_seen};
 ghost use Rattle.json_value.specs.SightParts.{elements_sights, members_sights};
 ghost use Rattle.json_value.specs.Sights.{Sight, sight_of, whole_value};
 ghost use Rattle.json_history.specs.Change.{redo_edit, edit_of_last, last_member, last_element, edit_of_removal};
-ghost use Rattle.json_history.specs.ChangeTrees.{change_of, removed_members};
+ghost use Rattle.json_history.specs.ChangeTrees.{tree_change_of, removed_members};
 ghost use Rattle.json_history.specs.SharedParts.{EditShares, EditSharesParts, EditSharesElement, EditSharesMember};
 
 use crate::change::Change;
@@ -116,7 +116,7 @@ fn removal_edit(alloc: Global, taken: &Taken, path: &Path) -> Result<Option<Edit
 // `None` if the change does not fit the value.
 pub(crate) fn edit_to_redo(alloc: Global, value: &Value, change: &Change) -> Result<Option<Edit>>
     ensures edit { IfOk result (λ o. option_map edit_of o
-        ≡ result_ok (redo_edit (tree_of value.now) (change_of change.now))) }
+        ≡ result_ok (redo_edit (tree_of value.now) (tree_change_of change.now))) }
     ensures shares { IfOk result (λ o. IfSome o (EditSharesParts (whole_value value.now))) }
     ensures only { OnlyNoMemory result }
 {

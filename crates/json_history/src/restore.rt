@@ -6,11 +6,11 @@ ghost use Rattle.json_model.specs.Edit.{on_list, on_pairs};
 ghost use Rattle.json_value.specs.Denotes.{tree_of, pair_of, list_in, pairs_in};
 ghost use Rattle.json_value.specs.Edits.{Makes};
 ghost use Rattle.json_value.specs.Failures.{OnlyNoMemory};
-ghost use Rattle.json_value.specs.Places.{origin_of};
+ghost use Rattle.json_value.specs.Places.{value_origin};
 ghost use Rattle.json_value.specs.Touched.{ArrayTouched, ObjectTouched, ArrayKept, ObjectKept, Same, Along, KeptAlong};
 ghost use Rattle.json_history.specs.Change.{undone, without_last, insert_element_at, insert_members};
-ghost use Rattle.json_history.specs.ChangeTrees.{change_of, change_path, removed_member, removed_members};
-ghost use Rattle.json_history.specs.Restores.{DropsLast, InsertsAt, InsertsMembers, ElementsTouched, MembersTouched, RestoresAt, RestoreKeeps, origins_of, with_members};
+ghost use Rattle.json_history.specs.ChangeTrees.{tree_change_of, change_path, removed_member, removed_members};
+ghost use Rattle.json_history.specs.Restores.{DropsLast, InsertsAt, InsertsMembers, ElementsTouched, MembersTouched, RestoresAt, RestoreKeeps, origins_of, with_restored_members};
 ghost use Rattle.json_history.specs.Target.{undone_in, all_but_last};
 
 use crate::change::Change;
@@ -84,7 +84,7 @@ fn insert_into_array(array: &mut Array, alloc: Global, index: usize, old: &Value
         (list_in array.new ≡ insert (list_in array.old) index (tree_of old.now)) }
     ensures kept { OnErr result (list_in array.new ≡ list_in array.old) }
     ensures touched { OnOk result
-        (ElementsTouched (InsertsAt index (origin_of old.now)) array.old array.new) }
+        (ElementsTouched (InsertsAt index (value_origin old.now)) array.old array.new) }
     ensures untouched { OnErr result
         ((array.new ≡ array.old) ⊎ ElementsTouched Same array.old array.new) }
     ensures only { OnlyNoMemory result }
@@ -103,7 +103,7 @@ fn insert_element(value: &mut Value, alloc: Global, index: usize, old: &Value) -
         value.new) }
     ensures kept { OnErr result (tree_of value.new ≡ tree_of value.old) }
     ensures touched { OnOk result
-        (ArrayTouched (InsertsAt index (origin_of old.now)) value.old value.new) }
+        (ArrayTouched (InsertsAt index (value_origin old.now)) value.old value.new) }
     ensures untouched { OnErr result (ArrayKept Same value.old value.new) }
     ensures only { OnlyNoMemory result }
 {
@@ -136,7 +136,7 @@ fn insert_reserved_members(pairs: &mut Vec<Pair>, members: Vec<(usize, Pair)>)
     ensures trees { insert_members (map removed_member members.items)
         (list_pairs (map pair_of pairs.old.items))
         ≡ Ok (list_pairs (map pair_of pairs.new.items)) }
-    ensures items { pairs.new.items ≡ with_members members.items pairs.old.items }
+    ensures items { pairs.new.items ≡ with_restored_members members.items pairs.old.items }
 {
     for (index, pair) in members {
         insert_member(pairs, index, pair);
@@ -207,8 +207,8 @@ fn restore_target(place: &mut Value, alloc: Global, change: &Change) -> Result<(
 
 // Undoes the change of what lends places.
 fn restore_in<V: Places>(target: &mut V, alloc: Global, change: &Change) -> Result<()>
-    requires { IsOk (undone (tree_of (V.held target.old)) (change_of change.now)) }
-    ensures ok { OnOk result (Makes (undone (tree_of (V.held target.old)) (change_of change.now))
+    requires { IsOk (undone (tree_of (V.held target.old)) (tree_change_of change.now)) }
+    ensures ok { OnOk result (Makes (undone (tree_of (V.held target.old)) (tree_change_of change.now))
         (V.held target.new)) }
     ensures kept { OnErr result (tree_of (V.held target.new) ≡ tree_of (V.held target.old)) }
     ensures children { OnOk result (Along (change_path change.now) (RestoresAt change.now)
@@ -225,9 +225,9 @@ fn restore_in<V: Places>(target: &mut V, alloc: Global, change: &Change) -> Resu
 
 // Undoes the change, which an edit of the value made.
 pub(crate) fn restore(value: &mut Value, alloc: Global, change: &Change) -> Result<()>
-    requires { IsOk (undone (tree_of value.old) (change_of change.now)) }
+    requires { IsOk (undone (tree_of value.old) (tree_change_of change.now)) }
     ensures ok { OnOk result
-        (Makes (undone (tree_of value.old) (change_of change.now)) value.new) }
+        (Makes (undone (tree_of value.old) (tree_change_of change.now)) value.new) }
     ensures kept { OnErr result (tree_of value.new ≡ tree_of value.old) }
     ensures children { OnOk result (Along (change_path change.now) (RestoresAt change.now)
         value.old value.new) }

@@ -3,12 +3,12 @@ ghost use Rattle.std.specs.Prelude.{◌≡◌, ◌<◌, IsOk, IfOk, Ok, OnOk, On
 ghost use Rattle.std.specs.Vec.{vec_len, vec_capacity};
 ghost use Rattle.json_model.specs.Edit.{edited_once};
 ghost use Rattle.json_value.specs.Denotes.{tree_of};
-ghost use Rattle.json_value.specs.Edits.{edit_of, path_of, FailsAs, Makes};
+ghost use Rattle.json_value.specs.Edits.{edit_of, edit_path, FailsAs, Makes};
 ghost use Rattle.json_value.specs.Failures.{OnlyNoMemory};
 ghost use Rattle.json_value.specs.Sights.{whole_value};
-ghost use Rattle.json_value.specs.Touched.{Along, KeptAlong, Touches, Keeps};
+ghost use Rattle.json_value.specs.Touched.{Along, KeptAlong, Touches, KeepsOnRefusal};
 ghost use Rattle.json_history.specs.Change.{undone, redo_edit};
-ghost use Rattle.json_history.specs.ChangeTrees.{change_of, change_path};
+ghost use Rattle.json_history.specs.ChangeTrees.{tree_change_of, change_path};
 ghost use Rattle.json_history.specs.History.{IsValidLog, log_edit, log_call, undo, redo, is_nonempty};
 ghost use Rattle.json_history.specs.Logs.{log_in};
 ghost use Rattle.json_history.specs.SharedParts.{AppendsChange, EditSharesParts, MovesToRedos, MovesToChanges};
@@ -30,8 +30,8 @@ fn apply_edit(alloc: Global, value: &mut Value, edit: Edit) -> Result<()>
         (Makes (edited_once (edit_of edit) (tree_of value.old)) value.new) }
     ensures kept { OnErr result (tree_of value.new ≡ tree_of value.old) }
     ensures refused { FailsAs (edited_once (edit_of edit) (tree_of value.old)) result }
-    ensures children { OnOk result (Touches (path_of edit) edit value.old value.new) }
-    ensures kept_along { OnErr result (Keeps (path_of edit) edit value.old value.new) }
+    ensures children { OnOk result (Touches (edit_path edit) edit value.old value.new) }
+    ensures kept_along { OnErr result (KeepsOnRefusal (edit_path edit) edit value.old value.new) }
 {
     match edit {
         Edit::Set { path, value: new } => put(value, alloc, path.steps(), new),
@@ -52,8 +52,8 @@ pub(crate) fn apply_and_log(
     ensures kept { OnErr result (log_in value.new changes.new.items redos.new.items
         ≡ log_in value.old changes.old.items redos.old.items) }
     ensures refused { FailsAs (edited_once (edit_of edit) (tree_of value.old)) result }
-    ensures children { OnOk result (Touches (path_of edit) edit value.old value.new) }
-    ensures kept_along { OnErr result (Keeps (path_of edit) edit value.old value.new) }
+    ensures children { OnOk result (Touches (edit_path edit) edit value.old value.new) }
+    ensures kept_along { OnErr result (KeepsOnRefusal (edit_path edit) edit value.old value.new) }
     ensures shares { OnOk result (AppendsChange value.old changes.old.items changes.new.items) }
 {
     match change_of_edit(alloc, value, &edit)? {
@@ -76,10 +76,10 @@ fn undo_change(
     redos: &mut Vec<Redo>,
     change: &Change,
 ) -> Result<Edit>
-    requires undone { IsOk (undone (tree_of value.old) (change_of change.now)) }
-    requires again { IsOk (redo_edit (tree_of value.old) (change_of change.now)) }
-    ensures ok { OnOk result (Makes (undone (tree_of value.old) (change_of change.now)) value.new) }
-    ensures again { IfOk result (λ e. redo_edit (tree_of value.old) (change_of change.now)
+    requires undone { IsOk (undone (tree_of value.old) (tree_change_of change.now)) }
+    requires again { IsOk (redo_edit (tree_of value.old) (tree_change_of change.now)) }
+    ensures ok { OnOk result (Makes (undone (tree_of value.old) (tree_change_of change.now)) value.new) }
+    ensures again { IfOk result (λ e. redo_edit (tree_of value.old) (tree_change_of change.now)
         ≡ Ok (edit_of e)) }
     ensures shares { IfOk result (EditSharesParts (whole_value value.old)) }
     ensures kept { OnErr result (tree_of value.new ≡ tree_of value.old) }
@@ -144,8 +144,8 @@ fn reapply(alloc: Global, value: &mut Value, changes: &mut Vec<Change>, edit: &E
     ensures ok { OnOk result
         (Makes (edited_once (edit_of edit.now) (tree_of value.old)) value.new) }
     ensures kept { OnErr result (tree_of value.new ≡ tree_of value.old) }
-    ensures children { OnOk result (Touches (path_of edit.now) edit.now value.old value.new) }
-    ensures kept_along { OnErr result (Keeps (path_of edit.now) edit.now value.old value.new) }
+    ensures children { OnOk result (Touches (edit_path edit.now) edit.now value.old value.new) }
+    ensures kept_along { OnErr result (KeepsOnRefusal (edit_path edit.now) edit.now value.old value.new) }
     ensures changes { changes.new.items ≡ changes.old.items }
     ensures room { OnOk result (vec_len changes.new < vec_capacity changes.new) }
     ensures only { OnlyNoMemory result }

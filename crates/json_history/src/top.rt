@@ -10,7 +10,7 @@ ghost use Rattle.json_command.specs.Reading.{ReturnsReadError};
 ghost use Rattle.json_command.specs.Reporting.{StatusReports};
 ghost use Rattle.json_history.specs.Calls.{edit_error};
 ghost use Rattle.json_history.specs.History.{TreeCall};
-ghost use Rattle.json_history.specs.Spelling.{Asks};
+ghost use Rattle.json_history.specs.Spelling.{AsksForCalls};
 ghost use Rattle.json_history.specs.Replay.{Replays};
 ghost use Rattle.json_history.specs.Run.{WithCalls, RunFails, RunSucceeds, RunReports, IsApplicable, IsInapplicable, IsInvalid};
 
@@ -79,7 +79,7 @@ pub fn run_history<S: Source, K: Sink, E: Sink>(
         → IsInvalid words.now (S.state source.old) (S.state source.new) code place
         → StatusReports 1 (record { code = code; place = place })
         (E.state errs.old) (E.state errs.new) result }
-    ensures words { ((cs : List TreeCall) → ¬ (Asks words.now cs)) → (result ≡ 2) ⊎ (result ≡ 6) }
+    ensures words { ((cs : List TreeCall) → ¬ (AsksForCalls words.now cs)) → (result ≡ 2) ⊎ (result ≡ 6) }
 {
     match execute(alloc, words, source, sink) {
         Ok(()) => Status::Success.number(),

@@ -5,7 +5,7 @@ ghost use Rattle.json_value.specs.EditTrees.{each_in, edit_in};
 ghost use Rattle.json_value.specs.Seen.{seen, elements_seen};
 ghost use Rattle.json_history.specs.Calls.{call_of};
 ghost use Rattle.json_history.specs.History.{TreeCall, edit};
-ghost use Rattle.json_history.specs.Spelling.{single_call, call_in, Spells, Asks, Unspelled};
+ghost use Rattle.json_history.specs.Spelling.{single_call, call_in, SpellsCalls, AsksForCalls, SpellsNoCalls};
 
 use crate::call::Call;
 use json_command::{BAD_WORDS, arguments_error, read_argument};
@@ -31,7 +31,7 @@ fn named_call(array: ArrayView<'_>) -> Option<Call>
 // Reads an edit as a call.
 fn read_edit(alloc: Global, view: View<'_>) -> Result<Call>
     ensures ok { IfOk result (λ c. option_map edit (edit_in (seen view.entry)) ≡ Some (call_of c)) }
-    ensures err { IfErr result (Unspelled (option_map edit (edit_in (seen view.entry)))) }
+    ensures err { IfErr result (SpellsNoCalls (option_map edit (edit_in (seen view.entry)))) }
 {
     let value = view.to_value(alloc)?;
     match from_value::<Edit>(alloc, &value) {
@@ -43,7 +43,7 @@ fn read_edit(alloc: Global, view: View<'_>) -> Result<Call>
 // Reads a call.
 fn read_call(alloc: Global, view: View<'_>) -> Result<Call>
     ensures ok { IfOk result (λ c. call_in (seen view.entry) ≡ Some (call_of c)) }
-    ensures err { IfErr result (Unspelled (call_in (seen view.entry))) }
+    ensures err { IfErr result (SpellsNoCalls (call_in (seen view.entry))) }
 {
     if let Some(array) = view.as_array() {
         if let Some(call) = named_call(array) {
@@ -57,7 +57,7 @@ fn read_call(alloc: Global, view: View<'_>) -> Result<Call>
 fn read_calls(alloc: Global, array: ArrayView<'_>) -> Result<Vec<Call>>
     ensures ok { IfOk result (λ cs.
         each_in call_in (elements_seen array.entry) ≡ Some (map call_of cs.items)) }
-    ensures err { IfErr result (Unspelled (each_in call_in (elements_seen array.entry))) }
+    ensures err { IfErr result (SpellsNoCalls (each_in call_in (elements_seen array.entry))) }
 {
     let mut calls = Vec::new(alloc);
     'calls: for element in array.iter() {
@@ -69,9 +69,9 @@ fn read_calls(alloc: Global, array: ArrayView<'_>) -> Result<Vec<Call>>
 
 // Reads the calls that a word spells, by the usual rules.
 fn read_word(alloc: Global, word: &str) -> Result<Vec<Call>>
-    ensures ok { IfOk result (λ cs. Spells word.now (map call_of cs.items)) }
+    ensures ok { IfOk result (λ cs. SpellsCalls word.now (map call_of cs.items)) }
     ensures err { IfErr result (λ e. (e ≡ no_memory)
-        ⊎ ((e ≡ bad_words) × ((cs : List TreeCall) → ¬ (Spells word.now cs)))) }
+        ⊎ ((e ≡ bad_words) × ((cs : List TreeCall) → ¬ (SpellsCalls word.now cs)))) }
 {
     let doc = read_argument(alloc, word)?;
     match View::packed(doc.view()).as_array() {
@@ -85,9 +85,9 @@ fn read_word(alloc: Global, word: &str) -> Result<Vec<Call>>
 ///
 /// Fails with `BadWords` for all other words, and with `NoMemory` where memory runs out.
 pub fn asked(alloc: Global, words: &Words) -> Result<Vec<Call>>
-    ensures ok { IfOk result (λ cs. Asks words.now (map call_of cs.items)) }
+    ensures ok { IfOk result (λ cs. AsksForCalls words.now (map call_of cs.items)) }
     ensures err { IfErr result (λ e. (e ≡ no_memory)
-        ⊎ ((e ≡ bad_words) × ((cs : List TreeCall) → ¬ (Asks words.now cs)))) }
+        ⊎ ((e ≡ bad_words) × ((cs : List TreeCall) → ¬ (AsksForCalls words.now cs)))) }
     ensures few { IfOk result (λ cs. length cs.items < 2 ^ 32) }
 {
     if words.len() != 1 {

@@ -7,7 +7,7 @@ use Rattle.json_number.specs.Numbers.{value_of, text_of_number}
 use Rattle.json_number.specs.declared.number.Number.{Number}
 use Rattle.json_doc.specs.Readings.{string_of, integer_of, bool_of}
 use Rattle.json_lines.specs.Cells.{Kind, texts, integers, booleans, any_json, dash, cell_of}
-use Rattle.json_lines.specs.Tables.{string_cell, integer_cell, boolean_cell}
+use Rattle.json_lines.specs.Tables.{string_cell, integer_column, boolean_cell}
 
 pub string_cell_is : (k : Kind) (t : Tree) (s : Option (List ℕ)) → k ≡ texts → s ≡ string_of t → string_cell s ≡ cell_of k t
 string_cell_is k t s e f = ap string_cell f ∙ by t ∙ ap (λ x. cell_of x t) (sym e)
@@ -46,10 +46,10 @@ no_integer (text s) f = refl
 no_integer (list ts) f = refl
 no_integer (pairs ps) f = refl
 
-pub integer_cell_is : (k : Kind) (t : Tree) (n : Option Number) → k ≡ integers → option_map value_of n ≡ integer_of t → IfSome n (λ m. t ≡ num (text_of_number m)) → integer_cell (option_map text_of_number n) ≡ cell_of k t
+pub integer_cell_is : (k : Kind) (t : Tree) (n : Option Number) → k ≡ integers → option_map value_of n ≡ integer_of t → IfSome n (λ m. t ≡ num (text_of_number m)) → integer_column (option_map text_of_number n) ≡ cell_of k t
 integer_cell_is k t n e f h = by n f h ∙ ap (λ x. cell_of x t) (sym e)
   where
-    by : (n : Option Number) → option_map value_of n ≡ integer_of t → IfSome n (λ m. t ≡ num (text_of_number m)) → integer_cell (option_map text_of_number n) ≡ cell_of integers t
+    by : (n : Option Number) → option_map value_of n ≡ integer_of t → IfSome n (λ m. t ≡ num (text_of_number m)) → integer_column (option_map text_of_number n) ≡ cell_of integers t
     by None f h = no_integer t f
     by (Some m) f h = some_integer t (text_of_number m) (value_of m) h f
 

@@ -8,7 +8,7 @@ use Rattle.json_grammar.specs.Tree.{Tree}
 use Rattle.json_text.specs.Outside.{SinkState}
 use Rattle.json_text.specs.declared.error.Error.{Error}
 use Rattle.json_print.specs.TextWriting.{WritesText}
-use Rattle.json_lines.specs.Cells.{Column, Command, cell, cell_where, cells, row, row_where}
+use Rattle.json_lines.specs.Cells.{Column, LinesCommand, cell, cell_where, cells, table_row, row_where}
 use Rattle.json_model.specs.Edit.{Step}
 use Rattle.json_value.specs.Steps.{tree_at}
 use Rattle.std.specs.Prelude.{None}
@@ -67,10 +67,10 @@ mapped-more f xs i x l is = ap (λ n. map f (take n xs)) {x = i + 1} {y = suc i}
 
 -- ---- the row
 
-pub row-there : (k : Command) (t u : Tree) → Some u ≡ tree_at k.has t → row k t ≡ cells k.columns t ++ 10 ∷ []
+pub row-there : (k : LinesCommand) (t u : Tree) → Some u ≡ tree_at k.has t → table_row k t ≡ cells k.columns t ++ 10 ∷ []
 row-there k t u e = ap (λ o. row_where o k.columns t) (sym e)
 
-pub row-none : (k : Command) (t : Tree) → None ≡ tree_at k.has t → row k t ≡ []
+pub row-none : (k : LinesCommand) (t : Tree) → None ≡ tree_at k.has t → table_row k t ≡ []
 row-none k t e = ap (λ o. row_where o k.columns t) (sym e)
 
 pub WritesCells-is : (old new : SinkState) (first : Bool) (p q : List Column) (t : Tree) → p ≡ q → WritesCells old new first p t → WritesCells old new first q t

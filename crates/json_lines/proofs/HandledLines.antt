@@ -17,8 +17,9 @@ use Rattle.json_lines.specs.declared.run.Tally.{Tally}
 use Rattle.json_lines.specs.Lines.{lines}
 use Rattle.json_lines.specs.Reading.{IsLineOf}
 use Rattle.json_command.specs.Input.{max_bytes}
+use Rattle.json_command.specs.Reporting.{ReportsUnlessMuted}
 use Rattle.json_lines.specs.Rows.{Outcome, outcome_row, is_bad, error_bytes, rows_of, errors_from, HasWithin}
-use Rattle.json_lines.specs.LineHandling.{LineHas, ReportsUnlessMuted}
+use Rattle.json_lines.specs.LineHandling.{LineHas}
 use Rattle.json_lines.specs.Steps.{RunState, TakesLine, FindsNoLine, ReadingLineFails, HandlingLineFails}
 use Rattle.json_lines.specs.Running.{IsFreshRun, HandlesLines, FinishesLines, FailsEarly, StopsEarly, RowErrorCause}
 use Rattle.json_lines.proofs.ReadingLines.{ReadsLines, ReadsLines-start, ReadsLines-more, ReadsLines-end, ReadsLines-fail, ReadsLines-parted}

@@ -8,11 +8,11 @@ use Rattle.json_text.specs.declared.error.Error.{Error}
 use Rattle.json_text.specs.Errors.{no_memory}
 use Rattle.json_text.proofs.Known.{known-append, known-nil, Consumes-nil}
 use Rattle.json_text.proofs.Putting.{Puts-nil}
-use Rattle.json_lines.specs.LineHandling.{ReportsUnlessMuted}
 use Rattle.json_print.specs.Buffered.{held_behind}
 use Rattle.json_print.specs.Calls.{holds_any}
 use Rattle.json_print.proofs.TextWriting.{front_gained}
 use Rattle.json_command.proofs.Printing.{none_held}
+use Rattle.json_command.specs.Reporting.{ReportsUnlessMuted}
 use Rattle.json_lines.specs.Lines.{lines}
 use Rattle.json_lines.specs.Rows.{Outcome, rows_of}
 use Rattle.json_lines.specs.Running.{StopsEarly}

@@ -21,13 +21,12 @@ use Rattle.json_doc.specs.Reading.{ReadingFailsWith}
 use Rattle.json_doc.specs.declared.doc.Doc.{Doc}
 use Rattle.json_command.proofs.Documents.{root_is}
 use Rattle.json_print.specs.TextWriting.{WritesText}
-use Rattle.json_command.specs.Input.{InputFault, not_utf8, no_text}
-use Rattle.json_lines.specs.Cells.{Command, row}
+use Rattle.json_command.specs.Input.{InputFault, not_utf8, no_text, BlankTest}
+use Rattle.json_lines.specs.Cells.{LinesCommand, table_row}
 use Rattle.json_lines.specs.Outcomes.{max_line, HasOutcome, blank, good, faulty}
 use Rattle.json_lines.specs.Rows.{Row, Bad, outcome_row}
 use Rattle.json_lines.specs.Reading.{ReaderState, NextLineCall, IsLine, RepeatsError}
 use Rattle.json_lines.specs.LineHandling.{WritesRow, RowFails, ReturnsOutcome, IsWithinLimit}
-use Rattle.json_lines.specs.Tables.{BlankTest}
 use Rattle.json_lines.specs.declared.line_reader.Line.{Line}
 use Rattle.json_lines.specs.declared.line_reader.Line.TheVariants.{Whole, TooLong}
 use Rattle.json_lines.proofs.OneOutcome.{some_outcome}
@@ -54,7 +53,7 @@ WritesText-no-memory s text e is =
 
 -- ---- the outcome
 
-module _ (command : Command) (line : List ℕ) (short : length line ≤ max_line) where
+module _ (command : LinesCommand) (line : List ℕ) (short : length line ≤ max_line) where
   -- it is skipped
   pub skips_blank : (s : SinkState) → ws line → WritesRow (HasOutcome command line) s s None
   skips_blank s space = record { outcome = Row []; has_it = blank short space; returned = tt; row = WritesText-nil s }
@@ -81,11 +80,11 @@ module _ (command : Command) (line : List ℕ) (short : length line ≤ max_line
       → WritesRow (HasOutcome command line) s s fault
   returns_fault s error rules fault usual n full u h is = is_bad_line s error fault full (grammar_fault error.code error.place n u (subst (λ r. ReadingFailsWith r line error.code error.place) usual h)) is
 
-  read_usual : (d : Doc) (t : Tree) → ¬ (ws line) → is_text false t line → fits t usual_rules → IsDocOf d t → HasOutcome command line (Row (row command (doc_tree d (doc_root d))))
-  read_usual d t full text fit doc = subst (λ u. HasOutcome command line (Row (row command u))) (sym (root_is d t doc)) (good t short full text fit.0)
+  read_usual : (d : Doc) (t : Tree) → ¬ (ws line) → is_text false t line → fits t usual_rules → IsDocOf d t → HasOutcome command line (Row (table_row command (doc_tree d (doc_root d))))
+  read_usual d t full text fit doc = subst (λ u. HasOutcome command line (Row (table_row command u))) (sym (root_is d t doc)) (good t short full text fit.0)
 
   -- it is a text
-  pub has_row : (d : Doc) (rules : Rules) → rules ≡ usual_rules → ¬ (ws line) → (t : Tree) × is_text false t line × fits t rules × IsDocOf d t → HasOutcome command line (Row (row command (doc_tree d (doc_root d))))
+  pub has_row : (d : Doc) (rules : Rules) → rules ≡ usual_rules → ¬ (ws line) → (t : Tree) × is_text false t line × fits t rules × IsDocOf d t → HasOutcome command line (Row (table_row command (doc_tree d (doc_root d))))
   has_row d rules usual full (t, text, fit, doc) = read_usual d t full text (subst (fits t) usual fit) doc
 
   pub row_written : (bytes : List ℕ) (s u : SinkState) (r : Result (Option (List ℕ)) Error) → HasOutcome command line (Row bytes) → IfOk r (λ fault. (fault ≡ None) × WritesText s u bytes (Ok tt)) → IfOk r (λ fault. WritesRow (HasOutcome command line) s u fault)

@@ -10,7 +10,7 @@ use Rattle.json_text.specs.declared.error.ErrorCode.{ErrorCode}
 use Rattle.json_text.specs.declared.error.Place.{Place}
 use Rattle.json_command.specs.Input.{IsValid, InputFault}
 use Rattle.json_command.proofs.Inputs.{one_input_fault, some_input_fault, valid_no_fault}
-use Rattle.json_lines.specs.Cells.{Command, row}
+use Rattle.json_lines.specs.Cells.{LinesCommand, table_row}
 use Rattle.json_lines.specs.Outcomes.{max_line, HasOutcome, too_long, blank, good, faulty, HaveOutcomes}
 use Rattle.json_lines.specs.Rows.{Outcome, Row, Bad, AllHave, HasWithin, line_too_long}
 
@@ -40,15 +40,15 @@ ws_or_not (x ∷ b) = ws_step x b (some_space (x == 32) (x == 9) (x == 10) (x ==
 
 -- ---- some outcome
 
-by_input : (command : Command) (line : List ℕ) → length line ≤ max_line → ¬ (ws line) → IsValid usual_rules line ⊎ ((code : ErrorCode) × (place : Place) × InputFault usual_rules line code place) → (o : Outcome) × HasOutcome command line o
-by_input command line short full (inl v) = (Row (row command v.tree), good v.tree short full v.input.text v.input.fit.0)
+by_input : (command : LinesCommand) (line : List ℕ) → length line ≤ max_line → ¬ (ws line) → IsValid usual_rules line ⊎ ((code : ErrorCode) × (place : Place) × InputFault usual_rules line code place) → (o : Outcome) × HasOutcome command line o
+by_input command line short full (inl v) = (Row (table_row command v.tree), good v.tree short full v.input.text v.input.fit.0)
 by_input command line short full (inr (code, place, fault)) = (Bad (text_of (record { code = code; place = place })), faulty code place short full fault)
 
-by_space : (command : Command) (line : List ℕ) → length line ≤ max_line → ws line ⊎ ¬ (ws line) → (o : Outcome) × HasOutcome command line o
+by_space : (command : LinesCommand) (line : List ℕ) → length line ≤ max_line → ws line ⊎ ¬ (ws line) → (o : Outcome) × HasOutcome command line o
 by_space command line short (inl space) = (Row [], blank short space)
 by_space command line short (inr full) = by_input command line short full (some_input_fault usual_rules line)
 
-pub some_outcome : (command : Command) (line : List ℕ) → (o : Outcome) × HasOutcome command line o
+pub some_outcome : (command : LinesCommand) (line : List ℕ) → (o : Outcome) × HasOutcome command line o
 some_outcome command line = elim (cases_lt max_line (length line)) [ inl l ↦ (line_too_long, too_long l) | inr s ↦ by_space command line s (ws_or_not line) ]
 
 -- ---- one outcome
@@ -59,7 +59,7 @@ valid line t short h d = record { tree = t; input = record { short = omega (arit
 same_fault : (c c' : ErrorCode) (p p' : Place) → (c ≡ c') × (p ≡ p') → Bad (text_of (record { code = c; place = p })) ≡ Bad (text_of (record { code = c'; place = p' }))
 same_fault c c' p p' (e, f) = rw (e, f) refl
 
-pub one_outcome : (command : Command) (line : List ℕ) (o o' : Outcome) → HasOutcome command line o → HasOutcome command line o' → o ≡ o'
+pub one_outcome : (command : LinesCommand) (line : List ℕ) (o o' : Outcome) → HasOutcome command line o → HasOutcome command line o' → o ≡ o'
 one_outcome command line o o' (too_long l) (too_long m) = refl
 one_outcome command line o o' (too_long l) (blank s w) = absurd (omega (arith, l, s))
 one_outcome command line o o' (too_long l) (good t s n h d) = absurd (omega (arith, l, s))
@@ -70,7 +70,7 @@ one_outcome command line o o' (blank s w) (good t r n h d) = absurd (n w)
 one_outcome command line o o' (blank s w) (faulty c p r n h) = absurd (n w)
 one_outcome command line o o' (good t s n h d) (too_long l) = absurd (omega (arith, l, s))
 one_outcome command line o o' (good t s n h d) (blank r w) = absurd (n w)
-one_outcome command line o o' (good t s n h d) (good u r m k e) = ap (λ x. Row (row command x)) (one_tree false t u line h k)
+one_outcome command line o o' (good t s n h d) (good u r m k e) = ap (λ x. Row (table_row command x)) (one_tree false t u line h k)
 one_outcome command line o o' (good t s n h d) (faulty c p r m k) = absurd (valid_no_fault usual_rules line c p (valid line t s h d) k)
 one_outcome command line o o' (faulty c p s n h) (too_long l) = absurd (omega (arith, l, s))
 one_outcome command line o o' (faulty c p s n h) (blank r w) = absurd (n w)
@@ -78,7 +78,7 @@ one_outcome command line o o' (faulty c p s n h) (good t r m k e) = absurd (vali
 one_outcome command line o o' (faulty c p s n h) (faulty c' p' r m k) = same_fault c c' p p' (one_input_fault usual_rules line c c' p p' h k)
 
 -- these lines have outcomes
-pub some_outcomes : (command : Command) (lines : List (List ℕ)) → (outcomes : List Outcome) × HaveOutcomes command lines outcomes
+pub some_outcomes : (command : LinesCommand) (lines : List (List ℕ)) → (outcomes : List Outcome) × HaveOutcomes command lines outcomes
 some_outcomes command [] = ([], tt)
 some_outcomes command (line ∷ lines) = some_more (some_outcome command line) (some_outcomes command lines)
   where
@@ -87,11 +87,11 @@ some_outcomes command (line ∷ lines) = some_more (some_outcome command line) (
 
 -- ---- the limit
 
-has_any : (command : Command) (line : List ℕ) (o : Outcome) → HasWithin max_line (HasOutcome command) line o → HasOutcome command line o
+has_any : (command : LinesCommand) (line : List ℕ) (o : Outcome) → HasWithin max_line (HasOutcome command) line o → HasOutcome command line o
 has_any command line o (inl (l, is)) = rw is (too_long l)
 has_any command line o (inr (s, h)) = h
 
-pub all_within : (command : Command) (lines : List (List ℕ)) (outcomes : List Outcome) → AllHave (HasWithin max_line (HasOutcome command)) lines outcomes → HaveOutcomes command lines outcomes
+pub all_within : (command : LinesCommand) (lines : List (List ℕ)) (outcomes : List Outcome) → AllHave (HasWithin max_line (HasOutcome command)) lines outcomes → HaveOutcomes command lines outcomes
 all_within command [] [] h = tt
 all_within command (line ∷ lines) (o ∷ os) h = (has_any command line o h.0, all_within command lines os h.1)
 all_within command [] (o ∷ os) h = absurd h

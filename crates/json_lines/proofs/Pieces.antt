@@ -1,7 +1,7 @@
 -- Bytes that are filtered in pieces, where the first piece ends with a newline.
 use Rattle.std.proofs.Common.{◌≡◌, inl, inr, ℕ, ◌+◌, ◌==◌, Bool, true, false, ◌||◌, List, [], ◌∷◌, ◌++◌, length, refl, sym, ap, ◌∙◌, subst, append_assoc}
 use Rattle.std.proofs.lemmas.Bool.{cond-false, eqb-true}
-use Rattle.json_lines.specs.Cells.{Command}
+use Rattle.json_lines.specs.Cells.{LinesCommand}
 use Rattle.json_lines.specs.Laws.{EndsWithNewline, Filters}
 use Rattle.json_lines.specs.Lines.{lines, has_newline}
 use Rattle.json_lines.specs.Outcomes.{HasOutcome, HaveOutcomes}
@@ -40,7 +40,7 @@ lines_in_pieces a b (inl none) = ap (λ l. lines (l ++ b)) none ∙ ap (λ l. li
 lines_in_pieces a b (inr (front, is)) =
     ap (λ l. lines (l ++ b)) is ∙ ap lines (append_assoc front (10 ∷ []) b) ∙ lines_apart front [] b refl ∙ ap (λ l. lines l ++ lines b) (sym is)
 
-pub piece_by_piece : (command : Command) (number : ℕ) (a b rows rows' errors errors' : List ℕ) (bad bad' : Bool) → EndsWithNewline a → Filters command number a rows errors bad → Filters command (number + length (lines a)) b rows' errors' bad'
+pub piece_by_piece : (command : LinesCommand) (number : ℕ) (a b rows rows' errors errors' : List ℕ) (bad bad' : Bool) → EndsWithNewline a → Filters command number a rows errors bad → Filters command (number + length (lines a)) b rows' errors' bad'
     → Filters command number (a ++ b) (rows ++ rows') (errors ++ errors') (bad || bad')
 piece_by_piece command number a b rows rows' errors errors' bad bad' ends f g =
     let os = f.outcomes in

@@ -14,14 +14,14 @@ use Rattle.json_text.specs.declared.error.Place.TheVariants.{None as nowhere, Re
 use Rattle.json_text.proofs.Known.{Consumes-nil}
 use Rattle.json_text.proofs.Putting.{AppendsFront-first}
 use Rattle.json_command.specs.Reporting.{Reports}
-use Rattle.json_lines.specs.Cells.{Command}
+use Rattle.json_lines.specs.Cells.{LinesCommand}
 use Rattle.json_lines.specs.Lines.{lines}
 use Rattle.json_lines.specs.Outcomes.{HasOutcome, HaveOutcomes}
 use Rattle.json_command.specs.Input.{max_bytes}
 use Rattle.json_lines.specs.Rows.{Outcome, HasWithin, rows_of, errors_from, some_bad}
 use Rattle.json_lines.specs.RunResults.{OfOutcomes, Completes, RefusesWords, AppendsRowsPrefix, TellsErrorsPrefix, FailsBeforeReading, FailsWhileReading, FailsRun, RunResult, NothingFails}
 use Rattle.json_lines.specs.TopCall.{Streams, GainsRows, WritesAllRows, WritesPartOfTable, WritesPrefixes, RunErrorCause, run_status}
-use Rattle.json_lines.specs.Words.{Asks, IsAsked}
+use Rattle.json_lines.specs.Words.{AsksForColumns, IsLinesRequest}
 use Rattle.json_lines.specs.declared.run.Tally.{Tally}
 use Rattle.json_lines.proofs.HandledLines.{IfSome-map}
 use Rattle.json_lines.proofs.OneOutcome.{some_outcomes, all_within}
@@ -29,13 +29,13 @@ use Rattle.json_lines.proofs.RunStatus.{Reports-from, Reports-last}
 use Rattle.json_lines.proofs.Statuses.{status_above, reading_rose, writing_rose, too_many, memory_alone}
 use Rattle.json_lines.proofs.Totals.{rows_of-append, AllHave-append}
 
-abbrev within : Command → List ℕ → Outcome → Type 0
+abbrev within : LinesCommand → List ℕ → Outcome → Type 0
 within command = HasWithin 1048576 (HasOutcome command)
 
 -- ---- the run is complete
 
 -- of the outcomes of all lines
-of_lines : (words : List (List ℕ)) (command : Command) (known : Option (List ℕ)) (a c errs errs' : SinkState) (t : Tally) (Q : List Outcome → Type 0) → Asks words command
+of_lines : (words : List (List ℕ)) (command : LinesCommand) (known : Option (List ℕ)) (a c errs errs' : SinkState) (t : Tally) (Q : List Outcome → Type 0) → AsksForColumns words command
     → ((b : List ℕ) → (h : GainsRows (within command) (lines b) a c errs errs' t) → Q h.outcomes) → IfSome known (λ b. GainsRows (within command) (lines b) a c errs errs' t) → OfOutcomes words known Q
 of_lines words command known a c errs errs' t Q asked f h =
     record {
@@ -49,7 +49,7 @@ status_bool : (t : Bool) (n : ℕ) → n ≡ (if t then 1 else 0) → (n ≡ 0) 
 status_bool true n h = inr h
 status_bool false n h = inl h
 
-pub completes-from : (words : List (List ℕ)) (command : Command) (a c : Streams) (t : Tally) (n : ℕ) → Asks words command → WritesAllRows (within command) a c t → n ≡ (if t.bad then 1 else 0) → Completes words a c n
+pub completes-from : (words : List (List ℕ)) (command : LinesCommand) (a c : Streams) (t : Tally) (n : ℕ) → AsksForColumns words command → WritesAllRows (within command) a c t → n ≡ (if t.bad then 1 else 0) → Completes words a c n
 completes-from words command a c t n asked all is =
     record {
       known = status_bool t.bad n is;
@@ -62,7 +62,7 @@ completes-from words command a c t n asked all is =
 -- ---- the run failed
 
 -- the outcomes of all lines, where those of the later ones are any
-module _ (command : Command) (a c : Streams) (errs : SinkState) (muted : Bool) (bytes : List ℕ) (h : WritesPrefixes (within command) a.sink c.sink a.errs c.errs muted bytes) where
+module _ (command : LinesCommand) (a c : Streams) (errs : SinkState) (muted : Bool) (bytes : List ℕ) (h : WritesPrefixes (within command) a.sink c.sink a.errs c.errs muted bytes) where
   abbrev later_outcomes : List Outcome
   later_outcomes = (some_outcomes command h.later).0
 
@@ -101,7 +101,7 @@ cause_errs Io Writing bytes a c errs h = h
 cause_errs TooLarge nowhere bytes a c errs h = h
 cause_errs code place bytes a c errs h = absurd h
 
-pub fails-from : (words : List (List ℕ)) (command : Command) (a c : Streams) (errs : SinkState) (t : Tally) (e : Error) (n : ℕ) → Asks words command → WritesPartOfTable (within command) a c t e → (t.muted ≡ false → Reports (text_of e) c.errs errs) → (t.muted ≡ true → errs ≡ c.errs)
+pub fails-from : (words : List (List ℕ)) (command : LinesCommand) (a c : Streams) (errs : SinkState) (t : Tally) (e : Error) (n : ℕ) → AsksForColumns words command → WritesPartOfTable (within command) a c t e → (t.muted ≡ false → Reports (text_of e) c.errs errs) → (t.muted ≡ true → errs ≡ c.errs)
     → n ≡ run_status e.code e.place → FailsRun words a (record { source = c.source; sink = c.sink; errs = errs }) n
 fails-from words command a c errs t e n asked part reported silent is =
     record {
@@ -138,7 +138,7 @@ memory_ran_out words s sink errs errs' e n is told status =
       write_told = λ l. absurd (omega (arith, l));
     }
 
-pub unasked-from : (words : List (List ℕ)) (s : SourceState) (sink errs errs' : SinkState) (e : Error) (n : ℕ) → Reports (text_of e) errs errs' → n ≡ run_status e.code e.place → (e ≡ no_memory) ⊎ ((e ≡ bad_words) × ¬ (IsAsked words))
+pub unasked-from : (words : List (List ℕ)) (s : SourceState) (sink errs errs' : SinkState) (e : Error) (n : ℕ) → Reports (text_of e) errs errs' → n ≡ run_status e.code e.place → (e ≡ no_memory) ⊎ ((e ≡ bad_words) × ¬ (IsLinesRequest words))
     → RunResult words (record { source = s; sink = sink; errs = errs }) (record { source = s; sink = sink; errs = errs' }) n
 unasked-from words s sink errs errs' e n reports status (inl is) = inr (inr (memory_ran_out words s sink errs errs' e n is reports status))
 unasked-from words s sink errs errs' e n reports status (inr (is, unasked)) =
@@ -199,11 +199,11 @@ module _ (words : List (List ℕ)) (old new : Streams) (n : ℕ) where
   write-told (inr (inl (e, r))) l = absurd (omega (arith, l, ap (λ (s : SinkState). s.faults) r.unwritten))
   write-told (inr (inr b)) l = b.write_told l
 
-  unasked_fails : ¬ (IsAsked words) → (b : FailsRun words old new n) → FailsBeforeReading b.error old new ⊎ FailsWhileReading words b.bytes b.error old new → n ≡ 6
+  unasked_fails : ¬ (IsLinesRequest words) → (b : FailsRun words old new n) → FailsBeforeReading b.error old new ⊎ FailsWhileReading words b.bytes b.error old new → n ≡ 6
   unasked_fails none b (inl u) = b.status_is ∙ ap (λ (x : Error). run_status x.code x.place) u.lacks
   unasked_fails none b (inr g) = absurd (none (g.command, g.asked))
 
-  pub is-unasked : RunResult words old new n → ¬ (IsAsked words) → (n ≡ 2) ⊎ (n ≡ 6)
+  pub is-unasked : RunResult words old new n → ¬ (IsLinesRequest words) → (n ≡ 2) ⊎ (n ≡ 6)
   is-unasked (inl d) none = absurd (none (d.rows.command, d.rows.asked))
   is-unasked (inr (inl (e, r))) none = inl e
   is-unasked (inr (inr b)) none = inr (unasked_fails none b b.did)

@@ -11,12 +11,11 @@ use Rattle.json_text.specs.declared.error.Place.TheVariants.{None as nowhere, Wr
 use Rattle.json_text.specs.Errors.{no_memory, writing_failed}
 use Rattle.json_text.proofs.Known.{Consumes-nil, Appends-nil, Appends-kept, Appends-trans}
 use Rattle.json_text.proofs.Putting.{AppendsFront-first, AppendsFront-then, Puts-nil}
-use Rattle.json_command.specs.Reporting.{Reports}
+use Rattle.json_command.specs.Reporting.{Reports, ReportsUnlessMuted}
 use Rattle.json_lines.specs.declared.run.Tally.{Tally}
 use Rattle.json_lines.specs.Lines.{lines}
 use Rattle.json_lines.specs.Reading.{NextLineCause}
 use Rattle.json_lines.specs.Rows.{Outcome, rows_of}
-use Rattle.json_lines.specs.LineHandling.{ReportsUnlessMuted}
 use Rattle.json_lines.specs.Steps.{RunState}
 use Rattle.json_lines.specs.Running.{IsFreshRun, HandlesLines, FinishesLines, FailsEarly, StopsEarly, RowErrorCause}
 use Rattle.json_lines.specs.TopCall.{Streams, RunErrorCause, GainsRows, WritesAllRows, WritesFewerRows}

@@ -3,7 +3,7 @@ use Rattle.std.proofs.Common.{◌≡◌, ℕ, suc, ◌+◌, Bool, true, false, �
 use Rattle.json_text.specs.Outside.{SinkState}
 use Rattle.json_text.proofs.Putting.{Puts-then, Puts-first}
 use Rattle.json_lines.specs.Rows.{Outcome, outcome_row, is_bad, error_bytes, rows_of, errors_from, some_bad, AllHave}
-use Rattle.json_lines.specs.LineHandling.{ReportsUnlessMuted}
+use Rattle.json_command.specs.Reporting.{ReportsUnlessMuted}
 
 pub rows_of-append : (os ps : List Outcome) → rows_of (os ++ ps) ≡ rows_of os ++ rows_of ps
 rows_of-append [] ps = refl

@@ -25,8 +25,8 @@ use Rattle.json_data.specs.Spelled.{Unspelled}
 use Rattle.json_data.specs.ValueCalls.{TreeReadingFails}
 use Rattle.json_data.proofs.ValueData.{same_edit}
 use Rattle.json_command.specs.Input.{IsInput, IsValid}
-use Rattle.json_lines.specs.Cells.{Column, Command}
-use Rattle.json_lines.specs.Words.{column_of_pair, column_in, columns_in, WordSpells, WordSpellsNothing, NoColumns, SpellsCommand, SpellsHas, Asks, split_words}
+use Rattle.json_lines.specs.Cells.{Column, LinesCommand}
+use Rattle.json_lines.specs.Words.{column_of_pair, column_in, columns_in, WordSpells, WordSpellsNothing, NoColumns, SpellsCommand, SpellsHas, AsksForColumns, split_words}
 
 -- ---- paths
 
@@ -153,11 +153,11 @@ not_few word cs n s is none columns k p q =
 
 -- ---- the command
 
-pub no_command : (word : List ℕ) (has : Option (List ℕ)) (e : Error) → (e ≡ no_memory) ⊎ ((e ≡ bad_words) × NoColumns word) → (e ≡ no_memory) ⊎ ((e ≡ bad_words) × ((k : Command) → ¬ (SpellsCommand word has k)))
+pub no_command : (word : List ℕ) (has : Option (List ℕ)) (e : Error) → (e ≡ no_memory) ⊎ ((e ≡ bad_words) × NoColumns word) → (e ≡ no_memory) ⊎ ((e ≡ bad_words) × ((k : LinesCommand) → ¬ (SpellsCommand word has k)))
 no_command word has e (inl m) = inl m
 no_command word has e (inr (b, n)) = inr (b, λ k s. n k.columns s.columns s.some s.few)
 
-pub no_has : (word : List ℕ) (has : Option (List ℕ)) (e : Error) → (e ≡ no_memory) ⊎ ((e ≡ bad_words) × ((p : List Step) → ¬ (SpellsHas has p))) → (e ≡ no_memory) ⊎ ((e ≡ bad_words) × ((k : Command) → ¬ (SpellsCommand word has k)))
+pub no_has : (word : List ℕ) (has : Option (List ℕ)) (e : Error) → (e ≡ no_memory) ⊎ ((e ≡ bad_words) × ((p : List Step) → ¬ (SpellsHas has p))) → (e ≡ no_memory) ⊎ ((e ≡ bad_words) × ((k : LinesCommand) → ¬ (SpellsCommand word has k)))
 no_has word has e (inl m) = inl m
 no_has word has e (inr (b, n)) = inr (b, λ k s. n k.has s.has)
 
@@ -185,12 +185,12 @@ one_has : (has : Option (List ℕ)) (p q : List Step) → SpellsHas has p → Sp
 one_has None p q h k = h ∙ sym k
 one_has (Some word) p q h k = one_spelled path_in word p q h k
 
-same_command : (cs ds : List Column) (p q : List Step) → cs ≡ ds → p ≡ q → ◌≡◌ {A = Command} (record { columns = cs; has = p }) (record { columns = ds; has = q })
+same_command : (cs ds : List Column) (p q : List Step) → cs ≡ ds → p ≡ q → ◌≡◌ {A = LinesCommand} (record { columns = cs; has = p }) (record { columns = ds; has = q })
 same_command cs ds p q e f = rw (e, f) refl
 
-by_parts : (parts : Option (List ℕ × Option (List ℕ))) (c d : Command) → MatchOption parts ⊥ (λ p. SpellsCommand p.0 p.1 c) → MatchOption parts ⊥ (λ p. SpellsCommand p.0 p.1 d) → c ≡ d
+by_parts : (parts : Option (List ℕ × Option (List ℕ))) (c d : LinesCommand) → MatchOption parts ⊥ (λ p. SpellsCommand p.0 p.1 c) → MatchOption parts ⊥ (λ p. SpellsCommand p.0 p.1 d) → c ≡ d
 by_parts None c d h k = absurd h
 by_parts (Some p) c d h k = same_command c.columns d.columns c.has d.has (one_spelled columns_in p.0 c.columns d.columns h.columns k.columns) (one_has p.1 c.has d.has h.has k.has)
 
-pub one_command : (words : List (List ℕ)) (c d : Command) → Asks words c → Asks words d → c ≡ d
+pub one_command : (words : List (List ℕ)) (c d : LinesCommand) → AsksForColumns words c → AsksForColumns words d → c ≡ d
 one_command words c d h k = by_parts (split_words words) c d h k

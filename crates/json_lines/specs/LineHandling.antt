@@ -1,8 +1,7 @@
 -- What is done with one line.
-use Rattle.std.specs.Prelude.{◌≡◌, ℕ, ◌+◌, ◌≤◌, length, Bool, true, false, ◌||◌, List, None, Some, Ok, Err, ⊤}
+use Rattle.std.specs.Prelude.{◌≡◌, ℕ, ◌+◌, ◌≤◌, length, ◌||◌, List, None, Some, Ok, Err, ⊤}
 use Rattle.std.specs.declared.option.Option.{Option}
 use Rattle.json_text.specs.Outside.{SinkState}
-use Rattle.json_text.specs.Transfer.{Puts}
 use Rattle.json_print.specs.TextWriting.{WritesText}
 use Rattle.json_text.specs.declared.error.Error.{Error}
 use Rattle.json_text.specs.declared.message.FaultText.{FaultText}
@@ -10,6 +9,7 @@ use Rattle.json_lines.specs.declared.line_reader.Line.{Line}
 use Rattle.json_lines.specs.declared.line_reader.Line.TheVariants.{Whole, TooLong}
 use Rattle.json_lines.specs.declared.run.Tally.{Tally}
 use Rattle.json_lines.specs.Rows.{Outcome, Row, Bad, outcome_row, is_bad, error_bytes, line_too_long}
+use Rattle.json_command.specs.Reporting.{ReportsUnlessMuted}
 
 -- the error text that is returned: none for a row
 abbrev pub ReturnsOutcome : Outcome → Option FaultText → Type 0
@@ -29,13 +29,6 @@ pub record RowFails (has : Outcome → Type 0) (old new : SinkState) (error : Er
   pub outcome : Outcome
   pub has_it : has outcome
   pub row : WritesText old new (outcome_row outcome) (Err error)
-
--- this text was reported, unless reports were given up, as they are where a call fails
-abbrev pub ReportsUnlessMuted : Bool → Bool → SinkState → SinkState → List ℕ → Type 0
-ReportsUnlessMuted false false old new text = Puts old new text (Ok tt)
-ReportsUnlessMuted false true old new text = (error : Error) × Puts old new text (Err error)
-ReportsUnlessMuted true true old new text = new ≡ old
-ReportsUnlessMuted true false old new text = ⊥
 
 -- the outcome of a line that was read
 abbrev pub LineHas : (List ℕ → Outcome → Type 0) → Line → Outcome → Type 0

@@ -7,7 +7,7 @@ use Rattle.json_text.specs.Ruled.{usual_rules}
 use Rattle.json_text.specs.declared.error.ErrorCode.{ErrorCode}
 use Rattle.json_text.specs.declared.error.Place.{Place}
 use Rattle.json_command.specs.Input.{InputFault}
-use Rattle.json_lines.specs.Cells.{Command, row}
+use Rattle.json_lines.specs.Cells.{LinesCommand, table_row}
 use Rattle.json_lines.specs.Rows.{Outcome, Row, Bad, AllHave, line_too_long}
 
 -- the maximum number of bytes of a line
@@ -17,13 +17,13 @@ max_line = 1048576
 -- A line with more bytes is bad. Of the others, one of whitespace alone (RFC 8259, section 2) is
 -- skipped. A text of a tree of at most 254 levels has the row of the tree. Every other line is bad:
 -- it is not UTF-8 (section 8.1), or has a fault of the grammar.
-pub data HasOutcome (command : Command) : List ℕ → Outcome → Type 0 where
+pub data HasOutcome (command : LinesCommand) : List ℕ → Outcome → Type 0 where
   too_long : {line : List ℕ} → max_line < length line → HasOutcome command line line_too_long
   blank : {line : List ℕ} → length line ≤ max_line → ws line → HasOutcome command line (Row [])
-  good : {line : List ℕ} (t : Tree) → length line ≤ max_line → ¬ (ws line) → is_text false t line → depth t ≤ 254 → HasOutcome command line (Row (row command t))
+  good : {line : List ℕ} (t : Tree) → length line ≤ max_line → ¬ (ws line) → is_text false t line → depth t ≤ 254 → HasOutcome command line (Row (table_row command t))
   faulty : {line : List ℕ} (code : ErrorCode) (place : Place) → length line ≤ max_line → ¬ (ws line) → InputFault usual_rules line code place
       → HasOutcome command line (Bad (text_of (record { code = code; place = place })))
 
 -- these lines have these outcomes, one each
-abbrev pub HaveOutcomes : Command → List (List ℕ) → List Outcome → Type 0
+abbrev pub HaveOutcomes : LinesCommand → List (List ℕ) → List Outcome → Type 0
 HaveOutcomes command lines outcomes = AllHave (HasOutcome command) lines outcomes

@@ -6,20 +6,20 @@ use Rattle.json_text.specs.Known.{Consumes, Appends, told_as}
 use Rattle.json_text.specs.Outside.{Rose}
 use Rattle.json_text.specs.Transfer.{AppendsFront}
 use Rattle.json_text.specs.declared.error.Error.{Error}
-use Rattle.json_lines.specs.Cells.{Command}
+use Rattle.json_lines.specs.Cells.{LinesCommand}
 use Rattle.json_lines.specs.Lines.{lines}
 use Rattle.json_lines.specs.Outcomes.{HaveOutcomes}
 use Rattle.json_command.specs.Input.{max_bytes}
 use Rattle.json_command.specs.Reporting.{Reports}
 use Rattle.json_lines.specs.Rows.{Outcome, rows_of, errors_from, some_bad}
 use Rattle.json_lines.specs.TopCall.{Streams, RunErrorCause, run_status}
-use Rattle.json_lines.specs.Words.{Asks, IsAsked}
+use Rattle.json_lines.specs.Words.{AsksForColumns, IsLinesRequest}
 
 -- the words ask for a command, and where the bytes of the source are known, this holds of the
 -- outcomes of their lines
 pub record OfOutcomes (words : List (List ℕ)) (known : Option (List ℕ)) (holds : List Outcome → Type 0) : Type 0 where
-  pub command : Command
-  pub asked : Asks words command
+  pub command : LinesCommand
+  pub asked : AsksForColumns words command
   pub so : IfSome known (λ bytes. (outcomes : List Outcome) × HaveOutcomes command (lines bytes) outcomes × holds outcomes)
 
 -- ---- status 0 or 1: the run is complete
@@ -54,7 +54,7 @@ pub record Completes (words : List (List ℕ)) (old new : Streams) (status : ℕ
 -- ---- status 2: the words ask for nothing, and nothing was read or written
 
 pub record RefusesWords (words : List (List ℕ)) (old new : Streams) : Type 0 where
-  pub unasked : ¬ (IsAsked words)
+  pub unasked : ¬ (IsLinesRequest words)
   pub unread : new.source ≡ old.source
   pub unwritten : new.sink ≡ old.sink
   pub told : Reports (text_of bad_words) old.errs new.errs
@@ -62,14 +62,14 @@ pub record RefusesWords (words : List (List ℕ)) (old new : Streams) : Type 0 w
 -- ---- status 4, 5, 6 or 7: the run failed
 
 -- the sink gained a prefix of the rows of the lines of these bytes
-pub record AppendsRowsPrefix (command : Command) (bytes : List ℕ) (old new : Streams) : Type 0 where
+pub record AppendsRowsPrefix (command : LinesCommand) (bytes : List ℕ) (old new : Streams) : Type 0 where
   pub outcomes : List Outcome
   pub have : HaveOutcomes command (lines bytes) outcomes
   pub gained : AppendsFront old.sink.gained new.sink.gained (rows_of outcomes)
 
 -- the errors of the first of their lines were reported and then the error of the run, or a prefix
 -- of this where that sink failed or memory ran out
-pub record TellsErrorsPrefix (command : Command) (bytes : List ℕ) (error : Error) (old new : Streams) : Type 0 where
+pub record TellsErrorsPrefix (command : LinesCommand) (bytes : List ℕ) (error : Error) (old new : Streams) : Type 0 where
   pub outcomes : List Outcome
   pub have : HaveOutcomes command (lines bytes) outcomes
   pub first : List Outcome
@@ -86,8 +86,8 @@ pub record FailsBeforeReading (error : Error) (old new : Streams) : Type 0 where
 
 -- the words ask for a command, and a part of it was done
 pub record FailsWhileReading (words : List (List ℕ)) (bytes : List ℕ) (error : Error) (old new : Streams) : Type 0 where
-  pub command : Command
-  pub asked : Asks words command
+  pub command : LinesCommand
+  pub asked : AsksForColumns words command
   pub rows : IfSome old.source.left (λ _. AppendsRowsPrefix command bytes old new)
   pub errors : IfSome old.source.left (λ _. TellsErrorsPrefix command bytes error old new)
 
@@ -111,7 +111,7 @@ RunResult words old new status = Completes words old new status ⊎ ((status ≡
 -- the words ask for a command, the source has at most 4,294,967,295 bytes, which are known, and
 -- no call failed
 pub record NothingFails (words : List (List ℕ)) (old new : Streams) : Type 0 where
-  pub asked : IsAsked words
+  pub asked : IsLinesRequest words
   pub bytes : List ℕ
   pub known : old.source.left ≡ Some bytes
   pub few : length bytes ≤ max_bytes

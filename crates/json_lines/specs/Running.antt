@@ -15,8 +15,8 @@ use Rattle.json_lines.specs.declared.run.Tally.{Tally}
 use Rattle.json_lines.specs.Lines.{lines}
 use Rattle.json_lines.specs.Reading.{line_reader_state, ReadsBytes, NextLineCause}
 use Rattle.json_command.specs.Input.{max_bytes}
+use Rattle.json_command.specs.Reporting.{ReportsUnlessMuted}
 use Rattle.json_lines.specs.Rows.{Outcome, rows_of, errors_from, some_bad, AllHave}
-use Rattle.json_lines.specs.LineHandling.{ReportsUnlessMuted}
 use Rattle.json_lines.specs.Steps.{RunState}
 
 -- nothing was read or counted yet

@@ -14,8 +14,8 @@ use Rattle.json_text.specs.declared.error.Place.TheVariants.{None as nowhere, Re
 use Rattle.json_lines.specs.declared.run.Tally.{Tally}
 use Rattle.json_lines.specs.Lines.{lines}
 use Rattle.json_command.specs.Input.{max_bytes}
+use Rattle.json_command.specs.Reporting.{ReportsUnlessMuted}
 use Rattle.json_lines.specs.Rows.{Outcome, rows_of, errors_from, some_bad, AllHave}
-use Rattle.json_lines.specs.LineHandling.{ReportsUnlessMuted}
 use Rattle.json_lines.specs.Running.{StopsEarly}
 
 -- the states of the source, the sink and the sink of errors

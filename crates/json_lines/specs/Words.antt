@@ -6,7 +6,7 @@ use Rattle.json_model.specs.Edit.{Step}
 use Rattle.json_text.specs.Ruled.{usual_rules}
 use Rattle.json_value.specs.EditTrees.{both, each_in, path_in}
 use Rattle.json_command.specs.Input.{IsInput}
-use Rattle.json_lines.specs.Cells.{Kind, texts, integers, booleans, any_json, Column, Command}
+use Rattle.json_lines.specs.Cells.{Kind, texts, integers, booleans, any_json, Column, LinesCommand}
 
 -- the kind of this name
 abbrev pub kind_named : List ℕ → Option Kind
@@ -61,15 +61,15 @@ abbrev pub SpellsHas : Option (List ℕ) → List Step → Type 0
 SpellsHas None has = has ≡ []
 SpellsHas (Some word) has = WordSpells path_in word has
 
-pub record SpellsCommand (columns_word : List ℕ) (has_word : Option (List ℕ)) (command : Command) : Type 0 where
+pub record SpellsCommand (columns_word : List ℕ) (has_word : Option (List ℕ)) (command : LinesCommand) : Type 0 where
   pub columns : WordSpells columns_in columns_word command.columns
   pub some : 1 ≤ length command.columns
   pub few : length command.columns ≤ 64
   pub has : SpellsHas has_word command.has
 
 -- the words ask for this
-abbrev pub Asks : List (List ℕ) → Command → Type 0
-Asks words command = MatchOption (split_words words) ⊥ (λ p. SpellsCommand p.0 p.1 command)
+abbrev pub AsksForColumns : List (List ℕ) → LinesCommand → Type 0
+AsksForColumns words command = MatchOption (split_words words) ⊥ (λ p. SpellsCommand p.0 p.1 command)
 
-abbrev pub IsAsked : List (List ℕ) → Type 0
-IsAsked words = (command : Command) × Asks words command
+abbrev pub IsLinesRequest : List (List ℕ) → Type 0
+IsLinesRequest words = (command : LinesCommand) × AsksForColumns words command

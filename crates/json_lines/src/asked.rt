@@ -9,9 +9,9 @@ ghost use Rattle.json_value.specs.Denotes.{tree_of};
 ghost use Rattle.json_value.specs.Edits.{path_steps};
 ghost use Rattle.json_value.specs.EditTrees.{path_in, each_in};
 ghost use Rattle.json_value.specs.Seen.{seen, elements_seen};
-ghost use Rattle.json_lines.specs.Cells.{Command};
+ghost use Rattle.json_lines.specs.Cells.{LinesCommand};
 ghost use Rattle.json_lines.specs.Tables.{cell_kind, table_column, table_command};
-ghost use Rattle.json_lines.specs.Words.{kind_named as spec_kind_named, kind_in, column_of_pair, column_in, columns_in, WordSpells, WordSpellsNothing, NoColumns, is_has_option, split_words, SpellsCommand, SpellsHas, Asks, IsAsked};
+ghost use Rattle.json_lines.specs.Words.{kind_named as spec_kind_named, kind_in, column_of_pair, column_in, columns_in, WordSpells, WordSpellsNothing, NoColumns, is_has_option, split_words, SpellsCommand, SpellsHas, AsksForColumns, IsLinesRequest};
 
 use crate::table::{Column, Kind, Table};
 use json_command::{BAD_WORDS, arguments_error, read_argument};
@@ -203,7 +203,7 @@ fn read_table(alloc: Global, columns: &str, has: Option<&str>) -> Result<Table>
         SpellsCommand columns.now (option_map (λ s. s.now) has.entry) (table_command t)) }
     ensures err { IfErr result (λ e. (e ≡ no_memory)
         ⊎ ((e ≡ bad_words)
-        × ((k : Command) → ¬ (SpellsCommand columns.now (option_map (λ s. s.now) has.entry) k)))) }
+        × ((k : LinesCommand) → ¬ (SpellsCommand columns.now (option_map (λ s. s.now) has.entry) k)))) }
 {
     let columns = limited_columns(alloc, columns)?;
     match read_has(alloc, has) {
@@ -248,8 +248,8 @@ fn split_words(words: &Words) -> Option<(&str, Option<&str>)>
 
 // Reads the table that the words ask for.
 pub(crate) fn asked(alloc: Global, words: &Words) -> Result<Table>
-    ensures ok { IfOk result (λ t. Asks words.now (table_command t)) }
-    ensures err { IfErr result (λ e. (e ≡ no_memory) ⊎ ((e ≡ bad_words) × ¬ (IsAsked words.now))) }
+    ensures ok { IfOk result (λ t. AsksForColumns words.now (table_command t)) }
+    ensures err { IfErr result (λ e. (e ≡ no_memory) ⊎ ((e ≡ bad_words) × ¬ (IsLinesRequest words.now))) }
 {
     match split_words(words) {
         Some((columns, has)) => read_table(alloc, columns, has),

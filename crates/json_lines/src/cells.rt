@@ -6,7 +6,7 @@ ghost use Rattle.json_number.specs.Numbers.{text_of_number};
 ghost use Rattle.json_print.specs.Adding.{Adds};
 ghost use Rattle.json_print.specs.TextWriting.{WritesText};
 ghost use Rattle.json_lines.specs.Cells.{cell_of, cell_where};
-ghost use Rattle.json_lines.specs.Tables.{cell_kind, cell_separator, string_cell, integer_cell, boolean_cell};
+ghost use Rattle.json_lines.specs.Tables.{cell_kind, cell_separator, string_cell, integer_column, boolean_cell};
 
 use crate::table::Kind;
 use json_doc::DocView;
@@ -60,7 +60,7 @@ fn show_string_cell<W: Sink>(out: &mut BufferedWriter<W>, string: Option<&str>) 
 fn show_integer_cell<W: Sink>(out: &mut BufferedWriter<W>, number: Option<Number>) -> Shown
     ensures { Adds
         (⟦<BufferedWriter<W> as Sink>⟧.state out.old) (⟦<BufferedWriter<W> as Sink>⟧.state out.new)
-        (integer_cell (option_map text_of_number number)) result }
+        (integer_column (option_map text_of_number number)) result }
 {
     match number {
         Some(number) => show_integer(out, number),

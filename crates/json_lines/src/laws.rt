@@ -1,6 +1,6 @@
 //! Laws of lines, of their outcomes and of the words.
 ghost use Rattle.std.specs.Prelude.{List, ℕ};
-ghost use Rattle.json_lines.specs.Laws.{SomeOutcome, OneOutcome, OneCommand, LinesInPieces, PieceByPiece};
+ghost use Rattle.json_lines.specs.Laws.{SomeOutcome, OneOutcome, OneLinesCommand, LinesInPieces, PieceByPiece};
 ghost use Rattle.json_lines.specs.Lines.{LineByLine};
 
 /// The lines of some bytes are the first line and then those of the bytes after it.
@@ -20,7 +20,7 @@ pub fn one_outcome()
 
 /// Words ask for at most one command.
 pub fn one_command()
-    ensures { OneCommand }
+    ensures { OneLinesCommand }
 {}
 
 /// Where some bytes end with a newline, the lines of these and of others after them are those of

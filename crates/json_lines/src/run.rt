@@ -4,9 +4,9 @@ ghost use Rattle.json_text.specs.Transfer.{Puts};
 ghost use Rattle.json_lines.specs.Rows.{Outcome, HasWithin, error_line};
 ghost use Rattle.json_lines.specs.Reading.{line_reader_state};
 ghost use Rattle.json_lines.specs.Running.{IsFreshRun, FinishesLines, FailsEarly, run_state};
-ghost use Rattle.json_lines.specs.LineHandling.{ReportsUnlessMuted};
 ghost use Rattle.json_lines.specs.TopCall.{IsNewTally, WritesAllRows, WritesFewerRows, streams};
 ghost use Rattle.json_lines.specs.Steps.{StepResult, StepFails};
+ghost use Rattle.json_command.specs.Reporting.{ReportsUnlessMuted};
 
 use crate::{Line, LineReader};
 use itoa::Buffer;
@@ -50,7 +50,7 @@ pub(crate) struct Tally {
     pub(crate) muted: bool,
 }
 
-// ReportsUnlessMuted one error, with the number of its line.
+// Reports one error, with the number of its line.
 fn write_error_line<E: Sink>(errs: &mut E, number: u64, text: &[u8]) -> Result<()>
     ensures { Puts (E.state errs.old) (E.state errs.new) (error_line number text.now) result }
 {
@@ -82,7 +82,7 @@ fn write_both<E: Sink>(errs: &mut E, first: &[u8], second: &[u8]) -> Result<()>
 impl Tally {
     ghost use Rattle.json_lines.specs.LineHandling.{HandlesLine, LineFails, LineHas, IsWithinLimit};
 
-    // ReportsUnlessMuted the error of the line of this number, unless a report failed.
+    // Reports the error of the line of this number, unless a report failed.
     fn report_bad<E: Sink>(&mut self, errs: &mut E, text: &[u8])
         ensures reports { ReportsUnlessMuted self.old.muted self.new.muted
             (E.state errs.old) (E.state errs.new) (error_line self.old.number text.now) }

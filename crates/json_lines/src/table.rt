@@ -2,7 +2,7 @@
 ghost use Rattle.std.specs.Prelude.{◌≡◌, ◌≢◌, ◌≤◌, None, Some, Err, ◌<◌, ◌∷◌, ◌++◌, [], List, ℕ, length, map, IfOk, IfErr, OnOk, Ok, option_map};
 ghost use Rattle.json_print.specs.TextWriting.{WritesText};
 ghost use Rattle.json_doc.specs.Seen.{view_tree};
-ghost use Rattle.json_lines.specs.Cells.{cells, row};
+ghost use Rattle.json_lines.specs.Cells.{cells, table_row};
 ghost use Rattle.json_grammar.specs.Grammar.{ws};
 ghost use Rattle.json_text.specs.Errors.{no_memory};
 ghost use Rattle.json_text.specs.FaultText.{text_of};
@@ -10,7 +10,8 @@ ghost use Rattle.json_text.specs.declared.error.ErrorCode.TheVariants.{NoMemory}
 ghost use Rattle.json_doc.specs.Docs.{doc_tree, doc_root};
 ghost use Rattle.json_lines.specs.LineHandling.{WritesRow, RowFails};
 ghost use Rattle.json_lines.specs.Outcomes.{HasOutcome};
-ghost use Rattle.json_lines.specs.Tables.{BlankTest, table_column, table_command};
+ghost use Rattle.json_lines.specs.Tables.{table_column, table_command};
+ghost use Rattle.json_command.specs.Input.{BlankTest};
 
 use crate::cells::{write_bytes, write_next_cell};
 use crate::paths::follow;
@@ -100,11 +101,11 @@ impl Table {
         ensures ok { IfOk result (λ fault. (fault ≡ None) × WritesText
             (⟦<BufferedWriter<W> as Sink>⟧.state out.old)
             (⟦<BufferedWriter<W> as Sink>⟧.state out.new)
-            (row (table_command self.now) (doc_tree doc.now (doc_root doc.now))) (Ok tt)) }
+            (table_row (table_command self.now) (doc_tree doc.now (doc_root doc.now))) (Ok tt)) }
         ensures err { IfErr result (λ e. WritesText
             (⟦<BufferedWriter<W> as Sink>⟧.state out.old)
             (⟦<BufferedWriter<W> as Sink>⟧.state out.new)
-            (row (table_command self.now) (doc_tree doc.now (doc_root doc.now))) (Err e)) }
+            (table_row (table_command self.now) (doc_tree doc.now (doc_root doc.now))) (Err e)) }
     {
         match self.write_view_row(out, doc.view()) {
             Ok(()) => Ok(None),
@@ -135,7 +136,7 @@ impl Table {
         ensures { WritesText
             (⟦<BufferedWriter<W> as Sink>⟧.state out.old)
             (⟦<BufferedWriter<W> as Sink>⟧.state out.new)
-            (row (table_command self.now) (view_tree view.entry)) result }
+            (table_row (table_command self.now) (view_tree view.entry)) result }
     {
         match follow(view, self.has.steps()) {
             Some(_) => self.write_cells_line(out, view),

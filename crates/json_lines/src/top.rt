@@ -1,12 +1,12 @@
 // The top call: words, a source, a sink and a sink of errors.
 ghost use Rattle.std.specs.Prelude.{◌≡◌, ◌≢◌, length, ◌+◌, ◌<◌, ◌≤◌, ◌⊎◌, List, ℕ, true, false, OnOk, IfErr, if◌then◌else◌};
-ghost use Rattle.json_lines.specs.Cells.{Command};
+ghost use Rattle.json_lines.specs.Cells.{LinesCommand};
 ghost use Rattle.json_lines.specs.Outcomes.{HasOutcome};
 ghost use Rattle.json_lines.specs.Rows.{HasWithin};
 ghost use Rattle.json_lines.specs.Tables.{table_command};
 ghost use Rattle.json_lines.specs.RunResults.{ReadsAll, AppendsRows, TellsErrors, StatusTellsBad, RefusesWords, FailsRun, RunResult, NothingFails};
 ghost use Rattle.json_lines.specs.TopCall.{IsNewTally, WritesAllRows, WritesPartOfTable, run_status as spec_run_status, streams};
-ghost use Rattle.json_lines.specs.Words.{Asks, IsAsked};
+ghost use Rattle.json_lines.specs.Words.{AsksForColumns, IsLinesRequest};
 ghost use Rattle.json_command.specs.Input.{max_bytes};
 ghost use Rattle.json_command.specs.Reporting.{Reports};
 ghost use Rattle.json_text.specs.FaultText.{text_of};
@@ -87,7 +87,7 @@ fn run_table<S: Source, K: Sink, E: Sink>(
     sink: &mut K,
     errs: &mut E,
 ) -> u8
-    ensures { (words : List (List ℕ)) → Asks words (table_command table.now) → RunResult words
+    ensures { (words : List (List ℕ)) → AsksForColumns words (table_command table.now) → RunResult words
         (streams (S.state source.old) (K.state sink.old) (E.state errs.old))
         (streams (S.state source.new) (K.state sink.new) (E.state errs.new)) result }
 {
@@ -189,7 +189,7 @@ pub fn run_lines<S: Source, K: Sink, E: Sink>(
         × (max_bytes < length bytes) }
     ensures read_told { (S.state source.old).faults < (S.state source.new).faults → result ≡ 4 }
     ensures write_told { (K.state sink.old).faults < (K.state sink.new).faults → result ≡ 5 }
-    ensures unasked { ¬ (IsAsked words.now) → (result ≡ 2) ⊎ (result ≡ 6) }
+    ensures unasked { ¬ (IsLinesRequest words.now) → (result ≡ 2) ⊎ (result ≡ 6) }
     ensures complete { NothingFails words.now
         (streams (S.state source.old) (K.state sink.old) (E.state errs.old))
         (streams (S.state source.new) (K.state sink.new) (E.state errs.new))

@@ -1,7 +1,7 @@
 -- The tree of a datum: where there is none, and that what is in it keeps its order.
 use Rattle.std.proofs.Common.{◌≡◌, ℕ, List, [], ◌∷◌, map, ◌⊎◌, inl, inr, Option, Some, None, option_map, refl, sym, ap, ap₂, ◌∙◌}
 use Rattle.json_grammar.specs.Tree.{Tree, list, pairs, Trees, tree_and, list_trees, Pairs, pair_and, list_pairs}
-use Rattle.json_model.specs.Datum.{Datum, null_datum, boolean_datum, integer_datum, text_datum, literal_datum, list_datum, rows_datum, Data, no_data, datum_and, list_data, Rows, no_rows, row_and, list_rows, key_of, element_before, member_before, tree_of, trees_of, pairs_of, HasBareKey, DataHaveBareKey, RowsHaveBareKey}
+use Rattle.json_model.specs.Datum.{Datum, null_datum, boolean_datum, integer_datum, text_datum, literal_datum, list_datum, rows_datum, Data, no_data, datum_and, list_data, Rows, no_rows, row_and, list_rows, key_of, element_before, member_before, tree_of_datum, trees_of, pairs_of, HasBareKey, DataHaveBareKey, RowsHaveBareKey}
 
 -- ---- where there is none
 
@@ -47,7 +47,7 @@ missing_member (Some k) (Some t) (Some ps) (inr (inl e)) = absurd (cc)
 missing_member (Some k) (Some t) (Some ps) (inr (inr e)) = absurd (cc)
 
 mutual
-  pub no_tree : (d : Datum) → tree_of d ≡ None → HasBareKey d
+  pub no_tree : (d : Datum) → tree_of_datum d ≡ None → HasBareKey d
   no_tree null_datum e = cc
   no_tree (boolean_datum b) e = cc
   no_tree (integer_datum n) e = cc
@@ -58,20 +58,20 @@ mutual
 
   none_of_data : (ds : Data) → trees_of ds ≡ None → DataHaveBareKey ds
   none_of_data no_data e = cc
-  none_of_data (datum_and d ds) e = elim (element_missing (tree_of d) (trees_of ds) e) [
+  none_of_data (datum_and d ds) e = elim (element_missing (tree_of_datum d) (trees_of ds) e) [
     | inl g ↦ inl (no_tree d g)
     | inr g ↦ inr (none_of_data ds g)
   ]
 
   none_of_rows : (rs : Rows) → pairs_of rs ≡ None → RowsHaveBareKey rs
   none_of_rows no_rows e = cc
-  none_of_rows (row_and k d rs) e = elim (member_missing (key_of k) (tree_of d) (pairs_of rs) e) [
+  none_of_rows (row_and k d rs) e = elim (member_missing (key_of k) (tree_of_datum d) (pairs_of rs) e) [
     | inl g ↦ inl g
     | inr g ↦ inr (elim g [ inl i ↦ inl (no_tree d i) | inr i ↦ inr (none_of_rows rs i) ])
   ]
 
 mutual
-  pub bare_key : (d : Datum) → HasBareKey d → tree_of d ≡ None
+  pub bare_key : (d : Datum) → HasBareKey d → tree_of_datum d ≡ None
   bare_key null_datum h = absurd h
   bare_key (boolean_datum b) h = absurd h
   bare_key (integer_datum n) h = absurd h
@@ -82,14 +82,14 @@ mutual
 
   bare_data : (ds : Data) → DataHaveBareKey ds → trees_of ds ≡ None
   bare_data no_data h = absurd h
-  bare_data (datum_and d ds) (inl h) = missing_element (tree_of d) (trees_of ds) (inl (bare_key d h))
-  bare_data (datum_and d ds) (inr h) = missing_element (tree_of d) (trees_of ds) (inr (bare_data ds h))
+  bare_data (datum_and d ds) (inl h) = missing_element (tree_of_datum d) (trees_of ds) (inl (bare_key d h))
+  bare_data (datum_and d ds) (inr h) = missing_element (tree_of_datum d) (trees_of ds) (inr (bare_data ds h))
 
   bare_rows : (rs : Rows) → RowsHaveBareKey rs → pairs_of rs ≡ None
   bare_rows no_rows h = absurd h
-  bare_rows (row_and k d rs) (inl h) = missing_member (key_of k) (tree_of d) (pairs_of rs) (inl h)
-  bare_rows (row_and k d rs) (inr (inl h)) = missing_member (key_of k) (tree_of d) (pairs_of rs) (inr (inl (bare_key d h)))
-  bare_rows (row_and k d rs) (inr (inr h)) = missing_member (key_of k) (tree_of d) (pairs_of rs) (inr (inr (bare_rows rs h)))
+  bare_rows (row_and k d rs) (inl h) = missing_member (key_of k) (tree_of_datum d) (pairs_of rs) (inl h)
+  bare_rows (row_and k d rs) (inr (inl h)) = missing_member (key_of k) (tree_of_datum d) (pairs_of rs) (inr (inl (bare_key d h)))
+  bare_rows (row_and k d rs) (inr (inr h)) = missing_member (key_of k) (tree_of_datum d) (pairs_of rs) (inr (inr (bare_rows rs h)))
 
 -- ---- in their order
 
@@ -100,14 +100,14 @@ inside e = cc
 record Elements (ds : List Datum) (us : Trees) : Type 0 where
   ts : List Tree
   are : us ≡ list_trees ts
-  each : map tree_of ds ≡ map (λ (t : Tree). Some t) ts
+  each : map tree_of_datum ds ≡ map (λ (t : Tree). Some t) ts
 
 elements : (ds : List Datum) (us : Trees) → trees_of (list_data ds) ≡ Some us → Elements ds us
 elements [] us e = record { ts = []; are = sym (inside e); each = refl }
-elements (d ∷ ds) us e = by (tree_of d) (trees_of (list_data ds)) refl refl e (λ vs h. elements ds vs h)
+elements (d ∷ ds) us e = by (tree_of_datum d) (trees_of (list_data ds)) refl refl e (λ vs h. elements ds vs h)
   where
     by : (a : Option Tree) (b : Option Trees)
-        → tree_of d ≡ a
+        → tree_of_datum d ≡ a
         → trees_of (list_data ds) ≡ b
         → element_before a b ≡ Some us
         → ((vs : Trees) → trees_of (list_data ds) ≡ Some vs → Elements ds vs)
@@ -129,8 +129,8 @@ list_inside None t e = absurd (cc)
 list_inside (Some us) t e = (us, refl, sym (inside e))
 
 pub elements_in_order : (ds : List Datum) (t : Tree)
-    → tree_of (list_datum (list_data ds)) ≡ Some t
-    → (ts : List Tree) × (t ≡ list (list_trees ts)) × (map tree_of ds ≡ map (λ (u : Tree). Some u) ts)
+    → tree_of_datum (list_datum (list_data ds)) ≡ Some t
+    → (ts : List Tree) × (t ≡ list (list_trees ts)) × (map tree_of_datum ds ≡ map (λ (u : Tree). Some u) ts)
 elements_in_order ds t e =
     let o = list_inside (trees_of (list_data ds)) t e in
     let r = elements ds o.0 o.1 in
@@ -141,17 +141,17 @@ record Members (rows : List (Datum × Datum)) (us : Pairs) : Type 0 where
   ms : List (List ℕ × Tree)
   are : us ≡ list_pairs ms
   keys : map (λ (r : Datum × Datum). key_of r.0) rows ≡ map (λ (m : List ℕ × Tree). Some m.0) ms
-  values : map (λ (r : Datum × Datum). tree_of r.1) rows ≡ map (λ (m : List ℕ × Tree). Some m.1) ms
+  values : map (λ (r : Datum × Datum). tree_of_datum r.1) rows ≡ map (λ (m : List ℕ × Tree). Some m.1) ms
 
 members : (rows : List (Datum × Datum)) (us : Pairs)
     → pairs_of (list_rows rows) ≡ Some us
     → Members rows us
 members [] us e = record { ms = []; are = sym (inside e); keys = refl; values = refl }
-members (r ∷ rows) us e = by (key_of r.0) (tree_of r.1) (pairs_of (list_rows rows)) refl refl refl e (λ vs h. members rows vs h)
+members (r ∷ rows) us e = by (key_of r.0) (tree_of_datum r.1) (pairs_of (list_rows rows)) refl refl refl e (λ vs h. members rows vs h)
   where
     by : (k : Option (List ℕ)) (a : Option Tree) (b : Option Pairs)
         → key_of r.0 ≡ k
-        → tree_of r.1 ≡ a
+        → tree_of_datum r.1 ≡ a
         → pairs_of (list_rows rows) ≡ b
         → member_before k a b ≡ Some us
         → ((vs : Pairs) → pairs_of (list_rows rows) ≡ Some vs → Members rows vs)
@@ -175,11 +175,11 @@ pairs_inside None t e = absurd (cc)
 pairs_inside (Some us) t e = (us, refl, sym (inside e))
 
 pub rows_in_order : (rows : List (Datum × Datum)) (t : Tree)
-    → tree_of (rows_datum (list_rows rows)) ≡ Some t
+    → tree_of_datum (rows_datum (list_rows rows)) ≡ Some t
     → (ms : List (List ℕ × Tree))
     × (t ≡ pairs (list_pairs ms))
     × (map (λ (r : Datum × Datum). key_of r.0) rows ≡ map (λ (m : List ℕ × Tree). Some m.0) ms)
-    × (map (λ (r : Datum × Datum). tree_of r.1) rows ≡ map (λ (m : List ℕ × Tree). Some m.1) ms)
+    × (map (λ (r : Datum × Datum). tree_of_datum r.1) rows ≡ map (λ (m : List ℕ × Tree). Some m.1) ms)
 rows_in_order rows t e =
     let o = pairs_inside (pairs_of (list_rows rows)) t e in
     let m = members rows o.0 o.1 in

@@ -70,22 +70,22 @@ member_before (Some k) (Some t) ps = option_map (λ qs. pair_and k t qs) ps
 
 abbrev mutual
   -- the tree of a datum, with the keys as their texts; none where some key has no text
-  pub tree_of : Datum → Option Tree
-  tree_of null_datum = Some null
-  tree_of (boolean_datum b) = Some (boolean b)
-  tree_of (integer_datum n) = Some (num (signed_decimal n))
-  tree_of (text_datum s) = Some (text s)
-  tree_of (literal_datum l) = Some (num l)
-  tree_of (list_datum ds) = option_map list (trees_of ds)
-  tree_of (rows_datum rs) = option_map pairs (pairs_of rs)
+  pub tree_of_datum : Datum → Option Tree
+  tree_of_datum null_datum = Some null
+  tree_of_datum (boolean_datum b) = Some (boolean b)
+  tree_of_datum (integer_datum n) = Some (num (signed_decimal n))
+  tree_of_datum (text_datum s) = Some (text s)
+  tree_of_datum (literal_datum l) = Some (num l)
+  tree_of_datum (list_datum ds) = option_map list (trees_of ds)
+  tree_of_datum (rows_datum rs) = option_map pairs (pairs_of rs)
 
   pub trees_of : Data → Option Trees
   trees_of no_data = Some no_trees
-  trees_of (datum_and d ds) = element_before (tree_of d) (trees_of ds)
+  trees_of (datum_and d ds) = element_before (tree_of_datum d) (trees_of ds)
 
   pub pairs_of : Rows → Option Pairs
   pairs_of no_rows = Some no_pairs
-  pairs_of (row_and k d rs) = member_before (key_of k) (tree_of d) (pairs_of rs)
+  pairs_of (row_and k d rs) = member_before (key_of k) (tree_of_datum d) (pairs_of rs)
 
 -- some key in the datum has no text
 abbrev mutual

@@ -1,4 +1,4 @@
-// The integer that a literal stands for.
+// The integer of a literal.
 ghost use Rattle.std.specs.Prelude.{◌≡◌, ◌≢◌, ◌+◌, ◌<◌, ◌≤◌, ◌==◌, length, slice_index, option_map, IsTrue};
 ghost use Rattle.json_grammar.specs.Given.{piece};
 ghost use Rattle.json_grammar.specs.Grammar.{number};

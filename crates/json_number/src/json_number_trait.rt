@@ -17,7 +17,7 @@ use crate::raw_number::RawNumber;
 /// assert_eq!(rt; big.as_i64(), None);
 /// ```
 pub trait JsonNumberTrait {
-    // The integer that it stands for, if any.
+    // Its integer, if it has one.
     ghost integer: { Self → Option ℤ };
 
     /// Returns whether it denotes an integer that lies in `i64`.

@@ -26,7 +26,7 @@ use Rattle.json_command.proofs.Inputs.{no_want, no_io, no_words, no_not_found, n
 use Rattle.json_command.proofs.KnownBytes.{no_fault, same_fault, same_made, fault_known, large_known, fault_not_read}
 use Rattle.json_patch.specs.Patch.{PatchFailure, lookup_failed, bad_patch, test_failed}
 use Rattle.json_patch.specs.Errors.{PatchFails}
-use Rattle.json_patch.specs.Commands.{Request, patch_by, merge_by, outcome_of, HasFewOperations, Asks, IsRequest, WithRequest, WritesOutcome, ReadsUnfit, TransferFails, RequestFails, Fails, Refused, ReportsOr, KnownFit, KnownUnfit, IsFit, IsUnfit, IsFaulty, StatusReportsText, patch_status, patch_text, code_of_failure, status_of_error}
+use Rattle.json_patch.specs.Commands.{PatchRequest, patch_by, merge_by, outcome_of, HasFewOperations, AsksForPatch, IsRequest, WithRequest, WritesOutcome, ReadsUnpatchable, TransferFails, RequestFails, PatchRunFails, ReportsPatchError, ReportsOr, KnownPatchable, KnownUnpatchable, IsFit, IsUnpatchable, IsFaulty, StatusReportsText, patch_status, patch_text, code_of_failure, status_of_error}
 use Rattle.json_patch.specs.declared.command.CommandError.{CommandError}
 use Rattle.json_patch.specs.declared.command.CommandError.TheVariants as failed
 use Rattle.json_patch.specs.declared.error.PatchCode.{PatchCode}
@@ -38,7 +38,7 @@ error code place = record { code = code; place = place }
 
 -- ---- a request that fails
 
-module _ (r : Request) (source source' : SourceState) where
+module _ (r : PatchRequest) (source source' : SourceState) where
   -- reading failed, and nothing was written
   pub reading_fails : (sink : SinkState) (code : ErrorCode) (place : Place) → InputFails usual_rules source source' code place → TransferFails r source source' sink sink code place
   reading_fails sink NoMemory nowhere h = inl refl
@@ -70,7 +70,7 @@ few_elements (text s) = omega arith
 few_elements (pairs ps) = omega arith
 
 -- a patch that an argument spells has few operations
-pub asked_few : (arguments : List (List ℕ)) (r : Request) → Asks arguments r → HasFewOperations r
+pub asked_few : (arguments : List (List ℕ)) (r : PatchRequest) → AsksForPatch arguments r → HasFewOperations r
 asked_few (a ∷ []) (patch_by p) h = omega (arith, few_elements p, (text_fits false p h.text h.input.text).0, h.input.short)
 asked_few (a ∷ []) (merge_by p) h = tt
 asked_few [] r h = absurd h
@@ -96,7 +96,7 @@ apart : (w a b : List ℕ) → w ≡ codes "--patch=" ++ a → w ≡ codes "--me
 apart w a b e f = let h : 112 ≡ 109 = sym (ap third e) ∙ ap third f in omega (arith, h)
 
 -- arguments ask for one request
-pub one_request : (arguments : List (List ℕ)) (r s : Request) → Asks arguments r → Asks arguments s → r ≡ s
+pub one_request : (arguments : List (List ℕ)) (r s : PatchRequest) → AsksForPatch arguments r → AsksForPatch arguments s → r ≡ s
 one_request (w ∷ []) (patch_by p) (patch_by q) g h =
     ap patch_by (one_tree false p q h.text (subst (is_text false p) (same_rest (codes "--patch=") g.text h.text w g.is h.is) g.input.text) h.input.text)
 one_request (w ∷ []) (merge_by p) (merge_by q) g h =
@@ -107,23 +107,23 @@ one_request [] r s g h = absurd g
 one_request (w ∷ v ∷ ws) r s g h = absurd g
 
 -- what holds of the request that the arguments ask for holds of each that they ask for
-so_of : (arguments : List (List ℕ)) (r : Request) (P : Request → Type 0) → Asks arguments r → WithRequest arguments P → P r
+so_of : (arguments : List (List ℕ)) (r : PatchRequest) (P : PatchRequest → Type 0) → AsksForPatch arguments r → WithRequest arguments P → P r
 so_of arguments r P asked h = subst P (one_request arguments h.request r h.asked asked) h.so
 
 -- ---- what was done, and why not, for the request that the arguments ask for
 
-pub done_for : {E : Type 0} (o : Result (Unit {0}) E) (arguments : List (List ℕ)) (r : Request) (P : Request → Type 0) → Asks arguments r → OnOk o (P r) → OnOk o (WithRequest arguments P)
+pub done_for : {E : Type 0} (o : Result (Unit {0}) E) (arguments : List (List ℕ)) (r : PatchRequest) (P : PatchRequest → Type 0) → AsksForPatch arguments r → OnOk o (P r) → OnOk o (WithRequest arguments P)
 done_for (Ok u) arguments r P asked h = record { request = r; asked = asked; so = h }
 done_for (Err e) arguments r P asked h = tt
 
-pub fails_for : (o : Result (Unit {0}) CommandError) (arguments : List (List ℕ)) (r : Request) (source source' : SourceState) (sink sink' : SinkState) → Asks arguments r → IfErr o (RequestFails r source source' sink sink')
-    → IfErr o (Fails arguments source source' sink sink')
+pub fails_for : (o : Result (Unit {0}) CommandError) (arguments : List (List ℕ)) (r : PatchRequest) (source source' : SourceState) (sink sink' : SinkState) → AsksForPatch arguments r → IfErr o (RequestFails r source source' sink sink')
+    → IfErr o (PatchRunFails arguments source source' sink sink')
 fails_for (Ok u) arguments r source source' sink sink' asked h = tt
 fails_for (Err e) arguments r source source' sink sink' asked h = inr (record { request = r; asked = asked; so = h })
 
 -- where memory runs out for the text of an error, that is reported
-pub patch_reported : (n : ℕ) (arguments : List (List ℕ)) (source source' : SourceState) (sink sink' errs errs' : SinkState) (e : PatchError) → Fails arguments source source' sink sink' (failed.Patch e)
-    → ReportsOr (patch_status e.code) (patch_text e.code e.op) errs errs' n → Refused n arguments source source' sink sink' errs errs'
+pub patch_reported : (n : ℕ) (arguments : List (List ℕ)) (source source' : SourceState) (sink sink' errs errs' : SinkState) (e : PatchError) → PatchRunFails arguments source source' sink sink' (failed.Patch e)
+    → ReportsOr (patch_status e.code) (patch_text e.code e.op) errs errs' n → ReportsPatchError n arguments source source' sink sink' errs errs'
 patch_reported n arguments source source' sink sink' errs errs' e cause (inl h) = record { error = failed.Patch e; status_is = h.0; cause = cause; reports = h.1 }
 patch_reported n arguments source source' sink sink' errs errs' e (inl h) (inr t) = absurd h
 patch_reported n arguments source source' sink sink' errs errs' e (inr h) (inr t) =
@@ -146,15 +146,15 @@ applied_fails o t patch.BadPointer op e h = absurd h
 applied_fails o t patch.BadPatch op e h = absurd (ok_err t (bad_patch, op) (sym e ∙ h))
 applied_fails o t patch.TestFailed op e h = absurd (ok_err t (test_failed, op) (sym e ∙ h))
 
-module _ (r : Request) (source source' : SourceState) (sink sink' : SinkState) where
-  fit_transfer : (code : ErrorCode) (place : Place) → TransferFails r source source' sink sink' code place → KnownFit r source source' sink sink' → error code place ≡ no_memory
+module _ (r : PatchRequest) (source source' : SourceState) (sink sink' : SinkState) where
+  fit_transfer : (code : ErrorCode) (place : Place) → TransferFails r source source' sink sink' code place → KnownPatchable r source source' sink sink' → error code place ≡ no_memory
   fit_transfer NoMemory nowhere h good = refl
   fit_transfer Io Reading h good = absurd (good.input.read h.0)
   fit_transfer TooLarge nowhere h good = absurd (no_fault usual_rules good.input.bytes good.tree TooLarge nowhere good.input.input (large_known usual_rules source good.input.bytes h.1 good.input.known))
   fit_transfer Io Writing h good = absurd (good.written h.0)
   fit_transfer code place h good = absurd (no_fault usual_rules good.input.bytes good.tree code place good.input.input (fault_known usual_rules source source' good.input.bytes code place h.0 good.input.known))
 
-  fit_status : (e : CommandError) → RequestFails r source source' sink sink' e → KnownFit r source source' sink sink' → status_of_error e ≡ 6
+  fit_status : (e : CommandError) → RequestFails r source source' sink sink' e → KnownPatchable r source source' sink sink' → status_of_error e ≡ 6
   fit_status (failed.Transfer e) h good = ap (λ (d : Error). status_of d.code d.place) (fit_transfer e.code e.place h good)
   fit_status (failed.Patch e) h good =
       applied_fails (outcome_of r h.0.tree) good.changed e.code e.op (same_made usual_rules (outcome_of r) source source' h.0.tree good.tree good.input.bytes h.0.reads good.input.known good.input.input ∙ good.applies) h.0.fails
@@ -173,10 +173,10 @@ module _ (r : Request) (source source' : SourceState) (sink sink' : SinkState) w
   abbrev Same : Tree → PatchFailure → Option ℕ → Type 0
   Same tree failure op = outcome_of r tree ≡ Err (failure, op)
 
-  unfit_made : (tree : Tree) (failure : PatchFailure) (op : Option ℕ) → ReadsInput usual_rules source source' tree → KnownUnfit r source source' failure op → Same tree failure op
+  unfit_made : (tree : Tree) (failure : PatchFailure) (op : Option ℕ) → ReadsInput usual_rules source source' tree → KnownUnpatchable r source source' failure op → Same tree failure op
   unfit_made tree failure op reads unfit = same_made usual_rules (outcome_of r) source source' tree unfit.tree unfit.input.bytes reads unfit.input.known unfit.input.input ∙ unfit.fails
 
-  unfit_transfer : (failure : PatchFailure) (op : Option ℕ) (code : ErrorCode) (place : Place) → TransferFails r source source' sink sink' code place → KnownUnfit r source source' failure op → error code place ≡ no_memory
+  unfit_transfer : (failure : PatchFailure) (op : Option ℕ) (code : ErrorCode) (place : Place) → TransferFails r source source' sink sink' code place → KnownUnpatchable r source source' failure op → error code place ≡ no_memory
   unfit_transfer failure op NoMemory nowhere h unfit = refl
   unfit_transfer failure op Io Reading h unfit = absurd (unfit.input.read h.0)
   unfit_transfer failure op TooLarge nowhere h unfit = absurd (no_fault usual_rules unfit.input.bytes unfit.tree TooLarge nowhere unfit.input.input (large_known usual_rules source unfit.input.bytes h.1 unfit.input.known))
@@ -219,7 +219,7 @@ fault_status b code place h = refl
 
 module _ (arguments : List (List ℕ)) (source source' : SourceState) (sink sink' : SinkState) where
   -- why a request failed, of the request that the arguments ask for
-  cause_of : (r : Request) (e : CommandError) → Asks arguments r → Fails arguments source source' sink sink' e → RequestFails r source source' sink sink' e
+  cause_of : (r : PatchRequest) (e : CommandError) → AsksForPatch arguments r → PatchRunFails arguments source source' sink sink' e → RequestFails r source source' sink sink' e
   cause_of r (failed.Transfer e) asked (inl h) = by h.0
     where
       by : (e ≡ no_memory) ⊎ ((e ≡ bad_words) × ¬ (IsRequest arguments)) → TransferFails r source source' sink sink' e.code e.place
@@ -230,13 +230,13 @@ module _ (arguments : List (List ℕ)) (source source' : SourceState) (sink sink
 
   -- ---- a request that was done
 
-  done_of : (r : Request) → Asks arguments r → WithRequest arguments (λ s. WritesOutcome s source source' sink sink') → WritesOutcome r source source' sink sink'
+  done_of : (r : PatchRequest) → AsksForPatch arguments r → WithRequest arguments (λ s. WritesOutcome s source source' sink sink') → WritesOutcome r source source' sink sink'
   done_of r asked h = so_of arguments r (λ s. WritesOutcome s source source' sink sink') asked h
 
   pub faulty_done : (code : ErrorCode) (place : Place) → WithRequest arguments (λ s. WritesOutcome s source source' sink sink') → IsFaulty arguments source source' code place → ⊥
   faulty_done code place did bad = let d = done_of bad.request bad.asked did in fault_not_read usual_rules source source' d.tree code place d.reads bad.so
 
-  pub unfit_done : (failure : PatchFailure) (op : Option ℕ) → WithRequest arguments (λ s. WritesOutcome s source source' sink sink') → IsUnfit arguments source source' failure op → ⊥
+  pub unfit_done : (failure : PatchFailure) (op : Option ℕ) → WithRequest arguments (λ s. WritesOutcome s source source' sink sink') → IsUnpatchable arguments source source' failure op → ⊥
   unfit_done failure op did unfit =
       let d = done_of unfit.request unfit.asked did in
       ok_err d.changed (failure, op) (sym d.applied ∙ unfit_made unfit.request source source' sink sink' d.tree failure op d.reads unfit.so)
@@ -246,10 +246,10 @@ module _ (arguments : List (List ℕ)) (source source' : SourceState) (sink sink
   abbrev StatusIs : ErrorCode → Place → ℕ → Type 0
   StatusIs code place n = status_of code place ≡ n
 
-  pub fit_fails : (code : ErrorCode) (place : Place) → Fails arguments source source' sink sink' (failed.Transfer (error code place)) → IsFit arguments source source' sink sink' → StatusIs code place 6
+  pub fit_fails : (code : ErrorCode) (place : Place) → PatchRunFails arguments source source' sink sink' (failed.Transfer (error code place)) → IsFit arguments source source' sink sink' → StatusIs code place 6
   fit_fails code place cause good = fit_status good.request source source' sink sink' (failed.Transfer (error code place)) (cause_of good.request (failed.Transfer (error code place)) good.asked cause) good.so
 
-  pub faulty_fails : (errs errs' : SinkState) (code code' : ErrorCode) (place place' : Place) → Fails arguments source source' sink sink' (failed.Transfer (error code' place')) → Reports (text_of (error code' place')) errs errs'
+  pub faulty_fails : (errs errs' : SinkState) (code code' : ErrorCode) (place place' : Place) → PatchRunFails arguments source source' sink sink' (failed.Transfer (error code' place')) → Reports (text_of (error code' place')) errs errs'
       → IsFaulty arguments source source' code place → StatusReports 1 (error code place) errs errs' (status_of code' place')
   faulty_fails errs errs' code code' place place' cause reports bad =
       by (fault_transfer bad.request source source' sink sink' code code' place place' (cause_of bad.request (failed.Transfer (error code' place')) bad.asked cause) bad.so)
@@ -258,14 +258,14 @@ module _ (arguments : List (List ℕ)) (source source' : SourceState) (sink sink
       by (inl same) = inl (ap (λ (d : Error). status_of d.code d.place) same ∙ fault_status bad.so.bytes code place bad.so.fault, subst (λ (d : Error). Reports (text_of d) errs errs') same reports)
       by (inr lacks) = inr (ap (λ (d : Error). status_of d.code d.place) lacks)
 
-  pub unfit_fails : (errs errs' : SinkState) (failure : PatchFailure) (op : Option ℕ) (code : ErrorCode) (place : Place) → Fails arguments source source' sink sink' (failed.Transfer (error code place)) → IsUnfit arguments source source' failure op
+  pub unfit_fails : (errs errs' : SinkState) (failure : PatchFailure) (op : Option ℕ) (code : ErrorCode) (place : Place) → PatchRunFails arguments source source' sink sink' (failed.Transfer (error code place)) → IsUnpatchable arguments source source' failure op
       → StatusReportsText 3 (patch_text (code_of_failure failure) op) errs errs' (status_of code place)
   unfit_fails errs errs' failure op code place cause unfit =
       inr
       (ap (λ (d : Error). status_of d.code d.place)
       (unfit_transfer unfit.request source source' sink sink' failure op code place (cause_of unfit.request (failed.Transfer (error code place)) unfit.asked cause) unfit.so))
 
-  pub words_fail : (code : ErrorCode) (place : Place) → Fails arguments source source' sink sink' (failed.Transfer (error code place)) → ¬ (IsRequest arguments) → (StatusIs code place 2) ⊎ (StatusIs code place 6)
+  pub words_fail : (code : ErrorCode) (place : Place) → PatchRunFails arguments source source' sink sink' (failed.Transfer (error code place)) → ¬ (IsRequest arguments) → (StatusIs code place 2) ⊎ (StatusIs code place 6)
   words_fail code place (inl h) none = by h.0
     where
       by : (error code place ≡ no_memory) ⊎ ((error code place ≡ bad_words) × ¬ (IsRequest arguments)) → (StatusIs code place 2) ⊎ (StatusIs code place 6)
@@ -275,8 +275,8 @@ module _ (arguments : List (List ℕ)) (source source' : SourceState) (sink sink
 
   -- ---- an error of a patch
 
-  module _ (e : PatchError) (cause : Fails arguments source source' sink sink' (failed.Patch e)) (errs errs' : SinkState) (n : ℕ) (reports : ReportsOr (patch_status e.code) (patch_text e.code e.op) errs errs' n) where
-    unfit_of : (r : Request) → Asks arguments r → ReadsUnfit r source source' e.code e.op
+  module _ (e : PatchError) (cause : PatchRunFails arguments source source' sink sink' (failed.Patch e)) (errs errs' : SinkState) (n : ℕ) (reports : ReportsOr (patch_status e.code) (patch_text e.code e.op) errs errs' n) where
+    unfit_of : (r : PatchRequest) → AsksForPatch arguments r → ReadsUnpatchable r source source' e.code e.op
     unfit_of r asked = (cause_of r (failed.Patch e) asked cause).0
 
     pub patch_fit : IsFit arguments source source' sink sink' → n ≡ 6
@@ -289,7 +289,7 @@ module _ (arguments : List (List ℕ)) (source source' : SourceState) (sink sink
     pub patch_faulty : (code : ErrorCode) (place : Place) → IsFaulty arguments source source' code place → ⊥
     patch_faulty code place bad = let u = unfit_of bad.request bad.asked in fault_not_read usual_rules source source' u.tree code place u.reads bad.so
 
-    pub patch_unfit : (failure : PatchFailure) (op : Option ℕ) → IsUnfit arguments source source' failure op → StatusReportsText 3 (patch_text (code_of_failure failure) op) errs errs' n
+    pub patch_unfit : (failure : PatchFailure) (op : Option ℕ) → IsUnpatchable arguments source source' failure op → StatusReportsText 3 (patch_text (code_of_failure failure) op) errs errs' n
     patch_unfit failure op unfit =
         let u = unfit_of unfit.request unfit.asked in
         by reports (failed_so (outcome_of unfit.request u.tree) failure e.op op e.code (unfit_made unfit.request source source' sink sink' u.tree failure op u.reads unfit.so) u.fails)
@@ -302,6 +302,6 @@ module _ (arguments : List (List ℕ)) (source source' : SourceState) (sink sink
     pub patch_words : ¬ (IsRequest arguments) → ⊥
     patch_words none = by cause
       where
-        by : Fails arguments source source' sink sink' (failed.Patch e) → ⊥
+        by : PatchRunFails arguments source source' sink sink' (failed.Patch e) → ⊥
         by (inl h) = h
         by (inr h) = none (h.request, h.asked)

@@ -2,7 +2,7 @@
 use Rattle.std.proofs.Common.{◌≡◌, ◌↔◌, List, [], ◌∷◌, map, true, Some, Ok, refl, sym, ap, ap₂, ◌∙◌, subst}
 use Rattle.json_grammar.specs.Tree.{Tree, list, no_trees}
 use Rattle.json_model.specs.Same.{same}
-use Rattle.json_patch.specs.Patch.{Operation, add, remove, replace, move, copy, test, with_value, with_path, operation_of, applied_from, patched}
+use Rattle.json_patch.specs.Patch.{Operation, add, remove, replace, move, copy, test, operation_with_value, with_path, operation_of, applied_from, patched}
 use Rattle.json_patch.specs.Diff.{operations_between}
 use Rattle.json_patch.specs.DiffDocument.{operation_below, patch_document, patch_between, PatchLeads, EmptyPatchBetweenSame}
 use Rattle.json_patch.proofs.PointerTexts.{pointer_text_parses}
@@ -11,9 +11,9 @@ use Rattle.json_patch.proofs.DiffSteps.{IsBelowRoot, AreBelowRoot}
 use Rattle.json_patch.proofs.OperationsLead.{all_operations_below, operations_lead, no_operations_between_same}
 
 document_read : (o : Operation) → IsBelowRoot o → operation_of (operation_below [] o) ≡ Some o
-document_read (add p u) h = ap (λ q. with_value add q (Some u)) (pointer_text_parses p)
+document_read (add p u) h = ap (λ q. operation_with_value add q (Some u)) (pointer_text_parses p)
 document_read (remove p) h = ap (λ q. with_path remove q) (pointer_text_parses p)
-document_read (replace p u) h = ap (λ q. with_value replace q (Some u)) (pointer_text_parses p)
+document_read (replace p u) h = ap (λ q. operation_with_value replace q (Some u)) (pointer_text_parses p)
 document_read (move q p) h = absurd h
 document_read (copy q p) h = absurd h
 document_read (test p u) h = absurd h

@@ -4,10 +4,9 @@ use Rattle.std.specs.Prelude.{ok_or, option_map, slice_get, decimal}
 use Rattle.std.proofs.lemmas.Bool.{and_parts, and_from}
 use Rattle.std.proofs.lemmas.List.{reverse-append, reverse-reverse, length-reverse}
 use Rattle.json_grammar.specs.Tree.{Tree, list, Trees, no_trees, tree_and, trees_list, list_trees}
-use Rattle.json_model.specs.Edit.{index_step, remove_at, not_found, within, pushed, without_index, edited_once}
+use Rattle.json_model.specs.Edit.{index_step, remove_at, not_found, within, pushed, without_index, edited_once, and_then}
 use Rattle.json_model.specs.Same.{same, trees_same}
-use Rattle.json_patch.specs.ValuesAt.{and_then}
-use Rattle.json_patch.specs.Pointer.{step_of_token, index_of}
+use Rattle.json_patch.specs.Pointer.{step_of_token, index_of_token}
 use Rattle.json_patch.specs.Patch.{Operation, add, remove, insert_before, insert_at_index, lookup_outcome, applied}
 use Rattle.json_patch.specs.Diff.{under, common_front, common_back, element_removals}
 use Rattle.json_patch.proofs.Indexes.{decimal_is_index}
@@ -37,7 +36,7 @@ module _ (i : ℕ) (done : List Tree) (is : i ≡ length done) (low : i < 2 ^ 64
   abbrev array : List Tree → Tree
   array rest = list (list_trees (done ++ rest))
 
-  index : index_of (decimal i) ≡ Some i
+  index : index_of_token (decimal i) ≡ Some i
   index = decimal_is_index i low
 
   step : (ts : Trees) → step_of_token (decimal i) (list ts) ≡ Ok (index_step i)
@@ -52,7 +51,7 @@ module _ (i : ℕ) (done : List Tree) (is : i ≡ length done) (low : i < 2 ^ 64
 
   pub element_added : (u : Tree) (rest : List Tree) → applied (add (decimal i ∷ []) u) (array rest) ≡ Ok (array (u ∷ rest))
   element_added u rest = ap lookup_outcome (
-      ap (λ b. within list (cond b (Ok (pushed u (list_trees (done ++ rest)))) (insert_at_index (index_of (decimal i)) u (list_trees (done ++ rest))))) (no_dash (decimal i) i index)
+      ap (λ b. within list (cond b (Ok (pushed u (list_trees (done ++ rest)))) (insert_at_index (index_of_token (decimal i)) u (list_trees (done ++ rest))))) (no_dash (decimal i) i index)
       ∙ ap (λ o. within list (insert_at_index o u (list_trees (done ++ rest)))) index
       ∙ ap (λ j. within list (insert_before j u (list_trees (done ++ rest)))) is
       ∙ ap (within list) (inserted_there done u rest)

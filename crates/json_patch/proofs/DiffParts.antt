@@ -8,11 +8,11 @@ use Rattle.json_grammar.specs.Tree.{Tree, null, boolean, num, text, list, pairs,
 use Rattle.json_model.specs.Edit.{has_key}
 use Rattle.json_model.specs.Same.{first_value, same}
 use Rattle.json_value.proofs.Trees.{list_again}
-use Rattle.json_patch.specs.Pointer.{Token, slash, escaped_token}
+use Rattle.json_patch.specs.Pointer.{ReferenceToken, slash, escaped_token}
 use Rattle.json_patch.specs.Patch.{Operation, add, remove, replace}
-use Rattle.json_patch.specs.Merge.{members_of}
+use Rattle.json_patch.specs.Merge.{members_or_none}
 use Rattle.json_patch.specs.MergeDiff.{has_unique_keys}
-use Rattle.json_patch.specs.Diff.{under, whole, key_removals, elements_of, common_front, common_back, element_removals, are_addressable, operations_between, members_operations, element_operations}
+use Rattle.json_patch.specs.Diff.{under, whole, key_removals, array_elements, common_front, common_back, element_removals, are_addressable, operations_between, members_operations, element_operations}
 use Rattle.json_patch.specs.DiffDocument.{operation_below}
 use Rattle.json_patch.specs.DiffParts.{are_keyed, are_arrays, child_operations, operations_at}
 use Rattle.json_patch.proofs.OperationsBelow.{document_under}
@@ -30,7 +30,7 @@ whole_of_others t u e = ap (λ b. cond b [] (replace [] u ∷ [])) (sym e)
 
 -- ---- below a token
 
-pub child_below : (b : List ℕ) (k : Token) (o : Option Tree) (u : Tree) → map (operation_below (b ++ (slash ∷ escaped_token k))) (child_operations o u) ≡ map (operation_below b) (operations_at k o u)
+pub child_below : (b : List ℕ) (k : ReferenceToken) (o : Option Tree) (u : Tree) → map (operation_below (b ++ (slash ∷ escaped_token k))) (child_operations o u) ≡ map (operation_below b) (operations_at k o u)
 child_below b k None u = sym (document_under b k (add [] u ∷ []))
 child_below b k (Some t) u = sym (document_under b k (operations_between t u))
 
@@ -184,9 +184,9 @@ whole_operations t (boolean b) h g = refl
 whole_operations t (num l) h g = refl
 whole_operations t (text s) h g = refl
 whole_operations t (list us) h g =
-    let n : ℕ = common_back (elements_of t) (trees_list us) in
-    ap (λ (b : Bool). cond (b && are_addressable (elements_of t) (trees_list us)) (element_operations 0 (take (length (elements_of t) - n) (elements_of t)) (length (trees_list us) - n) us) (whole t (list us))) g
-whole_operations t (pairs qs) h g = ap (λ (b : Bool). cond b (key_removals qs (members_of t) ++ members_operations (members_of t) qs) (whole t (pairs qs))) h
+    let n : ℕ = common_back (array_elements t) (trees_list us) in
+    ap (λ (b : Bool). cond (b && are_addressable (array_elements t) (trees_list us)) (element_operations 0 (take (length (array_elements t) - n) (array_elements t)) (length (trees_list us) - n) us) (whole t (list us))) g
+whole_operations t (pairs qs) h g = ap (λ (b : Bool). cond b (key_removals qs (members_or_none t) ++ members_operations (members_or_none t) qs) (whole t (pairs qs))) h
 
 -- ---- how many nodes there are
 

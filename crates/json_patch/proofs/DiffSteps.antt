@@ -1,9 +1,9 @@
 -- Operations on a value that a token references, applied to the container around it.
 use Rattle.std.proofs.Common.{◌≡◌, ℕ, suc, List, [], ◌∷◌, ◌++◌, map, Option, Some, Result, Ok, Err, refl, sym, ap, ◌∙◌}
 use Rattle.json_grammar.specs.Tree.{Tree}
-use Rattle.json_model.specs.Edit.{Step, Changed, remove_at, within, at_path, removed, edited_once}
-use Rattle.json_patch.specs.ValuesAt.{and_then, value_at_step, value_at_path}
-use Rattle.json_patch.specs.Pointer.{Token, step_of_token, path_of_tokens}
+use Rattle.json_model.specs.Edit.{Step, Changed, remove_at, within, at_path, removed, edited_once, and_then}
+use Rattle.json_patch.specs.ValuesAt.{value_at_step, value_at_path}
+use Rattle.json_patch.specs.Pointer.{ReferenceToken, step_of_token, path_of_tokens}
 use Rattle.json_patch.specs.Patch.{Operation, add, remove, replace, move, copy, test, PatchFailure, split_last, with_child, added_at, removal_edit, removed_at, replaced_at, lookup_outcome, applied, applied_from}
 use Rattle.json_patch.specs.Diff.{under}
 use Rattle.json_patch.proofs.ReplacedAt.{replaced_at_step, at_path-step, child_same, child_now, child_twice}
@@ -73,7 +73,7 @@ pub below_both : (os ps : List Operation) → AreBelowRoot os → AreBelowRoot p
 below_both [] ps h g = g
 below_both (o ∷ os) ps h g = (h.0, below_both os ps h.1 g)
 
-under_below : (k : Token) (o : Operation) → IsBelowRoot o → IsBelowRoot (under k o)
+under_below : (k : ReferenceToken) (o : Operation) → IsBelowRoot o → IsBelowRoot (under k o)
 under_below k (add [] u) h = absurd h
 under_below k (add (j ∷ p) u) h = tt
 under_below k (remove []) h = absurd h
@@ -83,38 +83,38 @@ under_below k (move q p) h = h
 under_below k (copy q p) h = h
 under_below k (test p u) h = h
 
-pub all_below : (k : Token) (os : List Operation) → AreBelowRoot os → AreBelowRoot (map (under k) os)
+pub all_below : (k : ReferenceToken) (os : List Operation) → AreBelowRoot os → AreBelowRoot (map (under k) os)
 all_below k [] h = tt
 all_below k (o ∷ os) h = (under_below k o h.0, all_below k os h.1)
 
-module _ (k : Token) (s : Step) (c x : Tree) (is : step_of_token k c ≡ Ok s) (there : value_at_step s c ≡ Ok x) where
+module _ (k : ReferenceToken) (s : Step) (c x : Tree) (is : step_of_token k c ≡ Ok s) (there : value_at_step s c ≡ Ok x) where
   abbrev put : Tree → Tree
   put n = replaced_at_step s n c
 
   step_in : (q : List Step) (f : Tree → Changed Tree) → at_path (s ∷ q) f c ≡ within put (at_path q f x)
   step_in q f = at_path-step s q f c ∙ ap (λ r. and_then r (λ d. within (λ n. replaced_at_step s n c) (at_path q f d))) there
 
-  path_in : (p : List Token) → path_of_tokens (k ∷ p) c ≡ within (λ q. s ∷ q) (path_of_tokens p x)
+  path_in : (p : List ReferenceToken) → path_of_tokens (k ∷ p) c ≡ within (λ q. s ∷ q) (path_of_tokens p x)
   path_in p = ap (λ r. and_then r (λ s. and_then (value_at_step s c) (λ u. within (λ q. s ∷ q) (path_of_tokens p u)))) is ∙ ap (λ r. and_then r (λ u. within (λ q. s ∷ q) (path_of_tokens p u))) there
 
-  replaced_in : (p : List Token) (u : Tree) → replaced_at (k ∷ p) u c ≡ within put (replaced_at p u x)
+  replaced_in : (p : List ReferenceToken) (u : Tree) → replaced_at (k ∷ p) u c ≡ within put (replaced_at p u x)
   replaced_in p u = ap (λ r. and_then r (λ q. at_path q (λ _. Ok u) c)) (path_in p) ∙ by (path_of_tokens p x)
     where
       by : (r : Changed (List Step)) → and_then (within (λ q. s ∷ q) r) (λ q. at_path q (λ _. Ok u) c) ≡ within put (and_then r (λ q. at_path q (λ _. Ok u) x))
       by (Ok q) = step_in q (λ _. Ok u)
       by (Err e) = refl
 
-  added_in : (j : Token) (p : List Token) (u : Tree) → added_at (k ∷ j ∷ p) u c ≡ within put (added_at (j ∷ p) u x)
+  added_in : (j : ReferenceToken) (p : List ReferenceToken) (u : Tree) → added_at (k ∷ j ∷ p) u c ≡ within put (added_at (j ∷ p) u x)
   added_in j p u = ap (λ r. and_then r (λ q. at_path q (with_child (split_last j p).1 u) c)) (path_in (split_last j p).0) ∙ by (path_of_tokens (split_last j p).0 x)
     where
       by : (r : Changed (List Step)) → and_then (within (λ q. s ∷ q) r) (λ q. at_path q (with_child (split_last j p).1 u) c) ≡ within put (and_then r (λ q. at_path q (with_child (split_last j p).1 u) x))
       by (Ok q) = step_in q (with_child (split_last j p).1 u)
       by (Err e) = refl
 
-  removed_in : (j : Token) (p : List Token) → removed_at (k ∷ j ∷ p) c ≡ within put (removed_at (j ∷ p) x)
+  removed_in : (j : ReferenceToken) (p : List ReferenceToken) → removed_at (k ∷ j ∷ p) c ≡ within put (removed_at (j ∷ p) x)
   removed_in j p = ap (λ r. and_then r (λ q. and_then (removal_edit q m c) (λ e. edited_once e c))) (path_in (split_last j p).0) ∙ by (path_of_tokens (split_last j p).0 x)
     where
-      m : Token
+      m : ReferenceToken
       m = (split_last j p).1
 
       last : (q : List Step) (r : Changed Step) → and_then (within (λ i. remove_at (s ∷ q) i) r) (λ e. edited_once e c) ≡ within put (and_then (within (λ i. remove_at q i) r) (λ e. edited_once e x))
@@ -141,7 +141,7 @@ module _ (k : Token) (s : Step) (c x : Tree) (is : step_of_token k c ≡ Ok s) (
   applied_in (test p u) y h e = absurd h
 
 -- operations that make y of the value x that the token references put y in its place
-pub applied_under : (os : List Operation) (n m : ℕ) (k : Token) (s : Step) (c x y : Tree) → AreBelowRoot os → step_of_token k c ≡ Ok s → value_at_step s c ≡ Ok x → applied_from n os x ≡ Ok y
+pub applied_under : (os : List Operation) (n m : ℕ) (k : ReferenceToken) (s : Step) (c x y : Tree) → AreBelowRoot os → step_of_token k c ≡ Ok s → value_at_step s c ≡ Ok x → applied_from n os x ≡ Ok y
     → applied_from m (map (under k) os) c ≡ Ok (replaced_at_step s y c)
 applied_under [] n m k s c x y b is there h = let same : x ≡ y = cc in sym (ap (λ z. Ok (replaced_at_step s z c)) (sym same) ∙ ap Ok (child_same s x c there))
 applied_under (o ∷ os) n m k s c x y b is there h = by (ok_parts n o os x y h) (λ i j d z. applied_under os i j k s d z y b.1)
@@ -155,5 +155,5 @@ applied_under (o ∷ os) n m k s c x y b is there h = by (ok_parts n o os x y h)
         ∙ more (suc n) (suc m) d a.0 (step_stays k s a.0 c is) (child_now s x a.0 c there) a.2
         ∙ ap Ok (child_twice s y a.0 c)
 
-pub made_under : (os : List Operation) (k : Token) (s : Step) (c x y : Tree) → AreBelowRoot os → step_of_token k c ≡ Ok s → value_at_step s c ≡ Ok x → Makes os x y → Makes (map (under k) os) c (replaced_at_step s y c)
+pub made_under : (os : List Operation) (k : ReferenceToken) (s : Step) (c x y : Tree) → AreBelowRoot os → step_of_token k c ≡ Ok s → value_at_step s c ≡ Ok x → Makes os x y → Makes (map (under k) os) c (replaced_at_step s y c)
 made_under os k s c x y b is there h = λ m. applied_under os 0 m k s c x y b is there (h 0)

@@ -4,7 +4,7 @@ use Rattle.std.specs.Char.{digit_value}
 use Rattle.std.specs.Str.Parse.{IsNumeral, AllDigits, digits_value, digits_value_after}
 use Rattle.std.proofs.lemmas.Fmt.{decimal_by_steps}
 use Rattle.std.proofs.lemmas.Bool.{and_parts, and_from, cases_lt}
-use Rattle.json_patch.specs.Pointer.{Token, is_digit, index_after, index_of}
+use Rattle.json_patch.specs.Pointer.{ReferenceToken, is_digit, index_after, index_of_token}
 use Rattle.json_patch.specs.Laws.{DecimalIsIndex, IndexIsNumeral, NumeralIsIndex}
 
 some_same : (x y : ℕ) → Some x ≡ Some y → x ≡ y
@@ -61,7 +61,7 @@ index_is_numeral (x ∷ y ∷ s) i h = by (is_digit x && not (x == 48)) refl h
 
 -- ---- the index that decimal digits are
 
-one_digit : (n : ℕ) → n < 10 → index_of ((48 + n) ∷ []) ≡ Some n
+one_digit : (n : ℕ) → n < 10 → index_of_token ((48 + n) ∷ []) ≡ Some n
 one_digit n l =
     let e : 48 + n - 48 ≡ n = omega arith in
     ap (λ b. cond b (Some (48 + n - 48)) None) (bounds_digit (48 + n) (omega arith) (omega arith)) ∙ ap Some e
@@ -79,14 +79,14 @@ behind_more n (x ∷ s) m d l h = by (is_digit x) h (behind_more (n * 10 + (x - 
     by true h j = j h
     by false h j = absurd (none_some m h)
 
-more_digits : (k : Token) (m d : ℕ) → 0 < m → d < 10 → index_of k ≡ Some m → index_of (k ++ (48 + d) ∷ []) ≡ Some (m * 10 + d)
+more_digits : (k : ReferenceToken) (m d : ℕ) → 0 < m → d < 10 → index_of_token k ≡ Some m → index_of_token (k ++ (48 + d) ∷ []) ≡ Some (m * 10 + d)
 more_digits [] m d p l h = absurd (none_some m h)
 more_digits (x ∷ []) m d p l h = by (is_digit x) refl h
   where
     first : is_digit x ≡ true → x - 48 ≡ m → (is_digit x && not (x == 48)) ≡ true
     first e f = and_from (is_digit x) (not (x == 48)) e (ap not (ne_eqb x 48 (λ g. let z : x - 48 ≡ 0 = omega arith in omega arith)))
 
-    by : (b : Bool) → is_digit x ≡ b → cond b (Some (x - 48)) None ≡ Some m → index_of (x ∷ (48 + d) ∷ []) ≡ Some (m * 10 + d)
+    by : (b : Bool) → is_digit x ≡ b → cond b (Some (x - 48)) None ≡ Some m → index_of_token (x ∷ (48 + d) ∷ []) ≡ Some (m * 10 + d)
     by true e h =
         let f = some_same (x - 48) m h in
         ap (λ b. elim b as (λ _. Option ℕ) [ true ↦ index_after (x - 48) ((48 + d) ∷ []) | false ↦ None ]) (first e f) ∙ behind_more (x - 48) [] m d l (ap Some f)
@@ -99,9 +99,9 @@ more_digits (x ∷ y ∷ s) m d p l h = by (is_digit x && not (x == 48)) h
     by false h = absurd (none_some m h)
 
 pub decimal_is_index : DecimalIsIndex
-decimal_is_index i l = decimal_by_steps (λ n ds. index_of ds ≡ Some n) one_digit steps i l
+decimal_is_index i l = decimal_by_steps (λ n ds. index_of_token ds ≡ Some n) one_digit steps i l
   where
-    steps : (n : ℕ) (ds : List ℕ) → 10 ≤ n → index_of ds ≡ Some (n / 10) → index_of (ds ++ (48 + n % 10) ∷ []) ≡ Some n
+    steps : (n : ℕ) (ds : List ℕ) → 10 ≤ n → index_of_token ds ≡ Some (n / 10) → index_of_token (ds ++ (48 + n % 10) ∷ []) ≡ Some n
     steps n ds g h =
         let e : n / 10 * 10 + n % 10 ≡ n = omega arith in
         more_digits ds (n / 10) (n % 10) (omega arith) (omega arith) h ∙ ap Some e

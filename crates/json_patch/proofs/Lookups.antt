@@ -7,10 +7,10 @@ use Rattle.std.proofs.lemmas.Bool.Decides.{eqb_tells}
 use Rattle.std.proofs.Math.Dec.{eqb}
 use Rattle.std.proofs.lemmas.Slice.Eq.{bytes_eq-Decides}
 use Rattle.json_grammar.specs.Tree.{Tree, null, boolean, num, text, list, pairs, trees_list, pairs_list}
-use Rattle.json_model.specs.Edit.{Step, index_step, Changed, Refusal, within, not_found, type_unmatched}
-use Rattle.json_value.specs.Seen.{list_of, pairs_of, first_of}
-use Rattle.json_patch.specs.ValuesAt.{and_then, value_at_step, value_at_path}
-use Rattle.json_patch.specs.Pointer.{Token, is_digit, index_after, index_of, step_of_token, path_of_tokens, value_at_pointer}
+use Rattle.json_model.specs.Edit.{Step, index_step, Changed, Refusal, within, not_found, type_unmatched, and_then}
+use Rattle.json_value.specs.Seen.{list_of, object_pairs, first_of}
+use Rattle.json_patch.specs.ValuesAt.{value_at_step, value_at_path}
+use Rattle.json_patch.specs.Pointer.{ReferenceToken, is_digit, index_after, index_of_token, step_of_token, path_of_tokens, value_at_pointer}
 use Rattle.json_patch.proofs.Indexes.{index_is_numeral, numeral_is_index}
 use Rattle.json_patch.proofs.PatchLaws.{value_at_pointer-step}
 use Rattle.json_patch.proofs.ReplacedAt.{value_at_path-append}
@@ -38,16 +38,16 @@ first_digit l p = by (or_cases (bytes_eq l (codes "0")) (nat_le 49 (slice_index 
 no_plus : (l : List ℕ) → 48 ≤ get_or l 0 0 → without_leading_plus l ≡ l
 no_plus l h = ap (λ b. drop (cond b 1 0) l) (ne_eqb (get_or l 0 0) 43 (λ e. omega (arith, h, e)))
 
-pub index_of-parsed : {E : Type 0} (l : List ℕ) (r : Result ℕ E) (n : ℕ) → has_index_start l ≡ true → ParsesUnsigned 64 10 l r → r ≡ Ok n → index_of l ≡ Some n
-index_of-parsed {E} l r n p h e =
+pub index_of_token-parsed : {E : Type 0} (l : List ℕ) (r : Result ℕ E) (n : ℕ) → has_index_start l ≡ true → ParsesUnsigned 64 10 l r → r ≡ Ok n → index_of_token l ≡ Some n
+index_of_token-parsed {E} l r n p h e =
     let d = first_digit l p in
     let same = no_plus l d.0 in
     let g : ParsesUnsigned {E = E} 64 10 l (Ok n) = subst (λ q. ParsesUnsigned {E = E} 64 10 l q) e h in
     let num : IsNumeral 10 l = subst (IsNumeral 10) same g.0.0 in
     numeral_is_index l num d.2 ∙ ap Some (sym (g.1 ∙ ap (digits_value 10) same))
 
-pub index_of-unparsed : {E : Type 0} (l : List ℕ) (r : Result ℕ E) (e : E) → has_index_start l ≡ true → ParsesUnsigned 64 10 l r → r ≡ Err e → (i : ℕ) → i < 2 ^ 64 → index_of l ≢ Some i
-index_of-unparsed {E} l r e p h is i small f =
+pub index_of_token-unparsed : {E : Type 0} (l : List ℕ) (r : Result ℕ E) (e : E) → has_index_start l ≡ true → ParsesUnsigned 64 10 l r → r ≡ Err e → (i : ℕ) → i < 2 ^ 64 → index_of_token l ≢ Some i
+index_of_token-unparsed {E} l r e p h is i small f =
     let d = first_digit l p in
     let same = no_plus l d.0 in
     let g : ParsesUnsigned {E = E} 64 10 l (Err e) = subst (λ q. ParsesUnsigned {E = E} 64 10 l q) is h in
@@ -64,15 +64,15 @@ digit_plain x l d n =
     let low = leb-true 48 x a.0 in
     and_from (nat_le 49 x) (nat_le x 57) (le-leb 49 x (omega (arith, low, n))) a.1
 
-pub index_of-no_start : (l : List ℕ) (i : ℕ) → has_index_start l ≡ false → index_of l ≢ Some i
-index_of-no_start [] i p e = some_none i e
-index_of-no_start (x ∷ []) i p e = by (is_digit x) refl e (eqb_tells x 48)
+pub index_of_token-no_start : (l : List ℕ) (i : ℕ) → has_index_start l ≡ false → index_of_token l ≢ Some i
+index_of_token-no_start [] i p e = some_none i e
+index_of_token-no_start (x ∷ []) i p e = by (is_digit x) refl e (eqb_tells x 48)
   where
     by : (b : Bool) → is_digit x ≡ b → cond b (Some (x - 48)) None ≡ Some i → ((eqb x 48 ≡ true) × (x ≡ 48)) ⊎ ((eqb x 48 ≡ false) × (x ≢ 48)) → ⊥
     by false d f c = some_none i f
     by true d f (inl c) = let g : has_index_start (48 ∷ []) ≡ false = subst (λ y. has_index_start (y ∷ []) ≡ false) c.1 p in cc
     by true d f (inr c) = no_or (bytes_eq (x ∷ []) (codes "0")) (nat_le 49 x && nat_le x 57) p (digit_plain x [] d c.1)
-index_of-no_start (x ∷ y ∷ s) i p e = by (is_digit x && not (x == 48)) refl e
+index_of_token-no_start (x ∷ y ∷ s) i p e = by (is_digit x && not (x == 48)) refl e
   where
     by : (b : Bool) → (is_digit x && not (x == 48)) ≡ b → elim b as (λ _. Option ℕ) [ true ↦ index_after (x - 48) (y ∷ s) | false ↦ None ] ≡ Some i → ⊥
     by false d f = some_none i f
@@ -82,7 +82,7 @@ index_of-no_start (x ∷ y ∷ s) i p e = by (is_digit x && not (x == 48)) refl 
 
 -- ---- one step
 
-pub at_object : (k : Token) (t : Tree) (qs : List (List ℕ × Tree)) → Some qs ≡ pairs_of t → value_at_token k t ≡ ok_or (option_map (λ (q : List ℕ × Tree). q.1) (first_of k qs)) not_found
+pub at_object : (k : ReferenceToken) (t : Tree) (qs : List (List ℕ × Tree)) → Some qs ≡ object_pairs t → value_at_token k t ≡ ok_or (option_map (λ (q : List ℕ × Tree). q.1) (first_of k qs)) not_found
 at_object k (pairs ps) qs e =
     let same : qs ≡ pairs_list ps = cc in
     ap (λ o. ok_or o not_found) (first_value-first_of k ps) ∙ ap (λ xs. ok_or (option_map (λ (q : List ℕ × Tree). q.1) (first_of k xs)) not_found) (sym same)
@@ -92,7 +92,7 @@ at_object k (num l) qs e = cc
 at_object k (text s) qs e = cc
 at_object k (list ts) qs e = cc
 
-pub at_array : (k : Token) (t : Tree) (xs : List Tree) (i : ℕ) → Some xs ≡ list_of t → index_of k ≡ Some i → value_at_token k t ≡ ok_or (slice_get xs i) not_found
+pub at_array : (k : ReferenceToken) (t : Tree) (xs : List Tree) (i : ℕ) → Some xs ≡ list_of t → index_of_token k ≡ Some i → value_at_token k t ≡ ok_or (slice_get xs i) not_found
 at_array k (list ts) xs i e f =
     let same : xs ≡ trees_list ts = cc in
     ap (λ o. and_then (ok_or (option_map index_step o) not_found) (λ s. value_at_step s (list ts))) f ∙ ap (λ ys. ok_or (slice_get ys i) not_found) (sym same)
@@ -108,8 +108,8 @@ past_end (x ∷ xs) zero h = absurd (omega arith)
 past_end (x ∷ xs) (suc i) h = past_end xs i (omega arith)
 
 -- an array has no element at an index past its end, or at a token that is no index
-pub at_array_none : (k : Token) (t : Tree) (xs : List Tree) → Some xs ≡ list_of t → ((i : ℕ) → index_of k ≡ Some i → length xs ≤ i) → value_at_token k t ≡ Err not_found
-at_array_none k (list ts) xs e h = by (index_of k) h
+pub at_array_none : (k : ReferenceToken) (t : Tree) (xs : List Tree) → Some xs ≡ list_of t → ((i : ℕ) → index_of_token k ≡ Some i → length xs ≤ i) → value_at_token k t ≡ Err not_found
+at_array_none k (list ts) xs e h = by (index_of_token k) h
   where
     by : (o : Option ℕ) → ((i : ℕ) → o ≡ Some i → length xs ≤ i) → and_then (ok_or (option_map index_step o) not_found) (λ s. value_at_step s (list ts)) ≡ Err not_found
     by None g = refl
@@ -122,7 +122,7 @@ at_array_none k (boolean b) xs e h = cc
 at_array_none k (num l) xs e h = cc
 at_array_none k (text s) xs e h = cc
 
-pub at_scalar : (k : Token) (t : Tree) → None ≡ list_of t → None ≡ pairs_of t → value_at_token k t ≡ Err type_unmatched
+pub at_scalar : (k : ReferenceToken) (t : Tree) → None ≡ list_of t → None ≡ object_pairs t → value_at_token k t ≡ Err type_unmatched
 at_scalar k (list ts) a b = cc
 at_scalar k (pairs ps) a b = cc
 at_scalar k null a b = refl
@@ -132,12 +132,12 @@ at_scalar k (text s) a b = refl
 
 -- ---- more steps
 
-pub value_at_pointer-cons : (k : Token) (p : List Token) (t : Tree) → value_at_pointer (k ∷ p) t ≡ and_then (value_at_token k t) (value_at_pointer p)
+pub value_at_pointer-cons : (k : ReferenceToken) (p : List ReferenceToken) (t : Tree) → value_at_pointer (k ∷ p) t ≡ and_then (value_at_token k t) (value_at_pointer p)
 value_at_pointer-cons k p t = value_at_pointer-step k p t ∙ sym (then_assoc (step_of_token k t) (λ s. value_at_step s t) (value_at_pointer p))
 
 -- ---- paths
 
-path_of_tokens-step : (k : Token) (p : List Token) (t u : Tree) (s : Step) → step_of_token k t ≡ Ok s → value_at_token k t ≡ Ok u → path_of_tokens (k ∷ p) t ≡ within (λ q. s ∷ q) (path_of_tokens p u)
+path_of_tokens-step : (k : ReferenceToken) (p : List ReferenceToken) (t u : Tree) (s : Step) → step_of_token k t ≡ Ok s → value_at_token k t ≡ Ok u → path_of_tokens (k ∷ p) t ≡ within (λ q. s ∷ q) (path_of_tokens p u)
 path_of_tokens-step k p t u s e f =
     let child_there : value_at_step s t ≡ Ok u = sym (ap (λ r. and_then r (λ v. value_at_step v t)) e) ∙ f in
     ap (λ r. and_then r (λ v. and_then (value_at_step v t) (λ w. within (λ q. v ∷ q) (path_of_tokens p w)))) e ∙ ap (λ r. and_then r (λ w. within (λ q. s ∷ q) (path_of_tokens p w))) child_there
@@ -147,16 +147,16 @@ within_twice a s (Ok q) = ap Ok (sym (append_assoc a (s ∷ []) q))
 within_twice a s (Err e) = refl
 
 -- the tokens read are the path a to the tree t; one token more
-pub path_of_tokens-next : (k : Token) (p : List Token) (t u : Tree) (s : Step) (a : List Step) (r : Changed (List Step)) → r ≡ within (λ q. a ++ q) (path_of_tokens (k ∷ p) t) → step_of_token k t ≡ Ok s → value_at_token k t ≡ Ok u
+pub path_of_tokens-next : (k : ReferenceToken) (p : List ReferenceToken) (t u : Tree) (s : Step) (a : List Step) (r : Changed (List Step)) → r ≡ within (λ q. a ++ q) (path_of_tokens (k ∷ p) t) → step_of_token k t ≡ Ok s → value_at_token k t ≡ Ok u
     → r ≡ within (λ q. (a ++ (s ∷ [])) ++ q) (path_of_tokens p u)
 path_of_tokens-next k p t u s a r h e f = h ∙ ap (within (λ q. a ++ q)) (path_of_tokens-step k p t u s e f) ∙ within_twice a s (path_of_tokens p u)
 
-pub value_at_path-next : (k : Token) (t u root : Tree) (s : Step) (a : List Step) → value_at_path a root ≡ Ok t → step_of_token k t ≡ Ok s → value_at_token k t ≡ Ok u → value_at_path (a ++ (s ∷ [])) root ≡ Ok u
+pub value_at_path-next : (k : ReferenceToken) (t u root : Tree) (s : Step) (a : List Step) → value_at_path a root ≡ Ok t → step_of_token k t ≡ Ok s → value_at_token k t ≡ Ok u → value_at_path (a ++ (s ∷ [])) root ≡ Ok u
 value_at_path-next k t u root s a h e f =
     let child_there : value_at_step s t ≡ Ok u = sym (ap (λ r. and_then r (λ v. value_at_step v t)) e) ∙ f in
     value_at_path-append a (s ∷ []) root ∙ ap (λ r. and_then r (value_at_path (s ∷ []))) h ∙ ap (λ r. and_then r (value_at_path [])) child_there
 
-path_of_tokens-err : (k : Token) (p : List Token) (t : Tree) (e : Refusal) → value_at_token k t ≡ Err e → path_of_tokens (k ∷ p) t ≡ Err e
+path_of_tokens-err : (k : ReferenceToken) (p : List ReferenceToken) (t : Tree) (e : Refusal) → value_at_token k t ≡ Err e → path_of_tokens (k ∷ p) t ≡ Err e
 path_of_tokens-err k p t e h = by (step_of_token k t) h
   where
     inner : (s : Step) (r : Changed Tree) → r ≡ Err e → and_then r (λ u. within (λ q. s ∷ q) (path_of_tokens p u)) ≡ Err e
@@ -167,7 +167,7 @@ path_of_tokens-err k p t e h = by (step_of_token k t) h
     by (Ok s) g = inner s (value_at_step s t) g
     by (Err f) g = cc
 
-pub path_of_tokens-lost : (k : Token) (p : List Token) (t : Tree) (a : List Step) (r : Changed (List Step)) (e : Refusal) → r ≡ within (λ q. a ++ q) (path_of_tokens (k ∷ p) t) → value_at_token k t ≡ Err e → r ≡ Err e
+pub path_of_tokens-lost : (k : ReferenceToken) (p : List ReferenceToken) (t : Tree) (a : List Step) (r : Changed (List Step)) (e : Refusal) → r ≡ within (λ q. a ++ q) (path_of_tokens (k ∷ p) t) → value_at_token k t ≡ Err e → r ≡ Err e
 path_of_tokens-lost k p t a r e h f = h ∙ ap (within (λ q. a ++ q)) (path_of_tokens-err k p t e f)
 
 pub drop_item : {A : Type 0} (xs : List A) (i : ℕ) (x : A) → i < length xs → x ≡ get_or xs i x → drop i xs ≡ x ∷ drop (i + 1) xs

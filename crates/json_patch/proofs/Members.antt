@@ -2,7 +2,7 @@
 use Rattle.std.proofs.Common.{◌≡◌, ℕ, zero, suc, ◌+◌, ◌-◌, ◌<◌, ◌≤◌, List, [], ◌∷◌, Bool, true, false, not, ◌&&◌, Option, Some, None, refl, sym, ap, ap₂, ◌∙◌, bytes_eq, codes, map, drop, length, get_or, nat_eq, nat_lt, eq-eqb, ne_eqb, le-ltb, lt-ltb, length-drop, arith}
 use Rattle.json_grammar.specs.Tree.{Tree, list_pairs}
 use Rattle.json_patch.specs.Patch.{single_value, string_in, pointer_in, is_proper_prefix, tokens_eq, operation_named, operation_with_name, operation_of}
-use Rattle.json_value.specs.Seen.{pairs_of}
+use Rattle.json_value.specs.Seen.{object_pairs}
 use Rattle.json_value.proofs.SameViews.{object_seen}
 use Rattle.json_patch.proofs.Lookups.{drop_item}
 
@@ -66,9 +66,9 @@ not_true false e = refl
 
 -- ---- operations
 
-pub operation_is : (t : Tree) (xs : List (List ℕ × Tree)) (n : List ℕ) → Some xs ≡ pairs_of t → Some n ≡ string_in (single_value (codes "op") (list_pairs xs))
+pub operation_is : (t : Tree) (xs : List (List ℕ × Tree)) (n : List ℕ) → Some xs ≡ object_pairs t → Some n ≡ string_in (single_value (codes "op") (list_pairs xs))
     → operation_of t ≡ operation_named n (pointer_in (single_value (codes "path") (list_pairs xs))) (pointer_in (single_value (codes "from") (list_pairs xs))) (single_value (codes "value") (list_pairs xs))
 operation_is t xs n e h = ap operation_of (object_seen t xs e) ∙ ap (λ o. operation_with_name o (list_pairs xs)) (sym h)
 
-pub operation_not : (t : Tree) (xs : List (List ℕ × Tree)) → Some xs ≡ pairs_of t → None ≡ string_in (single_value (codes "op") (list_pairs xs)) → operation_of t ≡ None
+pub operation_not : (t : Tree) (xs : List (List ℕ × Tree)) → Some xs ≡ object_pairs t → None ≡ string_in (single_value (codes "op") (list_pairs xs)) → operation_of t ≡ None
 operation_not t xs e h = ap operation_of (object_seen t xs e) ∙ ap (λ o. operation_with_name o (list_pairs xs)) (sym h)

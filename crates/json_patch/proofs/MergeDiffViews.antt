@@ -7,15 +7,16 @@ use Rattle.json_grammar.specs.Tree.{Tree, null, boolean, num, text, list, pairs,
 use Rattle.json_model.specs.Edit.{has_key}
 use Rattle.json_model.specs.Same.{first_value, same}
 use Rattle.json_patch.specs.Laws.{HasNoRepeatedKeys}
-use Rattle.json_patch.specs.Merge.{members_of, tree_or_null, is_null, merged}
-use Rattle.json_patch.specs.MergeDiff.{has_unique_keys, is_same_as, removals, appended, change, object_patch, differing_patch, changes, is_object, merge_patch_between, HasNoNullMember}
+use Rattle.json_patch.specs.Merge.{members_or_none, is_null, merge_patched}
+use Rattle.json_patch.specs.MergeDiff.{has_unique_keys, is_same_as, removals, appended, merge_change, object_patch, differing_patch, changes, is_object, merge_patch_between, HasNoNullMember}
 use Rattle.json_patch.specs.MergeDiffViews.{members_in}
 use Rattle.json_value.specs.Denotes.{tree_of, pair_of}
 use Rattle.json_value.specs.declared.pair.Keyed.{Keyed}
 use Rattle.json_value.specs.declared.value.Value.{Value}
-use Rattle.json_value.specs.Seen.{pairs_of, first_of, members_seen}
+use Rattle.json_value.specs.Seen.{object_pairs, first_of, members_seen}
 use Rattle.json_value.specs.declared.object_view.ObjectView.{ObjectView}
 use Rattle.json_value.proofs.SameViews.{object_seen}
+use Rattle.json_value.specs.Steps.{tree_or_null}
 use Rattle.json_patch.proofs.MergeDiff.{merge_patch_leads, merge_patch_exists}
 use Rattle.json_patch.proofs.UniqueKeys.{has_first}
 
@@ -41,10 +42,10 @@ key_seen {X} f k qs o e = has_first k (list_pairs qs) ∙ ap is_some (first_seen
     by None = refl
     by (Some x) = refl
 
-pub members_of_seen : (t : Tree) (qs : Members) → Some qs ≡ pairs_of t → list_pairs qs ≡ members_of t
-members_of_seen t qs e = sym (ap members_of (object_seen t qs e))
+pub members_of_seen : (t : Tree) (qs : Members) → Some qs ≡ object_pairs t → list_pairs qs ≡ members_or_none t
+members_of_seen t qs e = sym (ap members_or_none (object_seen t qs e))
 
-pub members_of_none : (t : Tree) → None ≡ pairs_of t → no_pairs ≡ members_of t
+pub members_of_none : (t : Tree) → None ≡ object_pairs t → no_pairs ≡ members_or_none t
 members_of_none (pairs ps) e = cc
 members_of_none null e = refl
 members_of_none (boolean b) e = refl
@@ -84,7 +85,7 @@ object_patch_is ps qs cs o h e = ap (λ b. cond b (option_map (λ rs. pairs (lis
 pub object_patch_none : (ps qs : Pairs) (cs : Option Members) → (has_unique_keys ps && has_unique_keys qs) ≡ false → object_patch ps qs cs ≡ None
 object_patch_none ps qs cs h = ap (λ b. cond b (option_map (λ rs. pairs (list_pairs (removals qs ps ++ rs))) cs) None) h
 
-pub patch_of_scalar : (t u : Tree) → None ≡ pairs_of u → differing_patch t u ≡ Some u
+pub patch_of_scalar : (t u : Tree) → None ≡ object_pairs u → differing_patch t u ≡ Some u
 patch_of_scalar t (pairs ps) e = cc
 patch_of_scalar t null e = refl
 patch_of_scalar t (boolean b) e = refl
@@ -92,22 +93,22 @@ patch_of_scalar t (num l) e = refl
 patch_of_scalar t (text s) e = refl
 patch_of_scalar t (list ts) e = refl
 
-pub object_members : (o : Option ObjectView) (t : Tree) → option_map members_seen o ≡ pairs_of t → members_in o ≡ members_of t
+pub object_members : (o : Option ObjectView) (t : Tree) → option_map members_seen o ≡ object_pairs t → members_in o ≡ members_or_none t
 object_members None t e = members_of_none t e
 object_members (Some o) t e = members_of_seen t (members_seen o) e
 
 -- ---- one change
 
-pub change_same : (xs : Members) (k : List ℕ) (o : Option Tree) (v : Tree) (p : Option Tree) → is_same_as o v ≡ true → appended (Some xs) (change k o v p) ≡ Some xs
+pub change_same : (xs : Members) (k : List ℕ) (o : Option Tree) (v : Tree) (p : Option Tree) → is_same_as o v ≡ true → appended (Some xs) (merge_change k o v p) ≡ Some xs
 change_same xs k o v p h = ap (λ b. appended (Some xs) (cond b (Some []) (cond (is_null v) None (option_map (λ x. (k, x) ∷ []) p)))) h ∙ ap Some (append-nil xs)
 
-pub change_null : (xs : Members) (k : List ℕ) (o : Option Tree) (v : Tree) (p : Option Tree) → is_same_as o v ≡ false → is_null v ≡ true → appended (Some xs) (change k o v p) ≡ None
+pub change_null : (xs : Members) (k : List ℕ) (o : Option Tree) (v : Tree) (p : Option Tree) → is_same_as o v ≡ false → is_null v ≡ true → appended (Some xs) (merge_change k o v p) ≡ None
 change_null xs k o v p h g = ap₂ (λ b c. appended (Some xs) (cond b (Some []) (cond c None (option_map (λ x. (k, x) ∷ []) p)))) h g
 
-pub change_made : (xs : Members) (k : List ℕ) (o : Option Tree) (v : Tree) (p : Option Tree) (x : Tree) → is_same_as o v ≡ false → is_null v ≡ false → p ≡ Some x → appended (Some xs) (change k o v p) ≡ Some (xs ++ (k, x) ∷ [])
+pub change_made : (xs : Members) (k : List ℕ) (o : Option Tree) (v : Tree) (p : Option Tree) (x : Tree) → is_same_as o v ≡ false → is_null v ≡ false → p ≡ Some x → appended (Some xs) (merge_change k o v p) ≡ Some (xs ++ (k, x) ∷ [])
 change_made xs k o v p x h g e = ap₂ (λ b c. appended (Some xs) (cond b (Some []) (cond c None (option_map (λ x. (k, x) ∷ []) p)))) h g ∙ ap (λ q. appended (Some xs) (option_map (λ x. (k, x) ∷ []) q)) e
 
-pub change_missing : (xs : Members) (k : List ℕ) (o : Option Tree) (v : Tree) (p : Option Tree) → is_same_as o v ≡ false → is_null v ≡ false → p ≡ None → appended (Some xs) (change k o v p) ≡ None
+pub change_missing : (xs : Members) (k : List ℕ) (o : Option Tree) (v : Tree) (p : Option Tree) → is_same_as o v ≡ false → is_null v ≡ false → p ≡ None → appended (Some xs) (merge_change k o v p) ≡ None
 change_missing xs k o v p h g e = ap₂ (λ b c. appended (Some xs) (cond b (Some []) (cond c None (option_map (λ x. (k, x) ∷ []) p)))) h g ∙ ap (λ q. appended (Some xs) (option_map (λ x. (k, x) ∷ []) q)) e
 
 pub ruleset one_change = (change_same, change_null, change_made, change_missing)
@@ -121,7 +122,7 @@ pushed items more m n k v t e p f g = ap (map pair_of) e ∙ map-append pair_of 
 
 -- ---- what is known of the patch
 
-pub leads_in : (t u : Tree) (o : Option Value) → merge_patch_between t u ≡ option_map tree_of o → IfSome o (λ p. same (merged t (tree_of p)) u ≡ true)
+pub leads_in : (t u : Tree) (o : Option Value) → merge_patch_between t u ≡ option_map tree_of o → IfSome o (λ p. same (merge_patched t (tree_of p)) u ≡ true)
 leads_in t u None e = tt
 leads_in t u (Some p) e = merge_patch_leads t u (tree_of p) e
 
@@ -136,13 +137,13 @@ none_in t u None e = λ h g n. let p = merge_patch_exists t u h g n in nothing p
 none_in t u (Some p) e = tt
 
 -- the changes of the members left, after one that was made
-change_of : (xs : Members) (k : List ℕ) (o p : Option Tree) (v : Tree) → o ≡ p → appended (Some xs) (change k p v (differing_patch (tree_or_null p) v)) ≡ appended (Some xs) (change k o v (differing_patch (tree_or_null o) v))
-change_of xs k o p v e = sym (ap (λ (x : Option Tree). appended (Some xs) (change k x v (differing_patch (tree_or_null x) v))) e)
+change_of : (xs : Members) (k : List ℕ) (o p : Option Tree) (v : Tree) → o ≡ p → appended (Some xs) (merge_change k p v (differing_patch (tree_or_null p) v)) ≡ appended (Some xs) (merge_change k o v (differing_patch (tree_or_null o) v))
+change_of xs k o p v e = sym (ap (λ (x : Option Tree). appended (Some xs) (merge_change k x v (differing_patch (tree_or_null x) v))) e)
 
-pub changes_after : (xs ys : Members) (k : List ℕ) (v : Tree) (ps : Pairs) (all left : Members) (o : Option Tree) (made : Bool) → all ≡ (k, v) ∷ left → o ≡ first_value k ps → appended (Some xs) (change k o v (differing_patch (tree_or_null o) v)) ≡ cond made (Some ys) None → made ≡ true → appended (Some xs) (changes ps (list_pairs all)) ≡ appended (Some ys) (changes ps (list_pairs left))
+pub changes_after : (xs ys : Members) (k : List ℕ) (v : Tree) (ps : Pairs) (all left : Members) (o : Option Tree) (made : Bool) → all ≡ (k, v) ∷ left → o ≡ first_value k ps → appended (Some xs) (merge_change k o v (differing_patch (tree_or_null o) v)) ≡ cond made (Some ys) None → made ≡ true → appended (Some xs) (changes ps (list_pairs all)) ≡ appended (Some ys) (changes ps (list_pairs left))
 changes_after xs ys k v ps all left o made e f h g =
     ap (λ (ms : Members). appended (Some xs) (changes ps (list_pairs ms))) e
-    ∙ changes_more xs ys (change k (first_value k ps) v (differing_patch (tree_or_null (first_value k ps)) v)) (changes ps (list_pairs left)) (change_of xs k o (first_value k ps) v f ∙ h ∙ ap (λ (b : Bool). cond b (Some ys) None) g)
+    ∙ changes_more xs ys (merge_change k (first_value k ps) v (differing_patch (tree_or_null (first_value k ps)) v)) (changes ps (list_pairs left)) (change_of xs k o (first_value k ps) v f ∙ h ∙ ap (λ (b : Bool). cond b (Some ys) None) g)
 
 pub fewer_nodes : (all left : Members) (k : List ℕ) (v : Tree) → all ≡ (k, v) ∷ left → pairs_nodes (list_pairs left) ≤ pairs_nodes (list_pairs all)
 fewer_nodes all left k v e = let s : pairs_nodes (list_pairs all) ≡ suc (nodes v + pairs_nodes (list_pairs left)) = ap (λ (ms : Members). pairs_nodes (list_pairs ms)) e in omega (arith, s)

@@ -5,8 +5,9 @@ use Rattle.json_grammar.specs.Tree.{Tree, null, boolean, num, text, list, pairs,
 use Rattle.json_model.specs.Edit.{inserted, without_key, has_key}
 use Rattle.json_model.specs.Same.{first_value}
 use Rattle.json_model.specs.Sort.{values_of}
-use Rattle.json_patch.specs.Merge.{members_of, tree_or_null, is_null, merged, pairs_merged}
+use Rattle.json_patch.specs.Merge.{members_or_none, is_null, merge_patched, pairs_merged}
 use Rattle.json_patch.specs.Laws.{HasNoRepeatedKeys, MembersHaveNoRepeatedKeys, EmptyPatchKeeps, OtherMembersStay}
+use Rattle.json_value.specs.Steps.{tree_or_null}
 
 some_same : (x y : Tree) → Some x ≡ Some y → x ≡ y
 some_same x y e = cc
@@ -101,14 +102,14 @@ first_of_values k (pair_and m t ps) = by (bytes_eq m k) (first_of_values k ps)
 
 -- what one member of a patch makes of members
 abbrev pub one_merged : List ℕ → Tree → Pairs → Pairs
-one_merged k v ps = cond (is_null v) (without_key k ps) (inserted k (merged (tree_or_null (first_value k ps)) v) ps)
+one_merged k v ps = cond (is_null v) (without_key k ps) (inserted k (merge_patched (tree_or_null (first_value k ps)) v) ps)
 
 pub values_one : (k n : List ℕ) (v : Tree) (ps : Pairs) → bytes_eq k n ≡ false → values_of n (one_merged k v ps) ≡ values_of n ps
 values_one k n v ps h = by (is_null v)
   where
-    by : (b : Bool) → values_of n (cond b (without_key k ps) (inserted k (merged (tree_or_null (first_value k ps)) v) ps)) ≡ values_of n ps
+    by : (b : Bool) → values_of n (cond b (without_key k ps) (inserted k (merge_patched (tree_or_null (first_value k ps)) v) ps)) ≡ values_of n ps
     by true = values_without k n ps h
-    by false = values_inserted k n (merged (tree_or_null (first_value k ps)) v) ps h
+    by false = values_inserted k n (merge_patched (tree_or_null (first_value k ps)) v) ps h
 
 -- a key that is not in the patch keeps its values
 pub others_stay : (n : List ℕ) (ps qs : Pairs) → has_key n qs ≡ false → values_of n (pairs_merged ps qs) ≡ values_of n ps
@@ -136,27 +137,27 @@ settled_merge ps no_pairs h = refl
 settled_merge ps (pair_and k v qs) h = ap (λ rs. pairs_merged rs qs) h.0 ∙ settled_merge ps qs h.1
 
 -- it does so if the first value of its key is what it made
-settled_by : (k : List ℕ) (v : Tree) (ps rs : Pairs) (b : Bool) → is_null v ≡ b → ((t : Tree) → merged (merged t v) v ≡ merged t v)
+settled_by : (k : List ℕ) (v : Tree) (ps rs : Pairs) (b : Bool) → is_null v ≡ b → ((t : Tree) → merge_patched (merge_patched t v) v ≡ merge_patched t v)
     → first_value k rs ≡ first_value k (one_merged k v ps) → IsSettled k v rs
 settled_by k v ps rs true e i h =
-    ap (λ b. cond b (without_key k rs) (inserted k (merged (tree_or_null (first_value k rs)) v) rs)) e
-    ∙ without_same k rs (h ∙ ap (λ b. first_value k (cond b (without_key k ps) (inserted k (merged (tree_or_null (first_value k ps)) v) ps))) e ∙ first_without k ps)
+    ap (λ b. cond b (without_key k rs) (inserted k (merge_patched (tree_or_null (first_value k rs)) v) rs)) e
+    ∙ without_same k rs (h ∙ ap (λ b. first_value k (cond b (without_key k ps) (inserted k (merge_patched (tree_or_null (first_value k ps)) v) ps))) e ∙ first_without k ps)
 settled_by k v ps rs false e i h =
-    let w : Tree = merged (tree_or_null (first_value k ps)) v in
+    let w : Tree = merge_patched (tree_or_null (first_value k ps)) v in
     let f : first_value k rs ≡ Some w = h ∙ ap (λ b. first_value k (cond b (without_key k ps) (inserted k w ps))) e ∙ first_inserted k w ps in
-    ap (λ b. cond b (without_key k rs) (inserted k (merged (tree_or_null (first_value k rs)) v) rs)) e
-    ∙ ap (λ o. inserted k (merged (tree_or_null o) v) rs) f
+    ap (λ b. cond b (without_key k rs) (inserted k (merge_patched (tree_or_null (first_value k rs)) v) rs)) e
+    ∙ ap (λ o. inserted k (merge_patched (tree_or_null o) v) rs) f
     ∙ ap (λ x. inserted k x rs) (i (tree_or_null (first_value k ps)))
     ∙ inserted_same k w rs f
 
 mutual
-  pub merged_twice : (t p : Tree) → HasNoRepeatedKeys p → merged (merged t p) p ≡ merged t p
+  pub merged_twice : (t p : Tree) → HasNoRepeatedKeys p → merge_patched (merge_patched t p) p ≡ merge_patched t p
   merged_twice t null h = refl
   merged_twice t (boolean b) h = refl
   merged_twice t (num l) h = refl
   merged_twice t (text s) h = refl
   merged_twice t (list ts) h = refl
-  merged_twice t (pairs qs) h = ap pairs (settled_merge (pairs_merged (members_of t) qs) qs (settled_after (members_of t) qs h))
+  merged_twice t (pairs qs) h = ap pairs (settled_merge (pairs_merged (members_or_none t) qs) qs (settled_after (members_or_none t) qs h))
 
   settled_after : (ps qs : Pairs) → MembersHaveNoRepeatedKeys qs → AreSettled (pairs_merged ps qs) qs
   settled_after ps no_pairs h = tt

@@ -12,7 +12,8 @@ use Rattle.json_value.specs.declared.container.Container.{Container}
 use Rattle.json_value.specs.declared.pair.Keyed.{Keyed}
 use Rattle.json_value.specs.declared.value.Value.{Value, Object}
 use Rattle.json_value.proofs.ValueLevels.{object_tree}
-use Rattle.json_patch.specs.Merge.{pairs_merged, tree_or_null}
+use Rattle.json_value.specs.Steps.{tree_or_null}
+use Rattle.json_patch.specs.Merge.{pairs_merged}
 use Rattle.json_patch.specs.Merge.{member_merged}
 
 no_true : true ≡ false → ⊥

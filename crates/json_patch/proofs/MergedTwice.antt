@@ -9,15 +9,16 @@ use Rattle.json_model.specs.Edit.{inserted, without_key}
 use Rattle.json_model.specs.Same.{keys, first_value, same, first_same}
 use Rattle.json_model.specs.Sort.{values_of}
 use Rattle.json_model.proofs.Equality.{same_itself, first_agree}
-use Rattle.json_patch.specs.Merge.{members_of, tree_or_null, is_null, merged, pairs_merged}
+use Rattle.json_patch.specs.Merge.{members_or_none, is_null, merge_patched, pairs_merged}
 use Rattle.json_patch.specs.Laws.{MergedTwiceSame}
 use Rattle.json_patch.proofs.MergeLaws.{first_in, first_of_values, one_merged, values_one, key_itself}
+use Rattle.json_value.specs.Steps.{tree_or_null}
 
 -- ---- the values of one key
 
 -- what a value of a patch makes of the values of its key
 abbrev step : List Tree → Tree → List Tree
-step vs v = cond (is_null v) [] (merged (tree_or_null (first_in vs)) v ∷ drop 1 vs)
+step vs v = cond (is_null v) [] (merge_patched (tree_or_null (first_in vs)) v ∷ drop 1 vs)
 
 abbrev run : List Tree → List Tree → List Tree
 run vs [] = vs
@@ -41,11 +42,11 @@ values_without_same k (pair_and n t ps) = by (bytes_eq n k) refl (values_without
     by false e i = ap (λ b. cond b (t ∷ values_of k (without_key k ps)) (values_of k (without_key k ps))) e ∙ i
 
 values_step : (k : List ℕ) (v : Tree) (ps : Pairs) → values_of k (one_merged k v ps) ≡ step (values_of k ps) v
-values_step k v ps = by (is_null v) ∙ ap (λ o. cond (is_null v) [] (merged (tree_or_null o) v ∷ drop 1 (values_of k ps))) (first_of_values k ps)
+values_step k v ps = by (is_null v) ∙ ap (λ o. cond (is_null v) [] (merge_patched (tree_or_null o) v ∷ drop 1 (values_of k ps))) (first_of_values k ps)
   where
-    by : (b : Bool) → values_of k (cond b (without_key k ps) (inserted k (merged (tree_or_null (first_value k ps)) v) ps)) ≡ cond b [] (merged (tree_or_null (first_value k ps)) v ∷ drop 1 (values_of k ps))
+    by : (b : Bool) → values_of k (cond b (without_key k ps) (inserted k (merge_patched (tree_or_null (first_value k ps)) v) ps)) ≡ cond b [] (merge_patched (tree_or_null (first_value k ps)) v ∷ drop 1 (values_of k ps))
     by true = values_without_same k ps
-    by false = values_inserted_same k (merged (tree_or_null (first_value k ps)) v) ps
+    by false = values_inserted_same k (merge_patched (tree_or_null (first_value k ps)) v) ps
 
 values_run : (k : List ℕ) (ps qs : Pairs) → values_of k (pairs_merged ps qs) ≡ run (values_of k ps) (values_of k qs)
 values_run k ps no_pairs = refl
@@ -63,7 +64,7 @@ values_run k ps (pair_and n v qs) = by (bytes_eq n k) refl (values_run k (one_me
 -- what the values make of the first value
 abbrev onto : Tree → List Tree → Tree
 onto x [] = x
-onto x (v ∷ qs) = onto (merged x v) qs
+onto x (v ∷ qs) = onto (merge_patched x v) qs
 
 abbrev has_null : List Tree → Bool
 has_null [] = false
@@ -81,7 +82,7 @@ forgets vs ws (v ∷ qs) h = by (is_null v) refl h (forgets (step vs v) (step ws
   where
     by : (b : Bool) → is_null v ≡ b → cond b true (has_null qs) ≡ true → (has_null qs ≡ true → run (step vs v) qs ≡ run (step ws v) qs) → run (step vs v) qs ≡ run (step ws v) qs
     by true e h i =
-        ap (λ b. run (cond b [] (merged (tree_or_null (first_in vs)) v ∷ drop 1 vs)) qs) e ∙ sym (ap (λ b. run (cond b [] (merged (tree_or_null (first_in ws)) v ∷ drop 1 ws)) qs) e)
+        ap (λ b. run (cond b [] (merge_patched (tree_or_null (first_in vs)) v ∷ drop 1 vs)) qs) e ∙ sym (ap (λ b. run (cond b [] (merge_patched (tree_or_null (first_in ws)) v ∷ drop 1 ws)) qs) e)
     by false e h i = i h
 
 null_parts : (v : Tree) (qs : List Tree) → has_null (v ∷ qs) ≡ false → (is_null v ≡ false) × (has_null qs ≡ false)
@@ -91,15 +92,15 @@ null_parts v qs h = by (is_null v) h
     by true h = absurd (true_false h)
     by false h = (refl, h)
 
-step_value : (vs : List Tree) (v : Tree) → is_null v ≡ false → step vs v ≡ merged (tree_or_null (first_in vs)) v ∷ drop 1 vs
-step_value vs v e = ap (λ b. cond b [] (merged (tree_or_null (first_in vs)) v ∷ drop 1 vs)) e
+step_value : (vs : List Tree) (v : Tree) → is_null v ≡ false → step vs v ≡ merge_patched (tree_or_null (first_in vs)) v ∷ drop 1 vs
+step_value vs v e = ap (λ b. cond b [] (merge_patched (tree_or_null (first_in vs)) v ∷ drop 1 vs)) e
 
 run_behind : (x : Tree) (tl qs : List Tree) → has_null qs ≡ false → run (x ∷ tl) qs ≡ onto x qs ∷ tl
 run_behind x tl [] h = refl
-run_behind x tl (v ∷ qs) h = let a = null_parts v qs h in ap (λ vs. run vs qs) (step_value (x ∷ tl) v a.0) ∙ run_behind (merged x v) tl qs a.1
+run_behind x tl (v ∷ qs) h = let a = null_parts v qs h in ap (λ vs. run vs qs) (step_value (x ∷ tl) v a.0) ∙ run_behind (merge_patched x v) tl qs a.1
 
 run_value : (vs : List Tree) (v : Tree) (qs : List Tree) → has_null (v ∷ qs) ≡ false → run vs (v ∷ qs) ≡ onto (tree_or_null (first_in vs)) (v ∷ qs) ∷ drop 1 vs
-run_value vs v qs h = let a = null_parts v qs h in ap (λ vs. run vs qs) (step_value vs v a.0) ∙ run_behind (merged (tree_or_null (first_in vs)) v) (drop 1 vs) qs a.1
+run_value vs v qs h = let a = null_parts v qs h in ap (λ vs. run vs qs) (step_value vs v a.0) ∙ run_behind (merge_patched (tree_or_null (first_in vs)) v) (drop 1 vs) qs a.1
 
 -- ---- values that are objects are one object
 
@@ -111,7 +112,7 @@ abbrev all_objects : List Tree → Bool
 all_objects [] = true
 all_objects (v ∷ qs) = cond (is_object v) (all_objects qs) false
 
-no_object : (x y v : Tree) → is_object v ≡ false → merged x v ≡ merged y v
+no_object : (x y v : Tree) → is_object v ≡ false → merge_patched x v ≡ merge_patched y v
 no_object x y null e = refl
 no_object x y (boolean b) e = refl
 no_object x y (num l) e = refl
@@ -121,9 +122,9 @@ no_object x y (pairs ps) e = absurd (true_false e)
 
 onto_same : (x y : Tree) (qs : List Tree) → all_objects qs ≡ false → onto x qs ≡ onto y qs
 onto_same x y [] h = absurd (true_false h)
-onto_same x y (v ∷ qs) h = by (is_object v) refl h (onto_same (merged x v) (merged y v) qs)
+onto_same x y (v ∷ qs) h = by (is_object v) refl h (onto_same (merge_patched x v) (merge_patched y v) qs)
   where
-    by : (b : Bool) → is_object v ≡ b → cond b (all_objects qs) false ≡ false → (all_objects qs ≡ false → onto (merged x v) qs ≡ onto (merged y v) qs) → onto (merged x v) qs ≡ onto (merged y v) qs
+    by : (b : Bool) → is_object v ≡ b → cond b (all_objects qs) false ≡ false → (all_objects qs ≡ false → onto (merge_patched x v) qs ≡ onto (merge_patched y v) qs) → onto (merge_patched x v) qs ≡ onto (merge_patched y v) qs
     by true e h i = i h
     by false e h i = ap (λ z. onto z qs) (no_object x y v e)
 
@@ -137,9 +138,9 @@ merged_followed ps (pair_and k v rs) bs = merged_followed (one_merged k v ps) rs
 
 abbrev joined : List Tree → Pairs
 joined [] = no_pairs
-joined (v ∷ qs) = followed (members_of v) (joined qs)
+joined (v ∷ qs) = followed (members_or_none v) (joined qs)
 
-object_parts : (v : Tree) (qs : List Tree) → all_objects (v ∷ qs) ≡ true → (v ≡ pairs (members_of v)) × (all_objects qs ≡ true)
+object_parts : (v : Tree) (qs : List Tree) → all_objects (v ∷ qs) ≡ true → (v ≡ pairs (members_or_none v)) × (all_objects qs ≡ true)
 object_parts (pairs ps) qs h = (refl, h)
 object_parts null qs h = absurd (false_true h)
 object_parts (boolean b) qs h = absurd (false_true h)
@@ -151,12 +152,12 @@ onto_pairs : (ps : Pairs) (qs : List Tree) → all_objects qs ≡ true → onto 
 onto_pairs ps [] h = refl
 onto_pairs ps (v ∷ qs) h =
     let a = object_parts v qs h in
-    ap (λ w. onto (merged (pairs ps) w) qs) a.0 ∙ onto_pairs (pairs_merged ps (members_of v)) qs a.1 ∙ ap pairs (sym (merged_followed ps (members_of v) (joined qs)))
+    ap (λ w. onto (merge_patched (pairs ps) w) qs) a.0 ∙ onto_pairs (pairs_merged ps (members_or_none v)) qs a.1 ∙ ap pairs (sym (merged_followed ps (members_or_none v) (joined qs)))
 
-onto_object : (x v : Tree) (qs : List Tree) → all_objects (v ∷ qs) ≡ true → onto x (v ∷ qs) ≡ pairs (pairs_merged (members_of x) (joined (v ∷ qs)))
+onto_object : (x v : Tree) (qs : List Tree) → all_objects (v ∷ qs) ≡ true → onto x (v ∷ qs) ≡ pairs (pairs_merged (members_or_none x) (joined (v ∷ qs)))
 onto_object x v qs h =
     let a = object_parts v qs h in
-    ap (λ w. onto (merged x w) qs) a.0 ∙ onto_pairs (pairs_merged (members_of x) (members_of v)) qs a.1 ∙ ap pairs (sym (merged_followed (members_of x) (members_of v) (joined qs)))
+    ap (λ w. onto (merge_patched x w) qs) a.0 ∙ onto_pairs (pairs_merged (members_or_none x) (members_or_none v)) qs a.1 ∙ ap pairs (sym (merged_followed (members_or_none x) (members_or_none v) (joined qs)))
 
 -- ---- sizes
 
@@ -177,7 +178,7 @@ size_followed : (ps qs : Pairs) → pairs_size (followed ps qs) ≡ pairs_size p
 size_followed no_pairs qs = omega arith
 size_followed (pair_and k t ps) qs = let e = size_followed ps qs in omega arith
 
-size_members : (v : Tree) → pairs_size (members_of v) ≤ size v
+size_members : (v : Tree) → pairs_size (members_or_none v) ≤ size v
 size_members null = omega arith
 size_members (boolean b) = omega arith
 size_members (num l) = omega arith
@@ -191,7 +192,7 @@ size_values k (pair_and n t qs) = by (bytes_eq n k) (size_values k qs)
   where
     by : (b : Bool) → pairs_size (joined (values_of k qs)) + length (values_of k qs) ≤ pairs_size qs
         → pairs_size (joined (cond b (t ∷ values_of k qs) (values_of k qs))) + length (cond b (t ∷ values_of k qs) (values_of k qs)) ≤ suc (size t + pairs_size qs)
-    by true h = let e = size_followed (members_of t) (joined (values_of k qs)) in let l = size_members t in omega arith
+    by true h = let e = size_followed (members_or_none t) (joined (values_of k qs)) in let l = size_members t in omega arith
     by false h = omega arith
 
 -- ---- objects that agree at each key
@@ -306,8 +307,8 @@ run_twice n i vs (v ∷ qs) l = by (has_null (v ∷ qs)) refl
       (
           let Q = joined V in
           let a = onto_object x v qs f in
-          let b = onto_object (onto x V) v qs f ∙ ap (λ y. pairs (pairs_merged (members_of y) Q)) a in
-          ap₂ same b a ∙ i Q (omega arith) (members_of x)
+          let b = onto_object (onto x V) v qs f ∙ ap (λ y. pairs (pairs_merged (members_or_none y) Q)) a in
+          ap₂ same b a ∙ i Q (omega arith) (members_or_none x)
           ),
     )
 
@@ -327,7 +328,7 @@ twice (suc n) qs l ps =
     )
 
 pub merged_twice_same : MergedTwiceSame
-merged_twice_same t (pairs qs) = twice (pairs_size qs) qs (omega arith) (members_of t)
+merged_twice_same t (pairs qs) = twice (pairs_size qs) qs (omega arith) (members_or_none t)
 merged_twice_same t null = refl
 merged_twice_same t (boolean b) = same_itself (boolean b)
 merged_twice_same t (num l) = same_itself (num l)

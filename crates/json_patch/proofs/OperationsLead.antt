@@ -11,14 +11,15 @@ use Rattle.json_model.specs.Same.{keys, first_value, same, trees_same, first_sam
 use Rattle.json_model.proofs.Equality.{same_itself, first_agree}
 use Rattle.json_model.proofs.Members.{same_key, key_itself}
 use Rattle.json_patch.specs.Patch.{Operation, add, remove, replace}
-use Rattle.json_patch.specs.Merge.{members_of, tree_or_null, pairs_merged}
+use Rattle.json_patch.specs.Merge.{members_or_none, pairs_merged}
 use Rattle.json_patch.specs.MergeDiff.{has_unique_keys, is_object, removals}
-use Rattle.json_patch.specs.Diff.{under, whole, key_removals, member_operations, is_array, elements_of, common_back, element_removals, are_addressable, operations_between, members_operations, element_operations, OperationsLead, NoOperationsBetweenSame}
+use Rattle.json_patch.specs.Diff.{under, whole, key_removals, member_operations, is_array, array_elements, common_back, element_removals, are_addressable, operations_between, members_operations, element_operations, OperationsLead, NoOperationsBetweenSame}
 use Rattle.json_patch.proofs.UniqueKeys.{true_false, has_first, first_absent, unique_parts, same_by_members, first_beside_inserted, keys_turned, keys_apart}
 use Rattle.json_patch.proofs.MergeDiff.{merged_unique, first_stays, removals_beside, removals_gone}
 use Rattle.json_patch.proofs.DiffSteps.{Makes, made_nothing, made_one, made_both, AreBelowRoot, below_both, all_below}
 use Rattle.json_patch.proofs.DiffMembers.{Led, removals_make, member_makes, AreMade, none_made, one_made}
 use Rattle.json_patch.proofs.DiffElements.{element_added, element_led, elements_removed, makes_more, taken, same_both, back_same, take_and_drop}
+use Rattle.json_value.specs.Steps.{tree_or_null}
 
 -- ---- what is below the root
 
@@ -56,13 +57,13 @@ mutual
   all_operations_below t (num l) = whole_below t (num l)
   all_operations_below t (text s) = whole_below t (text s)
   all_operations_below t (list us) =
-      let n : ℕ = common_back (elements_of t) (trees_list us) in
+      let n : ℕ = common_back (array_elements t) (trees_list us) in
       let m : ℕ = length (trees_list us) - n in
-      let ts : List Tree = take (length (elements_of t) - n) (elements_of t) in
-      either_below (is_array t && are_addressable (elements_of t) (trees_list us)) (element_operations 0 ts m us) (whole t (list us)) (elements_below 0 ts m us) (whole_below t (list us))
+      let ts : List Tree = take (length (array_elements t) - n) (array_elements t) in
+      either_below (is_array t && are_addressable (array_elements t) (trees_list us)) (element_operations 0 ts m us) (whole t (list us)) (elements_below 0 ts m us) (whole_below t (list us))
   all_operations_below t (pairs qs) =
-      either_below (is_object t && (has_unique_keys (members_of t) && has_unique_keys qs)) (key_removals qs (members_of t) ++ members_operations (members_of t) qs) (whole t (pairs qs))
-      (below_both (key_removals qs (members_of t)) (members_operations (members_of t) qs) (keys_below qs (members_of t)) (members_below (members_of t) qs)) (whole_below t (pairs qs))
+      either_below (is_object t && (has_unique_keys (members_or_none t) && has_unique_keys qs)) (key_removals qs (members_or_none t) ++ members_operations (members_or_none t) qs) (whole t (pairs qs))
+      (below_both (key_removals qs (members_or_none t)) (members_operations (members_or_none t) qs) (keys_below qs (members_or_none t)) (members_below (members_or_none t) qs)) (whole_below t (pairs qs))
 
   members_below : (ps qs : Pairs) → AreBelowRoot (members_operations ps qs)
   members_below ps no_pairs = tt
@@ -195,7 +196,7 @@ array_made ts us h led =
 
 -- ---- all trees
 
-object_led : (t : Tree) (qs : Pairs) → MembersLed (members_of t) qs → Made (operations_between t (pairs qs)) t (pairs qs)
+object_led : (t : Tree) (qs : Pairs) → MembersLed (members_or_none t) qs → Made (operations_between t (pairs qs)) t (pairs qs)
 object_led (pairs ps) qs led = by (has_unique_keys ps) (has_unique_keys qs) refl refl
   where
     by : (a b : Bool) → has_unique_keys ps ≡ a → has_unique_keys qs ≡ b → Made (cond (a && b) (key_removals qs ps ++ members_operations ps qs) (whole (pairs ps) (pairs qs))) (pairs ps) (pairs qs)
@@ -231,7 +232,7 @@ mutual
   all_made (num l) t = whole_made t (num l)
   all_made (text s) t = whole_made t (text s)
   all_made (list us) t = array_led t us (elements_led us)
-  all_made (pairs qs) t = object_led t qs (members_led qs (members_of t))
+  all_made (pairs qs) t = object_led t qs (members_led qs (members_or_none t))
 
   members_led : (qs ps : Pairs) → MembersLed ps qs
   members_led no_pairs ps = λ ms u h. none_made ms

@@ -4,10 +4,10 @@ use Rattle.std.specs.Prelude.{ok_or, option_map, slice_get}
 use Rattle.std.proofs.lemmas.Bool.{and_parts, and_from}
 use Rattle.std.proofs.lemmas.Slice.Eq.{bytes_eq-Decides}
 use Rattle.json_grammar.specs.Tree.{Tree, null, boolean, num, text, list, pairs, Trees, no_trees, tree_and, trees_list, Pairs, no_pairs, pair_and}
-use Rattle.json_model.specs.Edit.{Step, key_step, index_step, set_at, remove_at, Changed, Refusal, not_found, within, on_pairs, on_list, at_path, inserted, pushed, without_key, has_key, without_index, removed, edited_once}
+use Rattle.json_model.specs.Edit.{Step, key_step, index_step, set_at, remove_at, Changed, Refusal, not_found, within, on_pairs, on_list, at_path, inserted, pushed, without_key, has_key, without_index, removed, edited_once, and_then}
 use Rattle.json_model.specs.Same.{first_value}
-use Rattle.json_patch.specs.ValuesAt.{and_then, value_at_step, value_at_path}
-use Rattle.json_patch.specs.Pointer.{Token, index_of, step_of_token, path_of_tokens, value_at_pointer}
+use Rattle.json_patch.specs.ValuesAt.{value_at_step, value_at_path}
+use Rattle.json_patch.specs.Pointer.{ReferenceToken, index_of_token, step_of_token, path_of_tokens, value_at_pointer}
 use Rattle.json_patch.specs.Patch.{add, remove, lookup_failed, split_last, insert_before, insert_at_index, with_child, added_at, removal_edit, removed_at, tokens_eq, lookup_outcome, applied}
 use Rattle.json_patch.specs.Laws.{AddIsInsert, AddIsPush, RemoveIsRemove, ReplaceIsSet, CopyIsAdd, MoveIsRemoveAndAdd, MoveToItself, AddThenRemoveMember, AddThenRemoveElement, RemovesWhatExists, then_applied, FirstTokenThenRest, TokensArePath, AddAtRoot}
 use Rattle.json_patch.proofs.Results.{no_ok, then_parts}
@@ -16,17 +16,17 @@ use Rattle.json_patch.proofs.PointerTexts.{path_leads, path_stays}
 
 -- ---- the last token
 
-pub split_last-append : (j : Token) (p : List Token) (k : Token) → split_last j (p ++ k ∷ []) ≡ (j ∷ p, k)
+pub split_last-append : (j : ReferenceToken) (p : List ReferenceToken) (k : ReferenceToken) → split_last j (p ++ k ∷ []) ≡ (j ∷ p, k)
 split_last-append j [] k = refl
-split_last-append j (m ∷ p) k = ap (λ (r : List Token × Token). (j ∷ r.0, r.1)) (split_last-append m p k)
+split_last-append j (m ∷ p) k = ap (λ (r : List ReferenceToken × ReferenceToken). (j ∷ r.0, r.1)) (split_last-append m p k)
 
-pub added_at-append : (p : List Token) (k : Token) (u t : Tree) → added_at (p ++ k ∷ []) u t ≡ and_then (path_of_tokens p t) (λ q. at_path q (with_child k u) t)
+pub added_at-append : (p : List ReferenceToken) (k : ReferenceToken) (u t : Tree) → added_at (p ++ k ∷ []) u t ≡ and_then (path_of_tokens p t) (λ q. at_path q (with_child k u) t)
 added_at-append [] k u t = refl
-added_at-append (j ∷ p) k u t = ap (λ (l : List Token × Token). and_then (path_of_tokens l.0 t) (λ q. at_path q (with_child l.1 u) t)) (split_last-append j p k)
+added_at-append (j ∷ p) k u t = ap (λ (l : List ReferenceToken × ReferenceToken). and_then (path_of_tokens l.0 t) (λ q. at_path q (with_child l.1 u) t)) (split_last-append j p k)
 
-pub removed_at-append : (p : List Token) (k : Token) (t : Tree) → removed_at (p ++ k ∷ []) t ≡ and_then (path_of_tokens p t) (λ q. and_then (removal_edit q k t) (λ e. edited_once e t))
+pub removed_at-append : (p : List ReferenceToken) (k : ReferenceToken) (t : Tree) → removed_at (p ++ k ∷ []) t ≡ and_then (path_of_tokens p t) (λ q. and_then (removal_edit q k t) (λ e. edited_once e t))
 removed_at-append [] k t = refl
-removed_at-append (j ∷ p) k t = ap (λ (l : List Token × Token). and_then (path_of_tokens l.0 t) (λ q. and_then (removal_edit q l.1 t) (λ e. edited_once e t))) (split_last-append j p k)
+removed_at-append (j ∷ p) k t = ap (λ (l : List ReferenceToken × ReferenceToken). and_then (path_of_tokens l.0 t) (λ q. and_then (removal_edit q l.1 t) (λ e. edited_once e t))) (split_last-append j p k)
 
 -- ---- operations as edits
 
@@ -54,10 +54,10 @@ add_is_push p u t q ts e h =
     ∙ same_at_path q (with_child (codes "-") u) (on_list (λ ts. Ok (pushed u ts))) t (list ts) h refl
     )
 
-removal_edit-ok : (q : List Step) (k : Token) (t c : Tree) (s : Step) → value_at_path q t ≡ Ok c → step_of_token k c ≡ Ok s → removal_edit q k t ≡ Ok (remove_at q s)
+removal_edit-ok : (q : List Step) (k : ReferenceToken) (t c : Tree) (s : Step) → value_at_path q t ≡ Ok c → step_of_token k c ≡ Ok s → removal_edit q k t ≡ Ok (remove_at q s)
 removal_edit-ok q k t c s h g = ap (λ r. and_then r (λ c. within (λ s. remove_at q s) (step_of_token k c))) h ∙ ap (within (λ s. remove_at q s)) g
 
-removed_at-ok : (p : List Token) (k : Token) (t : Tree) (q : List Step) (c : Tree) (s : Step) → path_of_tokens p t ≡ Ok q → value_at_path q t ≡ Ok c → step_of_token k c ≡ Ok s
+removed_at-ok : (p : List ReferenceToken) (k : ReferenceToken) (t : Tree) (q : List Step) (c : Tree) (s : Step) → path_of_tokens p t ≡ Ok q → value_at_path q t ≡ Ok c → step_of_token k c ≡ Ok s
     → removed_at (p ++ k ∷ []) t ≡ edited_once (remove_at q s) t
 removed_at-ok p k t q c s e h g =
     removed_at-append p k t
@@ -75,20 +75,20 @@ copy_is_add q p t u h = ap lookup_outcome (ap (λ r. and_then r (λ u. added_at 
 
 -- ---- moves
 
-tokens_itself : (p : List Token) → tokens_eq p p ≡ true
+tokens_itself : (p : List ReferenceToken) → tokens_eq p p ≡ true
 tokens_itself [] = refl
 tokens_itself (k ∷ p) = and_from (bytes_eq k k) (tokens_eq p p) ((bytes_eq-Decides k k).1 refl) (tokens_itself p)
 
 false_true : false ≡ true → ⊥
 false_true e = cc
 
-tokens_same : (p q : List Token) → tokens_eq p q ≡ true → p ≡ q
+tokens_same : (p q : List ReferenceToken) → tokens_eq p q ≡ true → p ≡ q
 tokens_same [] [] h = refl
 tokens_same [] (k ∷ q) h = absurd (false_true h)
 tokens_same (j ∷ p) [] h = absurd (false_true h)
 tokens_same (j ∷ p) (k ∷ q) h = let a = and_parts (bytes_eq j k) (tokens_eq p q) h in ap₂ (λ x y. x ∷ y) ((bytes_eq-Decides j k).0 a.0) (tokens_same p q a.1)
 
-tokens_other : (p q : List Token) → p ≢ q → tokens_eq p q ≡ false
+tokens_other : (p q : List ReferenceToken) → p ≢ q → tokens_eq p q ≡ false
 tokens_other p q n = by (tokens_eq p q) refl
   where
     by : (b : Bool) → tokens_eq p q ≡ b → b ≡ false
@@ -96,7 +96,7 @@ tokens_other p q n = by (tokens_eq p q) refl
     by false e = refl
 
 -- what is moved, by whether it stays where it is
-abbrev moved : Bool → List Token → List Token → Tree → Tree → Changed Tree
+abbrev moved : Bool → List ReferenceToken → List ReferenceToken → Tree → Tree → Changed Tree
 moved b q p t u = elim b as (λ _. Changed Tree) [ true ↦ Ok t | false ↦ and_then (removed_at q t) (added_at p u) ]
 
 pub move_to_itself : MoveToItself
@@ -112,7 +112,7 @@ move_is_remove_and_add q p t u n h =
 
 -- ---- what is added is removed
 
-added_then_removed : (p : List Token) (k : Token) (u t : Tree) (q : List Step) (c n : Tree) (s : Step)
+added_then_removed : (p : List ReferenceToken) (k : ReferenceToken) (u t : Tree) (q : List Step) (c n : Tree) (s : Step)
     → path_of_tokens p t ≡ Ok q → value_at_path q t ≡ Ok c → with_child k u c ≡ Ok n → step_of_token k n ≡ Ok s → removed s n ≡ Ok c
     → (w : Tree) × (applied (add (p ++ k ∷ []) u) t ≡ Ok w) × (applied (remove (p ++ k ∷ [])) w ≡ Ok t)
 added_then_removed p k u t q c n s e h a g d = (
@@ -125,7 +125,7 @@ added_then_removed p k u t q c n s e h a g d = (
       ),
 )
 
-pointed_parts : (p : List Token) (t c : Tree) → value_at_pointer p t ≡ Ok c → (q : List Step) × (path_of_tokens p t ≡ Ok q) × (value_at_path q t ≡ Ok c)
+pointed_parts : (p : List ReferenceToken) (t c : Tree) → value_at_pointer p t ≡ Ok c → (q : List Step) × (path_of_tokens p t ≡ Ok q) × (value_at_path q t ≡ Ok c)
 pointed_parts p t c h = then_parts (path_of_tokens p t) (λ q. value_at_path q t) c h
 
 key_itself : (k : List ℕ) → bytes_eq k k ≡ true
@@ -171,11 +171,11 @@ none_some : {A : Type 0} (x : A) → None ≡ Some x → ⊥
 none_some x e = cc
 
 -- an index is not `-`
-pub no_dash : (k : Token) (i : ℕ) → index_of k ≡ Some i → bytes_eq k (codes "-") ≡ false
+pub no_dash : (k : ReferenceToken) (i : ℕ) → index_of_token k ≡ Some i → bytes_eq k (codes "-") ≡ false
 no_dash k i h = by (bytes_eq k (codes "-")) refl
   where
     by : (b : Bool) → bytes_eq k (codes "-") ≡ b → b ≡ false
-    by true e = absurd (none_some i (ap index_of (sym ((bytes_eq-Decides k (codes "-")).0 e)) ∙ h))
+    by true e = absurd (none_some i (ap index_of_token (sym ((bytes_eq-Decides k (codes "-")).0 e)) ∙ h))
     by false e = refl
 
 insert_before-without : (i : ℕ) (u : Tree) (ts : Trees) → i ≤ length (trees_list ts) → (us : Trees) × (insert_before i u ts ≡ Ok us) × (without_index i us ≡ Ok ts)
@@ -192,7 +192,7 @@ add_then_remove_element p k u t ts i h f l =
     let b = insert_before-without i u ts l in
     added_then_removed p k u t a.0 (list ts) (list b.0) (index_step i) a.1 a.2
     (
-    ap (λ d. within list (cond d (Ok (pushed u ts)) (insert_at_index (index_of k) u ts))) (no_dash k i f)
+    ap (λ d. within list (cond d (Ok (pushed u ts)) (insert_at_index (index_of_token k) u ts))) (no_dash k i f)
     ∙ ap (λ o. within list (insert_at_index o u ts)) f
     ∙ ap (within list) b.1
     )
@@ -201,12 +201,12 @@ add_then_remove_element p k u t ts i h f l =
 -- ---- what a removal needs
 
 -- tokens that are not empty: those before the last, and the last
-last_view : (k : Token) (p : List Token) → (r : List Token) × (j : Token) × (k ∷ p ≡ r ++ j ∷ [])
+last_view : (k : ReferenceToken) (p : List ReferenceToken) → (r : List ReferenceToken) × (j : ReferenceToken) × (k ∷ p ≡ r ++ j ∷ [])
 last_view k [] = ([], k, refl)
 last_view k (m ∷ p) = let a = last_view m p in (k ∷ a.0, a.1, ap (λ q. k ∷ q) a.2)
 
 -- tokens before others reference the value from which the others go on
-pub value_at_pointer-step : (k : Token) (p : List Token) (t : Tree) → value_at_pointer (k ∷ p) t ≡ and_then (step_of_token k t) (λ s. and_then (value_at_step s t) (λ u. value_at_pointer p u))
+pub value_at_pointer-step : (k : ReferenceToken) (p : List ReferenceToken) (t : Tree) → value_at_pointer (k ∷ p) t ≡ and_then (step_of_token k t) (λ s. and_then (value_at_step s t) (λ u. value_at_pointer p u))
 value_at_pointer-step k p t = by (step_of_token k t)
   where
     three : (s : Step) (u : Tree) → value_at_step s t ≡ Ok u → (r : Changed (List Step)) → and_then (within (λ q. s ∷ q) r) (λ q. value_at_path q t) ≡ and_then r (λ q. value_at_path q u)
@@ -226,7 +226,7 @@ then_ok (Ok u) = refl
 then_ok (Err f) = refl
 
 -- the tree that tokens reference, by the last of them
-value_at_pointer-last : (p : List Token) (k : Token) (t : Tree) → value_at_pointer (p ++ k ∷ []) t ≡ and_then (value_at_pointer p t) (λ c. and_then (step_of_token k c) (λ s. value_at_step s c))
+value_at_pointer-last : (p : List ReferenceToken) (k : ReferenceToken) (t : Tree) → value_at_pointer (p ++ k ∷ []) t ≡ and_then (value_at_pointer p t) (λ c. and_then (step_of_token k c) (λ s. value_at_step s c))
 value_at_pointer-last [] k t = value_at_pointer-step k [] t ∙ by (step_of_token k t)
   where
     by : (r : Changed Step) → and_then r (λ s. and_then (value_at_step s t) (λ u. Ok u)) ≡ and_then r (λ s. value_at_step s t)
@@ -299,7 +299,7 @@ removed_alike (index_step i) (text s) = refl
 removed_alike (index_step i) (pairs ps) = refl
 
 -- what is removed, in one line
-removed_at-remove : (p : List Token) (k : Token) (t : Tree) (q : List Step) (c : Tree) → path_of_tokens p t ≡ Ok q → value_at_path q t ≡ Ok c
+removed_at-remove : (p : List ReferenceToken) (k : ReferenceToken) (t : Tree) (q : List Step) (c : Tree) → path_of_tokens p t ≡ Ok q → value_at_path q t ≡ Ok c
     → removed_at (p ++ k ∷ []) t ≡ and_then (step_of_token k c) (λ s. within (λ n. replaced_at_path q n t) (removed s c))
 removed_at-remove p k t q c e h =
     removed_at-append p k t
@@ -311,7 +311,7 @@ removed_at-remove p k t q c e h =
     by (Ok s) = at_path-replaced q (removed s) t ∙ ap (λ r. and_then r (λ c. within (λ n. replaced_at_path q n t) (removed s c))) h
     by (Err f) = refl
 
-removed_alike_last : (p : List Token) (k : Token) (t : Tree) → Alike (value_at_pointer (p ++ k ∷ []) t) (removed_at (p ++ k ∷ []) t)
+removed_alike_last : (p : List ReferenceToken) (k : ReferenceToken) (t : Tree) → Alike (value_at_pointer (p ++ k ∷ []) t) (removed_at (p ++ k ∷ []) t)
 removed_alike_last p k t = by (path_of_tokens p t) refl
   where
     three : (q : List Step) (s : Step) (c : Tree) (r d : Changed Tree) → Alike r d → Alike r (within (λ n. replaced_at_path q n t) d)
@@ -335,7 +335,7 @@ removed_alike_last p k t = by (path_of_tokens p t) refl
         (sym (removed_at-append p k t ∙ ap (λ r. and_then r (λ q. and_then (removal_edit q k t) (λ e. edited_once e t))) e))
         refl
 
-pub removed_alike_all : (k : Token) (p : List Token) (t : Tree) → Alike (value_at_pointer (k ∷ p) t) (removed_at (k ∷ p) t)
+pub removed_alike_all : (k : ReferenceToken) (p : List ReferenceToken) (t : Tree) → Alike (value_at_pointer (k ∷ p) t) (removed_at (k ∷ p) t)
 removed_alike_all k p t = let a = last_view k p in subst (λ q. Alike (value_at_pointer q t) (removed_at q t)) (sym a.2) (removed_alike_last a.0 a.1 t)
 
 pub removes_what_exists : RemovesWhatExists

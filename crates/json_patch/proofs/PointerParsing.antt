@@ -3,7 +3,7 @@ use Rattle.std.proofs.Common.{◌≡◌, ◌≢◌, ℕ, suc, List, [], ◌∷�
 use Rattle.std.specs.Prelude.{option_map}
 use Rattle.std.proofs.lemmas.Bool.{ne_eqb}
 use Rattle.std.proofs.lemmas.List.{append-nil}
-use Rattle.json_patch.specs.Pointer.{Token, slash, tilde, unescaped_after, prepend_byte, split_at_slashes, prepend_token, unescaped_tokens, pointer_of, Lacks}
+use Rattle.json_patch.specs.Pointer.{ReferenceToken, slash, tilde, unescaped_after, prepend_byte, split_at_slashes, prepend_token, unescaped_tokens, pointer_of, Lacks}
 
 pub lacks_first : (c x : ℕ) (a : List ℕ) → Lacks c (x ∷ a) → (x == c) ≡ false
 lacks_first c x a h = ne_eqb x c (h 0 (omega arith))
@@ -11,11 +11,11 @@ lacks_first c x a h = ne_eqb x c (h 0 (omega arith))
 pub lacks_rest : (c x : ℕ) (a : List ℕ) → Lacks c (x ∷ a) → Lacks c a
 lacks_rest c x a h i l = h (suc i) (omega arith)
 
-map_map : (x : ℕ) (a : List ℕ) (o : Option Token) → option_map (λ k. x ∷ k) (option_map (λ k. a ++ k) o) ≡ option_map (λ k. (x ∷ a) ++ k) o
+map_map : (x : ℕ) (a : List ℕ) (o : Option ReferenceToken) → option_map (λ k. x ∷ k) (option_map (λ k. a ++ k) o) ≡ option_map (λ k. (x ∷ a) ++ k) o
 map_map x a None = refl
 map_map x a (Some k) = refl
 
-map_nil : (o : Option Token) → o ≡ option_map (λ k. [] ++ k) o
+map_nil : (o : Option ReferenceToken) → o ≡ option_map (λ k. [] ++ k) o
 map_nil None = refl
 map_nil (Some k) = refl
 
@@ -25,15 +25,15 @@ unescaped-plain [] s h = map_nil (unescaped_after false s)
 unescaped-plain (x ∷ a) s h = by (x == tilde) (lacks_first 126 x a h) ∙ ap (option_map (λ k. x ∷ k)) (unescaped-plain a s (lacks_rest 126 x a h)) ∙ map_map x a (unescaped_after false s)
   where
     by : (b : Bool) → b ≡ false
-        → elim b as (λ _. Option Token) [ true ↦ unescaped_after true (a ++ s) | false ↦ option_map (λ k. x ∷ k) (unescaped_after false (a ++ s)) ] ≡ option_map (λ k. x ∷ k) (unescaped_after false (a ++ s))
+        → elim b as (λ _. Option ReferenceToken) [ true ↦ unescaped_after true (a ++ s) | false ↦ option_map (λ k. x ∷ k) (unescaped_after false (a ++ s)) ] ≡ option_map (λ k. x ∷ k) (unescaped_after false (a ++ s))
     by true e = cc
     by false e = refl
 
-map_twice : (a b : List ℕ) (o : Option Token) → option_map (λ k. a ++ k) (option_map (λ k. b ++ k) o) ≡ option_map (λ k. (a ++ b) ++ k) o
+map_twice : (a b : List ℕ) (o : Option ReferenceToken) → option_map (λ k. a ++ k) (option_map (λ k. b ++ k) o) ≡ option_map (λ k. (a ++ b) ++ k) o
 map_twice a b None = refl
 map_twice a b (Some k) = ap Some (sym (append_assoc a b k))
 
-map_one : (a : List ℕ) (x : ℕ) (o : Option Token) → option_map (λ k. a ++ k) (option_map (λ k. x ∷ k) o) ≡ option_map (λ k. (a ++ (x ∷ [])) ++ k) o
+map_one : (a : List ℕ) (x : ℕ) (o : Option ReferenceToken) → option_map (λ k. a ++ k) (option_map (λ k. x ∷ k) o) ≡ option_map (λ k. (a ++ (x ∷ [])) ++ k) o
 map_one a x None = refl
 map_one a x (Some k) = ap Some (sym (append_assoc a (x ∷ []) k))
 
@@ -60,7 +60,7 @@ other [] g h = refl
 other (x ∷ s) g h = by (x == 48) (x == 49) (ne_eqb x 48 (λ e. g s (ap (λ y. y ∷ s) e))) (ne_eqb x 49 (λ e. h s (ap (λ y. y ∷ s) e)))
   where
     by : (a b : Bool) → a ≡ false → b ≡ false
-        → elim a as (λ _. Option Token) [ true ↦ option_map (λ k. tilde ∷ k) (unescaped_after false s) | false ↦ elim b as (λ _. Option Token) [ true ↦ option_map (λ k. slash ∷ k) (unescaped_after false s) | false ↦ None ] ] ≡ None
+        → elim a as (λ _. Option ReferenceToken) [ true ↦ option_map (λ k. tilde ∷ k) (unescaped_after false s) | false ↦ elim b as (λ _. Option ReferenceToken) [ true ↦ option_map (λ k. slash ∷ k) (unescaped_after false s) | false ↦ None ] ] ≡ None
     by true b e f = cc
     by false true e f = cc
     by false false e f = refl
@@ -86,32 +86,32 @@ pub split_at : (a s : List ℕ) → Lacks 47 a → split_at_slashes (a ++ (47 �
 split_at [] s h = refl
 split_at (x ∷ a) s h = ap (λ b. prepend_byte b x (split_at_slashes (a ++ (47 ∷ s)))) (lacks_first 47 x a h) ∙ ap (prepend_byte false x) (split_at a s (lacks_rest 47 x a h))
 
-one_more : (ks : List Token) (k : Token) (o : Option (List Token)) → option_map (λ p. ks ++ p) (prepend_token (Some k) o) ≡ option_map (λ p. (ks ++ (k ∷ [])) ++ p) o
+one_more : (ks : List ReferenceToken) (k : ReferenceToken) (o : Option (List ReferenceToken)) → option_map (λ p. ks ++ p) (prepend_token (Some k) o) ≡ option_map (λ p. (ks ++ (k ∷ [])) ++ p) o
 one_more ks k None = refl
 one_more ks k (Some p) = ap Some (sym (append_assoc ks (k ∷ []) p))
 
-lost : (ks : List Token) (o : Option (List Token)) → option_map (λ p. ks ++ p) (prepend_token None o) ≡ None
+lost : (ks : List ReferenceToken) (o : Option (List ReferenceToken)) → option_map (λ p. ks ++ p) (prepend_token None o) ≡ None
 lost ks o = refl
 
 -- ks were read, and `remaining` is left; a part before a slash is read
-pub part_read : (parts remaining part after : List ℕ) (ks js : List Token) (k : Token) → unescaped_tokens (split_at_slashes parts) ≡ option_map (λ p. ks ++ p) (unescaped_tokens (split_at_slashes remaining)) → remaining ≡ part ++ (47 ∷ after) → Lacks 47 part
+pub part_read : (parts remaining part after : List ℕ) (ks js : List ReferenceToken) (k : ReferenceToken) → unescaped_tokens (split_at_slashes parts) ≡ option_map (λ p. ks ++ p) (unescaped_tokens (split_at_slashes remaining)) → remaining ≡ part ++ (47 ∷ after) → Lacks 47 part
     → unescaped_after false part ≡ Some k → js ≡ ks ++ (k ∷ []) → unescaped_tokens (split_at_slashes parts) ≡ option_map (λ p. js ++ p) (unescaped_tokens (split_at_slashes after))
 part_read parts remaining part after ks js k h e l f g =
     h ∙ ap (λ s. option_map (λ p. ks ++ p) (unescaped_tokens (split_at_slashes s))) e ∙ ap (λ c. option_map (λ p. ks ++ p) (unescaped_tokens c)) (split_at part after l)
     ∙ ap (λ o. option_map (λ p. ks ++ p) (prepend_token o (unescaped_tokens (split_at_slashes after)))) f ∙ one_more ks k (unescaped_tokens (split_at_slashes after)) ∙ ap (λ v. option_map (λ p. v ++ p) (unescaped_tokens (split_at_slashes after))) (sym g)
 
-pub part_refused : (parts remaining part after : List ℕ) (ks : List Token) → unescaped_tokens (split_at_slashes parts) ≡ option_map (λ p. ks ++ p) (unescaped_tokens (split_at_slashes remaining)) → remaining ≡ part ++ (47 ∷ after) → Lacks 47 part
+pub part_refused : (parts remaining part after : List ℕ) (ks : List ReferenceToken) → unescaped_tokens (split_at_slashes parts) ≡ option_map (λ p. ks ++ p) (unescaped_tokens (split_at_slashes remaining)) → remaining ≡ part ++ (47 ∷ after) → Lacks 47 part
     → unescaped_after false part ≡ None → unescaped_tokens (split_at_slashes parts) ≡ None
 part_refused parts remaining part after ks h e l f =
     h ∙ ap (λ s. option_map (λ p. ks ++ p) (unescaped_tokens (split_at_slashes s))) e ∙ ap (λ c. option_map (λ p. ks ++ p) (unescaped_tokens c)) (split_at part after l)
     ∙ ap (λ o. option_map (λ p. ks ++ p) (prepend_token o (unescaped_tokens (split_at_slashes after)))) f
 
-pub last_read : (parts remaining : List ℕ) (ks js : List Token) (k : Token) → unescaped_tokens (split_at_slashes parts) ≡ option_map (λ p. ks ++ p) (unescaped_tokens (split_at_slashes remaining)) → Lacks 47 remaining
+pub last_read : (parts remaining : List ℕ) (ks js : List ReferenceToken) (k : ReferenceToken) → unescaped_tokens (split_at_slashes parts) ≡ option_map (λ p. ks ++ p) (unescaped_tokens (split_at_slashes remaining)) → Lacks 47 remaining
     → unescaped_after false remaining ≡ Some k → js ≡ ks ++ (k ∷ []) → unescaped_tokens (split_at_slashes parts) ≡ Some js
 last_read parts remaining ks js k h l f g =
     h ∙ ap (λ c. option_map (λ p. ks ++ p) (unescaped_tokens c)) (split_end remaining l) ∙ ap (λ o. option_map (λ p. ks ++ p) (prepend_token o (Some []))) f ∙ ap Some (sym g)
 
-pub last_refused : (parts remaining : List ℕ) (ks : List Token) → unescaped_tokens (split_at_slashes parts) ≡ option_map (λ p. ks ++ p) (unescaped_tokens (split_at_slashes remaining)) → Lacks 47 remaining → unescaped_after false remaining ≡ None → unescaped_tokens (split_at_slashes parts) ≡ None
+pub last_refused : (parts remaining : List ℕ) (ks : List ReferenceToken) → unescaped_tokens (split_at_slashes parts) ≡ option_map (λ p. ks ++ p) (unescaped_tokens (split_at_slashes remaining)) → Lacks 47 remaining → unescaped_after false remaining ≡ None → unescaped_tokens (split_at_slashes parts) ≡ None
 last_refused parts remaining ks h l f =
     h ∙ ap (λ c. option_map (λ p. ks ++ p) (unescaped_tokens c)) (split_end remaining l) ∙ ap (λ o. option_map (λ p. ks ++ p) (prepend_token o (Some []))) f
 
@@ -120,6 +120,6 @@ pub no_slash : (b : List ℕ) → b ≢ [] → ((rest : List ℕ) → b ≢ 47 �
 no_slash [] h g = absurd (h refl)
 no_slash (x ∷ s) h g = by (x == slash) (ne_eqb x 47 (λ e. g s (ap (λ y. y ∷ s) e)))
   where
-    by : (a : Bool) → a ≡ false → elim a as (λ _. Option (List Token)) [ true ↦ unescaped_tokens (split_at_slashes s) | false ↦ None ] ≡ None
+    by : (a : Bool) → a ≡ false → elim a as (λ _. Option (List ReferenceToken)) [ true ↦ unescaped_tokens (split_at_slashes s) | false ↦ None ] ≡ None
     by true e = cc
     by false e = refl

@@ -2,9 +2,9 @@
 use Rattle.std.proofs.Common.{◌≡◌, ℕ, List, [], ◌∷◌, ◌++◌, map, Bool, true, false, cond, Option, Some, None, Ok, refl, sym, ap, ◌∙◌, subst, append_assoc, eqb-true, ◌==◌}
 use Rattle.std.specs.Prelude.{option_map}
 use Rattle.json_grammar.specs.Tree.{Tree, null, boolean, num, text, list, pairs}
-use Rattle.json_model.specs.Edit.{Step, key_step, index_step, type_unmatched, within}
-use Rattle.json_patch.specs.ValuesAt.{and_then, value_at_step, value_at_path}
-use Rattle.json_patch.specs.Pointer.{Token, slash, tilde, unescaped_after, prepend_byte, split_at_slashes, prepend_token, unescaped_tokens, escaped_byte, escaped_token, pointer_text, step_of_token, path_of_tokens}
+use Rattle.json_model.specs.Edit.{Step, key_step, index_step, type_unmatched, within, and_then}
+use Rattle.json_patch.specs.ValuesAt.{value_at_step, value_at_path}
+use Rattle.json_patch.specs.Pointer.{ReferenceToken, slash, tilde, unescaped_after, prepend_byte, split_at_slashes, prepend_token, unescaped_tokens, escaped_byte, escaped_token, pointer_text, step_of_token, path_of_tokens}
 use Rattle.json_patch.specs.Laws.{PointerTextParses, ParsedTextIsPointerText}
 use Rattle.json_patch.proofs.Results.{same_ok, no_ok, then_parts, within_parts}
 use Rattle.json_patch.proofs.ReplacedAt.{replaced_at_step, replaced_at_path, replaced_at_path_step, child_now}
@@ -20,26 +20,26 @@ split_byte x true b e rest s ss h = ap (λ ks. prepend_byte false tilde (prepend
 split_byte x false true e rest s ss h = ap (λ ks. prepend_byte false tilde (prepend_byte false 49 ks)) h
 split_byte x false false e rest s ss h = ap (λ b. prepend_byte b x (split_at_slashes rest)) e ∙ ap (prepend_byte false x) h
 
-split_token : (k : Token) (rest : List ℕ) (ss : List (List ℕ)) → split_at_slashes rest ≡ [] ∷ ss → split_at_slashes (escaped_token k ++ rest) ≡ escaped_token k ∷ ss
+split_token : (k : ReferenceToken) (rest : List ℕ) (ss : List (List ℕ)) → split_at_slashes rest ≡ [] ∷ ss → split_at_slashes (escaped_token k ++ rest) ≡ escaped_token k ∷ ss
 split_token [] rest ss h = h
 split_token (x ∷ k) rest ss h =
     ap split_at_slashes (append_assoc (escaped_byte x) (escaped_token k) rest) ∙ split_byte x (x == tilde) (x == slash) refl (escaped_token k ++ rest) (escaped_token k) ss (split_token k rest ss h)
 
-split_text : (p : List Token) → split_at_slashes (pointer_text p) ≡ [] ∷ map escaped_token p
+split_text : (p : List ReferenceToken) → split_at_slashes (pointer_text p) ≡ [] ∷ map escaped_token p
 split_text [] = refl
 split_text (k ∷ p) = ap (prepend_byte true slash) (split_token k (pointer_text p) (map escaped_token p) (split_text p))
 
-read_byte : (x : ℕ) (a b : Bool) → (x == tilde) ≡ a → (x == slash) ≡ b → (s : List ℕ) (k : Token) → unescaped_after false s ≡ Some k → unescaped_after false (escaped_by x a b ++ s) ≡ Some (x ∷ k)
+read_byte : (x : ℕ) (a b : Bool) → (x == tilde) ≡ a → (x == slash) ≡ b → (s : List ℕ) (k : ReferenceToken) → unescaped_after false s ≡ Some k → unescaped_after false (escaped_by x a b ++ s) ≡ Some (x ∷ k)
 read_byte x true b e f s k h = ap (option_map (λ k. tilde ∷ k)) h ∙ ap (λ y. Some (y ∷ k)) (sym (eqb-true x tilde e))
 read_byte x false true e f s k h = ap (option_map (λ k. slash ∷ k)) h ∙ ap (λ y. Some (y ∷ k)) (sym (eqb-true x slash f))
 read_byte x false false e f s k h =
-    ap (λ b. elim b as (λ _. Option Token) [ true ↦ unescaped_after true s | false ↦ option_map (λ k. x ∷ k) (unescaped_after false s) ]) e ∙ ap (option_map (λ k. x ∷ k)) h
+    ap (λ b. elim b as (λ _. Option ReferenceToken) [ true ↦ unescaped_after true s | false ↦ option_map (λ k. x ∷ k) (unescaped_after false s) ]) e ∙ ap (option_map (λ k. x ∷ k)) h
 
-read_token : (k : Token) → unescaped_after false (escaped_token k) ≡ Some k
+read_token : (k : ReferenceToken) → unescaped_after false (escaped_token k) ≡ Some k
 read_token [] = refl
 read_token (x ∷ k) = read_byte x (x == tilde) (x == slash) refl refl (escaped_token k) k (read_token k)
 
-read_tokens : (p : List Token) → unescaped_tokens (map escaped_token p) ≡ Some p
+read_tokens : (p : List ReferenceToken) → unescaped_tokens (map escaped_token p) ≡ Some p
 read_tokens [] = refl
 read_tokens (k ∷ p) = ap (λ o. prepend_token o (unescaped_tokens (map escaped_token p))) (read_token k) ∙ ap (prepend_token (Some k)) (read_tokens p)
 
@@ -102,40 +102,40 @@ abbrev with_tilde : Bool → List ℕ → List ℕ
 with_tilde true s = tilde ∷ s
 with_tilde false s = s
 
-token_escaped : (b : Bool) (s : List ℕ) (k : Token) → IsBare s → unescaped_after b s ≡ Some k → escaped_token k ≡ with_tilde b s
+token_escaped : (b : Bool) (s : List ℕ) (k : ReferenceToken) → IsBare s → unescaped_after b s ≡ Some k → escaped_token k ≡ with_tilde b s
 token_escaped false [] k n h = ap escaped_token (sym (some_same [] k h))
 token_escaped true [] k n h = absurd (none_some k h)
 token_escaped false (x ∷ s) k n h = by (x == tilde) refl h (λ k. token_escaped true s k n.1) (λ k. token_escaped false s k n.1)
   where
-    by : (a : Bool) → (x == tilde) ≡ a → elim a as (λ _. Option Token) [ true ↦ unescaped_after true s | false ↦ option_map (λ k. x ∷ k) (unescaped_after false s) ] ≡ Some k
-        → ((k : Token) → unescaped_after true s ≡ Some k → escaped_token k ≡ tilde ∷ s) → ((k : Token) → unescaped_after false s ≡ Some k → escaped_token k ≡ s) → escaped_token k ≡ x ∷ s
+    by : (a : Bool) → (x == tilde) ≡ a → elim a as (λ _. Option ReferenceToken) [ true ↦ unescaped_after true s | false ↦ option_map (λ k. x ∷ k) (unescaped_after false s) ] ≡ Some k
+        → ((k : ReferenceToken) → unescaped_after true s ≡ Some k → escaped_token k ≡ tilde ∷ s) → ((k : ReferenceToken) → unescaped_after false s ≡ Some k → escaped_token k ≡ s) → escaped_token k ≡ x ∷ s
     by true e h i j = i k h ∙ ap (λ y. y ∷ s) (sym (eqb-true x tilde e))
     by false e h i j =
         let a = map_parts (λ k. x ∷ k) (unescaped_after false s) k h in
         ap escaped_token (sym a.2) ∙ ap (λ b. escaped_by x b (x == slash) ++ escaped_token a.0) e ∙ ap (λ b. escaped_by x false b ++ escaped_token a.0) n.0 ∙ ap (λ y. x ∷ y) (j a.0 a.1)
 token_escaped true (x ∷ s) k n h = by (x == 48) refl h (λ k. token_escaped false s k n.1)
   where
-    other : (c : Bool) → (x == 49) ≡ c → elim c as (λ _. Option Token) [ true ↦ option_map (λ k. slash ∷ k) (unescaped_after false s) | false ↦ None ] ≡ Some k
-        → ((k : Token) → unescaped_after false s ≡ Some k → escaped_token k ≡ s) → escaped_token k ≡ tilde ∷ x ∷ s
+    other : (c : Bool) → (x == 49) ≡ c → elim c as (λ _. Option ReferenceToken) [ true ↦ option_map (λ k. slash ∷ k) (unescaped_after false s) | false ↦ None ] ≡ Some k
+        → ((k : ReferenceToken) → unescaped_after false s ≡ Some k → escaped_token k ≡ s) → escaped_token k ≡ tilde ∷ x ∷ s
     other true e h j =
         let a = map_parts (λ k. slash ∷ k) (unescaped_after false s) k h in
         ap escaped_token (sym a.2) ∙ ap (λ y. tilde ∷ 49 ∷ y) (j a.0 a.1) ∙ ap (λ y. tilde ∷ y ∷ s) (sym (eqb-true x 49 e))
     other false e h j = absurd (none_some k h)
 
     by : (c : Bool) → (x == 48) ≡ c
-        → elim c as (λ _. Option Token) [ true ↦ option_map (λ k. tilde ∷ k) (unescaped_after false s) | false ↦ elim (x == 49) [ true ↦ option_map (λ k. slash ∷ k) (unescaped_after false s) | false ↦ None ] ] ≡ Some k
-        → ((k : Token) → unescaped_after false s ≡ Some k → escaped_token k ≡ s) → escaped_token k ≡ tilde ∷ x ∷ s
+        → elim c as (λ _. Option ReferenceToken) [ true ↦ option_map (λ k. tilde ∷ k) (unescaped_after false s) | false ↦ elim (x == 49) [ true ↦ option_map (λ k. slash ∷ k) (unescaped_after false s) | false ↦ None ] ] ≡ Some k
+        → ((k : ReferenceToken) → unescaped_after false s ≡ Some k → escaped_token k ≡ s) → escaped_token k ≡ tilde ∷ x ∷ s
     by true e h j =
         let a = map_parts (λ k. tilde ∷ k) (unescaped_after false s) k h in
         ap escaped_token (sym a.2) ∙ ap (λ y. tilde ∷ 48 ∷ y) (j a.0 a.1) ∙ ap (λ y. tilde ∷ y ∷ s) (sym (eqb-true x 48 e))
     by false e h j = other (x == 49) refl h j
 
-prepend_parts : (o : Option Token) (q : Option (List Token)) (p : List Token) → prepend_token o q ≡ Some p → (k : Token) × (r : List Token) × (o ≡ Some k) × (q ≡ Some r) × (k ∷ r ≡ p)
+prepend_parts : (o : Option ReferenceToken) (q : Option (List ReferenceToken)) (p : List ReferenceToken) → prepend_token o q ≡ Some p → (k : ReferenceToken) × (r : List ReferenceToken) × (o ≡ Some k) × (q ≡ Some r) × (k ∷ r ≡ p)
 prepend_parts None q p h = absurd (none_some p h)
 prepend_parts (Some k) None p h = absurd (none_some p h)
 prepend_parts (Some k) (Some r) p h = (k, r, refl, refl, some_same (k ∷ r) p h)
 
-tokens_escaped : (ss : List (List ℕ)) (p : List Token) → AreBare ss → unescaped_tokens ss ≡ Some p → pointer_text p ≡ slashed ss
+tokens_escaped : (ss : List (List ℕ)) (p : List ReferenceToken) → AreBare ss → unescaped_tokens ss ≡ Some p → pointer_text p ≡ slashed ss
 tokens_escaped [] p n h = ap pointer_text (sym (some_same [] p h))
 tokens_escaped (s ∷ ss) p n h =
     let a = prepend_parts (unescaped_after false s) (unescaped_tokens ss) p h in
@@ -145,14 +145,14 @@ pub parsed_text_is_pointer_text : ParsedTextIsPointerText
 parsed_text_is_pointer_text [] p h = ap pointer_text (sym (some_same [] p h))
 parsed_text_is_pointer_text (x ∷ s) p h = by (x == slash) refl h
   where
-    by : (b : Bool) → (x == slash) ≡ b → elim b as (λ _. Option (List Token)) [ true ↦ unescaped_tokens (split_at_slashes s) | false ↦ None ] ≡ Some p → pointer_text p ≡ x ∷ s
+    by : (b : Bool) → (x == slash) ≡ b → elim b as (λ _. Option (List ReferenceToken)) [ true ↦ unescaped_tokens (split_at_slashes s) | false ↦ None ] ≡ Some p → pointer_text p ≡ x ∷ s
     by true e h = tokens_escaped (split_at_slashes s) p (split_bare s) h ∙ slashed-split s ∙ ap (λ y. y ∷ s) (sym (eqb-true x slash e))
     by false e h = absurd (none_some p h)
 
 -- ---- what tokens reference
 
 -- a tree of the same kind, with the same step
-pub step_stays : (k : Token) (s : Step) (n t : Tree) → step_of_token k t ≡ Ok s → step_of_token k (replaced_at_step s n t) ≡ Ok s
+pub step_stays : (k : ReferenceToken) (s : Step) (n t : Tree) → step_of_token k t ≡ Ok s → step_of_token k (replaced_at_step s n t) ≡ Ok s
 step_stays k (key_step m) n (pairs ps) h = h
 step_stays k (index_step i) n (list ts) h = h
 step_stays k (key_step m) n (list ts) h = h
@@ -162,7 +162,7 @@ step_stays k s n (boolean b) h = absurd (no_ok s type_unmatched h)
 step_stays k s n (num l) h = absurd (no_ok s type_unmatched h)
 step_stays k s n (text w) h = absurd (no_ok s type_unmatched h)
 
-pub path_parts : (k : Token) (p : List Token) (t : Tree) (q : List Step) → path_of_tokens (k ∷ p) t ≡ Ok q
+pub path_parts : (k : ReferenceToken) (p : List ReferenceToken) (t : Tree) (q : List Step) → path_of_tokens (k ∷ p) t ≡ Ok q
     → (s : Step) × (c : Tree) × (r : List Step) × (step_of_token k t ≡ Ok s) × (value_at_step s t ≡ Ok c) × (path_of_tokens p c ≡ Ok r) × (s ∷ r ≡ q)
 path_parts k p t q h =
     let a = then_parts (step_of_token k t) (λ s. and_then (value_at_step s t) (λ u. within (λ q. s ∷ q) (path_of_tokens p u))) q h in
@@ -170,14 +170,14 @@ path_parts k p t q h =
     let c = within_parts (path_of_tokens p b.0) (λ q. a.0 ∷ q) q b.2 in
     (a.0, b.0, c.0, a.1, b.1, c.1, c.2)
 
-pub path_from : (k : Token) (p : List Token) (t : Tree) (s : Step) (c : Tree) (r : List Step) → step_of_token k t ≡ Ok s → value_at_step s t ≡ Ok c → path_of_tokens p c ≡ Ok r → path_of_tokens (k ∷ p) t ≡ Ok (s ∷ r)
+pub path_from : (k : ReferenceToken) (p : List ReferenceToken) (t : Tree) (s : Step) (c : Tree) (r : List Step) → step_of_token k t ≡ Ok s → value_at_step s t ≡ Ok c → path_of_tokens p c ≡ Ok r → path_of_tokens (k ∷ p) t ≡ Ok (s ∷ r)
 path_from k p t s c r e f g =
     ap (λ o. and_then o (λ s. and_then (value_at_step s t) (λ u. within (λ q. s ∷ q) (path_of_tokens p u)))) e
     ∙ ap (λ o. and_then o (λ u. within (λ q. s ∷ q) (path_of_tokens p u))) f
     ∙ ap (within (λ q. s ∷ q)) g
 
 -- there is a value at the path that tokens are
-pub path_leads : (p : List Token) (t : Tree) (q : List Step) → path_of_tokens p t ≡ Ok q → (c : Tree) × (value_at_path q t ≡ Ok c)
+pub path_leads : (p : List ReferenceToken) (t : Tree) (q : List Step) → path_of_tokens p t ≡ Ok q → (c : Tree) × (value_at_path q t ≡ Ok c)
 path_leads [] t q h = (t, ap (λ q. value_at_path q t) (sym (same_ok [] q h)))
 path_leads (k ∷ p) t q h =
     let a = path_parts k p t q h in
@@ -185,7 +185,7 @@ path_leads (k ∷ p) t q h =
     (b.0, ap (λ q. value_at_path q t) (sym a.6) ∙ ap (λ r. and_then r (value_at_path a.2)) a.4 ∙ b.1)
 
 -- tokens are the same path if the tree at their end is replaced
-pub path_stays : (p : List Token) (n t : Tree) (q : List Step) → path_of_tokens p t ≡ Ok q → path_of_tokens p (replaced_at_path q n t) ≡ Ok q
+pub path_stays : (p : List ReferenceToken) (n t : Tree) (q : List Step) → path_of_tokens p t ≡ Ok q → path_of_tokens p (replaced_at_path q n t) ≡ Ok q
 path_stays [] n t q h = h
 path_stays (k ∷ p) n t q h =
     let a = path_parts k p t q h in

@@ -2,9 +2,9 @@
 use Rattle.std.proofs.Common.{◌≡◌, ℕ, zero, suc, List, [], ◌∷◌, ◌++◌, Bool, true, false, cond, Option, Some, None, Ok, Err, refl, sym, ap, ◌∙◌, bytes_eq}
 use Rattle.std.specs.Prelude.{ok_or, slice_get}
 use Rattle.json_grammar.specs.Tree.{Tree, null, boolean, num, text, list, pairs, Trees, no_trees, tree_and, trees_list, Pairs, no_pairs, pair_and}
-use Rattle.json_model.specs.Edit.{Step, key_step, index_step, Changed, Refusal, not_found, type_unmatched, within, at_key, at_index, at_path}
+use Rattle.json_model.specs.Edit.{Step, key_step, index_step, Changed, Refusal, not_found, type_unmatched, within, at_key, at_index, at_path, and_then}
 use Rattle.json_model.specs.Same.{first_value}
-use Rattle.json_patch.specs.ValuesAt.{and_then, value_at_step, value_at_path}
+use Rattle.json_patch.specs.ValuesAt.{value_at_step, value_at_path}
 use Rattle.json_patch.proofs.Results.{same_ok, no_ok, then_parts, within_parts, within_same, within_then}
 
 -- ---- one step

@@ -1,7 +1,6 @@
 -- Changes one after another, taken apart.
 use Rattle.std.proofs.Common.{◌≡◌, Ok, Err, refl}
-use Rattle.json_model.specs.Edit.{Changed, Refusal, within}
-use Rattle.json_patch.specs.ValuesAt.{and_then}
+use Rattle.json_model.specs.Edit.{Changed, Refusal, within, and_then}
 
 pub same_ok : {A : Type 0} (x y : A) → ◌≡◌ {A = Changed A} (Ok x) (Ok y) → x ≡ y
 same_ok x y e = cc

@@ -3,13 +3,14 @@ use Rattle.std.specs.Prelude.{◌≡◌, ℕ, zero, suc, ◌-◌, List, [], ◌�
 use Rattle.json_grammar.specs.Tree.{Tree, null, boolean, num, text, list, pairs, Trees, no_trees, tree_and, trees_list, Pairs, no_pairs, pair_and}
 use Rattle.json_model.specs.Edit.{has_key}
 use Rattle.json_model.specs.Same.{first_value, same}
-use Rattle.json_patch.specs.Pointer.{Token}
+use Rattle.json_patch.specs.Pointer.{ReferenceToken}
 use Rattle.json_patch.specs.Patch.{Operation, add, remove, replace, move, copy, test, applied_from}
-use Rattle.json_patch.specs.Merge.{members_of, tree_or_null}
+use Rattle.json_patch.specs.Merge.{members_or_none}
 use Rattle.json_patch.specs.MergeDiff.{has_unique_keys, is_object}
+use Rattle.json_value.specs.Steps.{tree_or_null}
 
 -- the operation on the value that the token references
-abbrev pub under : Token → Operation → Operation
+abbrev pub under : ReferenceToken → Operation → Operation
 under k (add p u) = add (k ∷ p) u
 under k (remove p) = remove (k ∷ p)
 under k (replace p u) = replace (k ∷ p) u
@@ -39,9 +40,9 @@ abbrev pub is_array : Tree → Bool
 is_array (list ts) = true
 is_array _ = false
 
-abbrev pub elements_of : Tree → List Tree
-elements_of (list ts) = trees_list ts
-elements_of _ = []
+abbrev pub array_elements : Tree → List Tree
+array_elements (list ts) = trees_list ts
+array_elements _ = []
 
 -- how many first elements are the same
 abbrev pub common_front : List Tree → List Tree → ℕ
@@ -70,13 +71,13 @@ abbrev mutual
   operations_between t (num l) = whole t (num l)
   operations_between t (text s) = whole t (text s)
   operations_between t (list us) =
-      let n = common_back (elements_of t) (trees_list us) in
-      cond (is_array t && are_addressable (elements_of t) (trees_list us))
-      (element_operations 0 (take (length (elements_of t) - n) (elements_of t)) (length (trees_list us) - n) us)
+      let n = common_back (array_elements t) (trees_list us) in
+      cond (is_array t && are_addressable (array_elements t) (trees_list us))
+      (element_operations 0 (take (length (array_elements t) - n) (array_elements t)) (length (trees_list us) - n) us)
       (whole t (list us))
   operations_between t (pairs qs) =
-      cond (is_object t && (has_unique_keys (members_of t) && has_unique_keys qs))
-      (key_removals qs (members_of t) ++ members_operations (members_of t) qs)
+      cond (is_object t && (has_unique_keys (members_or_none t) && has_unique_keys qs))
+      (key_removals qs (members_or_none t) ++ members_operations (members_or_none t) qs)
       (whole t (pairs qs))
 
   -- each member of the second object made of the first value of its key
@@ -95,11 +96,11 @@ abbrev mutual
 -- ---- laws
 
 -- the operations make a tree that is the same as the second
-abbrev pub LeadsTo : List Operation → Tree → Tree → Type 0
-LeadsTo os t u = (w : Tree) × (applied_from 0 os t ≡ Ok w) × (same w u ≡ true)
+abbrev pub OperationsMakeSame : List Operation → Tree → Tree → Type 0
+OperationsMakeSame os t u = (w : Tree) × (applied_from 0 os t ≡ Ok w) × (same w u ≡ true)
 
 abbrev pub OperationsLead : Type 0
-OperationsLead = (t u : Tree) → LeadsTo (operations_between t u) t u
+OperationsLead = (t u : Tree) → OperationsMakeSame (operations_between t u) t u
 
 -- there are none exactly if the trees are the same
 abbrev pub NoOperationsBetweenSame : Type 0

@@ -2,12 +2,12 @@
 use Rattle.std.specs.Prelude.{◌≡◌, ℕ, List, [], ◌++◌, map, Ok, codes, true}
 use Rattle.json_grammar.specs.Tree.{Tree, text, list, pairs, Pairs, no_pairs, pair_and, no_trees, list_trees}
 use Rattle.json_model.specs.Same.{same}
-use Rattle.json_patch.specs.Pointer.{Token, pointer_text}
+use Rattle.json_patch.specs.Pointer.{ReferenceToken, pointer_text}
 use Rattle.json_patch.specs.Patch.{Operation, add, remove, replace, move, copy, test, patched}
 use Rattle.json_patch.specs.Diff.{operations_between}
 
 -- the text of the pointer from the value at b
-abbrev pub pointer_below : List ℕ → List Token → Tree
+abbrev pub pointer_below : List ℕ → List ReferenceToken → Tree
 pointer_below b p = text (b ++ pointer_text p)
 
 -- the members of an operation: its name, its path, and others

@@ -7,9 +7,9 @@ use Rattle.json_patch.specs.declared.between.PatchWriter.{PatchWriter}
 use Rattle.json_value.specs.Denotes.{tree_of}
 
 -- the trees are appended, and the pointer stays
-abbrev pub Appends : PatchWriter → PatchWriter → List Tree → Type 0
-Appends old new us = (map tree_of new.operations.items ≡ map tree_of old.operations.items ++ us) × (string_bytes new.path ≡ string_bytes old.path)
+abbrev pub AppendsTrees : PatchWriter → PatchWriter → List Tree → Type 0
+AppendsTrees old new us = (map tree_of new.operations.items ≡ map tree_of old.operations.items ++ us) × (string_bytes new.path ≡ string_bytes old.path)
 
 -- operations on the value that the pointer references are appended
-abbrev pub Writes : PatchWriter → PatchWriter → List Operation → Type 0
-Writes old new os = Appends old new (map (operation_below (string_bytes old.path)) os)
+abbrev pub AppendsOperations : PatchWriter → PatchWriter → List Operation → Type 0
+AppendsOperations old new os = AppendsTrees old new (map (operation_below (string_bytes old.path)) os)

@@ -8,17 +8,17 @@ use Rattle.json_patch.specs.declared.error.PatchCode.TheVariants.{NoMemory, NotF
 use Rattle.json_patch.specs.declared.error.PatchError.{PatchError}
 
 -- the number of a code
-abbrev pub number_of : PatchCode → ℕ
-number_of NoMemory = 1
-number_of NotFound = 19
-number_of TypeUnmatched = 20
-number_of BadPointer = 29
-number_of BadPatch = 30
-number_of TestFailed = 31
+abbrev pub patch_code_number : PatchCode → ℕ
+patch_code_number NoMemory = 1
+patch_code_number NotFound = 19
+patch_code_number TypeUnmatched = 20
+patch_code_number BadPointer = 29
+patch_code_number BadPatch = 30
+patch_code_number TestFailed = 31
 
 -- memory runs out
-abbrev pub no_memory : PatchError
-no_memory = record { code = NoMemory; op = None }
+abbrev pub no_memory_in_patch : PatchError
+no_memory_in_patch = record { code = NoMemory; op = None }
 
 -- why parsing a pointer or a token failed, given what its text parses to: to nothing, or memory ran
 -- out

@@ -2,44 +2,44 @@
 use Rattle.std.specs.Prelude.{◌⊎◌, slice_index, ◌+◌, Option, None, decimal, ◌<◌, ◌^◌, ◌≡◌, ◌≢◌, ℕ, ◌≤◌, true, false, codes, List, [], ◌∷◌, ◌++◌, length, map, Result, Ok, Err, Some}
 use Rattle.std.specs.Str.Parse.{IsNumeral, digits_value}
 use Rattle.json_grammar.specs.Tree.{Tree, null, boolean, num, text, list, pairs, Trees, trees_list, list_trees, Pairs, no_pairs, pair_and}
-use Rattle.json_model.specs.Edit.{Step, set_at, insert_at, push_at, remove_at, Refusal, has_key, edited_once}
+use Rattle.json_model.specs.Edit.{Step, set_at, insert_at, push_at, remove_at, Refusal, has_key, edited_once, and_then}
 use Rattle.json_model.specs.Same.{same}
 use Rattle.json_model.specs.Sort.{values_of}
-use Rattle.json_patch.specs.ValuesAt.{and_then, value_at_step, value_at_path}
-use Rattle.json_patch.specs.Pointer.{Token, pointer_of, pointer_text, index_of, step_of_token, path_of_tokens, value_at_pointer}
+use Rattle.json_patch.specs.ValuesAt.{value_at_step, value_at_path}
+use Rattle.json_patch.specs.Pointer.{ReferenceToken, pointer_of, pointer_text, index_of_token, step_of_token, path_of_tokens, value_at_pointer}
 use Rattle.json_patch.specs.Patch.{Operation, add, remove, replace, move, copy, PatchFailure, lookup_failed, bad_patch, operation_of, lookup_outcome, applied, applied_from, patched}
-use Rattle.json_patch.specs.Merge.{merged}
+use Rattle.json_patch.specs.Merge.{merge_patched}
 
 -- ---- pointers (RFC 6901)
 
 -- the text of tokens parses to these tokens
 abbrev pub PointerTextParses : Type 0
-PointerTextParses = (p : List Token) → pointer_of (pointer_text p) ≡ Some p
+PointerTextParses = (p : List ReferenceToken) → pointer_of (pointer_text p) ≡ Some p
 
 -- a text that parses to tokens is the text of these
 abbrev pub ParsedTextIsPointerText : Type 0
-ParsedTextIsPointerText = (b : List ℕ) (p : List Token) → pointer_of b ≡ Some p → pointer_text p ≡ b
+ParsedTextIsPointerText = (b : List ℕ) (p : List ReferenceToken) → pointer_of b ≡ Some p → pointer_text p ≡ b
 
 -- the decimal digits of a number are an index
 abbrev pub DecimalIsIndex : Type 0
-DecimalIsIndex = (i : ℕ) → i < 2 ^ 64 → index_of (decimal i) ≡ Some i
+DecimalIsIndex = (i : ℕ) → i < 2 ^ 64 → index_of_token (decimal i) ≡ Some i
 
 -- a token that is an index is a numeral of that index
 abbrev pub IndexIsNumeral : Type 0
-IndexIsNumeral = (k : Token) (i : ℕ) → index_of k ≡ Some i → IsNumeral 10 k × (digits_value 10 k ≡ i)
+IndexIsNumeral = (k : ReferenceToken) (i : ℕ) → index_of_token k ≡ Some i → IsNumeral 10 k × (digits_value 10 k ≡ i)
 
 -- a numeral is an index, unless it has several digits and begins with 0
 abbrev pub NumeralIsIndex : Type 0
-NumeralIsIndex = (k : Token) → IsNumeral 10 k → (k ≡ codes "0") ⊎ (slice_index k 0 ≢ 48) → index_of k ≡ Some (digits_value 10 k)
+NumeralIsIndex = (k : ReferenceToken) → IsNumeral 10 k → (k ≡ codes "0") ⊎ (slice_index k 0 ≢ 48) → index_of_token k ≡ Some (digits_value 10 k)
 
 -- a pointer is followed token by token
 abbrev pub FirstTokenThenRest : Type 0
-FirstTokenThenRest = (k : Token) (p : List Token) (t : Tree) → value_at_pointer (k ∷ p) t ≡ and_then (step_of_token k t) (λ s. and_then (value_at_step s t) (λ u. value_at_pointer p u))
+FirstTokenThenRest = (k : ReferenceToken) (p : List ReferenceToken) (t : Tree) → value_at_pointer (k ∷ p) t ≡ and_then (step_of_token k t) (λ s. and_then (value_at_step s t) (λ u. value_at_pointer p u))
 
 -- tokens that reference a value are a path to it; others are no path, for the same reason
 abbrev pub TokensArePath : Type 0
 TokensArePath =
-    (p : List Token) (t : Tree)
+    (p : List ReferenceToken) (t : Tree)
     → ((c : Tree) → value_at_pointer p t ≡ Ok c → (q : List Step) × (path_of_tokens p t ≡ Ok q) × (value_at_path q t ≡ Ok c))
     × ((r : Refusal) → value_at_pointer p t ≡ Err r → path_of_tokens p t ≡ Err r)
 
@@ -52,14 +52,14 @@ AddAtRoot = (u t : Tree) → applied (add [] u) t ≡ lookup_outcome (edited_onc
 -- `add` inserts into an object, and `add` of `-` pushes onto an array
 abbrev pub AddIsInsert : Type 0
 AddIsInsert =
-    (p : List Token) (k : Token) (u t : Tree) (q : List Step) (ps : Pairs)
+    (p : List ReferenceToken) (k : ReferenceToken) (u t : Tree) (q : List Step) (ps : Pairs)
     → path_of_tokens p t ≡ Ok q
     → value_at_path q t ≡ Ok (pairs ps)
     → applied (add (p ++ k ∷ []) u) t ≡ lookup_outcome (edited_once (insert_at q k u) t)
 
 abbrev pub AddIsPush : Type 0
 AddIsPush =
-    (p : List Token) (u t : Tree) (q : List Step) (ts : Trees)
+    (p : List ReferenceToken) (u t : Tree) (q : List Step) (ts : Trees)
     → path_of_tokens p t ≡ Ok q
     → value_at_path q t ≡ Ok (list ts)
     → applied (add (p ++ codes "-" ∷ []) u) t ≡ lookup_outcome (edited_once (push_at q u) t)
@@ -67,7 +67,7 @@ AddIsPush =
 -- `remove` removes the member or element that the last token names
 abbrev pub RemoveIsRemove : Type 0
 RemoveIsRemove =
-    (p : List Token) (k : Token) (t : Tree) (q : List Step) (c : Tree) (s : Step)
+    (p : List ReferenceToken) (k : ReferenceToken) (t : Tree) (q : List Step) (c : Tree) (s : Step)
     → path_of_tokens p t ≡ Ok q
     → value_at_path q t ≡ Ok c
     → step_of_token k c ≡ Ok s
@@ -75,11 +75,11 @@ RemoveIsRemove =
 
 -- `replace` sets a value that exists
 abbrev pub ReplaceIsSet : Type 0
-ReplaceIsSet = (p : List Token) (u t : Tree) (q : List Step) → path_of_tokens p t ≡ Ok q → applied (replace p u) t ≡ lookup_outcome (edited_once (set_at q u) t)
+ReplaceIsSet = (p : List ReferenceToken) (u t : Tree) (q : List Step) → path_of_tokens p t ≡ Ok q → applied (replace p u) t ≡ lookup_outcome (edited_once (set_at q u) t)
 
 -- `copy` adds the value at `from`
 abbrev pub CopyIsAdd : Type 0
-CopyIsAdd = (q p : List Token) (t u : Tree) → value_at_pointer q t ≡ Ok u → applied (copy q p) t ≡ applied (add p u) t
+CopyIsAdd = (q p : List ReferenceToken) (t u : Tree) → value_at_pointer q t ≡ Ok u → applied (copy q p) t ≡ applied (add p u) t
 
 -- an operation after another
 abbrev pub then_applied : Result Tree PatchFailure → Operation → Result Tree PatchFailure
@@ -89,24 +89,24 @@ then_applied (Err r) o = Err r
 -- `move` removes the value at `from` and adds it at `path`; where the two are equal it changes
 -- nothing
 abbrev pub MoveIsRemoveAndAdd : Type 0
-MoveIsRemoveAndAdd = (q p : List Token) (t u : Tree) → q ≢ p → value_at_pointer q t ≡ Ok u → applied (move q p) t ≡ then_applied (applied (remove q) t) (add p u)
+MoveIsRemoveAndAdd = (q p : List ReferenceToken) (t u : Tree) → q ≢ p → value_at_pointer q t ≡ Ok u → applied (move q p) t ≡ then_applied (applied (remove q) t) (add p u)
 
 abbrev pub MoveToItself : Type 0
-MoveToItself = (p : List Token) (t u : Tree) → value_at_pointer p t ≡ Ok u → applied (move p p) t ≡ Ok t
+MoveToItself = (p : List ReferenceToken) (t u : Tree) → value_at_pointer p t ≡ Ok u → applied (move p p) t ≡ Ok t
 
 -- `remove` undoes `add` of a new member, and of an element
 abbrev pub AddThenRemoveMember : Type 0
 AddThenRemoveMember =
-    (p : List Token) (k : Token) (u t : Tree) (ps : Pairs)
+    (p : List ReferenceToken) (k : ReferenceToken) (u t : Tree) (ps : Pairs)
     → value_at_pointer p t ≡ Ok (pairs ps)
     → has_key k ps ≡ false
     → (w : Tree) × (applied (add (p ++ k ∷ []) u) t ≡ Ok w) × (applied (remove (p ++ k ∷ [])) w ≡ Ok t)
 
 abbrev pub AddThenRemoveElement : Type 0
 AddThenRemoveElement =
-    (p : List Token) (k : Token) (u t : Tree) (ts : Trees) (i : ℕ)
+    (p : List ReferenceToken) (k : ReferenceToken) (u t : Tree) (ts : Trees) (i : ℕ)
     → value_at_pointer p t ≡ Ok (list ts)
-    → index_of k ≡ Some i
+    → index_of_token k ≡ Some i
     → i ≤ length (trees_list ts)
     → (w : Tree) × (applied (add (p ++ k ∷ []) u) t ≡ Ok w) × (applied (remove (p ++ k ∷ [])) w ≡ Ok t)
 
@@ -114,7 +114,7 @@ AddThenRemoveElement =
 -- pointer does
 abbrev pub RemovesWhatExists : Type 0
 RemovesWhatExists =
-    (k : Token) (p : List Token) (t : Tree)
+    (k : ReferenceToken) (p : List ReferenceToken) (t : Tree)
     → ((u : Tree) → value_at_pointer (k ∷ p) t ≡ Ok u → (w : Tree) × (applied (remove (k ∷ p)) t ≡ Ok w))
     × ((r : Refusal) → value_at_pointer (k ∷ p) t ≡ Err r → applied (remove (k ∷ p)) t ≡ Err (lookup_failed r))
 
@@ -147,7 +147,7 @@ AppliedInTurn = (n : ℕ) (os ps : List Operation) (t : Tree) → applied_from n
 
 -- the empty object changes no object
 abbrev pub EmptyPatchKeeps : Type 0
-EmptyPatchKeeps = (ps : Pairs) → merged (pairs ps) (pairs no_pairs) ≡ pairs ps
+EmptyPatchKeeps = (ps : Pairs) → merge_patched (pairs ps) (pairs no_pairs) ≡ pairs ps
 
 -- no object of the patch repeats a key, nor does an object nested in it by objects
 abbrev mutual
@@ -165,13 +165,13 @@ abbrev mutual
 
 -- merging such a patch twice is merging it once
 abbrev pub MergedTwice : Type 0
-MergedTwice = (t p : Tree) → HasNoRepeatedKeys p → merged (merged t p) p ≡ merged t p
+MergedTwice = (t p : Tree) → HasNoRepeatedKeys p → merge_patched (merge_patched t p) p ≡ merge_patched t p
 
 -- merging any patch twice gives the same as merging it once; only the order of members may differ
 abbrev pub MergedTwiceSame : Type 0
-MergedTwiceSame = (t p : Tree) → same (merged (merged t p) p) (merged t p) ≡ true
+MergedTwiceSame = (t p : Tree) → same (merge_patched (merge_patched t p) p) (merge_patched t p) ≡ true
 
 -- a key that is not in the patch keeps its values, in their order
 abbrev pub OtherMembersStay : Type 0
 OtherMembersStay =
-    (k : List ℕ) (ps qs : Pairs) → has_key k qs ≡ false → (rs : Pairs) × (merged (pairs ps) (pairs qs) ≡ pairs rs) × (values_of k rs ≡ values_of k ps)
+    (k : List ℕ) (ps qs : Pairs) → has_key k qs ≡ false → (rs : Pairs) × (merge_patched (pairs ps) (pairs qs) ≡ pairs rs) × (values_of k rs ≡ values_of k ps)

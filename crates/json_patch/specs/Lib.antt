@@ -4,7 +4,6 @@ pub mod Patch
 pub mod KeyIndex
 pub mod Merge
 pub mod Laws
-pub mod ExampleTrees
 pub mod PointerExamples
 pub mod PatchExamples
 pub mod MergeExamples

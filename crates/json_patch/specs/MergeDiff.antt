@@ -4,7 +4,8 @@ use Rattle.json_grammar.specs.Tree.{Tree, null, boolean, num, text, list, pairs,
 use Rattle.json_model.specs.Edit.{has_key}
 use Rattle.json_model.specs.Same.{first_value, same}
 use Rattle.json_patch.specs.Laws.{HasNoRepeatedKeys}
-use Rattle.json_patch.specs.Merge.{members_of, tree_or_null, is_null, merged}
+use Rattle.json_patch.specs.Merge.{members_or_none, is_null, merge_patched}
+use Rattle.json_value.specs.Steps.{tree_or_null}
 
 -- no two members have the same key
 abbrev pub has_unique_keys : Pairs → Bool
@@ -32,8 +33,8 @@ appended _ _ = None
 
 -- members of a patch for one key, given the old value, the new one and the patch between them: none
 -- if the two are the same; null cannot be made
-abbrev pub change : List ℕ → Option Tree → Tree → Option Tree → Option (List (List ℕ × Tree))
-change k old new p = cond (is_same_as old new) (Some []) (cond (is_null new) None (option_map (λ x. (k, x) ∷ []) p))
+abbrev pub merge_change : List ℕ → Option Tree → Tree → Option Tree → Option (List (List ℕ × Tree))
+merge_change k old new p = cond (is_same_as old new) (Some []) (cond (is_null new) None (option_map (λ x. (k, x) ∷ []) p))
 
 -- the patch that makes the second members of the first, given the changes; there is none if a key
 -- repeats in either
@@ -48,12 +49,12 @@ abbrev mutual
   differing_patch t (num l) = Some (num l)
   differing_patch t (text s) = Some (text s)
   differing_patch t (list us) = Some (list us)
-  differing_patch t (pairs qs) = object_patch (members_of t) qs (changes (members_of t) qs)
+  differing_patch t (pairs qs) = object_patch (members_or_none t) qs (changes (members_or_none t) qs)
 
   -- members of a patch: the changes of the first members that the second need
   pub changes : Pairs → Pairs → Option (List (List ℕ × Tree))
   changes ps no_pairs = Some []
-  changes ps (pair_and k v qs) = appended (change k (first_value k ps) v (differing_patch (tree_or_null (first_value k ps)) v)) (changes ps qs)
+  changes ps (pair_and k v qs) = appended (merge_change k (first_value k ps) v (differing_patch (tree_or_null (first_value k ps)) v)) (changes ps qs)
 
 -- the patch from a tree to another; between two objects that are the same it is the empty object
 abbrev pub merge_patch_between : Tree → Tree → Option Tree
@@ -63,7 +64,7 @@ merge_patch_between t u = cond (is_object t && same t u) (Some (pairs no_pairs))
 
 -- the patch leads from the one tree to the other
 abbrev pub MergePatchLeads : Type 0
-MergePatchLeads = (t u p : Tree) → merge_patch_between t u ≡ Some p → same (merged t p) u ≡ true
+MergePatchLeads = (t u p : Tree) → merge_patch_between t u ≡ Some p → same (merge_patched t p) u ≡ true
 
 -- between objects that are the same the patch is the empty object
 abbrev pub MergePatchOfSame : Type 0

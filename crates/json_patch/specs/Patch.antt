@@ -1,20 +1,20 @@
 -- JSON Patch (RFC 6902): what a patch makes of a tree.
 use Rattle.std.specs.Prelude.{ℕ, zero, suc, List, [], ◌∷◌, Bool, true, false, cond, ◌&&◌, Option, Some, None, Result, Ok, Err, bytes_eq, codes}
 use Rattle.json_grammar.specs.Tree.{Tree, text, list, pairs, Trees, no_trees, tree_and, trees_list, Pairs}
-use Rattle.json_model.specs.Edit.{Step, Edit, set_at, remove_at, Changed, Refusal, not_found, type_unmatched, within, at_path, inserted, pushed, edited_once}
+use Rattle.json_model.specs.Edit.{Step, Edit, set_at, remove_at, Changed, Refusal, not_found, type_unmatched, within, at_path, inserted, pushed, edited_once, and_then}
 use Rattle.json_model.specs.Same.{same}
 use Rattle.json_model.specs.Sort.{values_of}
-use Rattle.json_patch.specs.ValuesAt.{and_then, value_at_path}
-use Rattle.json_patch.specs.Pointer.{Token, pointer_of, index_of, step_of_token, path_of_tokens, value_at_pointer}
+use Rattle.json_patch.specs.ValuesAt.{value_at_path}
+use Rattle.json_patch.specs.Pointer.{ReferenceToken, pointer_of, index_of_token, step_of_token, path_of_tokens, value_at_pointer}
 
 -- an operation (section 4); `move` and `copy` have `from` and then `path`
 pub data Operation : Type 0 where
-  add : List Token → Tree → Operation
-  remove : List Token → Operation
-  replace : List Token → Tree → Operation
-  move : List Token → List Token → Operation
-  copy : List Token → List Token → Operation
-  test : List Token → Tree → Operation
+  add : List ReferenceToken → Tree → Operation
+  remove : List ReferenceToken → Operation
+  replace : List ReferenceToken → Tree → Operation
+  move : List ReferenceToken → List ReferenceToken → Operation
+  copy : List ReferenceToken → List ReferenceToken → Operation
+  test : List ReferenceToken → Tree → Operation
 
 -- ---- reading an operation (sections 3 and 4)
 
@@ -33,27 +33,27 @@ string_in (Some (text s)) = Some s
 string_in _ = None
 
 -- the tokens of a string that is a pointer
-abbrev pub pointer_in : Option Tree → Option (List Token)
+abbrev pub pointer_in : Option Tree → Option (List ReferenceToken)
 pointer_in (Some (text s)) = pointer_of s
 pointer_in _ = None
 
 -- the second tokens begin with the first, and go on
-abbrev pub is_proper_prefix : List Token → List Token → Bool
+abbrev pub is_proper_prefix : List ReferenceToken → List ReferenceToken → Bool
 is_proper_prefix [] [] = false
 is_proper_prefix [] (k ∷ q) = true
 is_proper_prefix (j ∷ p) [] = false
 is_proper_prefix (j ∷ p) (k ∷ q) = bytes_eq j k && is_proper_prefix p q
 
 -- an operation, if the members that it needs are there
-abbrev pub with_value : (List Token → Tree → Operation) → Option (List Token) → Option Tree → Option Operation
-with_value f (Some p) (Some v) = Some (f p v)
-with_value f _ _ = None
+abbrev pub operation_with_value : (List ReferenceToken → Tree → Operation) → Option (List ReferenceToken) → Option Tree → Option Operation
+operation_with_value f (Some p) (Some v) = Some (f p v)
+operation_with_value f _ _ = None
 
-abbrev pub with_path : (List Token → Operation) → Option (List Token) → Option Operation
+abbrev pub with_path : (List ReferenceToken → Operation) → Option (List ReferenceToken) → Option Operation
 with_path f (Some p) = Some (f p)
 with_path f None = None
 
-abbrev pub with_from : (List Token → List Token → Operation) → Option (List Token) → Option (List Token) → Option Operation
+abbrev pub with_from : (List ReferenceToken → List ReferenceToken → Operation) → Option (List ReferenceToken) → Option (List ReferenceToken) → Option Operation
 with_from f (Some q) (Some p) = Some (f q p)
 with_from f _ _ = None
 
@@ -63,14 +63,14 @@ move_allowed (Some (move q p)) = cond (is_proper_prefix q p) None (Some (move q 
 move_allowed o = o
 
 -- the operation named by `op`, given `path`, `from` and `value`
-abbrev pub operation_named : List ℕ → Option (List Token) → Option (List Token) → Option Tree → Option Operation
+abbrev pub operation_named : List ℕ → Option (List ReferenceToken) → Option (List ReferenceToken) → Option Tree → Option Operation
 operation_named n path from value =
-    cond (bytes_eq n (codes "add")) (with_value add path value)
+    cond (bytes_eq n (codes "add")) (operation_with_value add path value)
     (cond (bytes_eq n (codes "remove")) (with_path remove path)
-    (cond (bytes_eq n (codes "replace")) (with_value replace path value)
+    (cond (bytes_eq n (codes "replace")) (operation_with_value replace path value)
     (cond (bytes_eq n (codes "move")) (move_allowed (with_from move from path))
     (cond (bytes_eq n (codes "copy")) (with_from copy from path)
-    (cond (bytes_eq n (codes "test")) (with_value test path value) None)))))
+    (cond (bytes_eq n (codes "test")) (operation_with_value test path value) None)))))
 
 abbrev pub operation_with_name : Option (List ℕ) → Pairs → Option Operation
 operation_with_name None ps = None
@@ -94,7 +94,7 @@ pub data PatchFailure : Type 0 where
   test_failed : PatchFailure
 
 -- the tokens before the last, and the last
-abbrev pub split_last : Token → List Token → List Token × Token
+abbrev pub split_last : ReferenceToken → List ReferenceToken → List ReferenceToken × ReferenceToken
 split_last k [] = ([], k)
 split_last k (j ∷ p) = let r = split_last j p in (k ∷ r.0, r.1)
 
@@ -109,36 +109,36 @@ abbrev pub insert_at_index : Option ℕ → Tree → Trees → Changed Trees
 insert_at_index None u ts = Err not_found
 insert_at_index (Some i) u ts = insert_before i u ts
 
-abbrev pub with_element : Token → Tree → Trees → Changed Trees
-with_element k u ts = cond (bytes_eq k (codes "-")) (Ok (pushed u ts)) (insert_at_index (index_of k) u ts)
+abbrev pub with_element : ReferenceToken → Tree → Trees → Changed Trees
+with_element k u ts = cond (bytes_eq k (codes "-")) (Ok (pushed u ts)) (insert_at_index (index_of_token k) u ts)
 
 -- u in an object under a key, or in an array at an index
-abbrev pub with_child : Token → Tree → Tree → Changed Tree
+abbrev pub with_child : ReferenceToken → Tree → Tree → Changed Tree
 with_child k u (pairs ps) = Ok (pairs (inserted k u ps))
 with_child k u (list ts) = within list (with_element k u ts)
 with_child k u _ = Err type_unmatched
 
 -- section 4.1: at the root u replaces the tree; else it is added to the value that the tokens
 -- before the last reference
-abbrev pub added_at : List Token → Tree → Tree → Changed Tree
+abbrev pub added_at : List ReferenceToken → Tree → Tree → Changed Tree
 added_at [] u t = Ok u
 added_at (k ∷ p) u t = let l = split_last k p in and_then (path_of_tokens l.0 t) (λ q. at_path q (with_child l.1 u) t)
 
 -- the edit that removes what the token names from the value at the path
-abbrev pub removal_edit : List Step → Token → Tree → Changed Edit
+abbrev pub removal_edit : List Step → ReferenceToken → Tree → Changed Edit
 removal_edit q k t = and_then (value_at_path q t) (λ c. within (λ s. remove_at q s) (step_of_token k c))
 
 -- section 4.2: the value that the tokens reference removed, with all members of its key; the root
 -- cannot be removed
-abbrev pub removed_at : List Token → Tree → Changed Tree
+abbrev pub removed_at : List ReferenceToken → Tree → Changed Tree
 removed_at [] t = Err type_unmatched
 removed_at (k ∷ p) t = let l = split_last k p in and_then (path_of_tokens l.0 t) (λ q. and_then (removal_edit q l.1 t) (λ e. edited_once e t))
 
 -- section 4.3: u in place of the value that the tokens reference
-abbrev pub replaced_at : List Token → Tree → Tree → Changed Tree
+abbrev pub replaced_at : List ReferenceToken → Tree → Tree → Changed Tree
 replaced_at p u t = and_then (path_of_tokens p t) (λ q. edited_once (set_at q u) t)
 
-abbrev pub tokens_eq : List Token → List Token → Bool
+abbrev pub tokens_eq : List ReferenceToken → List ReferenceToken → Bool
 tokens_eq [] [] = true
 tokens_eq (j ∷ p) (k ∷ q) = bytes_eq j k && tokens_eq p q
 tokens_eq _ _ = false

@@ -1,12 +1,12 @@
 -- JSON Pointer (RFC 6901): the tokens of a text, and the value that they reference.
 use Rattle.std.specs.Prelude.{◌≢◌, ◌<◌, length, slice_index, ℕ, ◌+◌, ◌-◌, ◌*◌, List, [], ◌∷◌, ◌++◌, Bool, true, false, cond, not, ◌==◌, ◌&&◌, nat_le, Option, Some, None, option_map, ok_or, Ok, Err}
 use Rattle.json_grammar.specs.Tree.{Tree, list, pairs}
-use Rattle.json_model.specs.Edit.{Step, key_step, index_step, Changed, within, not_found, type_unmatched}
-use Rattle.json_patch.specs.ValuesAt.{and_then, value_at_step, value_at_path}
+use Rattle.json_model.specs.Edit.{Step, key_step, index_step, Changed, within, not_found, type_unmatched, and_then}
+use Rattle.json_patch.specs.ValuesAt.{value_at_step, value_at_path}
 
 -- a reference token, as bytes: a key, or the decimal digits of an index
-abbrev pub Token : Type 0
-Token = List ℕ
+abbrev pub ReferenceToken : Type 0
+ReferenceToken = List ℕ
 
 -- ---- parsing (sections 3 and 4)
 
@@ -19,7 +19,7 @@ tilde = 126
 
 -- the token of escaped bytes, after a tilde or not: `~1` is `/`, `~0` is `~`, and any other `~` is
 -- an error
-abbrev pub unescaped_after : Bool → List ℕ → Option Token
+abbrev pub unescaped_after : Bool → List ℕ → Option ReferenceToken
 unescaped_after false [] = Some []
 unescaped_after true [] = None
 unescaped_after false (x ∷ s) = elim (x == tilde) [ true ↦ unescaped_after true s | false ↦ option_map (λ k. x ∷ k) (unescaped_after false s) ]
@@ -38,18 +38,18 @@ split_at_slashes [] = [] ∷ []
 split_at_slashes (x ∷ s) = prepend_byte (x == slash) x (split_at_slashes s)
 
 -- a token before others, if each is one
-abbrev pub prepend_token : Option Token → Option (List Token) → Option (List Token)
+abbrev pub prepend_token : Option ReferenceToken → Option (List ReferenceToken) → Option (List ReferenceToken)
 prepend_token None p = None
 prepend_token (Some k) None = None
 prepend_token (Some k) (Some p) = Some (k ∷ p)
 
 -- the tokens of the parts, if each is one
-abbrev pub unescaped_tokens : List (List ℕ) → Option (List Token)
+abbrev pub unescaped_tokens : List (List ℕ) → Option (List ReferenceToken)
 unescaped_tokens [] = Some []
 unescaped_tokens (s ∷ ss) = prepend_token (unescaped_after false s) (unescaped_tokens ss)
 
 -- the tokens of a text: the empty text has none, and any other begins with a slash
-abbrev pub pointer_of : List ℕ → Option (List Token)
+abbrev pub pointer_of : List ℕ → Option (List ReferenceToken)
 pointer_of [] = Some []
 pointer_of (x ∷ s) = elim (x == slash) [ true ↦ unescaped_tokens (split_at_slashes s) | false ↦ None ]
 
@@ -63,12 +63,12 @@ Lacks c b = (i : ℕ) → i < length b → slice_index b i ≢ c
 abbrev pub escaped_byte : ℕ → List ℕ
 escaped_byte x = cond (x == tilde) (tilde ∷ 48 ∷ []) (cond (x == slash) (tilde ∷ 49 ∷ []) (x ∷ []))
 
-abbrev pub escaped_token : Token → List ℕ
+abbrev pub escaped_token : ReferenceToken → List ℕ
 escaped_token [] = []
 escaped_token (x ∷ k) = escaped_byte x ++ escaped_token k
 
 -- the text of tokens: each after a slash
-abbrev pub pointer_text : List Token → List ℕ
+abbrev pub pointer_text : List ReferenceToken → List ℕ
 pointer_text [] = []
 pointer_text (k ∷ p) = slash ∷ (escaped_token k ++ pointer_text p)
 
@@ -83,23 +83,23 @@ index_after n [] = Some n
 index_after n (x ∷ s) = elim (is_digit x) [ true ↦ index_after (n * 10 + (x - 48)) s | false ↦ None ]
 
 -- the index that a token is: `0`, or a digit from 1 to 9 and more digits
-abbrev pub index_of : Token → Option ℕ
-index_of [] = None
-index_of (x ∷ []) = cond (is_digit x) (Some (x - 48)) None
-index_of (x ∷ y ∷ s) = elim (is_digit x && not (x == 48)) [ true ↦ index_after (x - 48) (y ∷ s) | false ↦ None ]
+abbrev pub index_of_token : ReferenceToken → Option ℕ
+index_of_token [] = None
+index_of_token (x ∷ []) = cond (is_digit x) (Some (x - 48)) None
+index_of_token (x ∷ y ∷ s) = elim (is_digit x && not (x == 48)) [ true ↦ index_after (x - 48) (y ∷ s) | false ↦ None ]
 
 -- the step that a token is from a tree: a key from an object, an index from an array, and none from
 -- any other
-abbrev pub step_of_token : Token → Tree → Changed Step
+abbrev pub step_of_token : ReferenceToken → Tree → Changed Step
 step_of_token k (pairs ps) = Ok (key_step k)
-step_of_token k (list ts) = ok_or (option_map index_step (index_of k)) not_found
+step_of_token k (list ts) = ok_or (option_map index_step (index_of_token k)) not_found
 step_of_token k _ = Err type_unmatched
 
 -- the path that tokens are from a tree
-abbrev pub path_of_tokens : List Token → Tree → Changed (List Step)
+abbrev pub path_of_tokens : List ReferenceToken → Tree → Changed (List Step)
 path_of_tokens [] t = Ok []
 path_of_tokens (k ∷ p) t = and_then (step_of_token k t) (λ s. and_then (value_at_step s t) (λ u. within (λ q. s ∷ q) (path_of_tokens p u)))
 
 -- the tree that tokens reference, or why there is none
-abbrev pub value_at_pointer : List Token → Tree → Changed Tree
+abbrev pub value_at_pointer : List ReferenceToken → Tree → Changed Tree
 value_at_pointer p t = and_then (path_of_tokens p t) (λ q. value_at_path q t)

@@ -3,8 +3,8 @@ use Rattle.std.specs.Prelude.{◌≡◌, [], ◌∷◌, Some, None, option_map, 
 use Prim.Native.String.{String}
 use Rattle.json_grammar.specs.Tree.{Tree}
 use Rattle.json_model.specs.Edit.{Changed, not_found, type_unmatched}
+use Rattle.json_model.specs.ExampleTrees.{example_object, example_array, example_member, example_string, example_number}
 use Rattle.json_patch.specs.Pointer.{pointer_of, value_at_pointer}
-use Rattle.json_patch.specs.ExampleTrees.{object, array, member, string, number}
 
 -- the text is a pointer that references this
 abbrev pub PointsTo : Tree → String → Changed Tree → Type 0
@@ -13,17 +13,17 @@ PointsTo t s r = option_map (λ p. value_at_pointer p t) (pointer_of (codes s)) 
 -- the document of RFC 6901, section 5
 abbrev pub pointed : Tree
 pointed =
-    object (
-    member "foo" (array (string "bar" ∷ string "baz" ∷ []))
-    ∷ member "" (number "0")
-    ∷ member "a/b" (number "1")
-    ∷ member "c%d" (number "2")
-    ∷ member "e^f" (number "3")
-    ∷ member "g|h" (number "4")
-    ∷ member "i\\j" (number "5")
-    ∷ member "k\"l" (number "6")
-    ∷ member " " (number "7")
-    ∷ member "m~n" (number "8")
+    example_object (
+    example_member "foo" (example_array (example_string "bar" ∷ example_string "baz" ∷ []))
+    ∷ example_member "" (example_number "0")
+    ∷ example_member "a/b" (example_number "1")
+    ∷ example_member "c%d" (example_number "2")
+    ∷ example_member "e^f" (example_number "3")
+    ∷ example_member "g|h" (example_number "4")
+    ∷ example_member "i\\j" (example_number "5")
+    ∷ example_member "k\"l" (example_number "6")
+    ∷ example_member " " (example_number "7")
+    ∷ example_member "m~n" (example_number "8")
     ∷ []
     )
 
@@ -31,17 +31,17 @@ pointed =
 abbrev pub PointersOfTheRfc : Type 0
 PointersOfTheRfc =
     PointsTo pointed "" (Ok pointed)
-    × PointsTo pointed "/foo" (Ok (array (string "bar" ∷ string "baz" ∷ [])))
-    × PointsTo pointed "/foo/0" (Ok (string "bar"))
-    × PointsTo pointed "/" (Ok (number "0"))
-    × PointsTo pointed "/a~1b" (Ok (number "1"))
-    × PointsTo pointed "/c%d" (Ok (number "2"))
-    × PointsTo pointed "/e^f" (Ok (number "3"))
-    × PointsTo pointed "/g|h" (Ok (number "4"))
-    × PointsTo pointed "/i\\j" (Ok (number "5"))
-    × PointsTo pointed "/k\"l" (Ok (number "6"))
-    × PointsTo pointed "/ " (Ok (number "7"))
-    × PointsTo pointed "/m~0n" (Ok (number "8"))
+    × PointsTo pointed "/foo" (Ok (example_array (example_string "bar" ∷ example_string "baz" ∷ [])))
+    × PointsTo pointed "/foo/0" (Ok (example_string "bar"))
+    × PointsTo pointed "/" (Ok (example_number "0"))
+    × PointsTo pointed "/a~1b" (Ok (example_number "1"))
+    × PointsTo pointed "/c%d" (Ok (example_number "2"))
+    × PointsTo pointed "/e^f" (Ok (example_number "3"))
+    × PointsTo pointed "/g|h" (Ok (example_number "4"))
+    × PointsTo pointed "/i\\j" (Ok (example_number "5"))
+    × PointsTo pointed "/k\"l" (Ok (example_number "6"))
+    × PointsTo pointed "/ " (Ok (example_number "7"))
+    × PointsTo pointed "/m~0n" (Ok (example_number "8"))
 
 -- texts that are no pointers: one that begins with no slash, and a `~` before neither 0 nor 1
 abbrev pub NotPointers : Type 0
@@ -62,4 +62,4 @@ PointersToNothing =
 
 -- if a key repeats, its first value counts
 abbrev pub FirstOfRepeatedKeys : Type 0
-FirstOfRepeatedKeys = PointsTo (object (member "a" (number "1") ∷ member "a" (number "2") ∷ [])) "/a" (Ok (number "1"))
+FirstOfRepeatedKeys = PointsTo (example_object (example_member "a" (example_number "1") ∷ example_member "a" (example_number "2") ∷ [])) "/a" (Ok (example_number "1"))

@@ -6,11 +6,11 @@ use Rattle.json_doc.specs.Readings.{elements}
 use Rattle.json_grammar.specs.Tree.{Tree}
 use Rattle.json_model.specs.Edit.{Step, key_step, index_step}
 use Rattle.json_value.specs.Denotes.{tree_of}
-use Rattle.json_value.specs.Places.{origin_of}
+use Rattle.json_value.specs.Places.{value_origin}
 use Rattle.json_value.specs.Touched.{ArrayTouched, ObjectTouched, AtMember, Appended, Along, unkeyed}
 use Rattle.json_value.specs.declared.pair.Keyed.{Keyed}
 use Rattle.json_value.specs.declared.value.Value.{Value}
-use Rattle.json_patch.specs.Pointer.{Token, path_of_tokens}
+use Rattle.json_patch.specs.Pointer.{ReferenceToken, path_of_tokens}
 use Rattle.json_patch.specs.Patch as model
 use Rattle.json_patch.specs.Patch.{split_last, operations_from}
 
@@ -25,7 +25,7 @@ abbrev pub InsertsElement : Value → List Value → List Value → Type 0
 InsertsElement v items now = ((i : ℕ) × (now ≡ insert items i v)) ⊎ (now ≡ items ++ v ∷ [])
 
 -- v came to an object under the key, or to an array
-abbrev pub AddTouches : Token → Value → Value → Value → Type 0
+abbrev pub AddTouches : ReferenceToken → Value → Value → Value → Type 0
 AddTouches k v old new = ObjectTouched (InsertsMember k v) old new ⊎ ArrayTouched (InsertsElement v) old new
 
 -- the members of a key, or an element, were removed
@@ -39,36 +39,36 @@ RemovesChild old new = (s : Step) × RemoveTouches s old new
 -- ---- where tokens reference
 
 -- the value that the tokens reference was changed so
-pub record TouchesAt (tokens : List Token) (Changes : Value → Value → Type 0) (old new : Value) : Type 0 where
+pub record TouchesAt (tokens : List ReferenceToken) (Changes : Value → Value → Type 0) (old new : Value) : Type 0 where
   pub path : List Step
   pub is : path_of_tokens tokens (tree_of old) ≡ Ok path
   pub changed : Along path Changes old new
 
-abbrev pub AddsValue : List Token → Value → Value → Value → Type 0
+abbrev pub AddsValue : List ReferenceToken → Value → Value → Value → Type 0
 AddsValue [] v old new = new ≡ v
 AddsValue (k ∷ p) v old new = let l = split_last k p in TouchesAt l.0 (AddTouches l.1 v) old new
 
-abbrev pub RemovesValue : List Token → Value → Value → Type 0
+abbrev pub RemovesValue : List ReferenceToken → Value → Value → Type 0
 RemovesValue [] old new = ⊥
 RemovesValue (k ∷ p) old new = TouchesAt (split_last k p).0 RemovesChild old new
 
-abbrev pub ReplacesValue : List Token → Value → Value → Value → Type 0
+abbrev pub ReplacesValue : List ReferenceToken → Value → Value → Value → Type 0
 ReplacesValue p v old new = TouchesAt p (λ before after. after ≡ v) old new
 
 -- ---- a patch
 
 -- a value of this tree was added, or put in place of another
-abbrev pub AddsTree : List Token → Tree → Value → Value → Type 0
+abbrev pub AddsTree : List ReferenceToken → Tree → Value → Value → Type 0
 AddsTree p u old new = (v : Value) × (tree_of v ≡ u) × AddsValue p v old new
 
-abbrev pub ReplacesByTree : List Token → Tree → Value → Value → Type 0
+abbrev pub ReplacesByTree : List ReferenceToken → Tree → Value → Value → Type 0
 ReplacesByTree p u old new = (v : Value) × (tree_of v ≡ u) × ReplacesValue p v old new
 
 -- a value was removed and added, unless it is already there
-abbrev pub MovesValue : List Token → List Token → Value → Value → Type 0
+abbrev pub MovesValue : List ReferenceToken → List ReferenceToken → Value → Value → Type 0
 MovesValue q p old new = (new ≡ old) ⊎ ((mid : Value) × (v : Value) × RemovesValue q old mid × AddsValue p v mid new)
 
-abbrev pub CopiesValue : List Token → Value → Value → Type 0
+abbrev pub CopiesValue : List ReferenceToken → Value → Value → Type 0
 CopiesValue p old new = (v : Value) × AddsValue p v old new
 
 -- what an operation changes (RFC 6902, section 4); a test changes nothing
@@ -94,5 +94,5 @@ pub record TouchesInTurn (trees : List Tree) (old new : Value) : Type 0 where
 -- the operations of a patch changed a copy whose parts are where those of the old value are
 pub record PatchTouches (patch : Tree) (old new : Value) : Type 0 where
   pub copy : Value
-  pub same : origin_of copy ≡ origin_of old
+  pub same : value_origin copy ≡ value_origin old
   pub changed : TouchesInTurn (elements patch) copy new

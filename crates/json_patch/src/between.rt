@@ -5,7 +5,7 @@ ghost use Rattle.json_model.specs.Same.{same};
 ghost use Rattle.json_patch.specs.Diff.{whole, key_removals, common_back, element_removals, operations_between, members_operations, element_operations};
 ghost use Rattle.json_patch.specs.DiffDocument.{operation_members, patch_between};
 ghost use Rattle.json_patch.specs.DiffParts.{are_keyed, are_arrays, child_operations, operations_at};
-ghost use Rattle.json_patch.specs.DiffWriting.{Appends, Writes};
+ghost use Rattle.json_patch.specs.DiffWriting.{AppendsTrees, AppendsOperations};
 ghost use Rattle.json_patch.specs.Patch.{remove, patched};
 ghost use Rattle.json_patch.specs.Pointer.{slash, escaped_token};
 ghost use Rattle.json_value.specs.Denotes.{tree_of, pair_of};
@@ -118,7 +118,7 @@ struct PatchWriter {
 impl PatchWriter {
     // Appends an operation that has the value.
     fn push_value(&mut self, name: &'static str, value: View<'_>) -> Result<()>
-        ensures ok { OnOk result (Appends self.old self.new (operation_members name.now
+        ensures ok { OnOk result (AppendsTrees self.old self.new (operation_members name.now
             (text (string_bytes self.old.path))
             (pair_and (codes "value") (seen value.entry) no_pairs) ∷ [])) }
         ensures only { OnlyNoMemory result }
@@ -133,7 +133,7 @@ impl PatchWriter {
 
     // Appends `remove`.
     fn push_removal(&mut self) -> Result<()>
-        ensures ok { OnOk result (Writes self.old self.new (remove [] ∷ [])) }
+        ensures ok { OnOk result (AppendsOperations self.old self.new (remove [] ∷ [])) }
         ensures only { OnlyNoMemory result }
     {
         let members = operation_members(self.alloc, "remove", self.path.as_str())?;
@@ -144,7 +144,7 @@ impl PatchWriter {
 
     // Appends `replace`, unless the two values are the same.
     fn push_whole(&mut self, from: View<'_>, to: View<'_>) -> Result<()>
-        ensures ok { OnOk result (Writes self.old self.new
+        ensures ok { OnOk result (AppendsOperations self.old self.new
             (whole (seen from.entry) (seen to.entry))) }
         ensures only { OnlyNoMemory result }
     {
@@ -170,7 +170,7 @@ impl PatchWriter {
 
     // Appends `remove` of the value that the token references.
     fn push_removal_at(&mut self, token: &str) -> Result<()>
-        ensures ok { OnOk result (Writes self.old self.new (remove (token.now ∷ []) ∷ [])) }
+        ensures ok { OnOk result (AppendsOperations self.old self.new (remove (token.now ∷ []) ∷ [])) }
         ensures only { OnlyNoMemory result }
     {
         let len = self.push_token(token)?;
@@ -181,7 +181,7 @@ impl PatchWriter {
 
     // Appends `remove` for each key that the second object lacks.
     fn push_key_removals(&mut self, from: ObjectView<'_>, to: ObjectView<'_>) -> Result<()>
-        ensures ok { OnOk result (Writes self.old self.new (key_removals
+        ensures ok { OnOk result (AppendsOperations self.old self.new (key_removals
             (list_pairs (members_seen to.entry)) (list_pairs (members_seen from.entry)))) }
         ensures only { OnlyNoMemory result }
     {
@@ -195,7 +195,7 @@ impl PatchWriter {
 
     // Appends `remove` for each of the elements, the first of which has the index.
     fn push_element_removals(&mut self, index: usize, elements: &[View<'_>]) -> Result<()>
-        ensures ok { OnOk result (Writes self.old self.new
+        ensures ok { OnOk result (AppendsOperations self.old self.new
             (element_removals index (map seen elements.now))) }
         ensures only { OnlyNoMemory result }
     {
@@ -210,7 +210,7 @@ impl PatchWriter {
     // Appends `add` of the new value, or what leads the old value to it.
     #[cycle(diff)]
     fn push_child(&mut self, from: Option<View<'_>>, to: View<'_>) -> Result<()>
-        ensures ok { OnOk result (Writes self.old self.new
+        ensures ok { OnOk result (AppendsOperations self.old self.new
             (child_operations (option_map seen from.entry) (seen to.entry))) }
         ensures only { OnlyNoMemory result }
     {
@@ -224,7 +224,7 @@ impl PatchWriter {
     // old value.
     #[cycle(diff)]
     fn push_child_at(&mut self, token: &str, from: Option<View<'_>>, to: View<'_>) -> Result<()>
-        ensures ok { OnOk result (Writes self.old self.new
+        ensures ok { OnOk result (AppendsOperations self.old self.new
             (operations_at token.now (option_map seen from.entry) (seen to.entry))) }
         ensures only { OnlyNoMemory result }
     {
@@ -237,7 +237,7 @@ impl PatchWriter {
     // Appends what leads the values of the first object to those of the second.
     #[cycle(diff)]
     fn push_members(&mut self, from: ObjectView<'_>, to: ObjectView<'_>) -> Result<()>
-        ensures ok { OnOk result (Writes self.old self.new (members_operations
+        ensures ok { OnOk result (AppendsOperations self.old self.new (members_operations
             (list_pairs (members_seen from.entry)) (list_pairs (members_seen to.entry)))) }
         ensures only { OnlyNoMemory result }
     {
@@ -250,7 +250,7 @@ impl PatchWriter {
     // Appends what leads the first elements to the second, index by index.
     #[cycle(diff)]
     fn push_elements(&mut self, from: &[View<'_>], to: &[View<'_>]) -> Result<()>
-        ensures ok { OnOk result (Writes self.old self.new (element_operations 0
+        ensures ok { OnOk result (AppendsOperations self.old self.new (element_operations 0
             (map seen from.now) (length to.now) (list_trees (map seen to.now)))) }
         ensures only { OnlyNoMemory result }
     {
@@ -267,7 +267,7 @@ impl PatchWriter {
     // Appends what leads the first array to the second. The last elements that are the same stay.
     #[cycle(diff)]
     fn push_arrays(&mut self, from: ArrayView<'_>, to: ArrayView<'_>) -> Result<()>
-        ensures ok { OnOk result (Writes self.old self.new
+        ensures ok { OnOk result (AppendsOperations self.old self.new
             (operations_between (array (list_trees (elements_seen from.entry)))
             (array (list_trees (elements_seen to.entry))))) }
         ensures only { OnlyNoMemory result }
@@ -282,7 +282,7 @@ impl PatchWriter {
     // Appends what leads the first value to the second.
     #[cycle(diff)]
     fn push_operations(&mut self, from: View<'_>, to: View<'_>) -> Result<()>
-        ensures ok { OnOk result (Writes self.old self.new
+        ensures ok { OnOk result (AppendsOperations self.old self.new
             (operations_between (seen from.entry) (seen to.entry))) }
         ensures only { OnlyNoMemory result }
     {

@@ -8,7 +8,7 @@ ghost use Rattle.json_value.specs.declared.value.Value.{Array as ArrayValue, Obj
 ghost use Rattle.std.specs.Borrow.{LendsIf, sem};
 ghost use Rattle.json_grammar.specs.Tree.{list_trees, list_pairs};
 ghost use Rattle.json_model.specs.Edit.{inserted, pushed, at_path};
-ghost use Rattle.json_patch.specs.Pointer.{index_of, value_at_pointer};
+ghost use Rattle.json_patch.specs.Pointer.{index_of_token, value_at_pointer};
 ghost use Rattle.json_patch.specs.Patch.{insert_at_index, with_element, with_child, added_at, removed_at, replaced_at};
 ghost use Rattle.json_patch.specs.Touched.{InsertsMember, InsertsElement, AddTouches, RemovesChild, TouchesAt, AddsValue, RemovesValue, ReplacesValue};
 ghost use Rattle.json_value.specs.Denotes.{tree_of, list_in, pairs_in, pair_of};
@@ -57,9 +57,9 @@ fn insert_member(object: &mut Object, alloc: Global, key: &str, value: Value) ->
 
 // Inserts the value before the element at the index, or after the last.
 fn insert_before(array: &mut Array, alloc: Global, token: &str, value: Value) -> Result<()>
-    ensures ok { OnOk result (insert_at_index (index_of token.now) (tree_of value)
+    ensures ok { OnOk result (insert_at_index (index_of_token token.now) (tree_of value)
         (list_trees (list_in array.old)) ≡ Ok (list_trees (list_in array.new))) }
-    ensures refused { FailsAs (insert_at_index (index_of token.now) (tree_of value)
+    ensures refused { FailsAs (insert_at_index (index_of_token token.now) (tree_of value)
         (list_trees (list_in array.old))) result }
     ensures children { OnOk result (ArrayTouched (InsertsElement value)
         (ArrayValue array.old) (ArrayValue array.new)) }

@@ -8,7 +8,7 @@ ghost use Rattle.json_text.specs.Transfer.{TakesAtMost};
 ghost use Rattle.json_value.specs.Denotes.{tree_of};
 ghost use Rattle.json_command.specs.Input.{max_bytes};
 ghost use Rattle.json_patch.specs.Errors.{PatchFails};
-ghost use Rattle.json_patch.specs.Commands.{Asks, IsRequest, HasFewOperations, RequestFails, WritesOutcome, outcome_of, request_of};
+ghost use Rattle.json_patch.specs.Commands.{AsksForPatch, IsRequest, HasFewOperations, RequestFails, WritesOutcome, outcome_of, patch_request_of};
 
 use crate::error::PatchError;
 use crate::merge::apply_merge;
@@ -67,7 +67,7 @@ fn text_after<'a>(argument: &'a str, option: &str) -> Option<&'a str>
 /// text of at most 254 levels. Fails with `BadWords` if they have another form, and with `NoMemory`
 /// if memory runs out.
 pub fn read_command(alloc: Global, arguments: &Words) -> TextResult<Command>
-    ensures ok { IfOk result (λ c. Asks arguments.now (request_of c)) }
+    ensures ok { IfOk result (λ c. AsksForPatch arguments.now (patch_request_of c)) }
     ensures err { IfErr result (λ e. (e ≡ no_memory)
         ⊎ ((e ≡ bad_words) × ¬ (IsRequest arguments.now))) }
 {
@@ -90,11 +90,11 @@ pub fn read_command(alloc: Global, arguments: &Words) -> TextResult<Command>
 
 // Changes a value as the command asks.
 fn apply_command(alloc: Global, value: &mut Value, command: &Command) -> Result<(), PatchError>
-    requires few { HasFewOperations (request_of command.now) }
-    ensures ok { OnOk result (outcome_of (request_of command.now) (tree_of value.old)
+    requires few { HasFewOperations (patch_request_of command.now) }
+    ensures ok { OnOk result (outcome_of (patch_request_of command.now) (tree_of value.old)
         ≡ Ok (tree_of value.new)) }
     ensures refused { IfErr result (λ e. PatchFails
-        (outcome_of (request_of command.now) (tree_of value.old)) e.code e.op) }
+        (outcome_of (patch_request_of command.now) (tree_of value.old)) e.code e.op) }
 {
     match command {
         Command::Patch(doc) => apply_patch(alloc, value, View::packed(doc.view())),
@@ -121,10 +121,10 @@ pub fn transfer<S: Source, K: Sink>(
     sink: &mut K,
     command: &Command,
 ) -> Result<(), CommandError>
-    requires few { HasFewOperations (request_of command.now) }
-    ensures done { OnOk result (WritesOutcome (request_of command.now) (S.state source.old)
+    requires few { HasFewOperations (patch_request_of command.now) }
+    ensures done { OnOk result (WritesOutcome (patch_request_of command.now) (S.state source.old)
         (S.state source.new) (K.state sink.old) (K.state sink.new)) }
-    ensures refused { IfErr result (RequestFails (request_of command.now) (S.state source.old)
+    ensures refused { IfErr result (RequestFails (patch_request_of command.now) (S.state source.old)
         (S.state source.new) (K.state sink.old) (K.state sink.new)) }
     ensures taken { TakesAtMost (max_bytes + 1) (S.state source.old) (S.state source.new) }
     ensures read_told { (S.state source.old).faults < (S.state source.new).faults

@@ -1,6 +1,6 @@
 // Errors of pointers and patches.
 ghost use Rattle.std.specs.Prelude.{◌≡◌};
-ghost use Rattle.json_patch.specs.Errors.{number_of, no_memory};
+ghost use Rattle.json_patch.specs.Errors.{patch_code_number, no_memory_in_patch};
 
 use std::alloc::{AllocError, AllocFailed};
 use thiserror::Error;
@@ -30,7 +30,7 @@ pub enum PatchCode {
 impl PatchCode {
     /// Returns the number of the code.
     pub fn number(self) -> u8
-        ensures { result ≡ number_of self }
+        ensures { result ≡ patch_code_number self }
     {
         match self {
             PatchCode::NoMemory => 1,
@@ -66,7 +66,7 @@ pub struct PatchError {
 }
 
 impl From<AllocError> for PatchError {
-    ghost from_gives = { λ _ e. e ≡ no_memory };
+    ghost from_gives = { λ _ e. e ≡ no_memory_in_patch };
 
     fn from(_error: AllocError) -> PatchError {
         PatchError {
@@ -77,7 +77,7 @@ impl From<AllocError> for PatchError {
 }
 
 impl<T: Drop> From<AllocFailed<T>> for PatchError {
-    ghost from_gives = { λ _ e. e ≡ no_memory };
+    ghost from_gives = { λ _ e. e ≡ no_memory_in_patch };
 
     fn from(_error: AllocFailed<T>) -> PatchError {
         PatchError {

@@ -1,7 +1,7 @@
 // Following the tokens of a pointer (RFC 6901, section 4).
 ghost use Rattle.std.specs.Prelude.{◌≡◌, ◌≢◌, ◌<◌, ◌≤◌, ◌^◌, ℕ, Some, map, string_bytes, MatchOption, option_map, ok_or};
 ghost use Rattle.json_model.specs.Edit.{not_found};
-ghost use Rattle.json_patch.specs.Pointer.{index_of, value_at_pointer};
+ghost use Rattle.json_patch.specs.Pointer.{index_of_token, value_at_pointer};
 ghost use Rattle.json_grammar.specs.Tree.{Tree};
 ghost use Rattle.json_value.specs.Seen.{seen, elements_seen, list_of};
 ghost use Rattle.json_patch.specs.Lookups.{has_index_start, error_of_lookup, found_value, value_at_token};
@@ -43,8 +43,8 @@ fn starts_like_index(digits: &str) -> bool
 
 // Returns the index that the token is; `None` if it is no index, or one that no array has.
 fn parse_index(token: &str) -> Option<usize>
-    ensures { MatchOption result ((i : ℕ) → i < 2 ^ 64 → index_of token.now ≢ Some i)
-        (λ i. index_of token.now ≡ Some i) }
+    ensures { MatchOption result ((i : ℕ) → i < 2 ^ 64 → index_of_token token.now ≢ Some i)
+        (λ i. index_of_token token.now ≡ Some i) }
 {
     if !starts_like_index(token) {
         return None;
@@ -57,8 +57,8 @@ fn parse_index(token: &str) -> Option<usize>
 
 /// Returns the index that the token is, if it is at most `max`.
 pub fn index_at_most(last: usize, token: &str) -> Option<usize>
-    ensures { MatchOption result ((i : ℕ) → index_of token.now ≡ Some i → last < i)
-        (λ i. (index_of token.now ≡ Some i) × (i ≤ last)) }
+    ensures { MatchOption result ((i : ℕ) → index_of_token token.now ≡ Some i → last < i)
+        (λ i. (index_of_token token.now ≡ Some i) × (i ≤ last)) }
 {
     match parse_index(token) {
         Some(i) if i <= last => Some(i),

@@ -4,11 +4,12 @@ ghost use Rattle.json_grammar.specs.Tree.{pairs, list_pairs};
 ghost use Rattle.json_model.specs.Edit.{inserted, without_key, has_key};
 ghost use Rattle.json_model.specs.Same.{first_value};
 ghost use Rattle.json_patch.specs.KeyIndex.{HasStarts};
-ghost use Rattle.json_patch.specs.Merge.{merged, pairs_merged, tree_or_null, members_of};
+ghost use Rattle.json_patch.specs.Merge.{merge_patched, pairs_merged, members_or_none};
 ghost use Rattle.json_value.specs.Denotes.{tree_of, pair_of, pairs_in};
 ghost use Rattle.json_value.specs.Failures.{OnlyNoMemory};
 ghost use Rattle.json_value.specs.Seen.{seen, members_seen};
-ghost use Rattle.json_patch.specs.Errors.{no_memory};
+ghost use Rattle.json_value.specs.Steps.{tree_or_null};
+ghost use Rattle.json_patch.specs.Errors.{no_memory_in_patch};
 ghost use Rattle.json_patch.specs.Merge.{member_merged};
 
 use crate::change::object_mut_in;
@@ -57,7 +58,7 @@ fn append_member(
 
 // Replaces a value that is no object by an empty object.
 fn become_object(value: &mut Value)
-    ensures { tree_of value.new ≡ pairs (members_of (tree_of value.old)) }
+    ensures { tree_of value.new ≡ pairs (members_or_none (tree_of value.old)) }
 {
     match value {
         Value::Object(_) => (),
@@ -77,7 +78,7 @@ fn merge_value(
     requires { HasStarts index.old pairs.old.items }
     ensures ok { let ps = list_pairs (map pair_of pairs.old.items) in
         OnOk result (list_pairs (map pair_of pairs.new.items) ≡ inserted key.now
-        (merged (tree_or_null (first_value key.now ps)) (seen value.entry)) ps) }
+        (merge_patched (tree_or_null (first_value key.now ps)) (seen value.entry)) ps) }
     ensures starts { OnOk result (HasStarts index.new pairs.new.items) }
     ensures only { OnlyNoMemory result }
 {
@@ -144,7 +145,7 @@ fn merge_object(object: &mut Object, alloc: Global, members: ObjectView<'_>) -> 
 #[cycle(merge)]
 fn merge_object_in(value: &mut Value, alloc: Global, members: ObjectView<'_>) -> TextResult<()>
     ensures ok { OnOk result (tree_of value.new ≡ pairs (pairs_merged
-        (members_of (tree_of value.old)) (list_pairs (members_seen members.entry)))) }
+        (members_or_none (tree_of value.old)) (list_pairs (members_seen members.entry)))) }
     ensures only { OnlyNoMemory result }
 {
     become_object(value);
@@ -157,7 +158,7 @@ fn merge_object_in(value: &mut Value, alloc: Global, members: ObjectView<'_>) ->
 // Merges a patch into a value. An error leaves the value unspecified.
 #[cycle(merge)]
 fn merge_in(value: &mut Value, alloc: Global, patch: View<'_>) -> TextResult<()>
-    ensures ok { OnOk result (tree_of value.new ≡ merged (tree_of value.old) (seen patch.entry)) }
+    ensures ok { OnOk result (tree_of value.new ≡ merge_patched (tree_of value.old) (seen patch.entry)) }
     ensures only { OnlyNoMemory result }
 {
     match patch.as_object() {
@@ -185,9 +186,9 @@ fn merge_in(value: &mut Value, alloc: Global, patch: View<'_>) -> TextResult<()>
 /// assert_eq!(rt; value.to_string(alloc)?.as_str(), "{\"a\":\"z\",\"c\":{\"d\":\"e\"}}");
 /// ```
 pub fn apply_merge(alloc: Global, value: &mut Value, patch: View<'_>) -> Result<(), PatchError>
-    ensures ok { OnOk result (tree_of value.new ≡ merged (tree_of value.old) (seen patch.entry)) }
+    ensures ok { OnOk result (tree_of value.new ≡ merge_patched (tree_of value.old) (seen patch.entry)) }
     ensures kept { OnErr result (value.new ≡ value.old) }
-    ensures only { IfErr result (λ e. e ≡ no_memory) }
+    ensures only { IfErr result (λ e. e ≡ no_memory_in_patch) }
 {
     match merge_copy(value, alloc, patch) {
         Ok(merged) => {
@@ -202,7 +203,7 @@ pub fn apply_merge(alloc: Global, value: &mut Value, patch: View<'_>) -> Result<
 }
 
 fn merge_copy(value: &Value, alloc: Global, patch: View<'_>) -> TextResult<Value>
-    ensures ok { IfOk result (λ v. tree_of v ≡ merged (tree_of value.now) (seen patch.entry)) }
+    ensures ok { IfOk result (λ v. tree_of v ≡ merge_patched (tree_of value.now) (seen patch.entry)) }
     ensures only { OnlyNoMemory result }
 {
     let mut work = value.clone(alloc)?;

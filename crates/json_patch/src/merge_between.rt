@@ -3,12 +3,13 @@ ghost use Rattle.std.specs.Prelude.{◌≡◌, ◌&&◌, Some, None, true, cond,
 ghost use Rattle.json_grammar.specs.Tree.{pairs, no_pairs, list_pairs};
 ghost use Rattle.json_model.specs.Same.{first_value, same};
 ghost use Rattle.json_patch.specs.Laws.{HasNoRepeatedKeys};
-ghost use Rattle.json_patch.specs.Merge.{members_of, tree_or_null, is_null, merged};
-ghost use Rattle.json_patch.specs.MergeDiff.{has_unique_keys, is_object, is_same_as, removals, appended, change, object_patch, differing_patch, changes, merge_patch_between, HasNoNullMember};
+ghost use Rattle.json_patch.specs.Merge.{members_or_none, is_null, merge_patched};
+ghost use Rattle.json_patch.specs.MergeDiff.{has_unique_keys, is_object, is_same_as, removals, appended, merge_change, object_patch, differing_patch, changes, merge_patch_between, HasNoNullMember};
 ghost use Rattle.json_patch.specs.MergeDiffViews.{members_in};
 ghost use Rattle.json_value.specs.Denotes.{tree_of, pair_of};
 ghost use Rattle.json_value.specs.Failures.{OnlyNoMemory};
 ghost use Rattle.json_value.specs.Seen.{seen, members_seen};
+ghost use Rattle.json_value.specs.Steps.{tree_or_null};
 
 use crate::operation::single_member;
 use json_doc::JsonType;
@@ -44,7 +45,7 @@ fn are_keys_unique(from: Option<ObjectView<'_>>, to: ObjectView<'_>) -> bool
 // Returns the object if the value is there and is one.
 #[tactic(auto, using(crate::proofs::MergeDiffViews::object_members))]
 fn object_in(value: Option<View<'_>>) -> Option<ObjectView<'_>>
-    ensures { members_in result ≡ members_of (tree_or_null (option_map seen value.entry)) }
+    ensures { members_in result ≡ members_or_none (tree_or_null (option_map seen value.entry)) }
 {
     match value {
         Some(view) => view.as_object(),
@@ -114,7 +115,7 @@ fn push_change(
 ) -> Result<bool>
     ensures ok { let o = option_map seen old.entry in let v = seen new.entry in
         IfOk result (λ made. appended (Some (map pair_of members.old.items))
-        (change key.now o v (differing_patch (tree_or_null o) v))
+        (merge_change key.now o v (differing_patch (tree_or_null o) v))
         ≡ cond made (Some (map pair_of members.new.items)) None) }
     ensures only { OnlyNoMemory result }
 {
@@ -251,7 +252,7 @@ pub fn merge_diff(alloc: Global, from: &Value, to: &Value) -> Result<Option<Valu
     ensures patch { IfOk result (λ o. merge_patch_between (tree_of from.now) (tree_of to.now)
         ≡ option_map tree_of o) }
     ensures leads { IfOk result (λ o. IfSome o (λ p.
-        same (merged (tree_of from.now) (tree_of p)) (tree_of to.now) ≡ true)) }
+        same (merge_patched (tree_of from.now) (tree_of p)) (tree_of to.now) ≡ true)) }
     ensures same { IfOk result (λ o. is_object (tree_of from.now) ≡ true
         → same (tree_of from.now) (tree_of to.now) ≡ true
         → option_map tree_of o ≡ Some (pairs no_pairs)) }

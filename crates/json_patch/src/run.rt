@@ -9,7 +9,7 @@ ghost use Rattle.json_command.specs.Input.{max_bytes};
 ghost use Rattle.json_command.specs.Reporting.{StatusReports};
 ghost use Rattle.json_command.specs.Statuses.{status_of};
 ghost use Rattle.json_patch.specs.Patch.{PatchFailure};
-ghost use Rattle.json_patch.specs.Commands.{WithRequest, IsRequest, WritesOutcome, Fails, Done, Refused, ReportsOr, IsFit, IsUnfit, IsFaulty, StatusReportsText, patch_status, code_name, patch_text, code_of_failure};
+ghost use Rattle.json_patch.specs.Commands.{WithRequest, IsRequest, WritesOutcome, PatchRunFails, PatchSucceeds, ReportsPatchError, ReportsOr, IsFit, IsUnpatchable, IsFaulty, StatusReportsText, patch_status, patch_code_name, patch_text, code_of_failure};
 
 use crate::command::{CommandError, read_command, transfer};
 use crate::error::{PatchCode, PatchError};
@@ -20,7 +20,7 @@ use std::alloc::Global;
 
 // Returns the name of a code.
 fn name_of(code: PatchCode) -> &'static str
-    ensures { result.now ≡ code_name code }
+    ensures { result.now ≡ patch_code_name code }
 {
     match code {
         PatchCode::NoMemory => "NoMemory",
@@ -74,7 +74,7 @@ fn carry_out<S: Source, K: Sink>(
 ) -> Result<(), CommandError>
     ensures done { OnOk result (WithRequest arguments.now (λ r. WritesOutcome r
         (S.state source.old) (S.state source.new) (K.state sink.old) (K.state sink.new))) }
-    ensures refused { IfErr result (Fails arguments.now (S.state source.old) (S.state source.new)
+    ensures refused { IfErr result (PatchRunFails arguments.now (S.state source.old) (S.state source.new)
         (K.state sink.old) (K.state sink.new)) }
     ensures taken { TakesAtMost (max_bytes + 1) (S.state source.old) (S.state source.new) }
     ensures read_told { (S.state source.old).faults < (S.state source.new).faults
@@ -128,9 +128,9 @@ pub fn run_patch<S: Source, K: Sink, E: Sink>(
     sink: &mut K,
     errs: &mut E,
 ) -> u8
-    ensures done { result ≡ 0 → Done arguments.now (S.state source.old) (S.state source.new)
+    ensures done { result ≡ 0 → PatchSucceeds arguments.now (S.state source.old) (S.state source.new)
         (K.state sink.old) (K.state sink.new) (E.state errs.old) (E.state errs.new) }
-    ensures refused { result ≢ 0 → Refused result arguments.now
+    ensures refused { result ≢ 0 → ReportsPatchError result arguments.now
         (S.state source.old) (S.state source.new)
         (K.state sink.old) (K.state sink.new) (E.state errs.old) (E.state errs.new) }
     ensures taken { TakesAtMost (max_bytes + 1) (S.state source.old) (S.state source.new) }
@@ -143,7 +143,7 @@ pub fn run_patch<S: Source, K: Sink, E: Sink>(
         → StatusReports 1 (record { code = code; place = place })
         (E.state errs.old) (E.state errs.new) result }
     ensures unfit { (failure : PatchFailure) (op : Option ℕ)
-        → IsUnfit arguments.now (S.state source.old) (S.state source.new) failure op
+        → IsUnpatchable arguments.now (S.state source.old) (S.state source.new) failure op
         → StatusReportsText 3 (patch_text (code_of_failure failure) op)
         (E.state errs.old) (E.state errs.new) result }
     ensures words { ¬ (IsRequest arguments.now) → (result ≡ 2) ⊎ (result ≡ 6) }

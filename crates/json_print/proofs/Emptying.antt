@@ -4,13 +4,13 @@ use Rattle.json_text.specs.declared.error.Error.{Error}
 use Rattle.json_text.specs.Errors.{no_memory}
 use Rattle.json_print.specs.Calls.{string_call, begin_key, end_key, begin_member, end_member}
 use Rattle.json_print.specs.Layouts.{Form}
-use Rattle.json_print.specs.Printer.{Out, Row, row_put, rows_put}
+use Rattle.json_print.specs.Printer.{Out, MemberText, row_put, rows_put}
 use Rattle.json_print.specs.Rows.{row_bytes, row_next, rows_bytes, rows_next, rows_written}
 use Rattle.json_print.specs.Steps.{Stopped}
 use Rattle.json_print.proofs.Stopping.{Begins-refl, rows_begin}
 use Rattle.json_print.proofs.Texts.{wrote, twice, nothing}
 
-row_wrote : {F : Type 0} (m : Form F) (s : Out F) (first : Bool) (r : Row) → row_put m s first r ≡ wrote s (row_next m s.formatter first r) (row_bytes m s.formatter first r)
+row_wrote : {F : Type 0} (m : Form F) (s : Out F) (first : Bool) (r : MemberText) → row_put m s first r ≡ wrote s (row_next m s.formatter first r) (row_bytes m s.formatter first r)
 row_wrote {F = F} m s first r =
     let f1 = m.next s.formatter (begin_key first) in
     let f2 = m.next f1 (string_call true r.key) in
@@ -31,18 +31,18 @@ row_wrote {F = F} m s first r =
     regrouped : (a b c d e f : List ℕ) → (((((a ++ b) ++ c) ++ d) ++ e) ++ f) ≡ (a ++ (b ++ c)) ++ (d ++ (e ++ f))
     regrouped a b c d e f = simp append_assoc
 
-rows_wrote : {F : Type 0} (m : Form F) (rows : List Row) (s : Out F) (first : Bool) → rows_put m s first rows ≡ wrote s (rows_next m s.formatter first rows) (rows_bytes m s.formatter first rows)
+rows_wrote : {F : Type 0} (m : Form F) (rows : List MemberText) (s : Out F) (first : Bool) → rows_put m s first rows ≡ wrote s (rows_next m s.formatter first rows) (rows_bytes m s.formatter first rows)
 rows_wrote m [] s first = sym (nothing s)
 rows_wrote {F = F} m (r ∷ rows) s first =
     let g = row_next m s.formatter first r in
     let p = row_bytes m s.formatter first r in
     ap (λ (x : Out F). rows_put m x false rows) (row_wrote m s first r) ∙ rows_wrote m rows (wrote s g p) false ∙ twice s g (rows_next m g false rows) p (rows_bytes m g false rows)
 
-pub put_is_written : {F : Type 0} (m : Form F) (rows : List Row) (s : Out F) → rows_written m s rows ≡ rows_put m s true rows
+pub put_is_written : {F : Type 0} (m : Form F) (rows : List MemberText) (s : Out F) → rows_written m s rows ≡ rows_put m s true rows
 put_is_written m rows s = sym (rows_wrote m rows s true)
 
 -- no memory before anything was written
-pub stopped_before : {F : Type 0} (m : Form F) (rows : List Row) (s : Out F) (failed : Option Error) (e : Error) → failed ≡ Some e → e ≡ no_memory → Stopped s s (rows_put m s true rows) failed
+pub stopped_before : {F : Type 0} (m : Form F) (rows : List MemberText) (s : Out F) (failed : Option Error) (e : Error) → failed ≡ Some e → e ≡ no_memory → Stopped s s (rows_put m s true rows) failed
 stopped_before m rows s failed e k n =
     record {
       error = e;

@@ -4,14 +4,15 @@ use Rattle.std.proofs.lemmas.Bool.{lt-ltb, cases_lt}
 use Rattle.json_grammar.specs.declared.Kind.{Kind}
 use Rattle.json_grammar.specs.declared.Kind.TheVariants.{Array as array, Object as object}
 use Rattle.json_grammar.specs.Tree.{Token, null_token, boolean_token, num_token, text_token, begin, end, key_token}
+use Rattle.json_grammar.specs.Place.{outside}
 use Rattle.json_print.specs.declared.events.Turn.{Turn}
 use Rattle.json_print.specs.declared.events.Turn.TheVariants.{Value as at_value, Element as at_element, Key as at_key, Member as at_member, Done as at_done}
 use Rattle.json_print.specs.Calls.{Call, null_call, boolean_call, number_call, string_call, begin_call, end_call, begin_element, end_element, begin_key, end_key, begin_member, end_member, piece_of, level_after, flag_after}
 use Rattle.json_print.specs.Layouts.{Form, LaidOut}
-use Rattle.json_print.specs.Standing.{outside, stand_after}
+use Rattle.json_print.specs.Standing.{stand_after}
 use Rattle.json_print.specs.Stands.{after_stands}
 use Rattle.json_print.specs.Taking.{after_all}
-use Rattle.json_print.specs.Printer.{Out, Row, after, put, gained_put, layers_put, call, lead_in, follow_on, value_begun, value_ended, turned, filed, key_put, took_scalar, took_end, took_key, row_put, rows_put, rows_sorted, top_rows, below, emptied, is_first, stand_of}
+use Rattle.json_print.specs.Printer.{Out, MemberText, after, put, gained_put, layers_put, call, lead_in, follow_on, value_begun, value_ended, turned, filed, key_put, took_scalar, took_end, took_key, row_put, rows_put, rows_sorted, top_rows, below, emptied, is_first, expected_tokens_of}
 use Rattle.json_print.proofs.Ideals.{Level, ideal, level_in, after_in, opened_in}
 
 -- ---- a formatter's layout
@@ -102,12 +103,12 @@ module _ {F : Type 0} (m : Form F) (i : Option (List ℕ)) where
   like_scalar : (s : Out F) (x : Out Level) (d : ℕ) (c : Call) → level_after d c ≡ level_in d c → level_in d c ≡ d → Like m i s x d → Like m i (took_scalar m s c) (took_scalar (ideal i) x c) d
   like_scalar s x d c e k h = subst (Like m i _ _) k (like_ended _ _ (level_in d c) (like_called _ _ d c e (like_begun s x d h)))
 
-  like_row : (s : Out F) (x : Out Level) (d : ℕ) (first : Bool) (r : Row) → Like m i s x d → Like m i (row_put m s first r) (row_put (ideal i) x first r) d
+  like_row : (s : Out F) (x : Out Level) (d : ℕ) (first : Bool) (r : MemberText) → Like m i s x d → Like m i (row_put m s first r) (row_put (ideal i) x first r) d
   like_row s x d first r h =
       let k = like_called _ _ d begin_member refl (like_called _ _ d end_key refl (like_called _ _ d (string_call true r.key) refl (like_called s x d (begin_key first) refl h))) in
       like_called _ _ d end_member refl (like_at _ _ _ (λ y. put y r.text) d refl (λ b. refl) k)
 
-  like_rows : (rows : List Row) (s : Out F) (x : Out Level) (d : ℕ) (first : Bool) → Like m i s x d → Like m i (rows_put m s first rows) (rows_put (ideal i) x first rows) d
+  like_rows : (rows : List MemberText) (s : Out F) (x : Out Level) (d : ℕ) (first : Bool) → Like m i s x d → Like m i (rows_put m s first rows) (rows_put (ideal i) x first rows) d
   like_rows [] s x d first h = h
   like_rows (r ∷ rows) s x d first h = like_rows rows _ _ d false (like_row s x d first r h)
 
@@ -137,7 +138,7 @@ module _ {F : Type 0} (m : Form F) (i : Option (List ℕ)) where
   abbrev most : ℕ
   most = 2 ^ 64 - 1
 
-  after_opened : (s : Out F) (t : Token) → (after m s t).opened ≡ (stand_after (stand_of s) t).opened
+  after_opened : (s : Out F) (t : Token) → (after m s t).opened ≡ (stand_after (expected_tokens_of s) t).opened
   after_opened s t = ap (λ z. z.opened) (after_stands m s t)
 
   shorter : (c : List Kind) → length c - 1 ≡ length (outside c)
@@ -205,7 +206,7 @@ module _ {F : Type 0} (m : Form F) (i : Option (List ℕ)) where
       go (array ∷ c) = refl
       go (object ∷ c) = one_deep s.sorts _ (call m s end_member) s.deep refl refl
 
-  rows_deep : (rows : List Row) (s : Out F) (first : Bool) → (rows_put m s first rows).deep ≡ s.deep
+  rows_deep : (rows : List MemberText) (s : Out F) (first : Bool) → (rows_put m s first rows).deep ≡ s.deep
   rows_deep [] s first = refl
   rows_deep (r ∷ rows) s first = rows_deep rows (row_put m s first r) false
 

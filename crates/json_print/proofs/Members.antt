@@ -12,8 +12,8 @@ use Rattle.json_text.specs.Known.{Appends, append_known}
 use Rattle.json_text.specs.Outside.{SinkState}
 use Rattle.json_text.specs.Transfer.{Puts}
 use Rattle.json_print.specs.declared.sorted.Member.{Member}
-use Rattle.json_print.specs.Printer.{Row, Layer}
-use Rattle.json_print.specs.Members.{row_of, layer_of, IsWithin, AreWithin, HoldMembers}
+use Rattle.json_print.specs.Printer.{MemberText, Layer}
+use Rattle.json_print.specs.Members.{member_text_of, layer_of, IsWithin, AreWithin, HoldMembers}
 
 -- ---- a text behind others
 
@@ -40,10 +40,10 @@ all_keys keys texts k (m ∷ ms) u h = (within_keys keys texts k m u h.0, all_ke
 pub hold_keys : (keys texts k : List ℕ) (ms : List Member) (i j : ℕ) → IsUtf8 k → HoldMembers keys texts ms i j → HoldMembers (keys ++ k) texts ms i j
 hold_keys keys texts k ms i j u h = record { finished = all_keys keys texts k ms u h.finished; key_begins = boundary_on keys k i u h.key_begins; text_begins = h.text_begins }
 
-rows_keys : (keys texts k : List ℕ) (ms : List Member) → AreWithin keys texts ms → map (row_of (keys ++ k) texts) ms ≡ map (row_of keys texts) ms
+rows_keys : (keys texts k : List ℕ) (ms : List Member) → AreWithin keys texts ms → map (member_text_of (keys ++ k) texts) ms ≡ map (member_text_of keys texts) ms
 rows_keys keys texts k [] h = refl
 rows_keys keys texts k (m ∷ ms) h =
-    ap₂ (λ (r : Row) rows. r ∷ rows) (ap (λ (x : List ℕ). let r : Row = record { key = x; text = piece texts m.text_from m.text_to } in r) (piece_on keys k m.key_from m.key_to h.0.key_order h.0.key_ends.0)) (rows_keys keys texts k ms h.1)
+    ap₂ (λ (r : MemberText) rows. r ∷ rows) (ap (λ (x : List ℕ). let r : MemberText = record { key = x; text = piece texts m.text_from m.text_to } in r) (piece_on keys k m.key_from m.key_to h.0.key_order h.0.key_ends.0)) (rows_keys keys texts k ms h.1)
 
 pub layer_keys : (keys texts k : List ℕ) (ms : List Member) (i j : ℕ) → HoldMembers keys texts ms i j → layer_of (keys ++ k) texts ms i j ≡ record (layer_of keys texts ms i j) { key = drop i keys ++ k }
 layer_keys keys texts k ms i j h =
@@ -62,10 +62,10 @@ all_texts keys texts t (m ∷ ms) h = (within_texts keys texts t m h.0, all_text
 pub hold_texts : (keys texts t : List ℕ) (ms : List Member) (i j : ℕ) → HoldMembers keys texts ms i j → HoldMembers keys (texts ++ t) ms i j
 hold_texts keys texts t ms i j h = record { finished = all_texts keys texts t ms h.finished; key_begins = h.key_begins; text_begins = omega (arith, h.text_begins, length-append texts t) }
 
-rows_texts : (keys texts t : List ℕ) (ms : List Member) → AreWithin keys texts ms → map (row_of keys (texts ++ t)) ms ≡ map (row_of keys texts) ms
+rows_texts : (keys texts t : List ℕ) (ms : List Member) → AreWithin keys texts ms → map (member_text_of keys (texts ++ t)) ms ≡ map (member_text_of keys texts) ms
 rows_texts keys texts t [] h = refl
 rows_texts keys texts t (m ∷ ms) h =
-    ap₂ (λ (r : Row) rows. r ∷ rows) (ap (λ (x : List ℕ). let r : Row = record { key = piece keys m.key_from m.key_to; text = x } in r) (piece_on texts t m.text_from m.text_to h.0.text_order h.0.text_within)) (rows_texts keys texts t ms h.1)
+    ap₂ (λ (r : MemberText) rows. r ∷ rows) (ap (λ (x : List ℕ). let r : MemberText = record { key = piece keys m.key_from m.key_to; text = x } in r) (piece_on texts t m.text_from m.text_to h.0.text_order h.0.text_within)) (rows_texts keys texts t ms h.1)
 
 pub layer_texts : (keys texts t : List ℕ) (ms : List Member) (i j : ℕ) → HoldMembers keys texts ms i j → layer_of keys (texts ++ t) ms i j ≡ record (layer_of keys texts ms i j) { text = drop j texts ++ t }
 layer_texts keys texts t ms i j h =
@@ -94,7 +94,7 @@ all_at keys texts (m ∷ ms) zero d h l = h.0
 all_at keys texts (m ∷ ms) (suc n) d h l = all_at keys texts ms n d h.1 (omega arith)
 
 pub rows_length : (keys texts : List ℕ) (ms : List Member) (i j : ℕ) (l : Layer) → layer_of keys texts ms i j ≡ l → length ms ≡ length l.rows
-rows_length keys texts ms i j l e = sym (length-map ms (row_of keys texts)) ∙ ap (λ (x : Layer). length x.rows) e
+rows_length keys texts ms i j l e = sym (length-map ms (member_text_of keys texts)) ∙ ap (λ (x : Layer). length x.rows) e
 
 counted : (keys texts : List ℕ) (ms : List Member) (i j n : ℕ) (l : Layer) → layer_of keys texts ms i j ≡ l → n < length l.rows → n < length ms
 counted keys texts ms i j n l e h = subst (λ k. n < k) (sym (rows_length keys texts ms i j l e)) h
@@ -102,13 +102,13 @@ counted keys texts ms i j n l e h = subst (λ k. n < k) (sym (rows_length keys t
 pub member_within : (keys texts : List ℕ) (ms : List Member) (i j n : ℕ) (l : Layer) (m : Member) → HoldMembers keys texts ms i j → layer_of keys texts ms i j ≡ l → n < length l.rows → m ≡ get_or ms n m → IsWithin keys texts m
 member_within keys texts ms i j n l m h e k g = subst (IsWithin keys texts) (sym g) (all_at keys texts ms n m h.finished (counted keys texts ms i j n l e k))
 
-row_get : (keys texts : List ℕ) (ms : List Member) (n : ℕ) (d : Member) → n < length ms → slice_get (map (row_of keys texts) ms) n ≡ Some (row_of keys texts (get_or ms n d))
+row_get : (keys texts : List ℕ) (ms : List Member) (n : ℕ) (d : Member) → n < length ms → slice_get (map (member_text_of keys texts) ms) n ≡ Some (member_text_of keys texts (get_or ms n d))
 row_get keys texts [] n d l = absurd (omega arith)
 row_get keys texts (m ∷ ms) zero d l = refl
 row_get keys texts (m ∷ ms) (suc n) d l = row_get keys texts ms n d (omega arith)
 
-pub member_row : (keys texts : List ℕ) (ms : List Member) (i j n : ℕ) (l : Layer) (m : Member) → layer_of keys texts ms i j ≡ l → n < length l.rows → m ≡ get_or ms n m → slice_get l.rows n ≡ Some (row_of keys texts m)
-member_row keys texts ms i j n l m e k g = ap (λ (x : Layer). slice_get x.rows n) (sym e) ∙ row_get keys texts ms n m (counted keys texts ms i j n l e k) ∙ ap (λ x. Some (row_of keys texts x)) (sym g)
+pub member_row : (keys texts : List ℕ) (ms : List Member) (i j n : ℕ) (l : Layer) (m : Member) → layer_of keys texts ms i j ≡ l → n < length l.rows → m ≡ get_or ms n m → slice_get l.rows n ≡ Some (member_text_of keys texts m)
+member_row keys texts ms i j n l m e k g = ap (λ (x : Layer). slice_get x.rows n) (sym e) ∙ row_get keys texts ms n m (counted keys texts ms i j n l e k) ∙ ap (λ x. Some (member_text_of keys texts x)) (sym g)
 
 -- ---- what a sink in memory has gained
 

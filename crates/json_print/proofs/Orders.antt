@@ -14,8 +14,8 @@ use Rattle.std.proofs.lemmas.List.Sorted.{Contains-permutation, IsPermutation-sy
 use Rattle.std.proofs.lemmas.Map.Keys.{IsDistinct-IsPermutation}
 use Rattle.json_model.specs.Sort.{bytes_less}
 use Rattle.std.proofs.lemmas.List.{get_or-map, length-map}
-use Rattle.json_print.specs.Orders.{Pair, In, Rise, numbered_in, inserted_all}
-use Rattle.json_print.specs.Printer.{Row, row_in, rows_sorted}
+use Rattle.json_print.specs.Orders.{Pair, In, Rise, numbered_in, inserted_pairs}
+use Rattle.json_print.specs.Printer.{MemberText, row_in, rows_sorted}
 
 abbrev pub numbered_cmp : Pair → Pair → Ordering
 numbered_cmp = then_cmp (on (λ (x : Pair). x.0) (slice_cmp nat_cmp)) (on (λ (x : Pair). x.1) nat_cmp)
@@ -108,14 +108,14 @@ or_in x z (y ∷ ys) h = go (bytes_less y.0 x.0) (or_in x z ys) h
     go true ih (inr (inr k)) = inr (ih (inr k))
     go false ih k = k
 
-pub all_in : (z : Pair) (xs : List Pair) → In z (inserted_all xs) → In z xs
+pub all_in : (z : Pair) (xs : List Pair) → In z (inserted_pairs xs) → In z xs
 all_in z [] h = h
-all_in z (x ∷ xs) h = elim (in_or x z (inserted_all xs) h) [ inl e ↦ inl e | inr k ↦ inr (all_in z xs k) ]
+all_in z (x ∷ xs) h = elim (in_or x z (inserted_pairs xs) h) [ inl e ↦ inl e | inr k ↦ inr (all_in z xs k) ]
 
-in_all : (z : Pair) (xs : List Pair) → In z xs → In z (inserted_all xs)
+in_all : (z : Pair) (xs : List Pair) → In z xs → In z (inserted_pairs xs)
 in_all z [] h = h
-in_all z (x ∷ xs) (inl e) = or_in x z (inserted_all xs) (inl e)
-in_all z (x ∷ xs) (inr h) = or_in x z (inserted_all xs) (inr (in_all z xs h))
+in_all z (x ∷ xs) (inl e) = or_in x z (inserted_pairs xs) (inl e)
+in_all z (x ∷ xs) (inr h) = or_in x z (inserted_pairs xs) (inr (in_all z xs h))
 
 -- the first is below those whose numbers are greater, where its key is not greater
 first_below : (x y : Pair) → bytes_less y.0 x.0 ≡ false → x.1 < y.1 → Below x y
@@ -150,21 +150,21 @@ in_ascends x (y ∷ ys) a n = go (bytes_less y.0 x.0) refl (in_ascends x ys a.1 
         let f : Below x y = first_below x y e (n y (inl refl)) in
         (λ z h. elim h [ inl q ↦ subst (Below x) (sym q) f | inr k ↦ total.trans x y z f (a.0 z k) ], a)
 
-all_ascends : (xs : List Pair) → Rise xs → Ascends (inserted_all xs)
+all_ascends : (xs : List Pair) → Rise xs → Ascends (inserted_pairs xs)
 all_ascends [] r = tt
-all_ascends (x ∷ xs) r = in_ascends x (inserted_all xs) (all_ascends xs r.1) (λ z h. r.0 z (all_in z xs h))
+all_ascends (x ∷ xs) r = in_ascends x (inserted_pairs xs) (all_ascends xs r.1) (λ z h. r.0 z (all_in z xs h))
 
 -- ---- by a sort
 
-sort_inserts : (xs ys : List Pair) → Rise xs → IsPermutation xs ys → Ascends ys → ys ≡ inserted_all xs
+sort_inserts : (xs ys : List Pair) → Rise xs → IsPermutation xs ys → Ascends ys → ys ≡ inserted_pairs xs
 sort_inserts xs ys r p a =
-    unique ys (inserted_all xs) a (all_ascends xs r)
+    unique ys (inserted_pairs xs) a (all_ascends xs r)
     (λ z h. in_all z xs (let c = Contains-permutation ys xs z (IsPermutation-sym xs ys p) (from_in ys z h) in in_from xs z c.0 c.1 c.2))
     (λ z h. let c = Contains-permutation xs ys z p (from_in xs z (all_in z xs h)) in in_from ys z c.0 c.1 c.2)
 
 -- ---- and so the rows
 
-abbrev pub row_at : (ℕ → List ℕ) → Pair → Row
+abbrev pub row_at : (ℕ → List ℕ) → Pair → MemberText
 row_at text x = record { key = x.0; text = text x.1 }
 
 row_inserted : (text : ℕ → List ℕ) (x : Pair) (ys : List Pair) → map (row_at text) (numbered_in x ys) ≡ row_in (row_at text x) (map (row_at text) ys)
@@ -176,9 +176,9 @@ row_inserted text x (y ∷ ys) = go (bytes_less y.0 x.0) (row_inserted text x ys
     go true ih = ap (λ zs. row_at text y ∷ zs) ih
     go false ih = refl
 
-pub rows_inserted : (text : ℕ → List ℕ) (xs : List Pair) → map (row_at text) (inserted_all xs) ≡ rows_sorted (map (row_at text) xs)
+pub rows_inserted : (text : ℕ → List ℕ) (xs : List Pair) → map (row_at text) (inserted_pairs xs) ≡ rows_sorted (map (row_at text) xs)
 rows_inserted text [] = refl
-rows_inserted text (x ∷ xs) = row_inserted text x (inserted_all xs) ∙ ap (row_in (row_at text x)) (rows_inserted text xs)
+rows_inserted text (x ∷ xs) = row_inserted text x (inserted_pairs xs) ∙ ap (row_in (row_at text x)) (rows_inserted text xs)
 
 -- ---- what std's sort ensures
 
@@ -237,6 +237,6 @@ mapped f (y ∷ ys) h k d l =
     rw (get_or-map f (y ∷ ys) (k + 1) y d n, get_or-map f (y ∷ ys) k y d (omega (arith, n))) (h k y (omega arith) n)
 
 -- so it is of what has a key and a number
-pub sort_orders : {X : Type 0} (f : X → Pair) (xs ys : List X) → Rise (map f xs) → IsPermutation xs ys → IsSortedBy (λ x y. is_lt (numbered_cmp (f x) (f y))) ys → map f ys ≡ inserted_all (map f xs)
+pub sort_orders : {X : Type 0} (f : X → Pair) (xs ys : List X) → Rise (map f xs) → IsPermutation xs ys → IsSortedBy (λ x y. is_lt (numbered_cmp (f x) (f y))) ys → map f ys ≡ inserted_pairs (map f xs)
 sort_orders f xs ys r p s =
     let moved = IsPermutation-map f xs ys p in sort_inserts (map f xs) (map f ys) r moved (ascends_from (map f ys) (mapped f ys s) (IsDistinct-IsPermutation number_eq flips _ _ moved (rise_apart _ r)))

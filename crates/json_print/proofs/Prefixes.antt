@@ -1,14 +1,14 @@
 -- At every moment what was written begins the text of each tree whose tokens begin so.
 use Rattle.std.proofs.Common.{◌≡◌, ℕ, List, [], ◌∷◌, ◌++◌, length, append_assoc, ◌∙◌, sym, ap, refl, subst, Bool, true, false, Option}
 use Rattle.json_grammar.specs.Tree.{Tree, Token, null_token, boolean_token, num_token, text_token, begin, end, key_token, tokens}
+use Rattle.json_grammar.specs.Place.{outside}
 use Rattle.json_model.specs.Print.{shown}
 use Rattle.json_text.specs.declared.error.Error.{Error}
 use Rattle.json_text.specs.Known.{append_known}
 use Rattle.json_text.specs.Outside.{SinkState}
 use Rattle.json_print.specs.Calls.{Call, null_call, boolean_call, number_call, string_call, begin_call, end_call, begin_key, end_key}
-use Rattle.json_print.specs.Standing.{outside}
 use Rattle.json_print.specs.Layouts.{Form}
-use Rattle.json_print.specs.Printer.{Out, Begins, StopsAt, after, call, value_begun, took_scalar, emptied, is_first, start}
+use Rattle.json_print.specs.Printer.{Out, Begins, StopsAtToken, after, call, value_begun, took_scalar, emptied, is_first, start}
 use Rattle.json_print.specs.Layouts.{LaidOut}
 use Rattle.json_print.specs.Taking.{after_all}
 use Rattle.json_print.proofs.Ideals.{Level, ideal, ideal_laid, after_in}
@@ -75,7 +75,7 @@ module _ {F : Type 0} (m : Form F) (f : F) (sorts : Bool) (w : SinkState) (i : O
   pub prefix_law : (t : Tree) (ts more : List Token) → (state_of ts).deep ≡ false → tokens t ≡ ts ++ more → Begins (state_of ts).gained (append_known w.gained (shown i 0 (as_asked sorts t)))
   prefix_law t ts more e k = subst (λ g. Begins g (append_known w.gained (shown i 0 (as_asked sorts t)))) (ap (λ y. y.gained) (alike ts e).same) (ideal_prefix t ts more k)
 
-  pub stopped_law : (t : Tree) (ts more : List Token) (x : Token) (new : Out F) (err : Error) → tokens t ≡ ts ++ x ∷ more → StopsAt m (state_of ts) x new err → Begins new.gained (append_known w.gained (shown i 0 (as_asked sorts t)))
+  pub stopped_law : (t : Tree) (ts more : List Token) (x : Token) (new : Out F) (err : Error) → tokens t ≡ ts ++ x ∷ more → StopsAtToken m (state_of ts) x new err → Begins new.gained (append_known w.gained (shown i 0 (as_asked sorts t)))
   stopped_law t ts more x new err e k =
       let s = begun sorts w in
       let y = all (ideal i) s ts in

@@ -1,10 +1,10 @@
 -- A serializer that stops on the way has written a part of what was to be written.
 use Rattle.std.proofs.Common.{◌≡◌, ℕ, List, [], ◌∷◌, ◌++◌, ◌∙◌, sym, ap, refl, subst, arith, ◌+◌, ◌-◌, length, take, get_or, reverse, Bool, true, false, cond, Option, Err, Result}
 use Rattle.std.proofs.lemmas.List.{take_more, take_all, reverse-append}
-use Rattle.json_print.specs.Standing.{outside}
 use Rattle.std.proofs.lemmas.Result.{on_err_weaker}
 use Rattle.json_grammar.specs.declared.Kind.{Kind}
 use Rattle.json_grammar.specs.declared.Kind.TheVariants.{Array as array, Object as object}
+use Rattle.json_grammar.specs.Place.{outside}
 use Rattle.json_text.specs.declared.error.Error.{Error}
 use Rattle.json_text.specs.Known.{append_known}
 use Rattle.json_text.proofs.Known.{known-append, known-nil}
@@ -12,7 +12,7 @@ use Rattle.json_print.specs.declared.events.Turn.{Turn}
 use Rattle.json_print.specs.declared.events.Turn.TheVariants.{Value as at_value, Element as at_element, Key as at_key, Member as at_member, Done as at_done}
 use Rattle.json_print.specs.Calls.{Call, string_call, begin_element, end_element, begin_key, end_key, begin_member, end_member}
 use Rattle.json_print.specs.Layouts.{Form}
-use Rattle.json_print.specs.Printer.{Out, Layer, Row, Begins, Stops, StopCause, gained_put, call, put, filed_in, lead_in, follow_on, value_begun, value_ended, took_scalar, row_put, rows_put, rows_sorted, top_rows, below, emptied, emptied_in}
+use Rattle.json_print.specs.Printer.{Out, Layer, MemberText, Begins, Stops, StopCause, gained_put, call, put, filed_in, lead_in, follow_on, value_begun, value_ended, took_scalar, row_put, rows_put, rows_sorted, top_rows, below, emptied, emptied_in}
 use Rattle.json_print.specs.declared.serializer.Halted.{Halted}
 use Rattle.json_print.specs.Steps.{Steps, Stopped}
 
@@ -87,14 +87,14 @@ ended_calm m s = follow_calm m s s.opened
 pub calls_begin : {F : Type 0} (m : Form F) (s : Out F) (a b c : Call) → Begins s.gained (call m (call m (call m s a) b) c).gained
 calls_begin m s a b c = Begins-trans _ _ _ (call_begins m s a) (Begins-trans _ _ _ (call_begins m (call m s a) b) (call_begins m (call m (call m s a) b) c))
 
-pub row_begins : {F : Type 0} (m : Form F) (s : Out F) (first : Bool) (r : Row) → Begins s.gained (row_put m s first r).gained
+pub row_begins : {F : Type 0} (m : Form F) (s : Out F) (first : Bool) (r : MemberText) → Begins s.gained (row_put m s first r).gained
 row_begins m s first r =
     let a = call m (call m (call m s (begin_key first)) (string_call true r.key)) end_key in
     let b = call m a begin_member in
     Begins-trans _ _ _ (calls_begin m s (begin_key first) (string_call true r.key) end_key)
     (Begins-trans _ _ _ (call_begins m a begin_member) (Begins-trans _ _ _ (put_begins b.layers b.gained r.text) (call_begins m (put b r.text) end_member)))
 
-pub rows_begin : {F : Type 0} (m : Form F) (rows : List Row) (s : Out F) (first : Bool) → Begins s.gained (rows_put m s first rows).gained
+pub rows_begin : {F : Type 0} (m : Form F) (rows : List MemberText) (s : Out F) (first : Bool) → Begins s.gained (rows_put m s first rows).gained
 rows_begin m [] s first = Begins-refl s.gained
 rows_begin m (r ∷ rows) s first = Begins-trans _ _ _ (row_begins m s first r) (rows_begin m rows (row_put m s first r) false)
 
@@ -102,7 +102,7 @@ pub emptied_begins : {F : Type 0} (m : Form F) (s : Out F) (k : Kind) → Begins
 emptied_begins m s array = Begins-refl s.gained
 emptied_begins m s object = one_begins s.gained s.sorts _ s (rows_begin m (rows_sorted (top_rows s.layers)) (record s { layers = below s.layers }) true) (Begins-refl s.gained)
 
-rows_calm : {F : Type 0} (m : Form F) (rows : List Row) (s : Out F) (first : Bool) → Calm s (rows_put m s first rows)
+rows_calm : {F : Type 0} (m : Form F) (rows : List MemberText) (s : Out F) (first : Bool) → Calm s (rows_put m s first rows)
 rows_calm m [] s first = (refl, refl)
 rows_calm m (r ∷ rows) s first = let h = rows_calm m rows (row_put m s first r) false in (h.0, h.1)
 

@@ -3,17 +3,16 @@ use Rattle.std.proofs.Common.{◌≡◌, ℕ, suc, ◌-◌, List, [], ◌∷◌,
 use Rattle.json_grammar.specs.declared.Kind.{Kind}
 use Rattle.json_grammar.specs.declared.Kind.TheVariants.{Array as array, Object as object}
 use Rattle.json_grammar.specs.Tree.{Tree, null, boolean, num, text, list, pairs, Trees, no_trees, tree_and, Pairs, no_pairs, pair_and, Token, end, key_token, tokens, trees_tokens, pairs_tokens}
-use Rattle.json_grammar.specs.Place.{closing}
+use Rattle.json_grammar.specs.Place.{closing, outside}
 use Rattle.json_model.specs.Sort.{bytes_less, pair_in}
 use Rattle.json_model.specs.Print.{shown, more_trees_shown, pairs_shown, more_pairs_shown, line, quoted, colon_bytes}
 use Rattle.json_text.proofs.Known.{known-append, known-nil}
 use Rattle.json_print.specs.declared.events.Turn.{Turn}
 use Rattle.json_print.specs.declared.events.Turn.TheVariants.{Element as at_element, Key as at_key, Member as at_member}
 use Rattle.json_print.specs.Calls.{Call, null_call, boolean_call, number_call, string_call, begin_call, end_call, begin_element, end_element, begin_key, end_key, begin_member, end_member, piece_of, flag_after, comma, closing_line}
-use Rattle.json_print.specs.Standing.{outside}
 use Rattle.json_print.specs.Taking.{after_all}
 use Rattle.json_print.specs.Layouts.{Form}
-use Rattle.json_print.specs.Printer.{Out, Layer, Row, put, gained_put, layers_put, call, follow_on, value_begun, value_ended, turned, filed, took_end, took_key, row_put, rows_put, row_in, rows_sorted}
+use Rattle.json_print.specs.Printer.{Out, Layer, MemberText, put, gained_put, layers_put, call, follow_on, value_begun, value_ended, turned, filed, took_end, took_key, row_put, rows_put, row_in, rows_sorted}
 use Rattle.json_print.proofs.Ideals.{LaidIn, level_in, opened_in, after_in}
 use Rattle.json_print.proofs.Asked.{as_asked, trees_as_asked, pairs_as_asked}
 
@@ -237,7 +236,7 @@ pair_law {F = F} m s c first i d b k t h rec =
 
 -- ---- the pairs of a sorted object
 
-abbrev in_sorted : {F : Type 0} → Out F → Bool → List Kind → List Row → Out F
+abbrev in_sorted : {F : Type 0} → Out F → Bool → List Kind → List MemberText → Out F
 in_sorted s first c rows = record s { turn = at_key first; opened = object ∷ c; sorts = true; layers = record { rows = rows; key = []; text = [] } ∷ s.layers }
 
 sorted_begun : {F : Type 0} (m : Form F) (u : Out F) (i : Option (List ℕ)) (d : ℕ) (b : Bool) → LaidIn m u.formatter i d b
@@ -245,7 +244,7 @@ sorted_begun : {F : Type 0} (m : Form F) (u : Out F) (i : Option (List ℕ)) (d 
 sorted_begun {F = F} m u i d b h = ap (λ (x : Out F). opened_in x object) (called m (record u { sorts = true }) i d b (begin_call object) h)
 
 -- the rows of pairs whose values are shown
-abbrev rows_of : Option (List ℕ) → ℕ → Pairs → List Row
+abbrev rows_of : Option (List ℕ) → ℕ → Pairs → List MemberText
 rows_of i d no_pairs = []
 rows_of i d (pair_and k t ps) = record { key = k; text = shown i d t } ∷ rows_of i d ps
 
@@ -253,14 +252,14 @@ abbrev each_sorted : Pairs → Pairs
 each_sorted no_pairs = no_pairs
 each_sorted (pair_and k t ps) = pair_and k (as_asked true t) (each_sorted ps)
 
-record Collected {F : Type 0} (m : Form F) (new s : Out F) (c : List Kind) (i : Option (List ℕ)) (d : ℕ) (rows : List Row) : Type 0 where
+record Collected {F : Type 0} (m : Form F) (new s : Out F) (c : List Kind) (i : Option (List ℕ)) (d : ℕ) (rows : List MemberText) : Type 0 where
   pub f : F
   pub flag : Bool
   pub laid : LaidIn m f i d flag
   pub first : Bool
   pub same : new ≡ in_sorted (record s { formatter = f }) first c rows
 
-row_law : {F : Type 0} (m : Form F) (s : Out F) (c : List Kind) (first : Bool) (rows : List Row) (i : Option (List ℕ)) (d : ℕ) (b : Bool) (k : List ℕ) (t : Tree) → LaidIn m s.formatter i d b → Law m i d true t (object ∷ c)
+row_law : {F : Type 0} (m : Form F) (s : Out F) (c : List Kind) (first : Bool) (rows : List MemberText) (i : Option (List ℕ)) (d : ℕ) (b : Bool) (k : List ℕ) (t : Tree) → LaidIn m s.formatter i d b → Law m i d true t (object ∷ c)
     → Collected m (all m (in_sorted s first c rows) (key_token k ∷ tokens t)) s c i d (rows ++ record { key = k; text = shown i d (as_asked true t) } ∷ [])
 row_law {F = F} m s c first rows i d b k t h rec =
     let at = in_sorted s first c rows in
@@ -268,7 +267,7 @@ row_law {F = F} m s c first rows i d b k t h rec =
     let w = rec v b h refl refl in
     record { f = w.f; flag = w.flag; laid = w.laid; first = false; same = own_is m v t ∙ w.same }
 
-collect_then : {F : Type 0} (m : Form F) (s : Out F) (c : List Kind) (first : Bool) (rows rows1 rows2 : List Row) (i : Option (List ℕ)) (d : ℕ) (ts us : List Token)
+collect_then : {F : Type 0} (m : Form F) (s : Out F) (c : List Kind) (first : Bool) (rows rows1 rows2 : List MemberText) (i : Option (List ℕ)) (d : ℕ) (ts us : List Token)
     → (one : Collected m (all m (in_sorted s first c rows) ts) s c i d rows1) → Collected m (all m (in_sorted (record s { formatter = one.f }) one.first c rows1) us) (record s { formatter = one.f }) c i d rows2
     → Collected m (all m (in_sorted s first c rows) (ts ++ us)) s c i d rows2
 collect_then {F = F} m s c first rows rows1 rows2 i d ts us one more =
@@ -282,19 +281,19 @@ collect_then {F = F} m s c first rows rows1 rows2 i d ts us one more =
 
 -- ---- the rows are put in order
 
-abbrev rows_text : Option (List ℕ) → ℕ → Bool → List Row → List ℕ
+abbrev rows_text : Option (List ℕ) → ℕ → Bool → List MemberText → List ℕ
 rows_text i d first [] = []
 rows_text i d first (r ∷ rows) = (comma first ++ line i d) ++ (quoted r.key ++ (colon_bytes i ++ (r.text ++ rows_text i d false rows)))
 
-abbrev flag_rows : Bool → List Row → Bool
+abbrev flag_rows : Bool → List MemberText → Bool
 flag_rows b [] = b
 flag_rows b (r ∷ rows) = true
 
-flag_stays : (rows : List Row) → flag_rows true rows ≡ true
+flag_stays : (rows : List MemberText) → flag_rows true rows ≡ true
 flag_stays [] = refl
 flag_stays (r ∷ rows) = refl
 
-one_row : {F : Type 0} (m : Form F) (s : Out F) (first : Bool) (r : Row) (i : Option (List ℕ)) (d : ℕ) (b : Bool) → LaidIn m s.formatter i d b → Said m s (row_put m s first r) i d true ((said_text i d b (pair_calls first r.key) ++ r.text) ++ [])
+one_row : {F : Type 0} (m : Form F) (s : Out F) (first : Bool) (r : MemberText) (i : Option (List ℕ)) (d : ℕ) (b : Bool) → LaidIn m s.formatter i d b → Said m s (row_put m s first r) i d true ((said_text i d b (pair_calls first r.key) ++ r.text) ++ [])
 one_row {F = F} m s first r i d b h =
     let p = said_text i d b (pair_calls first r.key) in
     let a = said m (pair_calls first r.key) s i d b h in
@@ -302,7 +301,7 @@ one_row {F = F} m s first r i d b h =
     let z = said m (end_member ∷ []) (wrote s a.f (p ++ r.text)) i d b a.laid in
     then_said m s (wrote s a.f (p ++ r.text)) _ i d true a.f (p ++ r.text) [] refl (record { f = z.f; laid = z.laid; same = ap (λ (x : Out F). call m x end_member) e ∙ z.same })
 
-rows_law : {F : Type 0} (m : Form F) (rows : List Row) (s : Out F) (first : Bool) (i : Option (List ℕ)) (d : ℕ) (b : Bool) → LaidIn m s.formatter i d b → Said m s (rows_put m s first rows) i d (flag_rows b rows) (rows_text i d first rows)
+rows_law : {F : Type 0} (m : Form F) (rows : List MemberText) (s : Out F) (first : Bool) (i : Option (List ℕ)) (d : ℕ) (b : Bool) → LaidIn m s.formatter i d b → Said m s (rows_put m s first rows) i d (flag_rows b rows) (rows_text i d first rows)
 rows_law m [] s first i d b h = record { f = s.formatter; laid = h; same = sym (nothing s) }
 rows_law {F = F} m (r ∷ rows) s first i d b h =
     let one = one_row m s first r i d b h in
@@ -321,7 +320,7 @@ row_in_shown i d k t no_pairs = refl
 row_in_shown i d k t (pair_and n u ps) = go (bytes_less n k) (row_in_shown i d k t ps)
   where
     go : (b : Bool) → row_in (record { key = k; text = shown i d t }) (rows_of i d ps) ≡ rows_of i d (pair_in k t ps) → cond b (record { key = n; text = shown i d u } ∷ row_in (record { key = k; text = shown i d t }) (rows_of i d ps)) (record { key = k; text = shown i d t } ∷ record { key = n; text = shown i d u } ∷ rows_of i d ps) ≡ rows_of i d (cond b (pair_and n u (pair_in k t ps)) (pair_and k t (pair_and n u ps)))
-    go true ih = ap (λ (x : List Row). let r : Row = record { key = n; text = shown i d u } in r ∷ x) ih
+    go true ih = ap (λ (x : List MemberText). let r : MemberText = record { key = n; text = shown i d u } in r ∷ x) ih
     go false ih = refl
 
 -- rows in order are the pairs in order
@@ -339,7 +338,7 @@ object_closed : {F : Type 0} (m : Form F) (u x : Out F) (i : Option (List ℕ)) 
 object_closed {F = F} m u x i d flag first f p h e =
     rewrote m (record u { sorts = false }) _ _ i d _ _ (ap (λ (y : Out F). took_end m y object) e) refl (closed m (record u { sorts = false }) i d flag f p object (at_key first) (wrote (record u { sorts = false }) f p) h refl)
 
-sorted_closed : {F : Type 0} (m : Form F) (u x : Out F) (i : Option (List ℕ)) (d : ℕ) (b first : Bool) (f g : F) (p : List ℕ) (rows : List Row) → LaidIn m f i (suc d) b
+sorted_closed : {F : Type 0} (m : Form F) (u x : Out F) (i : Option (List ℕ)) (d : ℕ) (b first : Bool) (f g : F) (p : List ℕ) (rows : List MemberText) → LaidIn m f i (suc d) b
     → x ≡ in_sorted (record (wrote (record u { sorts = true }) g p) { formatter = f }) first u.opened rows
     → Wrote m (record u { sorts = true }) (took_end m x object) i d ((p ++ rows_text i (suc d) true (rows_sorted rows)) ++ (closing_line (flag_rows b (rows_sorted rows)) i d ++ 125 ∷ []))
 sorted_closed {F = F} m u x i d b first f g p rows h e =
@@ -440,7 +439,7 @@ mutual
       let w = wrote u f (123 ∷ []) in
       let qs = pair_and k t ps in
       let begun = opened_in (call m u (begin_call object)) object in
-      let row : Row = record { key = k; text = shown i (suc d) (as_asked true t) } in
+      let row : MemberText = record { key = k; text = shown i (suc d) (as_asked true t) } in
       let one = row_law m w v.opened true [] i (suc d) false k t (begun_laid m v i d b object h) (λ y x n o q. subst (λ z. Wrote m y (own m y t) i (suc d) (shown i (suc d) (as_asked z t))) q (value_law m i t y (suc d) x n)) in
       let more = collect_law m i ps (record w { formatter = one.f }) v.opened one.first (row ∷ []) (suc d) one.flag one.laid in
       let r = collect_then m w v.opened true [] (row ∷ []) (row ∷ rows_of i (suc d) (each_sorted ps)) i (suc d) (key_token k ∷ tokens t) (pairs_tokens ps) one more in
@@ -461,13 +460,13 @@ mutual
       (ap (λ x. 44 ∷ x) (more_text (line i d) (quoted k) (colon_bytes i) (shown i d (as_asked false t)) (more_pairs_shown i d (pairs_as_asked false ps))))
       (chain_members m (λ x. in_object x false c) _ s i d one.f p _ more)
 
-  collect_law : {F : Type 0} (m : Form F) (i : Option (List ℕ)) (ps : Pairs) (s : Out F) (c : List Kind) (first : Bool) (rows : List Row) (d : ℕ) (b : Bool) → LaidIn m s.formatter i d b
+  collect_law : {F : Type 0} (m : Form F) (i : Option (List ℕ)) (ps : Pairs) (s : Out F) (c : List Kind) (first : Bool) (rows : List MemberText) (d : ℕ) (b : Bool) → LaidIn m s.formatter i d b
       → Collected m (all m (in_sorted s first c rows) (pairs_tokens ps)) s c i d (rows ++ rows_of i d (each_sorted ps))
   collect_law m i no_pairs s c first rows d b h =
       record { f = s.formatter; flag = b; laid = h; first = first; same = ap (λ x. in_sorted s first c x) (sym (append-nil rows)) }
   collect_law {F = F} m i (pair_and k t ps) s c first rows d b h =
       let ts = key_token k ∷ tokens t in
-      let row : Row = record { key = k; text = shown i d (as_asked true t) } in
+      let row : MemberText = record { key = k; text = shown i d (as_asked true t) } in
       let one = row_law m s c first rows i d b k t h (λ y x n o q. subst (λ z. Wrote m y (own m y t) i d (shown i d (as_asked z t))) q (value_law m i t y d x n)) in
       let more = collect_law m i ps (record s { formatter = one.f }) c one.first (rows ++ row ∷ []) d one.flag one.laid in
       record {

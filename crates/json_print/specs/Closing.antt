@@ -1,9 +1,9 @@
 -- The end of a container behind its members.
 use Rattle.json_grammar.specs.declared.Kind.{Kind}
+use Rattle.json_grammar.specs.Place.{outside}
 use Rattle.json_print.specs.Calls.{end_call}
 use Rattle.json_print.specs.Layouts.{Form}
 use Rattle.json_print.specs.Printer.{Out, call, value_ended}
-use Rattle.json_print.specs.Standing.{outside}
 
 -- the innermost container is closed, and is a value of the next
 abbrev pub closed : {F : Type 0} → Form F → Out F → Kind → Out F

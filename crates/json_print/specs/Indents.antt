@@ -20,6 +20,6 @@ ws-prop : (s : List ℕ) → IsProp (ws s)
 ws-prop [] = Unit-prop
 ws-prop (x ∷ s) = ×_prop (IsWhitespace-prop x) (ws-prop s)
 
-pub IsIndent-prop : (i : Option (List ℕ)) → IsProp (IsIndent i)
-IsIndent-prop None = Unit-prop
-IsIndent-prop (Some s) = ws-prop s
+pub indent_is_prop : (i : Option (List ℕ)) → IsProp (IsIndent i)
+indent_is_prop None = Unit-prop
+indent_is_prop (Some s) = ws-prop s

@@ -3,15 +3,15 @@ use Rattle.std.specs.Prelude.{ℕ, ◌≤◌, List, [], ◌∷◌, length, map, 
 use Rattle.std.specs.Str.{IsCharBoundary}
 use Rattle.json_grammar.specs.Given.{piece}
 use Rattle.json_print.specs.declared.sorted.Member.{Member}
-use Rattle.json_print.specs.Printer.{Row, Layer}
+use Rattle.json_print.specs.Printer.{MemberText, Layer}
 
 -- the row of a member
-abbrev pub row_of : List ℕ → List ℕ → Member → Row
-row_of keys texts m = record { key = piece keys m.key_from m.key_to; text = piece texts m.text_from m.text_to }
+abbrev pub member_text_of : List ℕ → List ℕ → Member → MemberText
+member_text_of keys texts m = record { key = piece keys m.key_from m.key_to; text = piece texts m.text_from m.text_to }
 
 -- the finished members, and the open one behind them
 abbrev pub layer_of : List ℕ → List ℕ → List Member → ℕ → ℕ → Layer
-layer_of keys texts members key_from text_from = record { rows = map (row_of keys texts) members; key = drop key_from keys; text = drop text_from texts }
+layer_of keys texts members key_from text_from = record { rows = map (member_text_of keys texts) members; key = drop key_from keys; text = drop text_from texts }
 
 -- its key stands among the keys, and its text among the texts
 pub record IsWithin (keys texts : List ℕ) (m : Member) : Type 0 where

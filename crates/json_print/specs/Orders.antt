@@ -7,8 +7,8 @@ use Rattle.json_print.specs.declared.order.Numbered.{Numbered}
 abbrev pub Pair : Type 0
 Pair = List ℕ × ℕ
 
-abbrev pub pair_of : Numbered → Pair
-pair_of x = (x.key.now, x.number)
+abbrev pub numbered_pair : Numbered → Pair
+numbered_pair x = (x.key.now, x.number)
 
 abbrev pub In : {X : Type 0} → X → List X → Type 0
 In x [] = ⊥
@@ -24,6 +24,6 @@ abbrev pub numbered_in : Pair → List Pair → List Pair
 numbered_in x [] = x ∷ []
 numbered_in x (y ∷ ys) = cond (bytes_less y.0 x.0) (y ∷ numbered_in x ys) (x ∷ y ∷ ys)
 
-abbrev pub inserted_all : List Pair → List Pair
-inserted_all [] = []
-inserted_all (x ∷ xs) = numbered_in x (inserted_all xs)
+abbrev pub inserted_pairs : List Pair → List Pair
+inserted_pairs [] = []
+inserted_pairs (x ∷ xs) = numbered_in x (inserted_pairs xs)

@@ -3,6 +3,7 @@ use Rattle.std.specs.Prelude.{◌≡◌, ℕ, suc, ◌-◌, ◌^◌, ◌<◌, �
 use Rattle.json_grammar.specs.declared.Kind.{Kind}
 use Rattle.json_grammar.specs.Tree.{Token, null_token, boolean_token, num_token, text_token, begin, end, key_token}
 use Rattle.json_grammar.specs.declared.Kind.TheVariants.{Array as array, Object as object}
+use Rattle.json_grammar.specs.Place.{outside}
 use Rattle.json_model.specs.Sort.{bytes_less}
 use Rattle.json_text.specs.declared.error.Error.{Error}
 use Rattle.json_text.specs.declared.error.ErrorCode.{ErrorCode}
@@ -15,22 +16,22 @@ use Rattle.json_text.specs.Outside.{Rose, Loan, SinkState}
 use Rattle.json_print.specs.declared.events.Turn.{Turn}
 use Rattle.json_print.specs.declared.events.Turn.TheVariants.{Value as at_value, Element as at_element, Key as at_key, Member as at_member, Done as at_done}
 use Rattle.json_print.specs.Calls.{Call, null_call, boolean_call, number_call, string_call, begin_call, end_call, begin_element, end_element, begin_key, end_key, begin_member, end_member}
-use Rattle.json_print.specs.Given.{Given, token_of}
+use Rattle.json_print.specs.Given.{TokenOrInteger, token_of}
 use Rattle.json_print.specs.Layouts.{Form}
-use Rattle.json_print.specs.Standing.{Stand, first_turn, outside}
+use Rattle.json_print.specs.Standing.{ExpectedTokens, first_turn}
 
 -- a pair of a sorted object, with the text of its value
-pub record Row : Type 0 where
+pub record MemberText : Type 0 where
   pub key : List ℕ
   pub text : List ℕ
 
 -- ... of this key and this text
-abbrev pub row_with : List ℕ → List ℕ → Row
+abbrev pub row_with : List ℕ → List ℕ → MemberText
 row_with key text = record { key = key; text = text }
 
 -- a sorted object that is open: its finished pairs, and of the last pair the key and the text so far
 pub record Layer : Type 0 where
-  pub rows : List Row
+  pub rows : List MemberText
   pub key : List ℕ
   pub text : List ℕ
 
@@ -136,18 +137,18 @@ abbrev pub took_begin : {F : Type 0} → Form F → Out F → Kind → Out F
 took_begin m s k = opened_up (call m (value_begun m s) (begin_call k)) k
 
 -- before the first row whose key is not smaller
-abbrev pub row_in : Row → List Row → List Row
+abbrev pub row_in : MemberText → List MemberText → List MemberText
 row_in r [] = r ∷ []
 row_in r (x ∷ rows) = cond (bytes_less x.key r.key) (x ∷ row_in r rows) (r ∷ x ∷ rows)
 
-abbrev pub rows_sorted : List Row → List Row
+abbrev pub rows_sorted : List MemberText → List MemberText
 rows_sorted [] = []
 rows_sorted (r ∷ rows) = row_in r (rows_sorted rows)
 
-abbrev pub row_put : {F : Type 0} → Form F → Out F → Bool → Row → Out F
+abbrev pub row_put : {F : Type 0} → Form F → Out F → Bool → MemberText → Out F
 row_put m s first r = call m (put (call m (call m (call m (call m s (begin_key first)) (string_call true r.key)) end_key) begin_member) r.text) end_member
 
-abbrev pub rows_put : {F : Type 0} → Form F → Out F → Bool → List Row → Out F
+abbrev pub rows_put : {F : Type 0} → Form F → Out F → Bool → List MemberText → Out F
 rows_put m s first [] = s
 rows_put m s first (r ∷ rows) = rows_put m (row_put m s first r) false rows
 
@@ -155,7 +156,7 @@ rows_put m s first (r ∷ rows) = rows_put m (row_put m s first r) false rows
 abbrev pub members_put : {F : Type 0} → Form F → Layer → Out F → Out F
 members_put m l s = rows_put m s true (rows_sorted l.rows)
 
-abbrev pub top_rows : List Layer → List Row
+abbrev pub top_rows : List Layer → List MemberText
 top_rows [] = []
 top_rows (l ∷ ls) = l.rows
 
@@ -207,8 +208,8 @@ after m s (begin k) = took_begin m s k
 after m s (end k) = took_end m s k
 after m s (key_token k) = took_key m s k
 
-abbrev pub stand_of : {F : Type 0} → Out F → Stand
-stand_of s = record { turn = s.turn; opened = s.opened }
+abbrev pub expected_tokens_of : {F : Type 0} → Out F → ExpectedTokens
+expected_tokens_of s = record { turn = s.turn; opened = s.opened }
 
 -- ---- refusals
 
@@ -232,13 +233,13 @@ pub record Stops {F : Type 0} (old new aim : Out F) (e : Error) : Type 0 where
   pub same_loan : new.loan ≡ old.loan
 
 -- what a call that meets this error at a token may leave
-abbrev pub StopsAt : {F : Type 0} → Form F → Out F → Token → Out F → Error → Type 0
-StopsAt m s t s' e = (s.deep ≡ false) × Stops s s' (after m s t) e
+abbrev pub StopsAtToken : {F : Type 0} → Form F → Out F → Token → Out F → Error → Type 0
+StopsAtToken m s t s' e = (s.deep ≡ false) × Stops s s' (after m s t) e
 
 -- ---- what is given to it
 
-abbrev pub took : {F : Type 0} → Form F → Out F → Given → Out F
+abbrev pub took : {F : Type 0} → Form F → Out F → TokenOrInteger → Out F
 took m s g = after m s (token_of g)
 
-abbrev pub StopsTaking : {F : Type 0} → Form F → Out F → Given → Out F → Error → Type 0
-StopsTaking m s g s' e = StopsAt m s (token_of g) s' e
+abbrev pub StopsTaking : {F : Type 0} → Form F → Out F → TokenOrInteger → Out F → Error → Type 0
+StopsTaking m s g s' e = StopsAtToken m s (token_of g) s' e

@@ -3,17 +3,17 @@ use Rattle.std.specs.Prelude.{◌≡◌, ℕ, suc, List, [], ◌∷◌, ◌++◌
 use Rattle.json_print.specs.Calls.{string_call, begin_key, end_key, begin_member, end_member}
 use Rattle.json_print.specs.Layouts.{Form}
 use Rattle.json_print.specs.declared.order.Numbered.{Numbered}
-use Rattle.json_print.specs.Orders.{Pair, pair_of, inserted_all}
-use Rattle.json_print.specs.Printer.{Out, Row, Layer, gained_put, layers_put, rows_sorted}
+use Rattle.json_print.specs.Orders.{Pair, numbered_pair, inserted_pairs}
+use Rattle.json_print.specs.Printer.{Out, MemberText, Layer, gained_put, layers_put, rows_sorted}
 
 -- the rows with their numbers, from one on
-abbrev pub numbered : ℕ → List Row → List Pair
+abbrev pub numbered : ℕ → List MemberText → List Pair
 numbered n [] = []
 numbered n (r ∷ rows) = (r.key, n) ∷ numbered (suc n) rows
 
 -- they are the keys of the rows in their order, each with the number of its row
-abbrev pub IsOrderOf : List Numbered → List Row → Type 0
-IsOrderOf order rows = map pair_of order ≡ inserted_all (numbered 0 rows)
+abbrev pub IsOrderOf : List Numbered → List MemberText → Type 0
+IsOrderOf order rows = map numbered_pair order ≡ inserted_pairs (numbered 0 rows)
 
 -- the pieces of a key, and the formatter behind them
 abbrev pub key_bytes : {F : Type 0} → Form F → F → Bool → List ℕ → List ℕ
@@ -30,23 +30,23 @@ abbrev pub value_next : {F : Type 0} → Form F → F → F
 value_next m f = m.next (m.next f begin_member) end_member
 
 -- the pieces of a row, and the formatter behind them
-abbrev pub row_bytes : {F : Type 0} → Form F → F → Bool → Row → List ℕ
+abbrev pub row_bytes : {F : Type 0} → Form F → F → Bool → MemberText → List ℕ
 row_bytes m f first r = key_bytes m f first r.key ++ value_bytes m (key_next m f first r.key) r.text
 
-abbrev pub row_next : {F : Type 0} → Form F → F → Bool → Row → F
+abbrev pub row_next : {F : Type 0} → Form F → F → Bool → MemberText → F
 row_next m f first r = value_next m (key_next m f first r.key)
 
 -- the pieces of the rows, and the formatter behind them
-abbrev pub rows_bytes : {F : Type 0} → Form F → F → Bool → List Row → List ℕ
+abbrev pub rows_bytes : {F : Type 0} → Form F → F → Bool → List MemberText → List ℕ
 rows_bytes m f first [] = []
 rows_bytes m f first (r ∷ rows) = row_bytes m f first r ++ rows_bytes m (row_next m f first r) false rows
 
-abbrev pub rows_next : {F : Type 0} → Form F → F → Bool → List Row → F
+abbrev pub rows_next : {F : Type 0} → Form F → F → Bool → List MemberText → F
 rows_next m f first [] = f
 rows_next m f first (r ∷ rows) = rows_next m (row_next m f first r) false rows
 
 -- all rows were written
-abbrev pub rows_written : {F : Type 0} → Form F → Out F → List Row → Out F
+abbrev pub rows_written : {F : Type 0} → Form F → Out F → List MemberText → Out F
 rows_written m s rows =
     let p = rows_bytes m s.formatter true rows in record s { formatter = rows_next m s.formatter true rows; gained = gained_put s.layers s.gained p; layers = layers_put s.layers p }
 

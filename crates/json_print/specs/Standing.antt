@@ -3,58 +3,55 @@ use Rattle.std.specs.Prelude.{List, [], ◌∷◌, true, false}
 use Rattle.json_grammar.specs.declared.Kind.{Kind}
 use Rattle.json_grammar.specs.Tree.{Token, null_token, boolean_token, num_token, text_token, begin, end, key_token}
 use Rattle.json_grammar.specs.declared.Kind.TheVariants.{Array as array, Object as object}
+use Rattle.json_grammar.specs.Place.{outside}
 use Rattle.json_print.specs.declared.events.Turn.{Turn}
 use Rattle.json_print.specs.declared.events.Turn.TheVariants.{Value as at_value, Element as at_element, Key as at_key, Member as at_member, Done as at_done}
 
 -- what comes next, and the open containers, the innermost first
-pub record Stand : Type 0 where
+pub record ExpectedTokens : Type 0 where
   pub turn : Turn
   pub opened : List Kind
 
 -- behind a whole value
-abbrev pub behind : List Kind → Turn
-behind [] = at_done
-behind (array ∷ c) = at_element false
-behind (object ∷ c) = at_key false
+abbrev pub turn_after_value : List Kind → Turn
+turn_after_value [] = at_done
+turn_after_value (array ∷ c) = at_element false
+turn_after_value (object ∷ c) = at_key false
 
 abbrev pub first_turn : Kind → Turn
 first_turn array = at_element true
 first_turn object = at_key true
 
-abbrev pub outside : List Kind → List Kind
-outside [] = []
-outside (k ∷ c) = c
-
-abbrev pub stand_after : Stand → Token → Stand
-stand_after s null_token = record s { turn = behind s.opened }
-stand_after s (boolean_token b) = record s { turn = behind s.opened }
-stand_after s (num_token l) = record s { turn = behind s.opened }
-stand_after s (text_token t) = record s { turn = behind s.opened }
+abbrev pub stand_after : ExpectedTokens → Token → ExpectedTokens
+stand_after s null_token = record s { turn = turn_after_value s.opened }
+stand_after s (boolean_token b) = record s { turn = turn_after_value s.opened }
+stand_after s (num_token l) = record s { turn = turn_after_value s.opened }
+stand_after s (text_token t) = record s { turn = turn_after_value s.opened }
 stand_after s (begin k) = record { turn = first_turn k; opened = k ∷ s.opened }
-stand_after s (end k) = record { turn = behind (outside s.opened); opened = outside s.opened }
+stand_after s (end k) = record { turn = turn_after_value (outside s.opened); opened = outside s.opened }
 stand_after s (key_token t) = record s { turn = at_member }
 
-abbrev pub TakesValue : Turn → Type 0
-TakesValue at_value = Unit {0}
-TakesValue (at_element first) = Unit {0}
-TakesValue (at_key first) = ⊥
-TakesValue at_member = Unit {0}
-TakesValue at_done = ⊥
+abbrev pub TurnTakesValue : Turn → Type 0
+TurnTakesValue at_value = Unit {0}
+TurnTakesValue (at_element first) = Unit {0}
+TurnTakesValue (at_key first) = ⊥
+TurnTakesValue at_member = Unit {0}
+TurnTakesValue at_done = ⊥
 
-abbrev pub TakesKey : Turn → Type 0
-TakesKey (at_key first) = Unit {0}
-TakesKey turn = ⊥
+abbrev pub TurnTakesKey : Turn → Type 0
+TurnTakesKey (at_key first) = Unit {0}
+TurnTakesKey turn = ⊥
 
-abbrev pub TakesEnd : Turn → Kind → Type 0
-TakesEnd (at_element first) array = Unit {0}
-TakesEnd (at_key first) object = Unit {0}
-TakesEnd turn k = ⊥
+abbrev pub TurnTakesEnd : Turn → Kind → Type 0
+TurnTakesEnd (at_element first) array = Unit {0}
+TurnTakesEnd (at_key first) object = Unit {0}
+TurnTakesEnd turn k = ⊥
 
-abbrev pub MayCome : Stand → Token → Type 0
-MayCome s null_token = TakesValue s.turn
-MayCome s (boolean_token b) = TakesValue s.turn
-MayCome s (num_token l) = TakesValue s.turn
-MayCome s (text_token t) = TakesValue s.turn
-MayCome s (begin k) = TakesValue s.turn
-MayCome s (end k) = TakesEnd s.turn k
-MayCome s (key_token t) = TakesKey s.turn
+abbrev pub MayCome : ExpectedTokens → Token → Type 0
+MayCome s null_token = TurnTakesValue s.turn
+MayCome s (boolean_token b) = TurnTakesValue s.turn
+MayCome s (num_token l) = TurnTakesValue s.turn
+MayCome s (text_token t) = TurnTakesValue s.turn
+MayCome s (begin k) = TurnTakesValue s.turn
+MayCome s (end k) = TurnTakesEnd s.turn k
+MayCome s (key_token t) = TurnTakesKey s.turn

@@ -6,7 +6,7 @@ use Rattle.json_text.specs.Errors.{writing_failed}
 use Rattle.json_text.specs.Known.{append_known}
 use Rattle.json_text.specs.Outside.{SinkState}
 use Rattle.json_print.specs.Layouts.{Form, LaidOut}
-use Rattle.json_print.specs.Printer.{Out, Begins, StopCause, StopsAt, after, start}
+use Rattle.json_print.specs.Printer.{Out, Begins, StopCause, StopsAtToken, after, start}
 use Rattle.json_print.specs.Shown.{shown_as}
 use Rattle.json_print.specs.Taking.{after_all}
 
@@ -28,6 +28,6 @@ pub record Written {F : Type 0} (m : Form F) (s : Out F) (new : SinkState) : Typ
   pub prefix : (f : F) (sorts : Bool) (w : SinkState) (i : Option (List ℕ)) (t : Tree) (ts more : List Token) → LaidOut m f i 0 false
       → tokens t ≡ ts ++ more → s ≡ after_all (after m) (start f sorts w) ts → Begins new.gained (text_behind w i sorts t)
   pub stopped : (f : F) (sorts : Bool) (w : SinkState) (i : Option (List ℕ)) (t : Tree) (ts more : List Token) (x : Token) (e : Error) → LaidOut m f i 0 false
-      → tokens t ≡ ts ++ x ∷ more → StopsAt m (after_all (after m) (start f sorts w) ts) x s e → Begins new.gained (text_behind w i sorts t)
+      → tokens t ≡ ts ++ x ∷ more → StopsAtToken m (after_all (after m) (start f sorts w) ts) x s e → Begins new.gained (text_behind w i sorts t)
   pub calm : (f : F) (sorts : Bool) (w : SinkState) (ts : List Token) → s ≡ after_all (after m) (start f sorts w) ts → (new.faults ≡ w.faults) × (new.loan ≡ w.loan)
-  pub caused : (f : F) (sorts : Bool) (w : SinkState) (ts : List Token) (x : Token) (e : Error) → StopsAt m (after_all (after m) (start f sorts w) ts) x s e → StopsWriter w new e
+  pub caused : (f : F) (sorts : Bool) (w : SinkState) (ts : List Token) (x : Token) (e : Error) → StopsAtToken m (after_all (after m) (start f sorts w) ts) x s e → StopsWriter w new e

@@ -51,7 +51,7 @@ fn add_rest<W: Sink>(sink: &mut W, piece: &[u8], from: usize) -> Added
     send(sink, piece, &mut sent)
 }
 
-// Why a call of the sink failed, to a caller. It is built in place: an answer behind a call would be cleared at each token.
+// Why a call of the sink failed, to a caller. It is built in place: a result of a call would be cleared at each token.
 #[inline(always)]
 pub(crate) fn refusal(error: SinkError) -> Error
     ensures failed { error ≡ SinkError.Failed → result ≡ writing_failed }

@@ -144,7 +144,7 @@ impl<W: Sink> BufferedWriter<W> {
         self.inner
     }
 
-    // Puts a short string that needs no escape behind a comma, unless it is the first, by one test of room. Where
+    // Puts a short string that needs no escape after a comma, unless it is the first, by one test of room. Where
     // that cannot be done nothing is put.
     #[inline(always)]
     pub(crate) fn put_item(&mut self, first: bool, text: &[u8]) -> bool
@@ -165,7 +165,7 @@ impl<W: Sink> BufferedWriter<W> {
         }
     }
 
-    // The same of a key, with a colon behind it.
+    // The same of a key, with a colon after it.
     #[inline(always)]
     pub(crate) fn put_key(&mut self, first: bool, key: &[u8]) -> bool
         ensures put { IsTrue result → Adds (⟦<BufferedWriter<W> as Sink>⟧.state self.old)

@@ -13,10 +13,10 @@ use crate::shown::{BATCH, add_batch};
 use itoa::{Buffer, Integer};
 use json_text::{Sink, plain_run};
 
-// How many bytes go by tables behind a long run.
+// How many bytes go by tables after a long run.
 const FEW: usize = 4;
 
-// The end of the run of plain bytes from a place on, where it is long: a short one goes by tables, with what is behind it.
+// The end of the run of plain bytes from an offset on, where it is long: a short one goes by tables, with what is after it.
 fn long_run(value: &[u8], from: usize) -> usize
     requires { from ≤ length value.now }
     ensures within { (from ≤ result) × (result ≤ length value.now) }
@@ -26,7 +26,7 @@ fn long_run(value: &[u8], from: usize) -> usize
     if end - from < BATCH { from } else { end }
 }
 
-// How far the bytes behind a run go by tables: a few behind a long run, whose next bytes are likely plain as well.
+// How far the bytes after a run go by tables: a few after a long run, whose next bytes are likely plain as well.
 #[inline(always)]
 fn batch_end(value: &[u8], from: usize, run: usize) -> usize
     requires order { from ≤ run }

@@ -5,8 +5,8 @@ ghost use Rattle.json_grammar.specs.Grammar.{number};
 ghost use Rattle.json_grammar.specs.Tree.{Token, null_token, boolean_token, num_token, text_token, begin, end, key_token};
 ghost use Rattle.json_grammar.specs.declared.Kind.TheVariants.{Array as array, Object as object};
 ghost use Rattle.json_text.specs.declared.error.Error.{Error};
-ghost use Rattle.json_print.specs.Given.{Given, given, given_integer, token_of};
-ghost use Rattle.json_print.specs.Standing.{Stand, MayCome, stand_after};
+ghost use Rattle.json_print.specs.Given.{TokenOrInteger, given, given_integer, token_of};
+ghost use Rattle.json_print.specs.Standing.{ExpectedTokens, MayCome, stand_after};
 ghost use Rattle.json_print.specs.Taking.{Takes};
 
 use json_text::Result;
@@ -57,13 +57,13 @@ pub trait Events {
     ghost state: { Self → State };
 
     /// The state after what is given.
-    ghost after: { State → Given → State };
+    ghost after: { State → TokenOrInteger → State };
 
     /// What may come.
-    ghost stand: { State → Stand };
+    ghost stand: { State → ExpectedTokens };
 
     /// What a call that meets an error at what is given may leave.
-    ghost stopped: { State → Given → State → Error → Type 0 };
+    ghost stopped: { State → TokenOrInteger → State → Error → Type 0 };
 
     /// The error that was returned.
     ghost failed: { Self → Option Error };
@@ -139,6 +139,6 @@ pub trait Events {
             (failed self.old) (failed self.new) (given (end object)) result };
 
     /// What may come moves as in the tokens of a tree.
-    ghost moves: { (s : State) (g : Given)
+    ghost moves: { (s : State) (g : TokenOrInteger)
         → stand (after s g) ≡ stand_after (stand s) (token_of g) };
 }

@@ -1,4 +1,4 @@
-// An indent, and a new line with some of them behind it.
+// An indent, and a new line with some of them after it.
 ghost use Rattle.std.specs.Prelude.{◌≡◌, ◌∷◌, ◌++◌, ◌*◌, ◌≤◌, ◌<◌, ◌↔◌, [], All, IsTrue, Some, length};
 ghost use Rattle.json_model.specs.Print.{indents, line};
 ghost use Rattle.json_print.specs.Adding.{Adds};

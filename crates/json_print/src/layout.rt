@@ -1,4 +1,4 @@
-// What stands around elements and keys, and bytes as an array of numbers.
+// What is written around elements and keys, and bytes as an array of numbers.
 ghost use Rattle.std.specs.Prelude.{◌∷◌, ◌++◌, [], true, option_map};
 ghost use Rattle.json_model.specs.Print.{line};
 ghost use Rattle.json_print.specs.Adding.{Adds};

@@ -10,10 +10,10 @@ use crate::plain::{is_plain, is_plain_by};
 // The most bytes of a short string.
 const SHORT: usize = 32;
 
-// What a short string takes at most, with what stands around it.
+// The most bytes that a short string takes, with the comma and the quotes around it.
 pub(crate) const ITEM: usize = SHORT + 4;
 
-// Stores a byte behind the first `at`.
+// Stores a byte after the first `at`.
 #[inline(always)]
 pub(crate) fn place_byte(buffer: &mut [u8], at: usize, byte: u8)
     requires { at < length buffer.old }
@@ -70,7 +70,7 @@ pub(crate) fn place_text(buffer: &mut [u8], at: usize, text: &[u8]) -> bool
     }
 }
 
-// Stores a comma behind the first `end` bytes, unless it is the first, and a quote. The end of these comes.
+// Stores a comma after the first `end` bytes, unless it is the first, and a quote. Returns the end of these.
 #[inline(always)]
 pub(crate) fn place_lead(buffer: &mut [u8], end: usize, first: bool) -> usize
     requires { end + 2 ≤ length buffer.old }
@@ -84,7 +84,7 @@ pub(crate) fn place_lead(buffer: &mut [u8], end: usize, first: bool) -> usize
     at + 1
 }
 
-// Stores a short string between quotes behind the first `end` bytes, and a comma before it unless it is the first. The end
+// Stores a short string between quotes after the first `end` bytes, and a comma before it unless it is the first. The end
 // of it comes, or none where it is not short or has to be escaped.
 #[inline(always)]
 pub(crate) fn place_item(buffer: &mut [u8], end: usize, first: bool, text: &[u8]) -> Option<usize>
@@ -103,7 +103,7 @@ pub(crate) fn place_item(buffer: &mut [u8], end: usize, first: bool, text: &[u8]
     Some(close + 1)
 }
 
-// The same of a key, with a colon behind it.
+// The same of a key, with a colon after it.
 #[inline(always)]
 pub(crate) fn place_key(buffer: &mut [u8], end: usize, first: bool, key: &[u8]) -> Option<usize>
     requires { end + 36 ≤ length buffer.old }

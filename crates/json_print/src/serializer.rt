@@ -2,7 +2,7 @@
 ghost use Rattle.std.specs.Prelude.{◌≡◌, None, Some, codes, true, false};
 ghost use Rattle.json_print.specs.Given.{token_of};
 ghost use Rattle.json_print.specs.Layouts.{LaidOut, plain_form, pretty_form};
-ghost use Rattle.json_print.specs.Printer.{IsFresh, Out, StopsTaking, stand_of, start, took};
+ghost use Rattle.json_print.specs.Printer.{IsFresh, Out, StopsTaking, expected_tokens_of, start, took};
 ghost use Rattle.json_print.specs.Serializing.{error_of, formatter_of, out_of};
 ghost use Rattle.json_print.specs.Stands.{after_stands};
 ghost use Rattle.json_print.specs.Steps.{refusal_of};
@@ -145,7 +145,7 @@ impl<W: Sink, F: Formatter> Events for Serializer<W, F> {
 
     ghost after = { took F.form };
 
-    ghost stand = { stand_of };
+    ghost stand = { expected_tokens_of };
 
     ghost stopped = { StopsTaking F.form };
 

@@ -97,7 +97,7 @@ static LENGTHS: [u8; 256] = [
     1, 1, 1, 1, 1, 1, 1, 1, 1, 1, 1, 1, 1, 1, 1, 1, 1, 1, 1, 1, 1, 1, 1, 1, 1, 1, 1, 1, 1, 1, 1, 1,
 ];
 
-// Stores what shows a byte, and answers how long that is. What else is stored behind it is stored over.
+// Stores what shows a byte, and returns its length. What else is stored after it is overwritten.
 #[inline(always)]
 pub(crate) fn store_shown(room: &mut [u8], at: usize, byte: u8) -> usize
     requires { at + 8 ≤ length room.old }

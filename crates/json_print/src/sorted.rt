@@ -20,7 +20,7 @@ struct Scratch {
 }
 
 impl Sink for Scratch {
-    // No call counts how often memory was not there: the count stands at its last value.
+    // No call counts how often memory ran out: the count stays at its last value.
     ghost state = { λ s. record {
       gained = Some s.bytes.items;
       faults = 0;
@@ -42,7 +42,7 @@ impl Sink for Scratch {
     }
 }
 
-// A finished member: where its key stands among the keys, and its text among the texts.
+// A finished member: the range of its key among the keys, and of its text among the texts.
 #[derive(Clone, Copy)]
 pub(crate) struct Member {
     key_from: usize,
@@ -53,9 +53,9 @@ pub(crate) struct Member {
 
 #[derive(Drop)]
 pub(crate) struct SortedObject {
-    // The unescaped keys, one behind the other.
+    // The unescaped keys, one after the other.
     keys: String,
-    // The texts of the values, one behind the other.
+    // The texts of the values, one after the other.
     texts: Scratch,
     members: Vec<Member>,
     // Where the key and the text of the open member begin.

@@ -1,7 +1,7 @@
 // How a text is laid out.
 ghost use Rattle.std.specs.Prelude.{option_map};
 ghost use Rattle.json_model.specs.Print.{IsIndent};
-ghost use Rattle.json_print.specs.Indents.{IsIndent-prop};
+ghost use Rattle.json_print.specs.Indents.{indent_is_prop};
 
 use json_text::ws_run;
 

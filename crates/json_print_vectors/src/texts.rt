@@ -75,7 +75,7 @@ fn three_members<E: Events>(out: &mut E) -> Result<()>
     out.end_object()
 }
 
-// `{"a": [null, null]}`, with what is told of the lengths
+// `{"a": [null, null]}`, with hints of the lengths
 fn two_elements<E: Events>(out: &mut E, told: Option<usize>) -> Result<()>
     requires { E.stand (E.state out.old) ≡ record { turn = at_value; opened = [] } }
 {
@@ -156,7 +156,7 @@ fn compact_text_through_a_buffer(rt: HostRuntime) {
     assert!(rt; is_text(buffered(rt.alloc(), Piece::Tree), text));
 }
 
-// Writes `[]` into a sink that is lent, behind a buffer, and answers whether that was done.
+// Writes `[]` into a sink that is lent, through a buffer, and returns whether that was done.
 fn write_lent(alloc: Global, sink: &mut VecSink) -> Result<bool> {
     let mut writer = BufferedWriter::with_buffer(Buffer::new(alloc)?, LentSink::new(sink));
     let done = put_all(&mut writer, b"[]").is_ok() && flush_all(&mut writer).is_ok();

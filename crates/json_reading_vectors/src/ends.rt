@@ -1,4 +1,4 @@
-// One value within a text, and what may stand behind it.
+// One value within a text, and what may follow it.
 ghost use Rattle.std.specs.Str.{IsCharBoundary};
 
 use json_text::{Error, ErrorCode, Parser, Result};
@@ -8,12 +8,12 @@ fn refused(ended: Result<()>) -> Option<(ErrorCode, Option<usize>)> {
     ended.err().map(|error: Error| (error.code, error.offset()))
 }
 
-// This code at this offset, where one is told.
+// This code at this offset, where an offset is known.
 fn told(code: Option<ErrorCode>, offset: usize) -> Option<(ErrorCode, Option<usize>)> {
     code.map(|code| (code, Some(offset)))
 }
 
-// The place behind the value at a place of the text, where the parser then stands.
+// The offset after the value at an offset of the text, which is the parser's next.
 fn read_value(text: &str, at: usize) -> Result<usize>
     requires { IsCharBoundary text.now at }
 {
@@ -54,7 +54,7 @@ fn one_value_whatever_follows(rt: HostRuntime) {
     assert!(rt; wrong.is_none(), "{wrong:?}");
 }
 
-// The first text whose end is not told as it should be, of a text, an array or an object.
+// The first text whose end is not found as it should be, of a text, an array or an object.
 fn wrong_end() -> Option<&'static str> {
     use ErrorCode::{
         EofWhileParsing, ExpectedArrayCommaOrEnd, ExpectedObjectCommaOrEnd, TrailingCharacters,

@@ -171,7 +171,7 @@ fn levels_up_to_the_limit(rt: HostRuntime) {
     assert!(rt; deep == Ok(Some((ErrorCode::RecursionLimitExceeded, Some(254)))));
 }
 
-// The letter of the first event and the place behind it, or what is refused and its offset.
+// The letter of the first event and the offset after it, or what is refused and its offset.
 fn first_step(text: &str) -> std::result::Result<(u8, usize), (ErrorCode, usize)> {
     match step_by_spot(text, 0, Spot::Value, 254, false, &mut Kinds::new()) {
         Ok(read) => Ok((letter(read.event), read.end)),

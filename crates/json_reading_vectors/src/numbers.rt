@@ -6,7 +6,7 @@ use std::hash::{DefaultHasher, Hash, Hasher};
 
 const BIG: &str = "9223372036854775808";
 
-// Whether something stands for these integers.
+// Whether something has these integers.
 fn stands_for<T: JsonNumberTrait>(number: &T, signed: Option<i64>, unsigned: Option<u64>) -> bool {
     number.as_i64() == signed
         && number.as_u64() == unsigned
@@ -14,7 +14,7 @@ fn stands_for<T: JsonNumberTrait>(number: &T, signed: Option<i64>, unsigned: Opt
         && number.is_u64() == unsigned.is_some()
 }
 
-// The first literal that stands for another integer.
+// The first literal that has another integer.
 fn wrong_integer(alloc: Global) -> Result<Option<&'static str>> {
     let cases = [
         ("0", Some(0), Some(0)),
@@ -69,7 +69,7 @@ fn numbers_shown(rt: HostRuntime) {
     assert!(rt; matches!(wrong, Ok(None)), "{wrong:?}");
 }
 
-// The first of these literals that stands for an integer.
+// The first of these literals that has an integer.
 fn integer_by_mistake(alloc: Global) -> Result<Option<&'static str>> {
     let literals = [
         "-9223372036854775809",

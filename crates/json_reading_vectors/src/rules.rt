@@ -19,7 +19,7 @@ fn refusal(alloc: Global, text: &str, depth: u32, unique: bool) -> Refused {
     }
 }
 
-// The first text whose names are not told as they should be.
+// The first text whose names are not reported as they should be.
 fn wrong_names(alloc: Global) -> Option<&'static str> {
     let twice = Some((ErrorCode::DuplicateKey, Some(7)));
     let cases = [
@@ -45,7 +45,7 @@ fn wrong_names(alloc: Global) -> Option<&'static str> {
     None
 }
 
-// The same of what stands behind twenty names.
+// The same after twenty names.
 fn wrong_name_behind_twenty(alloc: Global) -> Result<Option<&'static str>> {
     let twenty = "{\"a\":0,\"b\":0,\"c\":0,\"d\":0,\"e\":0,\"f\":0,\"g\":0,\"h\":0,\"i\":0,\"j\":0,\
         \"k\":0,\"l\":0,\"m\":0,\"n\":0,\"o\":0,\"p\":0,\"q\":0,\"r\":0,\"\\u0073\":0,\"t\":0,";
@@ -72,7 +72,7 @@ fn names_that_differ(rt: HostRuntime) {
     assert!(rt; matches!(wrong, Ok(None)), "{wrong:?}");
 }
 
-// The first text whose names are told to repeat, or not refused as it should be.
+// The first text whose names are said to repeat, or not refused as it should be.
 fn wrong_repetition(alloc: Global) -> Option<&'static str> {
     let cases = [
         ("{\"a\":1,\"a\":2}", None),
@@ -103,7 +103,7 @@ fn too_deep(offset: usize) -> Refused {
     Some((ErrorCode::RecursionLimitExceeded, Some(offset)))
 }
 
-// The first text whose levels are not told as they should be.
+// The first text whose levels are not counted as they should be.
 fn wrong_level(alloc: Global) -> Option<&'static str> {
     let cases = [
         ("[]", 0, false, too_deep(0)),

@@ -3,7 +3,7 @@ ghost use Rattle.std.specs.Prelude.{◌+◌, ◌≤◌, length};
 
 use json_text::{Event, Parser, check_utf8, digit_run, plain_run, ws_run};
 
-// So many bytes go before the other ones, at most, and so many stand behind them.
+// The greatest numbers of bytes before the other ones, and after them.
 const BEFORE: usize = 100;
 
 const BEHIND: usize = 40;
@@ -23,7 +23,7 @@ enum Run {
     FewDigits,
 }
 
-// Where a reader stops in so many turns: behind the last event or at what it refuses, in bytes from the beginning of
+// Where a reader stops in that many turns: after the last event or at what it refuses, in bytes from the beginning of
 // the text. It begins with two bytes that are read before these.
 fn stop_of_reader(front: [u8; 2], turns: usize, bytes: &[u8]) -> Option<usize>
     requires { length bytes.now ≤ 142 }
@@ -44,7 +44,7 @@ fn stop_of_reader(front: [u8; 2], turns: usize, bytes: &[u8]) -> Option<usize>
     Some(parser.index())
 }
 
-// Whether the run that begins here ends there. A gap is what a reader passes behind a number, and few digits are those of
+// Whether the run that begins here ends there. A gap is what a reader skips after a number, and few digits are those of
 // an exponent.
 fn ends_at(run: Run, bytes: &[u8], from: usize, end: usize) -> bool
     requires order { (from ≤ end) × (end ≤ length bytes.now) }

@@ -2,7 +2,7 @@
 use json_grammar::Kind;
 use json_text::{Event, Parser};
 
-// The number that a text begins with and the place behind it, if it is taken.
+// The number that a text begins with and the offset after it, if it is taken.
 fn integer_of(text: &str, most: u64) -> Option<(u64, usize)> {
     let mut parser = Parser::new(text);
     if parser.done() {
@@ -14,7 +14,7 @@ fn integer_of(text: &str, most: u64) -> Option<(u64, usize)> {
     }
 }
 
-// How many bytes the text lends that a text begins with, and the place behind it, if it is taken.
+// How many bytes the string lends that a text begins with, and the offset after it, if it is taken.
 fn text_of(text: &str) -> Option<(usize, usize)> {
     let mut parser = Parser::new(text);
     if parser.done() {
@@ -70,7 +70,7 @@ fn texts_and_names(rt: HostRuntime) {
     assert!(rt; name_of("{}").is_none());
 }
 
-// The place behind an empty container of the kind, if a text begins with one.
+// The offset after an empty container of the kind, if a text begins with one.
 fn empty_of(text: &str, kind: Kind) -> Option<usize> {
     let mut parser = Parser::new(text);
     if parser.done() || !parser.next_begin(kind) || parser.done() || !parser.next_end(kind) {

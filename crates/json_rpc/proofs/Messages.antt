@@ -21,7 +21,7 @@ use Rattle.json_text.proofs.OneFaultAt.{stands, some_fault_at}
 use Rattle.json_text.proofs.Utf8Faults.{some_fault}
 use Rattle.json_doc.specs.Reading.{ReadingFails}
 use Rattle.json_command.proofs.Inputs.{utf8_no_fault}
-use Rattle.json_lines.specs.Tables.{BlankTest}
+use Rattle.json_command.specs.Input.{BlankTest}
 use Rattle.json_rpc.specs.Laws.{OneMessage, SomeMessage}
 use Rattle.json_lines.specs.declared.line_reader.Line.{Line}
 use Rattle.json_lines.specs.declared.line_reader.Line.TheVariants.{Whole, TooLong}

@@ -2,7 +2,7 @@
 use Rattle.std.proofs.Common.{◌≡◌, ◌∙◌, ℕ, List, [], ◌∷◌, length, Bool, true, false, cond, Option, Some, None, slice_get, codes, refl, sym, ap₂, arith}
 use Rattle.json_grammar.specs.Tree.{Tree, null, boolean, num, text, list, pairs}
 use Rattle.json_doc.specs.Readings.{string_of}
-use Rattle.json_rpc.specs.Requests.{member, is_valid, request_with, request_of}
+use Rattle.json_rpc.specs.Requests.{named_member, is_valid, request_with, request_of}
 
 none_some : {A : Type 0} {x : A} → None ≡ Some x → ⊥
 none_some e = cc
@@ -40,11 +40,11 @@ texts (num l) m v n params id e f = absurd (none_some (sym e))
 texts (list ts) m v n params id e f = absurd (none_some (sym e))
 texts (pairs ps) m v n params id e f = absurd (none_some (sym e))
 
-pub request_is : (t j m : Tree) (v n : List ℕ) (params id : Option Tree) → Some j ≡ member (codes "jsonrpc") t → Some v ≡ string_of j → Some m ≡ member (codes "method") t → Some n ≡ string_of m
-    → params ≡ member (codes "params") t → id ≡ member (codes "id") t
+pub request_is : (t j m : Tree) (v n : List ℕ) (params id : Option Tree) → Some j ≡ named_member (codes "jsonrpc") t → Some v ≡ string_of j → Some m ≡ named_member (codes "method") t → Some n ≡ string_of m
+    → params ≡ named_member (codes "params") t → id ≡ named_member (codes "id") t
     → request_of t ≡ cond (is_valid v params id) (Some (record { method = n; params = params; id = id })) None
 request_is t j m v n params id a b c d e f =
-    ap₂ (λ x y. request_with x y (member (codes "params") t) (member (codes "id") t)) (sym a) (sym c)
+    ap₂ (λ x y. request_with x y (named_member (codes "params") t) (named_member (codes "id") t)) (sym a) (sym c)
     ∙ ap₂ (λ p i. request_with (Some j) (Some m) p i) (sym e) (sym f)
     ∙ texts j m v n params id b d
 

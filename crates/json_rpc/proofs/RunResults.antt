@@ -26,21 +26,21 @@ use Rattle.json_lines.proofs.SinkEnds.{same_faults, ok_no_error, err_same, came_
 use Rattle.json_lines.proofs.Statuses.{cause-line, cause-flush}
 use Rattle.json_rpc.specs.Serving.{Message, max_line_bytes}
 use Rattle.json_rpc.specs.Sessions.{AreMessages, replies}
-use Rattle.json_rpc.specs.Steps.{RunState, IsFreshRun, FinishesLines, StopsEarly}
-use Rattle.json_rpc.specs.RunResults.{Streams, streams, GivesBytes, ServesAll, RunErrorCause, StopsRun, StopsBuffered}
+use Rattle.json_rpc.specs.Steps.{ServingState, IsFreshServing, FinishesServing, StopsServing}
+use Rattle.json_rpc.specs.RunResults.{ServiceStreams, service_streams, GivesBytes, ServesAll, ServingErrorCause, StopsRun, StopsBuffered}
 
-pub fresh_run : (s : RunState) → s.reader ≡ fresh_reader max_line_bytes → IsFreshRun s
+pub fresh_run : (s : ServingState) → s.reader ≡ fresh_reader max_line_bytes → IsFreshServing s
 fresh_run s e = record { limit = ap (λ r. r.limit) e; held = ap (λ r. r.held) e; received = ap (λ r. r.received) e; going = ap (λ r. r.stopped) e }
 
 -- ---- the last flush
 
-gives_bytes : (a c : RunState) (bytes : List ℕ) → ReadsBytes a.reader c.reader a.source c.source bytes → GivesBytes a.source c.source bytes
+gives_bytes : (a c : ServingState) (bytes : List ℕ) → ReadsBytes a.reader c.reader a.source c.source bytes → GivesBytes a.source c.source bytes
 gives_bytes a c bytes h = record { consumed = h.consumed; given_so = h.given_so }
 
 few_bytes : (n m k : ℕ) → n ≡ 0 → m ≡ n + k → m ≤ max_bytes → k ≤ max_bytes
 few_bytes n m k e f l = omega (arith, e, f, l)
 
-serves_all : (a c : RunState) (out : SinkState) (u : Unit {0}) → IsFreshRun a → a.document ≡ null → FinishesLines a c → FlushesAll c.out out (Ok u) → ServesAll (streams a.source a.out) (streams c.source out)
+serves_all : (a c : ServingState) (out : SinkState) (u : Unit {0}) → IsFreshServing a → a.document ≡ null → FinishesServing a c → FlushesAll c.out out (Ok u) → ServesAll (service_streams a.source a.out) (service_streams c.source out)
 serves_all a c out u fresh begins all flush =
     record {
       reads = record {
@@ -65,7 +65,7 @@ both_some : (o : Option (List ℕ)) (bytes : List ℕ) (ms : List Message) → I
 both_some None bytes ms e h = tt
 both_some (Some b) bytes ms e h = subst (λ b. AreMessages (lines b) ms) e h
 
-flush_stops : (a c : RunState) (out : SinkState) (e : Error) → a.document ≡ null → FinishesLines a c → FlushesAll c.out out (Err e) → StopsBuffered (streams a.source a.out) (streams c.source out) e
+flush_stops : (a c : ServingState) (out : SinkState) (e : Error) → a.document ≡ null → FinishesServing a c → FlushesAll c.out out (Err e) → StopsBuffered (service_streams a.source a.out) (service_streams c.source out) e
 flush_stops a c out e begins all flush =
     record {
       bytes = all.bytes;
@@ -80,22 +80,22 @@ flush_stops a c out e begins all flush =
       writing_told = λ l. err_same e writing_failed (flush.told (omega (arith, l, all.writes.calm)));
     }
 
-pub flushed_ok : (a c : RunState) (out : SinkState) (r : Result (Unit {0}) Error) → IsFreshRun a → a.document ≡ null → FinishesLines a c → FlushesAll c.out out r → OnOk r (ServesAll (streams a.source a.out) (streams c.source out))
+pub flushed_ok : (a c : ServingState) (out : SinkState) (r : Result (Unit {0}) Error) → IsFreshServing a → a.document ≡ null → FinishesServing a c → FlushesAll c.out out r → OnOk r (ServesAll (service_streams a.source a.out) (service_streams c.source out))
 flushed_ok a c out (Ok u) fresh begins all flush = serves_all a c out u fresh begins all flush
 flushed_ok a c out (Err e) fresh begins all flush = tt
 
-pub flushed_err : (a c : RunState) (out : SinkState) (r : Result (Unit {0}) Error) → a.document ≡ null → FinishesLines a c → FlushesAll c.out out r → IfErr r (λ e. StopsBuffered (streams a.source a.out) (streams c.source out) e)
+pub flushed_err : (a c : ServingState) (out : SinkState) (r : Result (Unit {0}) Error) → a.document ≡ null → FinishesServing a c → FlushesAll c.out out r → IfErr r (λ e. StopsBuffered (service_streams a.source a.out) (service_streams c.source out) e)
 flushed_err a c out (Ok u) begins all flush = tt
 flushed_err a c out (Err e) begins all flush = flush_stops a c out e begins all flush
 
 -- ---- the loop failed
 
-writing_cause : (bytes : List ℕ) (s s' : SourceState) (a c : SinkState) (code : ErrorCode) (place : Place) → StopCause a.faults c.faults code place → RunErrorCause bytes (streams s a) (streams s' c) code place
+writing_cause : (bytes : List ℕ) (s s' : SourceState) (a c : SinkState) (code : ErrorCode) (place : Place) → StopCause a.faults c.faults code place → ServingErrorCause bytes (service_streams s a) (service_streams s' c) code place
 writing_cause bytes s s' a c NoMemory nowhere h = tt
 writing_cause bytes s s' a c Io Writing h = h
 writing_cause bytes s s' a c code place h = absurd h
 
-pub loop_stops : (a c : RunState) (e : Error) → IsFreshRun a → a.document ≡ null → StopsEarly a c e → StopsBuffered (streams a.source a.out) (streams c.source c.out) e
+pub loop_stops : (a c : ServingState) (e : Error) → IsFreshServing a → a.document ≡ null → StopsServing a c e → StopsBuffered (service_streams a.source a.out) (service_streams c.source c.out) e
 loop_stops a c e fresh begins stop =
     let received : c.reader.received ≡ length stop.bytes = omega (arith, fresh.received, stop.reads.received_so) in
     record {
@@ -121,7 +121,7 @@ Lent old name = lent_as old name old.gained
 abbrev Back : SinkState → SinkState → GName → List ℕ → SinkState
 Back old new name held = held_behind (lent_as new name old.gained) held
 
-lent_serves : (s s' : SourceState) (old new : SinkState) (name : GName) (held : List ℕ) → ServesAll (streams s (Lent old name)) (streams s' (Back old new name held)) → ServesAll (streams s old) (streams s' new)
+lent_serves : (s s' : SourceState) (old new : SinkState) (name : GName) (held : List ℕ) → ServesAll (service_streams s (Lent old name)) (service_streams s' (Back old new name held)) → ServesAll (service_streams s old) (service_streams s' new)
 lent_serves s s' old new name held h =
     let none = none_held held new.unflushed h.writes.flushed in
     record {
@@ -134,7 +134,7 @@ lent_serves s s' old new name held h =
       writes = record { written = h.writes.written; flushed = none.1 };
     }
 
-lent_stops : (s s' : SourceState) (old new : SinkState) (name : GName) (held : List ℕ) (e : Error) → Grows old.gained new.gained → StopsBuffered (streams s (Lent old name)) (streams s' (Back old new name held)) e → StopsRun (streams s old) (streams s' new) e
+lent_stops : (s s' : SourceState) (old new : SinkState) (name : GName) (held : List ℕ) (e : Error) → Grows old.gained new.gained → StopsBuffered (service_streams s (Lent old name)) (service_streams s' (Back old new name held)) e → StopsRun (service_streams s old) (service_streams s' new) e
 lent_stops s s' old new name held e g h =
     record {
       bytes = h.bytes;
@@ -153,15 +153,15 @@ module _ (old now sent lent began : SinkState) (name name' : GName) (held : List
   is : sent ≡ Back old now name held
   is = came_back old now sent lent began name name' held b loan_kept s back
 
-  pub served_through : (u u' : SourceState) (r : Result (Unit {0}) Error) → OnOk r (ServesAll (streams u began) (streams u' sent)) → OnOk r (ServesAll (streams u old) (streams u' now))
-  served_through u u' (Ok v) h = lent_serves u u' old now name held (subst (λ (x : SinkState). ServesAll (streams u (Lent old name)) (streams u' x)) is (subst (λ (x : SinkState). ServesAll (streams u x) (streams u' sent)) b h))
+  pub served_through : (u u' : SourceState) (r : Result (Unit {0}) Error) → OnOk r (ServesAll (service_streams u began) (service_streams u' sent)) → OnOk r (ServesAll (service_streams u old) (service_streams u' now))
+  served_through u u' (Ok v) h = lent_serves u u' old now name held (subst (λ (x : SinkState). ServesAll (service_streams u (Lent old name)) (service_streams u' x)) is (subst (λ (x : SinkState). ServesAll (service_streams u x) (service_streams u' sent)) b h))
   served_through u u' (Err e) h = tt
 
-  pub stopped_through : (u u' : SourceState) (r : Result (Unit {0}) Error) → IfErr r (λ e. StopsBuffered (streams u began) (streams u' sent) e) → IfErr r (λ e. StopsRun (streams u old) (streams u' now) e)
+  pub stopped_through : (u u' : SourceState) (r : Result (Unit {0}) Error) → IfErr r (λ e. StopsBuffered (service_streams u began) (service_streams u' sent) e) → IfErr r (λ e. StopsRun (service_streams u old) (service_streams u' now) e)
   stopped_through u u' (Ok v) h = tt
   stopped_through u u' (Err e) h =
       lent_stops u u' old now name held e (sink_grew old now sent lent began name name' held b loan_kept s back)
-      (subst (λ (x : SinkState). StopsBuffered (streams u (Lent old name)) (streams u' x) e) is (subst (λ (x : SinkState). StopsBuffered (streams u x) (streams u' sent) e) b h))
+      (subst (λ (x : SinkState). StopsBuffered (service_streams u (Lent old name)) (service_streams u' x) e) is (subst (λ (x : SinkState). StopsBuffered (service_streams u x) (service_streams u' sent) e) b h))
 
 -- ---- memory ran out before anything was read
 
@@ -172,7 +172,7 @@ no_messages (Some b) = tt
 counted_none : (n : ℕ) → n ≡ counted 0 n
 counted_none n = omega arith
 
-pub stops_at_once : (s : SourceState) (k : SinkState) (e : Error) → e ≡ no_memory → StopsRun (streams s k) (streams s k) e
+pub stops_at_once : (s : SourceState) (k : SinkState) (e : Error) → e ≡ no_memory → StopsRun (service_streams s k) (service_streams s k) e
 stops_at_once s k e h =
     record {
       bytes = [];
@@ -182,7 +182,7 @@ stops_at_once s k e h =
         are = no_messages s.left;
         gained = record { front = []; back = []; whole = refl; gains = sym (known-nil k.gained) };
       };
-      cause = subst (λ (x : Error). RunErrorCause [] (streams s k) (streams s k) x.code x.place) (sym h) tt;
+      cause = subst (λ (x : Error). ServingErrorCause [] (service_streams s k) (service_streams s k) x.code x.place) (sym h) tt;
       reading_told = λ l. absurd (omega (arith, l));
       writing_told = λ l. absurd (omega (arith, l));
     }

@@ -17,7 +17,7 @@ use Rattle.json_lines.proofs.ReadingLines.{ReadsLines, ReadsLines-start, ReadsLi
 use Rattle.json_lines.proofs.TextWriting.{WritesText-nil, WritesText-then, WritesText-is, Begins-part}
 use Rattle.json_rpc.specs.Serving.{Message, served, IsMessage, LineIsMessage, max_line_bytes}
 use Rattle.json_rpc.specs.Sessions.{AreMessages, session, reply_texts, replies, reply_text, ReplyFails}
-use Rattle.json_rpc.specs.Steps.{RunState, TakesLine, FindsNoLine, ReadingLineFails, StepFails, IsFreshRun, FinishesLines, StopsEarly}
+use Rattle.json_rpc.specs.Steps.{ServingState, ServesNextLine, ServesNoLine, ServingReadFails, ServingStepFails, IsFreshServing, FinishesServing, StopsServing}
 use Rattle.json_rpc.proofs.Messages.{some_message}
 use Rattle.json_text.proofs.Known.{known-append}
 
@@ -64,7 +64,7 @@ replies-more t u v ms m ns reply e h =
 -- ---- the loop
 
 -- these lines were read and served
-pub record ServedLines (old new : RunState) : Type 0 where
+pub record ServedLines (old new : ServingState) : Type 0 where
   pub done : List (List ℕ)
   pub read : ReadsLines old.reader new.reader old.source new.source done
   pub limit : old.reader.limit ≡ max_line_bytes
@@ -73,7 +73,7 @@ pub record ServedLines (old new : RunState) : Type 0 where
   pub document : new.document ≡ (session old.document messages).0
   pub writes : WritesText old.out new.out (replies old.document messages) (Ok tt)
 
-pub ServedLines-start : (a : RunState) → IsFreshRun a → ServedLines a a
+pub ServedLines-start : (a : ServingState) → IsFreshServing a → ServedLines a a
 ServedLines-start a fresh =
     record {
       done = [];
@@ -90,7 +90,7 @@ line_is : (limit : ℕ) (bytes : List ℕ) (line : Line) (m : Message) → limit
 line_is limit bytes (Whole line) m e is h = subst (λ b. IsMessage b m) is.0 h
 line_is limit bytes TooLong m e is h = subst (IsMessage bytes) (sym h) (inl (omega (arith, e, is)))
 
-pub ServedLines-more : (a b c : RunState) → ServedLines a b → TakesLine b c → ServedLines a c
+pub ServedLines-more : (a b c : ServingState) → ServedLines a b → ServesNextLine b c → ServedLines a c
 ServedLines-more a b c so_far takes =
     let more = ReadsLines-more a.reader b.reader c.reader a.source b.source c.source so_far.done takes.line so_far.read takes.read in
     let serves = takes.serves.serves in
@@ -109,13 +109,13 @@ ServedLines-more a b c so_far takes =
     }
 
 -- what is left to do gets smaller
-pub ServedLines-smaller : (a b c : RunState) → ServedLines a b → TakesLine b c → 4294967295 - c.reader.received + length c.reader.held < 4294967295 - b.reader.received + length b.reader.held
+pub ServedLines-smaller : (a b c : ServingState) → ServedLines a b → ServesNextLine b c → 4294967295 - c.reader.received + length c.reader.held < 4294967295 - b.reader.received + length b.reader.held
 ServedLines-smaller a b c so_far takes = (ReadsLines-more a.reader b.reader c.reader a.source b.source c.source so_far.done takes.line so_far.read takes.read).smaller
 
 -- ---- the end
 
-pub FinishesLines-from : (a b c : RunState) → ServedLines a b → FindsNoLine b c → FinishesLines a c
-FinishesLines-from a b c so_far none =
+pub FinishesServing-from : (a b c : ServingState) → ServedLines a b → ServesNoLine b c → FinishesServing a c
+FinishesServing-from a b c so_far none =
     let all = ReadsLines-end a.reader b.reader c.reader a.source b.source c.source so_far.done so_far.read none.read in
     record {
       bytes = all.bytes;
@@ -139,8 +139,8 @@ all_are o all done later ms ns h k e = IfSome-map o (λ _. all ≡ done ++ later
 first_replies : (t : Tree) (ms ns : List Message) (old new : Option (List ℕ)) → new ≡ append_known old (replies t ms) → BeginsWith new (append_known old (replies t (ms ++ ns)))
 first_replies t ms ns old new h = subst (λ x. BeginsWith new (append_known old x)) (sym (replies-append t ms ns)) (Begins-part old new (replies t ms) (replies (session t ms).0 ns) h)
 
-StopsEarly-reading : (a b c : RunState) (e : Error) → ServedLines a b → ReadingLineFails b c e → StopsEarly a c e
-StopsEarly-reading a b c e so_far fails =
+StopsServing-reading : (a b c : ServingState) (e : Error) → ServedLines a b → ServingReadFails b c e → StopsServing a c e
+StopsServing-reading a b c e so_far fails =
     let stop = ReadsLines-fail a.reader b.reader c.reader a.source b.source c.source so_far.done e so_far.read fails.read in
     let later = some_messages stop.later in
     let same = fails.out in
@@ -166,8 +166,8 @@ err_same : (e f : Error) → failed e ≡ failed f → e ≡ f
 err_same e f h = cc
 
 -- a line that was read and not served
-StopsEarly-unserved : (a b c : RunState) (e : Error) (line : Line) → ServedLines a b → NextLineCall b.reader c.reader b.source c.source (Ok (Some line)) → c.out ≡ b.out → e ≡ no_memory → StopsEarly a c e
-StopsEarly-unserved a b c e line so_far read same lacks =
+StopsServing-unserved : (a b c : ServingState) (e : Error) (line : Line) → ServedLines a b → NextLineCall b.reader c.reader b.source c.source (Ok (Some line)) → c.out ≡ b.out → e ≡ no_memory → StopsServing a c e
+StopsServing-unserved a b c e line so_far read same lacks =
     let more = ReadsLines-more a.reader b.reader c.reader a.source b.source c.source so_far.done line so_far.read read in
     let now = more.reads in
     let done = so_far.done ++ more.bytes ∷ [] in
@@ -193,8 +193,8 @@ longer_text : (x old : Option (List ℕ)) (p q : List ℕ) → BeginsWith x (app
 longer_text x old p q h = record { back = h.back ++ q; whole = sym (known-append old p q) ∙ ap (λ y. append_known y q) h.whole ∙ known-append x h.back q }
 
 -- a line whose reply was not written
-StopsEarly-unwritten : (a b c : RunState) (e : Error) (line : Line) → ServedLines a b → NextLineCall b.reader c.reader b.source c.source (Ok (Some line)) → ReplyFails b.document line c.document b.out c.out e → StopsEarly a c e
-StopsEarly-unwritten a b c e line so_far read fails =
+StopsServing-unwritten : (a b c : ServingState) (e : Error) (line : Line) → ServedLines a b → NextLineCall b.reader c.reader b.source c.source (Ok (Some line)) → ReplyFails b.document line c.document b.out c.out e → StopsServing a c e
+StopsServing-unwritten a b c e line so_far read fails =
     let more = ReadsLines-more a.reader b.reader c.reader a.source b.source c.source so_far.done line so_far.read read in
     let now = more.reads in
     let done = so_far.done ++ more.bytes ∷ [] in
@@ -217,10 +217,10 @@ StopsEarly-unwritten a b c e line so_far read fails =
       writing_told = λ l. err_same e writing_failed (writes.told l);
     }
 
-pub StopsEarly-from : (a b c : RunState) (e : Error) → ServedLines a b → StepFails b c e → StopsEarly a c e
-StopsEarly-from a b c e so_far (inl reading) = StopsEarly-reading a b c e so_far reading
-StopsEarly-from a b c e so_far (inr serving) =
+pub StopsServing-from : (a b c : ServingState) (e : Error) → ServedLines a b → ServingStepFails b c e → StopsServing a c e
+StopsServing-from a b c e so_far (inl reading) = StopsServing-reading a b c e so_far reading
+StopsServing-from a b c e so_far (inr serving) =
     elim serving.failed [
-      | inl lacks ↦ StopsEarly-unserved a b c e serving.line so_far serving.read lacks.0 lacks.1
-      | inr fails ↦ StopsEarly-unwritten a b c e serving.line so_far serving.read fails
+      | inl lacks ↦ StopsServing-unserved a b c e serving.line so_far serving.read lacks.0 lacks.1
+      | inr fails ↦ StopsServing-unwritten a b c e serving.line so_far serving.read fails
     ]

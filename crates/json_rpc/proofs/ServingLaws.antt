@@ -8,8 +8,8 @@ use Rattle.json_grammar.specs.Tree.{Tree, null, boolean, num, text, list, pairs,
 use Rattle.json_model.specs.Edit.{Step, key_step, index_step, Changed, Refusal, not_found, type_unmatched, within, at_key, at_index, at_path}
 use Rattle.json_value.specs.Seen.{first_of}
 use Rattle.json_value.specs.Steps.{child, tree_at}
-use Rattle.json_rpc.specs.Requests.{Request, member, request_of, version}
-use Rattle.json_rpc.specs.Methods.{lookup}
+use Rattle.json_rpc.specs.Requests.{Request, named_member, request_of, version}
+use Rattle.json_rpc.specs.Methods.{tree_at_path}
 use Rattle.json_rpc.specs.Serving.{executed, responded, request_served, member_served, batch_served, batch_reply}
 use Rattle.json_rpc.specs.Laws.{has_id, wants_response, NotificationHasNoReply, NotificationHasItsEffect, ReplyHasTheId, InvalidHasNullId, ErrorLeavesTheDocument, InvalidLeavesTheDocument, OneResponseEach, BatchInTurn, NotificationsHaveNoReply, LookupFollowsThePath, LookupFailsAsAnEdit}
 use Rattle.json_rpc.specs.declared.error.RpcError.{RpcError}
@@ -39,7 +39,7 @@ notification_has_its_effect t u v r s e f m p =
     ap (λ o. (request_served t o).0) e ∙ same_document t r.id s.id (executed r t) ∙ ap (λ x. (responded t s.id x).0) x ∙ sym (ap (λ o. (request_served t o).0) f)
 
 abbrev HasId : Option Tree → Tree → Type 0
-HasId id reply = (member (codes "id") reply ≡ id) × (member (codes "jsonrpc") reply ≡ Some (text version))
+HasId id reply = (named_member (codes "id") reply ≡ id) × (named_member (codes "jsonrpc") reply ≡ Some (text version))
 
 with_id : (t reply : Tree) (id : Option Tree) (x : Outcome) → (responded t id x).1 ≡ Some reply → HasId id reply
 with_id t reply None (Ok d) e = absurd (none_some e)
@@ -51,7 +51,7 @@ pub reply_has_the_id : ReplyHasTheId
 reply_has_the_id t u reply r e h = with_id t reply r.id (executed r t) (sym (ap (λ o. (request_served t o).1) e) ∙ h)
 
 pub invalid_has_null_id : InvalidHasNullId
-invalid_has_null_id t u e = subst (λ o. IfSome (request_served t o).1 (λ reply. member (codes "id") reply ≡ Some null)) (sym e) refl
+invalid_has_null_id t u e = subst (λ o. IfSome (request_served t o).1 (λ reply. named_member (codes "id") reply ≡ Some null)) (sym e) refl
 
 pub error_leaves_the_document : ErrorLeavesTheDocument
 error_leaves_the_document t u r f e h = ap (λ o. (request_served t o).0) e ∙ ap (λ x. (responded t r.id x).0) h
@@ -98,8 +98,8 @@ notifications_have_no_reply t us e = none_of (batch_served t us).1 (one_response
 abbrev Goes : Changed Tree → Option Tree → Type 0
 Goes c o = (u : Tree) → (c ≡ Ok u) ↔ (o ≡ Some u)
 
-onward : (o : Option Tree) (p : List Step) → ((v : Tree) → Goes (lookup p v) (tree_at p v))
-    → Goes (elim (ok_or o not_found) [ Ok u ↦ lookup p u | Err r ↦ Err r ]) (elim o [ None ↦ None | Some u ↦ tree_at p u ])
+onward : (o : Option Tree) (p : List Step) → ((v : Tree) → Goes (tree_at_path p v) (tree_at p v))
+    → Goes (elim (ok_or o not_found) [ Ok u ↦ tree_at_path p u | Err r ↦ Err r ]) (elim o [ None ↦ None | Some u ↦ tree_at p u ])
 onward None p h u = (λ e. cc, λ e. cc)
 onward (Some v) p h u = h v u
 
@@ -148,8 +148,8 @@ at_index_kept (suc i) f g h (tree_and t ts) = ap (within (λ us. tree_and t us))
 
 pub lookup_fails_as_an_edit : LookupFailsAsAnEdit
 lookup_fails_as_an_edit [] t = refl
-lookup_fails_as_an_edit (key_step k ∷ p) (pairs ps) = ap (within pairs) (at_key_kept k (at_path p (λ u. Ok u)) (lookup p) (lookup_fails_as_an_edit p) ps) ∙ kept_within pairs ps (stepped (child (key_step k) (pairs ps)) (lookup p))
-lookup_fails_as_an_edit (index_step i ∷ p) (list ts) = ap (within list) (at_index_kept i (at_path p (λ u. Ok u)) (lookup p) (lookup_fails_as_an_edit p) ts) ∙ kept_within list ts (stepped (child (index_step i) (list ts)) (lookup p))
+lookup_fails_as_an_edit (key_step k ∷ p) (pairs ps) = ap (within pairs) (at_key_kept k (at_path p (λ u. Ok u)) (tree_at_path p) (lookup_fails_as_an_edit p) ps) ∙ kept_within pairs ps (stepped (child (key_step k) (pairs ps)) (tree_at_path p))
+lookup_fails_as_an_edit (index_step i ∷ p) (list ts) = ap (within list) (at_index_kept i (at_path p (λ u. Ok u)) (tree_at_path p) (lookup_fails_as_an_edit p) ts) ∙ kept_within list ts (stepped (child (index_step i) (list ts)) (tree_at_path p))
 lookup_fails_as_an_edit (key_step k ∷ p) null = refl
 lookup_fails_as_an_edit (key_step k ∷ p) (boolean b) = refl
 lookup_fails_as_an_edit (key_step k ∷ p) (num l) = refl

@@ -7,7 +7,7 @@ use Rattle.json_value.specs.Denotes.{tree_of}
 use Rattle.json_text.specs.Outside.{SinkState, SourceState}
 use Rattle.json_lines.specs.declared.line_reader.LineReader.{LineReader}
 use Rattle.json_lines.specs.Reading.{line_reader_state}
-use Rattle.json_rpc.specs.Steps.{RunState}
+use Rattle.json_rpc.specs.Steps.{ServingState}
 use Rattle.json_rpc.specs.Requests as spec
 use Rattle.json_rpc.specs.Serving as serve
 use Rattle.json_rpc.specs.declared.message.Message.{Message}
@@ -26,7 +26,7 @@ abbrev pub request_seen : Request → spec.Request
 request_seen r = record { method = r.method.now; params = option_map seen r.params; id = option_map seen r.id }
 
 -- what an operation asks for
-abbrev pub operation_denoted : Operation → methods.Operation
+abbrev pub operation_denoted : Operation → methods.MethodOperation
 operation_denoted (Get p) = methods.get (path_steps p)
 operation_denoted (Change e) = methods.change (edit_of e)
 
@@ -47,5 +47,5 @@ reply_tree (Failed error id) = error_response error (tree_of id)
 reply_tree (Batch responses) = tree_of responses
 
 -- all that a step of a run may change
-abbrev pub run_state : LineReader → SourceState → SinkState → Service → RunState
-run_state reader source out service = record { reader = line_reader_state reader; source = source; out = out; document = document_of service }
+abbrev pub serving_state : LineReader → SourceState → SinkState → Service → ServingState
+serving_state reader source out service = record { reader = line_reader_state reader; source = source; out = out; document = document_of service }

@@ -1,131 +1,126 @@
 -- Examples of requests and their replies.
 use Rattle.std.specs.Prelude.{◌≡◌, ℕ, List, [], ◌∷◌, Option, Some, None, codes, option_map}
-use Rattle.json_grammar.specs.Tree.{Tree, null, num, text, list, pairs, list_trees, list_pairs}
+use Rattle.json_grammar.specs.Tree.{Tree, null, num, text}
 use Rattle.json_model.specs.Print.{shown}
+use Rattle.json_model.specs.ExampleTrees.{example_object, example_array}
 use Rattle.json_rpc.specs.Serving.{blank, unreadable, served, served_tree}
 
-abbrev pub object : List (List ℕ × Tree) → Tree
-object ps = pairs (list_pairs ps)
-
-abbrev pub array : List Tree → Tree
-array ts = list (list_trees ts)
-
-abbrev pub digits : List ℕ → Tree
-digits l = num l
+abbrev pub number_by_literal : List ℕ → Tree
+number_by_literal l = num l
 
 -- the document and the compact text of the reply
-abbrev pub Gives : Tree × Option Tree → Tree → Option (List ℕ) → Type 0
-Gives r t reply = (r.0 ≡ t) × (option_map (shown None 0) r.1 ≡ reply)
+abbrev pub RepliesWith : Tree × Option Tree → Tree → Option (List ℕ) → Type 0
+RepliesWith r t reply = (r.0 ≡ t) × (option_map (shown None 0) r.1 ≡ reply)
 
 -- a request of this method with these params by position and this id
-abbrev pub call : List ℕ → List Tree → Tree → Tree
-call method params id =
-    object ((codes "jsonrpc", text (codes "2.0")) ∷ (codes "method", text method) ∷ (codes "params", array params) ∷ (codes "id", id) ∷ [])
+abbrev pub positional_request : List ℕ → List Tree → Tree → Tree
+positional_request method params id =
+    example_object ((codes "jsonrpc", text (codes "2.0")) ∷ (codes "method", text method) ∷ (codes "params", example_array params) ∷ (codes "id", id) ∷ [])
 
 -- the same without an id
 abbrev pub notify : List ℕ → List Tree → Tree
-notify method params = object ((codes "jsonrpc", text (codes "2.0")) ∷ (codes "method", text method) ∷ (codes "params", array params) ∷ [])
+notify method params = example_object ((codes "jsonrpc", text (codes "2.0")) ∷ (codes "method", text method) ∷ (codes "params", example_array params) ∷ [])
 
 -- `{"a":1}`, `{"a":[1]}` and `{"a":[1,2]}`
 abbrev pub with_one : Tree
-with_one = object ((codes "a", digits (codes "1")) ∷ [])
+with_one = example_object ((codes "a", number_by_literal (codes "1")) ∷ [])
 
-abbrev pub with_list : Tree
-with_list = object ((codes "a", array (digits (codes "1") ∷ [])) ∷ [])
+abbrev pub document_with_list : Tree
+document_with_list = example_object ((codes "a", example_array (number_by_literal (codes "1") ∷ [])) ∷ [])
 
 abbrev pub with_longer : Tree
-with_longer = object ((codes "a", array (digits (codes "1") ∷ digits (codes "2") ∷ [])) ∷ [])
+with_longer = example_object ((codes "a", example_array (number_by_literal (codes "1") ∷ number_by_literal (codes "2") ∷ [])) ∷ [])
 
 abbrev pub at_a : Tree
-at_a = array (text (codes "a") ∷ [])
+at_a = example_array (text (codes "a") ∷ [])
 
 -- ---- a session
 
 -- `set` at the root has the result null
 abbrev pub SetsTheRoot : Type 0
-SetsTheRoot = Gives (served_tree null (call (codes "set") (array [] ∷ with_one ∷ []) (digits (codes "1")))) with_one (Some (codes "{\"jsonrpc\":\"2.0\",\"result\":null,\"id\":1}"))
+SetsTheRoot = RepliesWith (served_tree null (positional_request (codes "set") (example_array [] ∷ with_one ∷ []) (number_by_literal (codes "1")))) with_one (Some (codes "{\"jsonrpc\":\"2.0\",\"result\":null,\"id\":1}"))
 
 -- `push` where there is no array: a notification has no reply, and the document stays as it is
 abbrev pub NotifiesInVain : Type 0
-NotifiesInVain = Gives (served_tree with_one (notify (codes "push") (at_a ∷ digits (codes "2") ∷ []))) with_one None
+NotifiesInVain = RepliesWith (served_tree with_one (notify (codes "push") (at_a ∷ number_by_literal (codes "2") ∷ []))) with_one None
 
 -- where there is one it takes effect, and has no reply
 abbrev pub NotifiesWithEffect : Type 0
-NotifiesWithEffect = Gives (served_tree with_list (notify (codes "push") (at_a ∷ digits (codes "2") ∷ []))) with_longer None
+NotifiesWithEffect = RepliesWith (served_tree document_with_list (notify (codes "push") (at_a ∷ number_by_literal (codes "2") ∷ []))) with_longer None
 
 -- a batch of a request and a number
 abbrev pub ServesABatch : Type 0
 ServesABatch =
-    Gives (served_tree with_one (array (call (codes "get") (at_a ∷ []) (text (codes "x")) ∷ digits (codes "1") ∷ []))) with_one
+    RepliesWith (served_tree with_one (example_array (positional_request (codes "get") (at_a ∷ []) (text (codes "x")) ∷ number_by_literal (codes "1") ∷ []))) with_one
     (Some (codes "[{\"jsonrpc\":\"2.0\",\"result\":1,\"id\":\"x\"},{\"jsonrpc\":\"2.0\",\"error\":{\"code\":-32600,\"message\":\"Invalid Request\"},\"id\":null}]"))
 
 -- a line that cannot be read, and one of whitespace
 abbrev pub CannotRead : Type 0
-CannotRead = Gives (served with_one unreadable) with_one (Some (codes "{\"jsonrpc\":\"2.0\",\"error\":{\"code\":-32700,\"message\":\"Parse error\"},\"id\":null}"))
+CannotRead = RepliesWith (served with_one unreadable) with_one (Some (codes "{\"jsonrpc\":\"2.0\",\"error\":{\"code\":-32700,\"message\":\"Parse error\"},\"id\":null}"))
 
 abbrev pub SaysNothing : Type 0
-SaysNothing = Gives (served with_one blank) with_one None
+SaysNothing = RepliesWith (served with_one blank) with_one None
 
 -- ---- errors
 
 -- an empty array
 abbrev pub EmptyBatch : Type 0
-EmptyBatch = Gives (served_tree with_one (array [])) with_one (Some (codes "{\"jsonrpc\":\"2.0\",\"error\":{\"code\":-32600,\"message\":\"Invalid Request\"},\"id\":null}"))
+EmptyBatch = RepliesWith (served_tree with_one (example_array [])) with_one (Some (codes "{\"jsonrpc\":\"2.0\",\"error\":{\"code\":-32600,\"message\":\"Invalid Request\"},\"id\":null}"))
 
 -- a batch of values that are no requests
 abbrev pub InvalidBatch : Type 0
 InvalidBatch =
-    Gives (served_tree with_one (array (digits (codes "4") ∷ null ∷ []))) with_one
+    RepliesWith (served_tree with_one (example_array (number_by_literal (codes "4") ∷ null ∷ []))) with_one
     (Some (codes "[{\"jsonrpc\":\"2.0\",\"error\":{\"code\":-32600,\"message\":\"Invalid Request\"},\"id\":null},{\"jsonrpc\":\"2.0\",\"error\":{\"code\":-32600,\"message\":\"Invalid Request\"},\"id\":null}]"))
 
 -- a batch of notifications: the first changes the document, the second does not apply
 abbrev pub NotifiesAll : Type 0
 NotifiesAll =
-    Gives (served_tree with_list (array (notify (codes "push") (at_a ∷ digits (codes "2") ∷ []) ∷ notify (codes "remove") (array [] ∷ text (codes "b") ∷ []) ∷ []))) with_longer None
+    RepliesWith (served_tree document_with_list (example_array (notify (codes "push") (at_a ∷ number_by_literal (codes "2") ∷ []) ∷ notify (codes "remove") (example_array [] ∷ text (codes "b") ∷ []) ∷ []))) with_longer None
 
 -- a request whose method is a number is not valid, and its id is not used
 abbrev pub MethodIsNoText : Type 0
 MethodIsNoText =
-    Gives (served_tree with_one (object ((codes "jsonrpc", text (codes "2.0")) ∷ (codes "method", digits (codes "1")) ∷ (codes "id", digits (codes "7")) ∷ []))) with_one
+    RepliesWith (served_tree with_one (example_object ((codes "jsonrpc", text (codes "2.0")) ∷ (codes "method", number_by_literal (codes "1")) ∷ (codes "id", number_by_literal (codes "7")) ∷ []))) with_one
     (Some (codes "{\"jsonrpc\":\"2.0\",\"error\":{\"code\":-32600,\"message\":\"Invalid Request\"},\"id\":null}"))
 
 -- there is no method of this name, though the name of one begins it
 abbrev pub UnknownMethod : Type 0
 UnknownMethod =
-    Gives (served_tree with_one (call (codes "getter") (at_a ∷ []) (text (codes "1")))) with_one
+    RepliesWith (served_tree with_one (positional_request (codes "getter") (at_a ∷ []) (text (codes "1")))) with_one
     (Some (codes "{\"jsonrpc\":\"2.0\",\"error\":{\"code\":-32601,\"message\":\"Method not found\"},\"id\":\"1\"}"))
 
 -- a param is missing; the id is null
 abbrev pub MissingParam : Type 0
 MissingParam =
-    Gives (served_tree with_one (call (codes "set") (at_a ∷ []) null)) with_one
+    RepliesWith (served_tree with_one (positional_request (codes "set") (at_a ∷ []) null)) with_one
     (Some (codes "{\"jsonrpc\":\"2.0\",\"error\":{\"code\":-32602,\"message\":\"Invalid params\"},\"id\":null}"))
 
 -- params by name
 abbrev pub ParamsByName : Type 0
 ParamsByName =
-    Gives
+    RepliesWith
     (served_tree with_one
-    (object ((codes "jsonrpc", text (codes "2.0")) ∷ (codes "method", text (codes "get")) ∷ (codes "params", object ((codes "path", at_a) ∷ [])) ∷ (codes "id", digits (codes "1.0")) ∷ []))) with_one
+    (example_object ((codes "jsonrpc", text (codes "2.0")) ∷ (codes "method", text (codes "get")) ∷ (codes "params", example_object ((codes "path", at_a) ∷ [])) ∷ (codes "id", number_by_literal (codes "1.0")) ∷ []))) with_one
     (Some (codes "{\"jsonrpc\":\"2.0\",\"error\":{\"code\":-32602,\"message\":\"Invalid params\"},\"id\":1.0}"))
 
 -- a key that is not there, and a value of another kind
-abbrev pub NothingThere : Type 0
-NothingThere =
-    Gives (served_tree with_one (call (codes "get") (array (text (codes "b") ∷ []) ∷ []) (digits (codes "1")))) with_one
+abbrev pub GetsNothing : Type 0
+GetsNothing =
+    RepliesWith (served_tree with_one (positional_request (codes "get") (example_array (text (codes "b") ∷ []) ∷ []) (number_by_literal (codes "1")))) with_one
     (Some (codes "{\"jsonrpc\":\"2.0\",\"error\":{\"code\":-32000,\"message\":\"Not found\"},\"id\":1}"))
 
 abbrev pub AnotherKind : Type 0
 AnotherKind =
-    Gives (served_tree with_one (call (codes "insert") (at_a ∷ text (codes "b") ∷ null ∷ []) (digits (codes "1")))) with_one
+    RepliesWith (served_tree with_one (positional_request (codes "insert") (at_a ∷ text (codes "b") ∷ null ∷ []) (number_by_literal (codes "1")))) with_one
     (Some (codes "{\"jsonrpc\":\"2.0\",\"error\":{\"code\":-32001,\"message\":\"Type unmatched\"},\"id\":1}"))
 
 -- of members of one name, the first counts
 abbrev pub FirstCounts : Type 0
 FirstCounts =
-    Gives
+    RepliesWith
     (served_tree with_one
-    (object
-    ((codes "id", digits (codes "1e0")) ∷ (codes "method", text (codes "get")) ∷ (codes "method", text (codes "set")) ∷ (codes "id", digits (codes "2")) ∷ (codes "params", array (array [] ∷ []))
+    (example_object
+    ((codes "id", number_by_literal (codes "1e0")) ∷ (codes "method", text (codes "get")) ∷ (codes "method", text (codes "set")) ∷ (codes "id", number_by_literal (codes "2")) ∷ (codes "params", example_array (example_array [] ∷ []))
     ∷ (codes "jsonrpc", text (codes "2.0")) ∷ (codes "jsonrpc", null) ∷ []))) with_one
     (Some (codes "{\"jsonrpc\":\"2.0\",\"result\":{\"a\":1},\"id\":1e0}"))

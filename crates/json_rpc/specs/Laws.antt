@@ -4,8 +4,8 @@ use Rattle.std.specs.Result.{result_map_both}
 use Rattle.json_grammar.specs.Tree.{Tree, null, text}
 use Rattle.json_model.specs.Edit.{Step, at_path}
 use Rattle.json_value.specs.Steps.{tree_at}
-use Rattle.json_rpc.specs.Requests.{Request, member, request_of, version}
-use Rattle.json_rpc.specs.Methods.{lookup}
+use Rattle.json_rpc.specs.Requests.{Request, named_member, request_of, version}
+use Rattle.json_rpc.specs.Methods.{tree_at_path}
 use Rattle.json_rpc.specs.Serving.{executed, member_served, batch_served, whole_batch_served, Message, IsMessage}
 use Rattle.json_rpc.specs.declared.error.RpcError.{RpcError}
 
@@ -42,11 +42,11 @@ ReplyHasTheId =
     (t u reply : Tree) (r : Request)
     → request_of u ≡ Some r
     → (member_served t u).1 ≡ Some reply
-    → (member (codes "id") reply ≡ r.id) × (member (codes "jsonrpc") reply ≡ Some (text version))
+    → (named_member (codes "id") reply ≡ r.id) × (named_member (codes "jsonrpc") reply ≡ Some (text version))
 
 -- the reply to a value that is no valid request has the id null
 abbrev pub InvalidHasNullId : Type 0
-InvalidHasNullId = (t u : Tree) → request_of u ≡ None → IfSome (member_served t u).1 (λ reply. member (codes "id") reply ≡ Some null)
+InvalidHasNullId = (t u : Tree) → request_of u ≡ None → IfSome (member_served t u).1 (λ reply. named_member (codes "id") reply ≡ Some null)
 
 -- a request that gets an error leaves the document as it is
 abbrev pub ErrorLeavesTheDocument : Type 0
@@ -78,11 +78,11 @@ NotificationsHaveNoReply =
 
 -- it returns the value that a path leads to
 abbrev pub LookupFollowsThePath : Type 0
-LookupFollowsThePath = (p : List Step) (t u : Tree) → (lookup p t ≡ Ok u) ↔ (tree_at p t ≡ Some u)
+LookupFollowsThePath = (p : List Step) (t u : Tree) → (tree_at_path p t ≡ Ok u) ↔ (tree_at p t ≡ Some u)
 
 -- it fails where an edit there fails, and for the same reason
 abbrev pub LookupFailsAsAnEdit : Type 0
-LookupFailsAsAnEdit = (p : List Step) (t : Tree) → at_path p (λ u. Ok u) t ≡ result_map_both (λ u. t) (λ r. r) (lookup p t)
+LookupFailsAsAnEdit = (p : List Step) (t : Tree) → at_path p (λ u. Ok u) t ≡ result_map_both (λ u. t) (λ r. r) (tree_at_path p t)
 
 -- ---- lines
 

@@ -10,9 +10,9 @@ use Rattle.json_rpc.specs.declared.error.RpcError.{RpcError}
 use Rattle.json_rpc.specs.declared.error.RpcError.TheVariants.{MethodNotFound, InvalidParams, NotFound, TypeUnmatched}
 
 -- what is asked of the document: the tree that a path leads to, or an edit
-pub data Operation : Type 0 where
-  get : List Step → Operation
-  change : Edit → Operation
+pub data MethodOperation : Type 0 where
+  get : List Step → MethodOperation
+  change : Edit → MethodOperation
 
 -- ---- methods and params
 
@@ -31,25 +31,25 @@ positional_params (Some (list ts)) = trees_list ts
 positional_params _ = []
 
 -- what `get` asks for with these params: [path]
-abbrev pub get_with : List Tree → Option Operation
+abbrev pub get_with : List Tree → Option MethodOperation
 get_with (p ∷ []) = option_map get (path_in p)
 get_with _ = None
 
 -- what a method asks for with these params: those of an edit are the elements after its name in
 -- an edits argument
-abbrev pub operation_with : List ℕ → List Tree → Option Operation
+abbrev pub operation_with : List ℕ → List Tree → Option MethodOperation
 operation_with name params = cond (bytes_eq name (codes "get")) (get_with params) (option_map change (edit_named name params))
 
 -- what a request asks for, or the error that it gets
-abbrev pub operation_of : Request → Result Operation RpcError
-operation_of r = cond (is_method r.method) (ok_or (operation_with r.method (positional_params r.params)) InvalidParams) (Err MethodNotFound)
+abbrev pub requested_operation : Request → Result MethodOperation RpcError
+requested_operation r = cond (is_method r.method) (ok_or (operation_with r.method (positional_params r.params)) InvalidParams) (Err MethodNotFound)
 
 -- ---- what they do
 
 -- the error for an operation that does not apply
-abbrev pub error_of : Refusal → RpcError
-error_of not_found = NotFound
-error_of type_unmatched = TypeUnmatched
+abbrev pub rpc_error_of : Refusal → RpcError
+rpc_error_of not_found = NotFound
+rpc_error_of type_unmatched = TypeUnmatched
 
 -- the first value of a key, or the element of an index
 abbrev pub step_into : Step → Tree → Changed Tree
@@ -58,11 +58,11 @@ step_into (index_step i) (list ts) = ok_or (child (index_step i) (list ts)) not_
 step_into _ _ = Err type_unmatched
 
 -- the tree that a path leads to, or why it leads nowhere
-abbrev pub lookup : List Step → Tree → Changed Tree
-lookup [] t = Ok t
-lookup (s ∷ p) t = elim (step_into s t) [ Ok u ↦ lookup p u | Err r ↦ Err r ]
+abbrev pub tree_at_path : List Step → Tree → Changed Tree
+tree_at_path [] t = Ok t
+tree_at_path (s ∷ p) t = elim (step_into s t) [ Ok u ↦ tree_at_path p u | Err r ↦ Err r ]
 
 -- the next document and the result, or the error
-abbrev pub performed : Operation → Tree → Result (Tree × Tree) RpcError
-performed (get p) t = result_map_both (λ u. (t, u)) error_of (lookup p t)
-performed (change e) t = result_map_both (λ u. (u, null)) error_of (edited_once e t)
+abbrev pub performed : MethodOperation → Tree → Result (Tree × Tree) RpcError
+performed (get p) t = result_map_both (λ u. (t, u)) rpc_error_of (tree_at_path p t)
+performed (change e) t = result_map_both (λ u. (u, null)) rpc_error_of (edited_once e t)

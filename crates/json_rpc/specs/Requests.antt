@@ -5,8 +5,8 @@ use Rattle.json_model.specs.Edit.{key_step}
 use Rattle.json_value.specs.Steps.{child}
 
 -- the value of the first member of this name; a value that is no object has no members
-abbrev pub member : List ℕ → Tree → Option Tree
-member name t = child (key_step name) t
+abbrev pub named_member : List ℕ → Tree → Option Tree
+named_member name t = child (key_step name) t
 
 -- what is asked for. A request without an id is a notification.
 pub record Request : Type 0 where
@@ -45,4 +45,4 @@ request_with _ _ _ _ = None
 
 -- the request that a tree is, if it is a valid request object
 abbrev pub request_of : Tree → Option Request
-request_of t = request_with (member (codes "jsonrpc") t) (member (codes "method") t) (member (codes "params") t) (member (codes "id") t)
+request_of t = request_with (named_member (codes "jsonrpc") t) (named_member (codes "method") t) (named_member (codes "params") t) (named_member (codes "id") t)

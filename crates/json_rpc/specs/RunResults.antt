@@ -18,12 +18,12 @@ use Rattle.json_rpc.specs.Serving.{Message}
 use Rattle.json_rpc.specs.Sessions.{AreMessages, replies}
 
 -- the states of the source and the sink
-pub record Streams : Type 0 where
+pub record ServiceStreams : Type 0 where
   pub source : SourceState
   pub sink : SinkState
 
-abbrev pub streams : SourceState → SinkState → Streams
-streams source sink = record { source = source; sink = sink }
+abbrev pub service_streams : SourceState → SinkState → ServiceStreams
+service_streams source sink = record { source = source; sink = sink }
 
 -- the source gave these bytes in this call
 pub record GivesBytes (source source' : SourceState) (bytes : List ℕ) : Type 0 where
@@ -33,7 +33,7 @@ pub record GivesBytes (source source' : SourceState) (bytes : List ℕ) : Type 0
 -- ---- status 0: every line was served
 
 -- the source was read to its end, which came within the limit, and no read failed
-pub record ReadsAll (old new : Streams) : Type 0 where
+pub record ReadsWholeSource (old new : ServiceStreams) : Type 0 where
   pub bytes : List ℕ
   pub gives : GivesBytes old.source new.source bytes
   pub few : length bytes ≤ max_bytes
@@ -41,94 +41,94 @@ pub record ReadsAll (old new : Streams) : Type 0 where
   pub read : new.source.faults ≡ old.source.faults
 
 -- the sink gained exactly the replies to all lines, where the document was null
-pub record AppendsReplies (old new : Streams) : Type 0 where
+pub record AppendsReplies (old new : ServiceStreams) : Type 0 where
   pub messages : List Message
   pub are : IfSome old.source.left (λ b. AreMessages (lines b) messages)
   pub gained : Appends old.sink.gained new.sink.gained (replies null messages)
 
 -- no write failed, and the sink was flushed
-pub record WritesAll (old new : Streams) : Type 0 where
+pub record WritesAll (old new : ServiceStreams) : Type 0 where
   pub written : new.sink.faults ≡ old.sink.faults
   pub flushed : new.sink.unflushed ≡ false
 
-pub record ServesAll (old new : Streams) : Type 0 where
-  pub reads : ReadsAll old new
+pub record ServesAll (old new : ServiceStreams) : Type 0 where
+  pub reads : ReadsWholeSource old new
   pub appends : AppendsReplies old new
   pub writes : WritesAll old new
 
 -- ---- status 4, 5, 6 or 7: the run failed
 
 -- why a run failed to which the source gave these bytes
-abbrev pub RunErrorCause : List ℕ → Streams → Streams → ErrorCode → Place → Type 0
-RunErrorCause bytes old new code place = ErrorCause bytes old.source new.source old.sink new.sink code place
+abbrev pub ServingErrorCause : List ℕ → ServiceStreams → ServiceStreams → ErrorCode → Place → Type 0
+ServingErrorCause bytes old new code place = ErrorCause bytes old.source new.source old.sink new.sink code place
 
 -- the sink gained a prefix of the replies to the lines of these bytes
-pub record AppendsRepliesPrefix (bytes : List ℕ) (old new : Streams) : Type 0 where
+pub record AppendsRepliesPrefix (bytes : List ℕ) (old new : ServiceStreams) : Type 0 where
   pub messages : List Message
   pub are : IfSome old.source.left (λ _. AreMessages (lines bytes) messages)
   pub gained : AppendsFront old.sink.gained new.sink.gained (replies null messages)
 
-pub record StopsRun (old new : Streams) (error : Error) : Type 0 where
+pub record StopsRun (old new : ServiceStreams) (error : Error) : Type 0 where
   pub bytes : List ℕ
   pub gives : GivesBytes old.source new.source bytes
   pub prefix : AppendsRepliesPrefix bytes old new
-  pub cause : RunErrorCause bytes old new error.code error.place
+  pub cause : ServingErrorCause bytes old new error.code error.place
   -- a failed call is always told
   pub reading_told : old.source.faults < new.source.faults → error ≡ reading_failed
   pub writing_told : old.sink.faults < new.sink.faults → error ≡ writing_failed
 
 -- the same of a sink that may hold bytes back
-pub record StopsBuffered (old new : Streams) (error : Error) : Type 0 where
+pub record StopsBuffered (old new : ServiceStreams) (error : Error) : Type 0 where
   pub bytes : List ℕ
   pub gives : GivesBytes old.source new.source bytes
   pub messages : List Message
   pub are : IfSome old.source.left (λ _. AreMessages (lines bytes) messages)
   pub prefix : BeginsWith new.sink.gained (append_known old.sink.gained (replies null messages))
   pub same_loan : new.sink.loan ≡ old.sink.loan
-  pub cause : RunErrorCause bytes old new error.code error.place
+  pub cause : ServingErrorCause bytes old new error.code error.place
   pub reading_told : old.source.faults < new.source.faults → error ≡ reading_failed
   pub writing_told : old.sink.faults < new.sink.faults → error ≡ writing_failed
 
 -- ---- all of it
 
 -- there are words, which are looked at first: nothing was read or written
-pub record RefusesWords (words : List (List ℕ)) (old new : Streams) (error : Error) : Type 0 where
+pub record RefusesAnyWords (words : List (List ℕ)) (old new : ServiceStreams) (error : Error) : Type 0 where
   pub some : words ≢ []
   pub told : error ≡ bad_words
   pub unread : new.source ≡ old.source
   pub unwritten : new.sink ≡ old.sink
 
 -- there are no words, and the run stopped
-pub record FailsRun (words : List (List ℕ)) (old new : Streams) (error : Error) : Type 0 where
+pub record FailsServing (words : List (List ℕ)) (old new : ServiceStreams) (error : Error) : Type 0 where
   pub none : words ≡ []
   pub stops : StopsRun old new error
 
-abbrev pub RunFails : List (List ℕ) → Streams → Streams → Error → Type 0
-RunFails words old new error = RefusesWords words old new error ⊎ FailsRun words old new error
+abbrev pub ServingRunFails : List (List ℕ) → ServiceStreams → ServiceStreams → Error → Type 0
+ServingRunFails words old new error = RefusesAnyWords words old new error ⊎ FailsServing words old new error
 
 -- the run failed with this status, and its error was reported
-pub record ReportsFailure (words : List (List ℕ)) (old new : Streams) (errs errs' : SinkState) (status : ℕ) : Type 0 where
+pub record ReportsFailure (words : List (List ℕ)) (old new : ServiceStreams) (errs errs' : SinkState) (status : ℕ) : Type 0 where
   pub error : Error
   pub status_is : status ≡ run_status error.code error.place
-  pub fails : RunFails words old new error
+  pub fails : ServingRunFails words old new error
   pub reports : Reports (text_of error) errs errs'
 
 -- status 0: every line was served, and nothing was reported
-pub record Completes (words : List (List ℕ)) (old new : Streams) (errs errs' : SinkState) (status : ℕ) : Type 0 where
+pub record CompletesServing (words : List (List ℕ)) (old new : ServiceStreams) (errs errs' : SinkState) (status : ℕ) : Type 0 where
   pub is : status ≡ 0
   pub none : words ≡ []
   pub serves : ServesAll old new
   pub silent : errs' ≡ errs
 
-abbrev pub RunResult : List (List ℕ) → Streams → Streams → SinkState → SinkState → ℕ → Type 0
-RunResult words old new errs errs' status = Completes words old new errs errs' status ⊎ ReportsFailure words old new errs errs' status
+abbrev pub ServingResult : List (List ℕ) → ServiceStreams → ServiceStreams → SinkState → SinkState → ℕ → Type 0
+ServingResult words old new errs errs' status = CompletesServing words old new errs errs' status ⊎ ReportsFailure words old new errs errs' status
 
 -- the statuses of a run
 abbrev pub IsRunStatus : ℕ → Type 0
 IsRunStatus status = (status ≤ 7) × (status ≢ 1) × (status ≢ 3)
 
 -- there are no words, the source has at most 4,294,967,295 known bytes, and no call failed
-pub record NothingFails (words : List (List ℕ)) (old new : Streams) : Type 0 where
+pub record NothingFailsServing (words : List (List ℕ)) (old new : ServiceStreams) : Type 0 where
   pub no_words : words ≡ []
   pub bytes : List ℕ
   pub known : old.source.left ≡ Some bytes

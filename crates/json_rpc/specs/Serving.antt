@@ -7,7 +7,7 @@ use Rattle.json_lines.specs.declared.line_reader.Line.{Line}
 use Rattle.json_lines.specs.declared.line_reader.Line.TheVariants.{Whole, TooLong}
 use Rattle.json_rpc.specs.Requests.{Request, request_of}
 use Rattle.json_rpc.specs.Responses.{result_response, error_response}
-use Rattle.json_rpc.specs.Methods.{is_edit, operation_of, performed}
+use Rattle.json_rpc.specs.Methods.{is_edit, requested_operation, performed}
 use Rattle.json_rpc.specs.declared.error.RpcError.{RpcError}
 use Rattle.json_rpc.specs.declared.error.RpcError.TheVariants.{ParseError, InvalidRequest}
 
@@ -15,7 +15,7 @@ use Rattle.json_rpc.specs.declared.error.RpcError.TheVariants.{ParseError, Inval
 
 -- the next document and the result of a request, or why it gets an error
 abbrev pub executed : Request → Tree → Result (Tree × Tree) RpcError
-executed r t = elim (operation_of r) [ Ok o ↦ performed o t | Err f ↦ Err f ]
+executed r t = elim (requested_operation r) [ Ok o ↦ performed o t | Err f ↦ Err f ]
 
 -- the next document, and the response where the request has an id. An error leaves the document.
 abbrev pub responded : Tree → Option Tree → Result (Tree × Tree) RpcError → Tree × Option Tree

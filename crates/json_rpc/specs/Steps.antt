@@ -15,7 +15,7 @@ use Rattle.json_rpc.specs.Serving.{Message, max_line_bytes}
 use Rattle.json_rpc.specs.Sessions.{AreMessages, replies, ServesLine, ServingFails}
 
 -- all that a step may change
-pub record RunState : Type 0 where
+pub record ServingState : Type 0 where
   pub reader : ReaderState
   pub source : SourceState
   pub out : SinkState
@@ -24,46 +24,46 @@ pub record RunState : Type 0 where
 -- ---- one step
 
 -- a line was read and served, and its reply written
-pub record TakesLine (old new : RunState) : Type 0 where
+pub record ServesNextLine (old new : ServingState) : Type 0 where
   pub line : Line
   pub read : NextLineCall old.reader new.reader old.source new.source (Ok (Some line))
   pub serves : ServesLine old.document line new.document old.out new.out
 
 -- there was no further line
-pub record FindsNoLine (old new : RunState) : Type 0 where
+pub record ServesNoLine (old new : ServingState) : Type 0 where
   pub read : NextLineCall old.reader new.reader old.source new.source (Ok None)
   pub out : new.out ≡ old.out
   pub document : new.document ≡ old.document
 
-abbrev pub StepResult : RunState → RunState → Bool → Type 0
-StepResult old new true = TakesLine old new
-StepResult old new false = FindsNoLine old new
+abbrev pub ServingStepResult : ServingState → ServingState → Bool → Type 0
+ServingStepResult old new true = ServesNextLine old new
+ServingStepResult old new false = ServesNoLine old new
 
 -- reading the line failed
-pub record ReadingLineFails (old new : RunState) (error : Error) : Type 0 where
+pub record ServingReadFails (old new : ServingState) (error : Error) : Type 0 where
   pub read : NextLineCall old.reader new.reader old.source new.source (Err error)
   pub out : new.out ≡ old.out
 
 -- a line was read, and serving it failed
-pub record ServingLineFails (old new : RunState) (error : Error) : Type 0 where
+pub record ServingLineFails (old new : ServingState) (error : Error) : Type 0 where
   pub line : Line
   pub read : NextLineCall old.reader new.reader old.source new.source (Ok (Some line))
   pub failed : ServingFails old.document line new.document old.out new.out error
 
-abbrev pub StepFails : RunState → RunState → Error → Type 0
-StepFails old new error = ReadingLineFails old new error ⊎ ServingLineFails old new error
+abbrev pub ServingStepFails : ServingState → ServingState → Error → Type 0
+ServingStepFails old new error = ServingReadFails old new error ⊎ ServingLineFails old new error
 
 -- ---- all steps
 
 -- nothing was read yet
-pub record IsFreshRun (s : RunState) : Type 0 where
+pub record IsFreshServing (s : ServingState) : Type 0 where
   pub limit : s.reader.limit ≡ max_line_bytes
   pub held : s.reader.held ≡ []
   pub received : s.reader.received ≡ 0
   pub going : s.reader.stopped ≡ None
 
 -- all lines were served, and their replies written
-pub record FinishesLines (old new : RunState) : Type 0 where
+pub record FinishesServing (old new : ServingState) : Type 0 where
   pub bytes : List ℕ
   pub reads : ReadsBytes old.reader new.reader old.source new.source bytes
   pub all : IfSome old.source.left (λ b. b ≡ bytes)
@@ -75,13 +75,13 @@ pub record FinishesLines (old new : RunState) : Type 0 where
   pub writes : WritesText old.out new.out (replies old.document messages) (Ok tt)
 
 -- why the loop failed
-abbrev pub LoopErrorCause : RunState → RunState → Error → Type 0
+abbrev pub LoopErrorCause : ServingState → ServingState → Error → Type 0
 LoopErrorCause old new error =
     NextLineCause new.reader old.source new.source error.code error.place
     ⊎ (StopCause old.out.faults new.out.faults error.code error.place × (new.source.faults ≡ old.source.faults) × (new.reader.received ≤ max_bytes))
 
 -- the loop failed: of the replies to all lines that were read a prefix was written
-pub record StopsEarly (old new : RunState) (error : Error) : Type 0 where
+pub record StopsServing (old new : ServingState) (error : Error) : Type 0 where
   pub bytes : List ℕ
   pub reads : ReadsBytes old.reader new.reader old.source new.source bytes
   pub messages : List Message

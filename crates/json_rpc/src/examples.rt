@@ -1,5 +1,5 @@
 //! Examples of requests and replies, each the contract of a function that does nothing.
-ghost use Rattle.json_rpc.specs.Examples.{SetsTheRoot, NotifiesInVain, NotifiesWithEffect, ServesABatch, CannotRead, SaysNothing, EmptyBatch, InvalidBatch, NotifiesAll, MethodIsNoText, UnknownMethod, MissingParam, ParamsByName, NothingThere, AnotherKind, FirstCounts};
+ghost use Rattle.json_rpc.specs.Examples.{SetsTheRoot, NotifiesInVain, NotifiesWithEffect, ServesABatch, CannotRead, SaysNothing, EmptyBatch, InvalidBatch, NotifiesAll, MethodIsNoText, UnknownMethod, MissingParam, ParamsByName, GetsNothing, AnotherKind, FirstCounts};
 
 /// `set` at the root has the result null.
 pub fn sets_the_root()
@@ -68,7 +68,7 @@ pub fn params_by_name()
 
 /// A path to a key that is not there.
 pub fn nothing_there()
-    ensures { NothingThere }
+    ensures { GetsNothing }
 {}
 
 /// An insertion into a number.

@@ -1,8 +1,8 @@
 // Serves the lines of a source, one after another.
 ghost use Rattle.std.specs.Prelude.{OnOk, IfOk, IfErr};
 ghost use Rattle.json_lines.specs.Reading.{line_reader_state};
-ghost use Rattle.json_rpc.specs.Denoted.{document_of, run_state};
-ghost use Rattle.json_rpc.specs.Steps.{StepResult, StepFails, IsFreshRun, FinishesLines, StopsEarly};
+ghost use Rattle.json_rpc.specs.Denoted.{document_of, serving_state};
+ghost use Rattle.json_rpc.specs.Steps.{ServingStepResult, ServingStepFails, IsFreshServing, FinishesServing, StopsServing};
 
 use crate::reply::serve_line;
 use crate::service::Service;
@@ -19,7 +19,7 @@ fn step<S: Source, W: Sink>(
     source: &mut S,
     out: &mut BufferedWriter<W>,
 ) -> Result<bool>
-    ensures ok { IfOk result (λ more. StepResult
+    ensures ok { IfOk result (λ more. ServingStepResult
         (record {
           reader = line_reader_state reader.old;
           source = S.state source.old;
@@ -33,7 +33,7 @@ fn step<S: Source, W: Sink>(
           document = document_of service.new;
         })
         more) }
-    ensures err { IfErr result (λ e. StepFails
+    ensures err { IfErr result (λ e. ServingStepFails
         (record {
           reader = line_reader_state reader.old;
           source = S.state source.old;
@@ -67,17 +67,17 @@ pub(crate) fn serve_lines<S: Source, W: Sink>(
     source: &mut S,
     out: &mut BufferedWriter<W>,
 ) -> Result<()>
-    requires { IsFreshRun (run_state reader.old (S.state source.old)
+    requires { IsFreshServing (serving_state reader.old (S.state source.old)
         (⟦<BufferedWriter<W> as Sink>⟧.state out.old) service.old) }
-    ensures ok { OnOk result (FinishesLines
-        (run_state reader.old (S.state source.old)
+    ensures ok { OnOk result (FinishesServing
+        (serving_state reader.old (S.state source.old)
         (⟦<BufferedWriter<W> as Sink>⟧.state out.old) service.old)
-        (run_state reader.new (S.state source.new)
+        (serving_state reader.new (S.state source.new)
         (⟦<BufferedWriter<W> as Sink>⟧.state out.new) service.new)) }
-    ensures err { IfErr result (λ e. StopsEarly
-        (run_state reader.old (S.state source.old)
+    ensures err { IfErr result (λ e. StopsServing
+        (serving_state reader.old (S.state source.old)
         (⟦<BufferedWriter<W> as Sink>⟧.state out.old) service.old)
-        (run_state reader.new (S.state source.new)
+        (serving_state reader.new (S.state source.new)
         (⟦<BufferedWriter<W> as Sink>⟧.state out.new) service.new) e) }
 {
     'line: loop {

@@ -6,7 +6,7 @@ ghost use Rattle.json_value.specs.Edits.{step_of, path_steps};
 ghost use Rattle.json_value.specs.EditTrees.{each_in, index_of, step_in, path_in};
 ghost use Rattle.json_value.specs.Failures.{OnlyNoMemory};
 ghost use Rattle.json_value.specs.Seen.{seen, elements_seen};
-ghost use Rattle.json_rpc.specs.Methods.{is_edit, positional_params, operation_with, operation_of};
+ghost use Rattle.json_rpc.specs.Methods.{is_edit, positional_params, operation_with, requested_operation};
 ghost use Rattle.json_rpc.specs.Denoted.{request_seen, operation_denoted};
 ghost use Rattle.json_rpc.specs.declared.error.RpcError.TheVariants.{InvalidParams};
 
@@ -234,7 +234,7 @@ pub(crate) fn read_operation(
     request: &Request<'_>,
 ) -> Result<std::result::Result<Operation, RpcError>>
     ensures ok { IfOk result (λ r. result_map_both operation_denoted (λ f. f) r
-        ≡ operation_of (request_seen request.now)) }
+        ≡ requested_operation (request_seen request.now)) }
     ensures only { OnlyNoMemory result }
 {
     let params = request.params;

@@ -6,7 +6,7 @@ ghost use Rattle.json_value.specs.Denotes.{tree_of};
 ghost use Rattle.json_value.specs.Edits.{step_of, steps_of, path_steps, edit_of};
 ghost use Rattle.json_value.specs.Failures.{OnlyNoMemory};
 ghost use Rattle.json_value.specs.Seen.{seen};
-ghost use Rattle.json_rpc.specs.Methods.{error_of, step_into, lookup, get as get_at, change as change_by, performed};
+ghost use Rattle.json_rpc.specs.Methods.{rpc_error_of, step_into, tree_at_path, get as get_at, change as change_by, performed};
 ghost use Rattle.json_rpc.specs.Perform.{container_type, Applies};
 ghost use Rattle.json_rpc.specs.Serving.{responded};
 
@@ -30,7 +30,7 @@ fn container_type(step: &PointerNode) -> JsonType
 // Returns the value that a step leads to, or the error that there is none.
 fn step_into<'a>(here: View<'a>, step: &PointerNode) -> std::result::Result<View<'a>, RpcError>
     ensures { result_map_both seen (λ f. f) result
-        ≡ result_map_both (λ u. u) error_of (step_into (step_of step.now) (seen here.entry)) }
+        ≡ result_map_both (λ u. u) rpc_error_of (step_into (step_of step.now) (seen here.entry)) }
 {
     if here.get_type() != container_type(step) {
         return Err(RpcError::TypeUnmatched);
@@ -44,7 +44,7 @@ fn step_into<'a>(here: View<'a>, step: &PointerNode) -> std::result::Result<View
 // Returns the value that a path leads to, or the error that there is none.
 fn lookup<'a>(root: View<'a>, path: &[PointerNode]) -> std::result::Result<View<'a>, RpcError>
     ensures { result_map_both seen (λ f. f) result
-        ≡ result_map_both (λ u. u) error_of (lookup (steps_of path.now) (seen root.entry)) }
+        ≡ result_map_both (λ u. u) rpc_error_of (tree_at_path (steps_of path.now) (seen root.entry)) }
 {
     let mut here = root;
     'steps: for step in path {

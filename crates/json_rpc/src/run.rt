@@ -3,7 +3,7 @@ ghost use Rattle.std.specs.Prelude.{◌≡◌, ◌≢◌, ◌⊎◌, ◌<◌, Li
 ghost use Rattle.json_command.specs.Input.{max_bytes};
 ghost use Rattle.json_lines.specs.Reading.{line_reader_state, fresh_reader};
 ghost use Rattle.json_lines.specs.TopCall.{run_status as spec_run_status};
-ghost use Rattle.json_rpc.specs.RunResults.{streams, ReadsAll, AppendsReplies, WritesAll, ServesAll, StopsRun, StopsBuffered, RunFails, RefusesWords, ReportsFailure, RunResult, IsRunStatus, NothingFails};
+ghost use Rattle.json_rpc.specs.RunResults.{service_streams, ReadsWholeSource, AppendsReplies, WritesAll, ServesAll, StopsRun, StopsBuffered, ServingRunFails, RefusesAnyWords, ReportsFailure, ServingResult, IsRunStatus, NothingFailsServing};
 ghost use Rattle.json_text.specs.Errors.{bad_words};
 ghost use Rattle.json_text.specs.Known.{Consumes};
 ghost use Rattle.json_text.specs.Outside.{Rose};
@@ -26,11 +26,11 @@ fn serve_buffered<S: Source, W: Sink>(
 ) -> (BufferedWriter<W>, Result<()>)
     requires { line_reader_state reader ≡ fresh_reader 1048576 }
     ensures ok { OnOk result.1 (ServesAll
-        (streams (S.state source.old) (⟦<BufferedWriter<W> as Sink>⟧.state writer))
-        (streams (S.state source.new) (⟦<BufferedWriter<W> as Sink>⟧.state result.0))) }
+        (service_streams (S.state source.old) (⟦<BufferedWriter<W> as Sink>⟧.state writer))
+        (service_streams (S.state source.new) (⟦<BufferedWriter<W> as Sink>⟧.state result.0))) }
     ensures err { IfErr result.1 (λ e. StopsBuffered
-        (streams (S.state source.old) (⟦<BufferedWriter<W> as Sink>⟧.state writer))
-        (streams (S.state source.new) (⟦<BufferedWriter<W> as Sink>⟧.state result.0)) e) }
+        (service_streams (S.state source.old) (⟦<BufferedWriter<W> as Sink>⟧.state writer))
+        (service_streams (S.state source.new) (⟦<BufferedWriter<W> as Sink>⟧.state result.0)) e) }
     ensures loan { (⟦<BufferedWriter<W> as Sink>⟧.state result.0).loan
         ≡ (⟦<BufferedWriter<W> as Sink>⟧.state writer).loan }
 {
@@ -48,10 +48,10 @@ fn serve_buffered<S: Source, W: Sink>(
 
 // Serves all lines of the source, with replies to the sink.
 fn serve_all<S: Source, K: Sink>(alloc: Global, source: &mut S, sink: &mut K) -> Result<()>
-    ensures ok { OnOk result (ServesAll (streams (S.state source.old) (K.state sink.old))
-        (streams (S.state source.new) (K.state sink.new))) }
-    ensures err { IfErr result (λ e. StopsRun (streams (S.state source.old) (K.state sink.old))
-        (streams (S.state source.new) (K.state sink.new)) e) }
+    ensures ok { OnOk result (ServesAll (service_streams (S.state source.old) (K.state sink.old))
+        (service_streams (S.state source.new) (K.state sink.new))) }
+    ensures err { IfErr result (λ e. StopsRun (service_streams (S.state source.old) (K.state sink.old))
+        (service_streams (S.state source.new) (K.state sink.new)) e) }
 {
     let reader = LineReader::new(alloc, MAX_LINE_BYTES)?;
     let buffer = Buffer::new(alloc)?;
@@ -69,11 +69,11 @@ fn serve_without_words<S: Source, K: Sink>(
     sink: &mut K,
 ) -> Result<()>
     ensures none { OnOk result (words.now ≡ []) }
-    ensures ok { OnOk result (ServesAll (streams (S.state source.old) (K.state sink.old))
-        (streams (S.state source.new) (K.state sink.new))) }
-    ensures err { IfErr result (λ e. RunFails words.now
-        (streams (S.state source.old) (K.state sink.old))
-        (streams (S.state source.new) (K.state sink.new)) e) }
+    ensures ok { OnOk result (ServesAll (service_streams (S.state source.old) (K.state sink.old))
+        (service_streams (S.state source.new) (K.state sink.new))) }
+    ensures err { IfErr result (λ e. ServingRunFails words.now
+        (service_streams (S.state source.old) (K.state sink.old))
+        (service_streams (S.state source.new) (K.state sink.new)) e) }
 {
     if words.len() != 0 {
         return Err(BAD_WORDS);
@@ -99,8 +99,8 @@ fn run_words<S: Source, K: Sink, E: Sink>(
     sink: &mut K,
     errs: &mut E,
 ) -> u8
-    ensures { RunResult words.now (streams (S.state source.old) (K.state sink.old))
-        (streams (S.state source.new) (K.state sink.new))
+    ensures { ServingResult words.now (service_streams (S.state source.old) (K.state sink.old))
+        (service_streams (S.state source.new) (K.state sink.new))
         (E.state errs.old) (E.state errs.new) result }
 {
     match serve_without_words(alloc, words, source, sink) {
@@ -148,20 +148,20 @@ pub fn run_rpc<S: Source, K: Sink, E: Sink>(
     sink: &mut K,
     errs: &mut E,
 ) -> u8
-    ensures read { result ≡ 0 → ReadsAll (streams (S.state source.old) (K.state sink.old))
-        (streams (S.state source.new) (K.state sink.new)) }
-    ensures replies { result ≡ 0 → AppendsReplies (streams (S.state source.old) (K.state sink.old))
-        (streams (S.state source.new) (K.state sink.new)) }
-    ensures written { result ≡ 0 → WritesAll (streams (S.state source.old) (K.state sink.old))
-        (streams (S.state source.new) (K.state sink.new)) }
+    ensures read { result ≡ 0 → ReadsWholeSource (service_streams (S.state source.old) (K.state sink.old))
+        (service_streams (S.state source.new) (K.state sink.new)) }
+    ensures replies { result ≡ 0 → AppendsReplies (service_streams (S.state source.old) (K.state sink.old))
+        (service_streams (S.state source.new) (K.state sink.new)) }
+    ensures written { result ≡ 0 → WritesAll (service_streams (S.state source.old) (K.state sink.old))
+        (service_streams (S.state source.new) (K.state sink.new)) }
     ensures silent { result ≡ 0 → E.state errs.new ≡ E.state errs.old }
     ensures failed { result ≢ 0 → ReportsFailure words.now
-        (streams (S.state source.old) (K.state sink.old))
-        (streams (S.state source.new) (K.state sink.new))
+        (service_streams (S.state source.old) (K.state sink.old))
+        (service_streams (S.state source.new) (K.state sink.new))
         (E.state errs.old) (E.state errs.new) result }
-    ensures refused { result ≡ 2 → RefusesWords words.now
-        (streams (S.state source.old) (K.state sink.old))
-        (streams (S.state source.new) (K.state sink.new)) bad_words }
+    ensures refused { result ≡ 2 → RefusesAnyWords words.now
+        (service_streams (S.state source.old) (K.state sink.old))
+        (service_streams (S.state source.new) (K.state sink.new)) bad_words }
     ensures words { words.now ≢ [] → result ≡ 2 }
     ensures known { IsRunStatus result }
     ensures reading { result ≡ 4 → Rose (S.state source.old).faults (S.state source.new).faults }
@@ -171,8 +171,8 @@ pub fn run_rpc<S: Source, K: Sink, E: Sink>(
         × (max_bytes < length bytes) }
     ensures read_told { (S.state source.old).faults < (S.state source.new).faults → result ≡ 4 }
     ensures write_told { (K.state sink.old).faults < (K.state sink.new).faults → result ≡ 5 }
-    ensures complete { NothingFails words.now (streams (S.state source.old) (K.state sink.old))
-        (streams (S.state source.new) (K.state sink.new)) → (result ≡ 0) ⊎ (result ≡ 6) }
+    ensures complete { NothingFailsServing words.now (service_streams (S.state source.old) (K.state sink.old))
+        (service_streams (S.state source.new) (K.state sink.new)) → (result ≡ 0) ⊎ (result ≡ 6) }
 {
     run_words(alloc, words, source, sink, errs)
 }

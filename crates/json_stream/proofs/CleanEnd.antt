@@ -19,7 +19,7 @@ use Rattle.json_text.specs.Ends.{NothingLeft}
 use Rattle.json_text.specs.Faults.{IsValueFault}
 use Rattle.json_text.proofs.OneFaultAt.{code_of, stands}
 use Rattle.json_data.specs.Reading.{Reading}
-use Rattle.json_stream.specs.Streams.{InputState, standing, told_at, TakesValue, Fails, TellsEnd}
+use Rattle.json_stream.specs.Streams.{InputState, standing, told_at, TakesNextValue, NextValueFails, TellsEnd}
 
 front : (n : ℕ) (b : List ℕ) → ws b → ws (take n b)
 front zero b h = tt
@@ -52,10 +52,10 @@ end_is_told lossy limit b c k h i =
 space_left : (s : InputState) → NothingLeft (standing s) → ws (drop s.index s.text)
 space_left s n = let o = n.order in subst ws (take_all (length s.text - s.index) (drop s.index s.text) (omega (arith, length-drop s.index s.text))) n.space
 
-pub none_taken : {A : Type 0} (f : Tree → Reading) (old : InputState) (r : Reading) (new : InputState) → NothingLeft (standing old) → TakesValue f old r new → A
+pub none_taken : {A : Type 0} (f : Tree → Reading) (old : InputState) (r : Reading) (new : InputState) → NothingLeft (standing old) → TakesNextValue f old r new → A
 none_taken f old r new n t = absurd (no_value old.lossy (drop old.index old.text) t.tree t.size (space_left old n) t.value)
 
-pub end_fails : (f : Tree → Reading) (old : InputState) (c : ErrorCode) (p : Place) (new : InputState) → IsUtf8 old.text → NothingLeft (standing old) → Fails f old c p new → TellsEnd old c p
+pub end_fails : (f : Tree → Reading) (old : InputState) (c : ErrorCode) (p : Place) (new : InputState) → IsUtf8 old.text → NothingLeft (standing old) → NextValueFails f old c p new → TellsEnd old c p
 end_fails f old code.NoMemory at.None new u n h = tt
 end_fails f old code.InvalidUTF8 p new u n h = let v = h.0.1 in absurd (v.longest (length old.text) v.short (subst IsUtf8 (sym (take_all (length old.text) old.text (omega arith))) u))
 end_fails f old code.TypeUnmatched p new u n h = none_taken f old _ new n h.takes
@@ -68,7 +68,7 @@ end_fails f old code.EofWhileParsing p new u n h =
     h.1.1 ∙ ap (told_at old) (omega (arith, length-drop old.index old.text))
 end_fails f old c p new u n h = absurd (let q = (end_is_told old.lossy 254 (drop old.index old.text) c h.1.0 (space_left old n) h.1.2).0 in cc)
 
-pub clean_end : {X : Type 0} (f : Tree → Reading) (old new : InputState) (r : Result X Error) (g : X → Reading) → IfOk r (λ v. TakesValue f old (g v) new) → IfErr r (λ e. Fails f old e.code e.place new)
+pub clean_end : {X : Type 0} (f : Tree → Reading) (old new : InputState) (r : Result X Error) (g : X → Reading) → IfOk r (λ v. TakesNextValue f old (g v) new) → IfErr r (λ e. NextValueFails f old e.code e.place new)
     → IsUtf8 old.text → NothingLeft (standing old) → IsErrAnd r (λ e. TellsEnd old e.code e.place)
 clean_end f old new (Ok v) g h i u n = none_taken f old (g v) new n h
 clean_end f old new (Err e) g h i u n = end_fails f old e.code e.place new u n i

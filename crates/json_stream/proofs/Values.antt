@@ -20,7 +20,7 @@ use Rattle.json_text.specs.declared.error.ErrorCode.{ErrorCode}
 use Rattle.json_text.specs.declared.error.ErrorCode.TheVariants as code
 use Rattle.json_text.specs.declared.error.Place.{Place}
 use Rattle.json_text.specs.declared.error.Place.TheVariants as place
-use Rattle.json_text.specs.Ends.{ComesNext, TakesEnd, TrailsAt, LacksEnd}
+use Rattle.json_text.specs.Ends.{ComesNext, ReadsEnd, TrailsAt, LacksEnd}
 use Rattle.json_text.specs.Errors.{no_memory}
 use Rattle.json_text.specs.Faults.{ValueFaultFrom}
 use Rattle.json_text.specs.Parsing.{ParserState, taken}
@@ -31,18 +31,18 @@ use Rattle.json_text.proofs.OneFaultAt.{stands}
 use Rattle.json_data.specs.Reading.{Reading}
 use Rattle.json_data.specs.Refusals.{is_refusal}
 use Rattle.json_data.specs.Stand.{over_text, TakesTree}
-use Rattle.json_data.specs.Text.{TextState, TextFails, HasReadValue, text_taken, text_stand}
+use Rattle.json_data.specs.Text.{TextTokensState, TextFails, HasReadValue, text_taken, text_tokens_state}
 use Rattle.json_text.specs.Repaired.{RepairedText}
-use Rattle.json_stream.specs.Streams.{InputState, stands_at, in_input, IsWithin, TakesValue, RefusesValue, FaultIsLeft, Fails, IsTextAt}
+use Rattle.json_stream.specs.Streams.{InputState, stands_at, in_input, PlaceIsWithin, TakesNextValue, RefusesNextValue, FaultIsLeft, NextValueFails, IsTextAt}
 
 -- the source of tokens reads this text from there on
-pub record ReadsFrom (b : List ℕ) (l : Bool) (i : ℕ) (m : TextState) : Type 0 where
+pub record ReadsFrom (b : List ℕ) (l : Bool) (i : ℕ) (m : TextTokensState) : Type 0 where
   pub text : m.parser.text ≡ b
   pub mode : m.parser.lossy ≡ l
   pub start : m.parser.start ≡ i
   pub limit : m.parser.limit ≡ 254
 
-pub reads_from : (b : List ℕ) (l : Bool) (i : ℕ) (s m : TextState) → s.parser.text ≡ b → s.parser.lossy ≡ l → (s.parser.start ≡ i) × (s.parser.limit ≡ 254) → (text_stand m).input ≡ (text_stand s).input → ReadsFrom b l i m
+pub reads_from : (b : List ℕ) (l : Bool) (i : ℕ) (s m : TextTokensState) → s.parser.text ≡ b → s.parser.lossy ≡ l → (s.parser.start ≡ i) × (s.parser.limit ≡ 254) → (text_tokens_state m).input ≡ (text_tokens_state s).input → ReadsFrom b l i m
 reads_from b l i s m e d f h = record { text = by_text h ∙ e; mode = by_mode h ∙ d; start = by_start h ∙ f.0; limit = by_limit h ∙ f.1 }
   where
     by_text : over_text m.parser.text m.parser.start m.parser.lossy m.parser.limit ≡ over_text s.parser.text s.parser.start s.parser.lossy s.parser.limit → m.parser.text ≡ s.parser.text
@@ -59,14 +59,14 @@ reads_from b l i s m e d f h = record { text = by_text h ∙ e; mode = by_mode h
 
 -- ---- places
 
-pub place_within : (b : List ℕ) (k : ℕ) → k ≤ length b → IsWithin b (place_at b k)
+pub place_within : (b : List ℕ) (k : ℕ) → k ≤ length b → PlaceIsWithin b (place_at b k)
 unfolding place_at
 place_within b k h = h
 
 -- of the text of a repaired input, where it is what is read
-pub within_same : (o : Option (Bor RepairedText)) (b : List ℕ) (p : Place) → IfSome o (λ r. r.now.text ≡ b) → IsWithin b p → IfSome o (λ r. IsWithin r.now.text p)
+pub within_same : (o : Option (Bor RepairedText)) (b : List ℕ) (p : Place) → IfSome o (λ r. r.now.text ≡ b) → PlaceIsWithin b p → IfSome o (λ r. PlaceIsWithin r.now.text p)
 within_same None b p e h = tt
-within_same (Some r) b p e h = subst (λ (y : List ℕ). IsWithin y p) (sym e) h
+within_same (Some r) b p e h = subst (λ (y : List ℕ). PlaceIsWithin y p) (sym e) h
 
 pub same_text : (A : Type 0) (o : Option (Bor RepairedText)) (b : List ℕ) → IfSome o (λ r. (r.now.text ≡ b) × A) → IfSome o (λ r. r.now.text ≡ b)
 same_text A None b h = tt
@@ -90,8 +90,8 @@ reads_some lossy b t n r =
     omega (arith, length-take n b)
 
 -- a tree was taken, which is that of the value, and the place is right behind it
-pub takes_value : (f : Tree → Reading) (b : List ℕ) (l : Bool) (o : Option RepairedText) (i j : ℕ) (s m : TextState) (t : Tree) (r : Reading) → ReadsFrom b l i m → IsUtf8 b → text_taken s [] → TakesTree text_taken text_stand s m t
-    → HasReadValue m → j ≡ m.parser.index → m.parser.start ≤ j → f t ≡ r → TakesValue f (stands_at b l o i) r (stands_at b l o j)
+pub takes_value : (f : Tree → Reading) (b : List ℕ) (l : Bool) (o : Option RepairedText) (i j : ℕ) (s m : TextTokensState) (t : Tree) (r : Reading) → ReadsFrom b l i m → IsUtf8 b → text_taken s [] → TakesTree text_taken text_tokens_state s m t
+    → HasReadValue m → j ≡ m.parser.index → m.parser.start ≤ j → f t ≡ r → TakesNextValue f (stands_at b l o i) r (stands_at b l o j)
 takes_value f b l o i j s m t r e u h k g n q a =
     let w = g (tokens t) (k.takes.on [] h) in
     let same : w.0 ≡ t = sym (tokens_injective t w.0 w.2) in
@@ -118,7 +118,7 @@ behind_value lossy b i n t u h r =
     let c = drop i b in
     IsCharBoundary-from_rest b i n h.0 (IsCharBoundary-from_take c n (IsUtf8-drop b i u h) r.fits (text_utf8 lossy t (take n c) (value_is_text lossy c t n r)))
 
-pub boundary_behind : (f : Tree → Reading) (b : List ℕ) (l : Bool) (o : Option RepairedText) (i j : ℕ) (r : Reading) → IsCharBoundary b i → TakesValue f (stands_at b l o i) r (stands_at b l o j) → IsCharBoundary b j
+pub boundary_behind : (f : Tree → Reading) (b : List ℕ) (l : Bool) (o : Option RepairedText) (i j : ℕ) (r : Reading) → IsCharBoundary b i → TakesNextValue f (stands_at b l o i) r (stands_at b l o j) → IsCharBoundary b j
 boundary_behind f b l o i j r h k =
     let e : j ≡ i + k.size = ap (λ (s : InputState). s.index) k.behind in
     subst (IsCharBoundary b) (sym e) (behind_value l b i k.size k.tree k.utf8 h k.value)
@@ -131,7 +131,7 @@ fault_within l limit b trailing_characters k h = absurd h
 fault_within l limit b row k h = before h.0 h.1 h.2.rest b k h.2.bytes h.3
 
 -- memory ran out, or the fault was met
-pub met : (b : List ℕ) (l : Bool) (i : ℕ) (m : TextState) (e : Error) → ReadsFrom b l i m → (e ≡ no_memory) ⊎ (m.failed ≡ Some e) → IfSome m.failed (TextFails m.parser)
+pub met : (b : List ℕ) (l : Bool) (i : ℕ) (m : TextTokensState) (e : Error) → ReadsFrom b l i m → (e ≡ no_memory) ⊎ (m.failed ≡ Some e) → IfSome m.failed (TextFails m.parser)
     → (e ≡ no_memory) ⊎ ValueFaultFrom l 254 i b e.code e.place
 met b l i m e r h k = by h
   where
@@ -148,15 +148,15 @@ met b l i m e r h k = by h
     by (inl q) = inl q
     by (inr q) = fault (subst (λ (o : Option Error). IfSome o (TextFails m.parser)) q k)
 
-pub met_within : (b : List ℕ) (l : Bool) (i : ℕ) (e : Error) → i ≤ length b → (e ≡ no_memory) ⊎ ValueFaultFrom l 254 i b e.code e.place → IsWithin b e.place
-met_within b l i e w (inl q) = subst (λ (x : Error). IsWithin b x.place) (sym q) tt
+pub met_within : (b : List ℕ) (l : Bool) (i : ℕ) (e : Error) → i ≤ length b → (e ≡ no_memory) ⊎ ValueFaultFrom l 254 i b e.code e.place → PlaceIsWithin b e.place
+met_within b l i e w (inl q) = subst (λ (x : Error). PlaceIsWithin b x.place) (sym q) tt
 met_within b l i e w (inr (k, p, h)) =
     let s = stands (λ row. value_fault l 254 (drop i b) row k) e.code h in
     let n = fault_within l 254 (drop i b) s.row k s.holds in
-    subst (IsWithin b) (sym p) (place_within b (i + k) (omega (arith, length-drop i b)))
+    subst (PlaceIsWithin b) (sym p) (place_within b (i + k) (omega (arith, length-drop i b)))
 
 -- what is left has a fault as a value
-value_fails : (f : Tree → Reading) (s : InputState) (c : ErrorCode) (p : Place) → IsUtf8 s.text → FaultIsLeft s c p → Fails f s c p s
+value_fails : (f : Tree → Reading) (s : InputState) (c : ErrorCode) (p : Place) → IsUtf8 s.text → FaultIsLeft s c p → NextValueFails f s c p s
 value_fails f s code.NoMemory p u (k, e, h) = absurd h
 value_fails f s code.InvalidUTF8 p u (k, e, h) = absurd h
 value_fails f s code.TypeUnmatched p u (k, e, h) = absurd h
@@ -166,23 +166,23 @@ value_fails f s c p u h = (u, h, refl)
 
 -- that is told
 pub gave_up : (f : Tree → Reading) (b : List ℕ) (l : Bool) (o : Option RepairedText) (i : ℕ) (e : Error) → IsUtf8 b → (e ≡ no_memory) ⊎ ValueFaultFrom l 254 i b e.code e.place
-    → Fails f (stands_at b l o i) e.code (in_input o e.place) (stands_at b l o i)
-gave_up f b l o i e u (inl q) = subst (λ (x : Error). Fails f (stands_at b l o i) x.code (in_input o x.place) (stands_at b l o i)) (sym q) (by o)
+    → NextValueFails f (stands_at b l o i) e.code (in_input o e.place) (stands_at b l o i)
+gave_up f b l o i e u (inl q) = subst (λ (x : Error). NextValueFails f (stands_at b l o i) x.code (in_input o x.place) (stands_at b l o i)) (sym q) (by o)
   where
-    by : (o : Option RepairedText) → Fails f (stands_at b l o i) code.NoMemory (in_input o place.None) (stands_at b l o i)
+    by : (o : Option RepairedText) → NextValueFails f (stands_at b l o i) code.NoMemory (in_input o place.None) (stands_at b l o i)
     by None = refl
     by (Some r) = refl
 gave_up f b l o i e u (inr (k, p, h)) = value_fails f (stands_at b l o i) e.code (in_input o e.place) u (k, ap (in_input o) p, h)
 
 -- the tree was refused
-pub tree_fails : (f : Tree → Reading) (old : InputState) (c : ErrorCode) (p : Place) (new : InputState) → is_refusal c ≡ true → RefusesValue f old c p new → Fails f old c p new
+pub tree_fails : (f : Tree → Reading) (old : InputState) (c : ErrorCode) (p : Place) (new : InputState) → is_refusal c ≡ true → RefusesNextValue f old c p new → NextValueFails f old c p new
 tree_fails f old code.TypeUnmatched p new e r = r
 tree_fails f old code.NumberOutOfRange p new e r = r
 tree_fails f old code.ExpectedNumericKey p new e r = r
 tree_fails f old c p new e r = absurd (cc)
 
 -- the input is no UTF-8
-pub utf8_fails : (f : Tree → Reading) (s : InputState) (c : ErrorCode) (p : Place) → Utf8Cause s.text c p → Fails f s c p s
+pub utf8_fails : (f : Tree → Reading) (s : InputState) (c : ErrorCode) (p : Place) → Utf8Cause s.text c p → NextValueFails f s c p s
 utf8_fails f s code.InvalidUTF8 p h = (h, refl)
 utf8_fails f s c p h = absurd h
 
@@ -205,14 +205,14 @@ closing_is_ascii : (k : Kind) → closing k < 128
 closing_is_ascii array = omega arith
 closing_is_ascii object = omega arith
 
-pub trails_within : (s : ParserState) (b : List ℕ) (e : Error) → s.text ≡ b → TrailsAt s e → IsWithin b e.place
-trails_within s b e t h = let n = h.some in subst (λ (y : List ℕ). IsWithin y e.place) t (subst (λ (x : Error). IsWithin s.text x.place) (sym h.told) (place_within s.text h.at (omega arith)))
+pub trails_within : (s : ParserState) (b : List ℕ) (e : Error) → s.text ≡ b → TrailsAt s e → PlaceIsWithin b e.place
+trails_within s b e t h = let n = h.some in subst (λ (y : List ℕ). PlaceIsWithin y e.place) t (subst (λ (x : Error). PlaceIsWithin s.text x.place) (sym h.told) (place_within s.text h.at (omega arith)))
 
-pub lacks_within : (k : Kind) (s : ParserState) (b : List ℕ) (e : Error) → s.text ≡ b → LacksEnd s k e → IsWithin b e.place
-lacks_within k s b e t h = subst (λ (y : List ℕ). IsWithin y e.place) t (subst (λ (x : Error). IsWithin s.text x.place) (sym h.told) (place_within s.text h.at h.next.within))
+pub lacks_within : (k : Kind) (s : ParserState) (b : List ℕ) (e : Error) → s.text ≡ b → LacksEnd s k e → PlaceIsWithin b e.place
+lacks_within k s b e t h = subst (λ (y : List ℕ). PlaceIsWithin y e.place) t (subst (λ (x : Error). PlaceIsWithin s.text x.place) (sym h.told) (place_within s.text h.at h.next.within))
 
 -- behind a closing bracket a character begins
-pub past_end : (k : Kind) (b t : List ℕ) (i j : ℕ) (p q : ParserState) → p.text ≡ t → IsTextAt b i t → TakesEnd p k q → j ≡ q.index → IsTextAt b j t
+pub past_end : (k : Kind) (b t : List ℕ) (i j : ℕ) (p q : ParserState) → p.text ≡ t → IsTextAt b i t → ReadsEnd p k q → j ≡ q.index → IsTextAt b j t
 past_end k b t i j p q e h n o =
     let same : p.text ≡ b = e ∙ h.same in
     let byte : ByteAt b n.at (closing k) = subst (λ (y : List ℕ). ByteAt y n.at (closing k)) same n.closes in

@@ -68,14 +68,14 @@ Tells None why e = why e
 Tells (Some r) why e = (read : Error) × why read × (e ≡ record read { place = origin_place r read.place })
 
 -- the place lies in the text, or is none of a text
-abbrev pub IsWithin : List ℕ → Place → Type 0
-IsWithin b (place.At k line column) = k ≤ length b
-IsWithin b p = Unit {0}
+abbrev pub PlaceIsWithin : List ℕ → Place → Type 0
+PlaceIsWithin b (place.At k line column) = k ≤ length b
+PlaceIsWithin b p = Unit {0}
 
 -- ---- one value
 
 -- the value that comes next was taken, whatever follows it, and r is the reading of its tree
-pub record TakesValue (f : Tree → Reading) (old : InputState) (r : Reading) (new : InputState) : Type 0 where
+pub record TakesNextValue (f : Tree → Reading) (old : InputState) (r : Reading) (new : InputState) : Type 0 where
   pub utf8 : IsUtf8 old.text
   pub tree : Tree
   pub size : ℕ
@@ -87,8 +87,8 @@ pub record TakesValue (f : Tree → Reading) (old : InputState) (r : Reading) (n
   pub within : new.index ≤ length new.text
 
 -- the value that comes next was taken, and its tree is refused at its first byte
-pub record RefusesValue (f : Tree → Reading) (old : InputState) (c : ErrorCode) (p : Place) (new : InputState) : Type 0 where
-  pub takes : TakesValue f old (refuses c) new
+pub record RefusesNextValue (f : Tree → Reading) (old : InputState) (c : ErrorCode) (p : Place) (new : InputState) : Type 0 where
+  pub takes : TakesNextValue f old (refuses c) new
   pub begins : ℕ
   pub next : ComesNext (standing old) begins
   pub place : p ≡ told_at old begins
@@ -99,13 +99,13 @@ FaultIsLeft s c p = (k : ℕ) × (p ≡ told_at s (s.index + k)) × IsValueFault
 
 -- why no value is given, and where it stands then: memory ran out, the whole input is no UTF-8, what is left has a fault as a value, or the
 -- tree of the value is refused
-abbrev pub Fails : (Tree → Reading) → InputState → ErrorCode → Place → InputState → Type 0
-Fails f old code.NoMemory place.None new = new ≡ old
-Fails f old code.InvalidUTF8 p new = Utf8Cause old.text code.InvalidUTF8 p × (new ≡ old)
-Fails f old code.TypeUnmatched p new = RefusesValue f old code.TypeUnmatched p new
-Fails f old code.NumberOutOfRange p new = RefusesValue f old code.NumberOutOfRange p new
-Fails f old code.ExpectedNumericKey p new = RefusesValue f old code.ExpectedNumericKey p new
-Fails f old c p new = IsUtf8 old.text × FaultIsLeft old c p × (new ≡ old)
+abbrev pub NextValueFails : (Tree → Reading) → InputState → ErrorCode → Place → InputState → Type 0
+NextValueFails f old code.NoMemory place.None new = new ≡ old
+NextValueFails f old code.InvalidUTF8 p new = Utf8Cause old.text code.InvalidUTF8 p × (new ≡ old)
+NextValueFails f old code.TypeUnmatched p new = RefusesNextValue f old code.TypeUnmatched p new
+NextValueFails f old code.NumberOutOfRange p new = RefusesNextValue f old code.NumberOutOfRange p new
+NextValueFails f old code.ExpectedNumericKey p new = RefusesNextValue f old code.ExpectedNumericKey p new
+NextValueFails f old c p new = IsUtf8 old.text × FaultIsLeft old c p × (new ≡ old)
 
 -- it is told that the text ended before a value came; or memory ran out
 abbrev pub TellsEnd : InputState → ErrorCode → Place → Type 0
@@ -143,4 +143,4 @@ pub record StreamState : Type 0 where
 -- values were taken one after another, whose readings gave these data
 pub data TakesValues : (Tree → Reading) → InputState → List Datum → InputState → Type 0 where
   none : {f : Tree → Reading} {s : InputState} → TakesValues f s [] s
-  more : {f : Tree → Reading} {old s new : InputState} {ds : List Datum} {d : Datum} → TakesValues f old ds s → TakesValue f s (gives d) new → TakesValues f old (ds ++ d ∷ []) new
+  more : {f : Tree → Reading} {old s new : InputState} {ds : List Datum} {d : Datum} → TakesValues f old ds s → TakesNextValue f s (gives d) new → TakesValues f old (ds ++ d ∷ []) new

@@ -2,9 +2,9 @@
 ghost use Rattle.std.specs.Prelude.{◌≡◌, ◌<◌, ◌^◌, length, true, false, IfSome, IfOk, IfErr, OnOk, OnErr, IsUtf8, option_copied};
 ghost use Rattle.json_grammar.specs.declared.Kind.TheVariants as Kind;
 ghost use Rattle.json_data.specs.Reading.{gives};
-ghost use Rattle.json_data.specs.TextValues.{IsPacked};
+ghost use Rattle.json_data.specs.TextValues.{IsPackedAtRoot};
 ghost use Rattle.json_text.specs.Ends.{NothingLeft, TrailsAt, LacksEnd};
-ghost use Rattle.json_stream.specs.Streams.{InputState, standing, stands_at, offset_in, TakesValue, Fails, PassesEnd, EndFails};
+ghost use Rattle.json_stream.specs.Streams.{InputState, standing, stands_at, offset_in, TakesNextValue, NextValueFails, PassesEnd, EndFails};
 
 use crate::read_value::read_value;
 use crate::stream_deserializer::StreamDeserializer;
@@ -146,10 +146,10 @@ impl<'a> Deserializer<'a> {
     /// value; after any other error it is where it was.
     pub fn deserialize<T: Deserialize<'a>>(&mut self, alloc: Global) -> Result<T>
         ensures ok { IfOk result (λ v.
-            TakesValue T.from_tree self.old (gives (T.datum v)) self.new) }
-        ensures place { IfOk result (T.placed IsPacked) }
+            TakesNextValue T.from_tree self.old (gives (T.datum v)) self.new) }
+        ensures place { IfOk result (T.placed IsPackedAtRoot) }
         ensures err { IfErr result (λ e.
-            Fails T.from_tree self.old e.code e.place self.new) }
+            NextValueFails T.from_tree self.old e.code e.place self.new) }
     {
         match self.text {
             Ok(text) => read_value(alloc, text, self.lossy, self.repaired, &mut self.at),

@@ -2,9 +2,9 @@
 ghost use Rattle.std.specs.Prelude.{◌≡◌, IfSome, IfOk, IfErr, option_copied};
 ghost use Rattle.std.specs.Str.{IsCharBoundary};
 ghost use Rattle.json_data.specs.Reading.{gives};
-ghost use Rattle.json_data.specs.Text.{IsFresh};
-ghost use Rattle.json_data.specs.TextValues.{IsPacked};
-ghost use Rattle.json_stream.specs.Streams.{stands_at, TakesValue, Fails};
+ghost use Rattle.json_data.specs.Text.{IsFreshReader};
+ghost use Rattle.json_data.specs.TextValues.{IsPackedAtRoot};
+ghost use Rattle.json_stream.specs.Streams.{stands_at, TakesNextValue, NextValueFails};
 
 use crate::told::told;
 use json_data::{Deserialize, TextTokens, is_refusal};
@@ -17,7 +17,7 @@ fn tokens_at<'a>(text: &'a str, lossy: bool, from: usize) -> TextTokens<'a>
     ensures text { result.parser.text ≡ text.now }
     ensures start { (result.parser.start ≡ from) × (result.parser.limit ≡ 254) }
     ensures mode { result.parser.lossy ≡ lossy }
-    ensures fresh { IsFresh result }
+    ensures fresh { IsFreshReader result }
 {
     let tokens = TextTokens::at(text, from);
     if lossy { tokens.lossy() } else { tokens }
@@ -34,12 +34,12 @@ pub(crate) fn read_value<'a, T: Deserialize<'a>>(
 ) -> Result<T>
     requires boundary { IsCharBoundary text.now at.old }
     requires same { IfSome repaired (λ r. r.now.text ≡ text.now) }
-    ensures ok { IfOk result (λ v. TakesValue T.from_tree
+    ensures ok { IfOk result (λ v. TakesNextValue T.from_tree
         (stands_at text.now lossy (option_copied repaired.entry) at.old)
         (gives (T.datum v))
         (stands_at text.now lossy (option_copied repaired.entry) at.new)) }
-    ensures place { IfOk result (T.placed IsPacked) }
-    ensures err { IfErr result (λ e. Fails T.from_tree
+    ensures place { IfOk result (T.placed IsPackedAtRoot) }
+    ensures err { IfErr result (λ e. NextValueFails T.from_tree
         (stands_at text.now lossy (option_copied repaired.entry) at.old) e.code e.place
         (stands_at text.now lossy (option_copied repaired.entry) at.new)) }
     ensures boundary { IsCharBoundary text.now at.new }

@@ -2,8 +2,8 @@
 ghost use Rattle.std.specs.Prelude.{◌≡◌, true, false, IfSome, IfOk, IfErr, IsErrAnd, MatchOption, IsUtf8};
 ghost use Rattle.json_text.specs.Ends.{NothingLeft};
 ghost use Rattle.json_data.specs.Reading.{gives};
-ghost use Rattle.json_data.specs.TextValues.{IsPacked};
-ghost use Rattle.json_stream.specs.Streams.{standing, TakesValue, Fails, TellsEnd};
+ghost use Rattle.json_data.specs.TextValues.{IsPackedAtRoot};
+ghost use Rattle.json_stream.specs.Streams.{standing, TakesNextValue, NextValueFails, TellsEnd};
 
 use crate::deserializer::Deserializer;
 use json_data::Deserialize;
@@ -55,11 +55,11 @@ impl<'a, T: Deserialize<'a>> StreamDeserializer<'a, T> {
         ensures none { MatchOption result (self.old.ended ≡ true) (λ _. self.old.ended ≡ false) }
         ensures after { result ≡ None → self.new ≡ self.old }
         ensures ok { IfSome result (λ r. IfOk r (λ v.
-            TakesValue T.from_tree self.old.input (gives (T.datum v)) self.new.input
+            TakesNextValue T.from_tree self.old.input (gives (T.datum v)) self.new.input
             × (self.new.ended ≡ false))) }
-        ensures place { IfSome result (λ r. IfOk r (T.placed IsPacked)) }
+        ensures place { IfSome result (λ r. IfOk r (T.placed IsPackedAtRoot)) }
         ensures err { IfSome result (λ r. IfErr r (λ e.
-            Fails T.from_tree self.old.input e.code e.place self.new.input
+            NextValueFails T.from_tree self.old.input e.code e.place self.new.input
             × (self.new.ended ≡ true))) }
         ensures clean { IsUtf8 self.old.input.text → NothingLeft (standing self.old.input)
             → IfSome result (λ r. IsErrAnd r (λ e. TellsEnd self.old.input e.code e.place)) }

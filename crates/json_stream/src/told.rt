@@ -1,6 +1,6 @@
 // Places of an input whose text was repaired.
 ghost use Rattle.std.specs.Prelude.{◌≡◌, ◌-◌, ◌≤◌, length, IfSome, option_copied};
-ghost use Rattle.json_stream.specs.Streams.{added as spec_added, origin_place, in_input, IsWithin};
+ghost use Rattle.json_stream.specs.Streams.{added as spec_added, origin_place, in_input, PlaceIsWithin};
 
 use json_text::{Error, Place, Repaired};
 
@@ -15,7 +15,7 @@ fn added(repaired: &Repaired, offset: usize) -> usize
 // The place in the input for one in its repaired text.
 #[cold]
 fn origin_of(repaired: &Repaired, place: Place) -> Place
-    requires { IsWithin repaired.now.text place }
+    requires { PlaceIsWithin repaired.now.text place }
     ensures { result ≡ origin_place repaired.now place }
 {
     match place {
@@ -38,7 +38,7 @@ fn origin_of(repaired: &Repaired, place: Place) -> Place
 
 /// Returns an error of the text that is read as it is reported: the same, at its place in the input.
 pub(crate) fn told(repaired: Option<&Repaired>, error: Error) -> Error
-    requires { IfSome repaired (λ r. IsWithin r.now.text error.place) }
+    requires { IfSome repaired (λ r. PlaceIsWithin r.now.text error.place) }
     ensures { result ≡ record error {
       place = in_input (option_copied repaired.entry) error.place;
     } }

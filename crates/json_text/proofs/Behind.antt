@@ -7,7 +7,7 @@ use Rattle.json_grammar.specs.declared.Spot.TheVariants.{Done as done}
 use Rattle.json_grammar.specs.Tree.{Tree, depth, Token, num, num_token, tokens}
 use Rattle.json_grammar.specs.Grammar.{IsWhitespace, IsDigit, ws, value, ◌then◌}
 use Rattle.json_grammar.specs.Place.{reading}
-use Rattle.json_grammar.specs.Given.{Given}
+use Rattle.json_grammar.specs.Given.{PrefixAt}
 use Rattle.json_grammar.specs.Fault.{reads}
 use Rattle.json_grammar.specs.Levels.{peak}
 use Rattle.json_grammar.proofs.Depth.{peak_tree}
@@ -25,7 +25,7 @@ cons_not_nil : (x : ℕ) (m : List ℕ) → x ∷ m ≡ [] → ⊥
 cons_not_nil x m e = cc
 
 -- where a number that ends in a zero was read, a zero stands last
-zero_last : (lossy : Bool) (b : List ℕ) (k : ℕ) (z : List ℕ) (ts : List Token) → Given lossy b (k + 1) [] done ts → ¬ (IsWhitespace (get_or b k 0)) → ts ≡ num_token (z ++ 48 ∷ []) ∷ [] → get_or b k 0 ≡ 48
+zero_last : (lossy : Bool) (b : List ℕ) (k : ℕ) (z : List ℕ) (ts : List Token) → PrefixAt lossy b (k + 1) [] done ts → ¬ (IsWhitespace (get_or b k 0)) → ts ≡ num_token (z ++ 48 ∷ []) ∷ [] → get_or b k 0 ≡ 48
 zero_last lossy b k z ts g n o =
     let fits : k + 1 ≤ length b = g.fits in
     let f = take (k + 1) b in
@@ -33,7 +33,7 @@ zero_last lossy b k z ts g n o =
     let same : take (k + 1) f ≡ f = take_all (k + 1) f (omega arith) in
     let nothing : drop (k + 1) f ≡ [] = nil_from_length (drop (k + 1) f) (omega (arith, length-drop (k + 1) f)) in
     let here : get_or f k 0 ≡ get_or b k 0 = get_or-take (k + 1) b k 0 (omega arith) in
-    let alone : Given lossy f (k + 1) [] done ts = record { fits = omega arith; at = subst (λ y. reading lossy y [] done ts) (sym same) g.at; ends = λ d m a e x u v h w. cons_not_nil x u (sym h ∙ nothing) } in
+    let alone : PrefixAt lossy f (k + 1) [] done ts = record { fits = omega arith; at = subst (λ y. reading lossy y [] done ts) (sym same) g.at; ends = λ d m a e x u v h w. cons_not_nil x u (sym h ∙ nothing) } in
     let r = given_reads lossy f k ts alone (λ s. n (subst IsWhitespace here s)) (λ x m e d w. cons_not_nil x m (sym e ∙ nothing)) in
     let t : r.0 ≡ num (z ++ 48 ∷ []) = tokens_injective r.0 (num (z ++ 48 ∷ [])) (sym r.2 ∙ o) in
     by f (sym here) long (subst (λ y. (ws then value lossy y) f) t (subst (ws then value lossy r.0) same r.1.spells))
@@ -54,7 +54,7 @@ read_up_to lossy limit b k ts s n = go (cases_lt s.base (k + 1))
         let o = s.order in
         let e : s.base ≡ k + 1 = omega arith in
         let last : k + 1 - 1 ≡ k = omega arith in
-        let g : Given lossy b (k + 1) [] done ts = subst (λ i. Given lossy b i [] done ts) e s.given in
+        let g : PrefixAt lossy b (k + 1) [] done ts = subst (λ i. PrefixAt lossy b i [] done ts) e s.given in
         let apart = subst (λ i. 0 < i → get_or b (i - 1) 0 ≡ 48 → (i < length b → ¬ (IsDigit (get_or b i 0)))) e s.apart in
         let no_digit = λ (x : ℕ) (m : List ℕ) (z : List ℕ) (f : drop (k + 1) b ≡ x ∷ m) (d : IsDigit x) (h : ts ≡ num_token (z ++ 48 ∷ []) ∷ []).
         let zero : get_or b (k + 1 - 1) 0 ≡ 48 = ap (λ i. get_or b i 0) last ∙ zero_last lossy b k z ts g n h in

@@ -13,7 +13,7 @@ use Rattle.json_grammar.proofs.NumberScan.{number_by_state}
 use Rattle.json_text.specs.declared.error.ErrorCode.{ErrorCode}
 use Rattle.json_text.specs.declared.error.ErrorCode.TheVariants as code
 use Rattle.json_text.specs.Due.{TokenNeeds, NextNeeds}
-use Rattle.json_text.specs.Literals.{Refused, WordStops}
+use Rattle.json_text.specs.Literals.{RefusesLiteral, WordStops}
 use Rattle.json_text.specs.Numbers.{IsUnfinished, GoesNoFurther, StopsAt}
 use Rattle.json_text.specs.Runs.{ByteAt}
 use Rattle.json_text.specs.Escapes.{EscapeStops}
@@ -75,10 +75,10 @@ needs_word lossy word b at k c i s = record { order = let p = s.place in omega a
         (subst (BeginsToken lossy) (sym s.bytes)
         (record { rest = drop s.count word; begun = λ f. let m = s.short in absurd (omega (arith, length-take s.count word, ap length f)); unfinished = left; token = inl (subst is_word (sym whole) i) })))
 
-pub needs_number : (lossy : Bool) (b : List ℕ) (at k : ℕ) (c : ErrorCode) → StopsAt b at k → Refused b code.InvalidNumber c k → TokenNeeds lossy b at c k
+pub needs_number : (lossy : Bool) (b : List ℕ) (at k : ℕ) (c : ErrorCode) → StopsAt b at k → RefusesLiteral b code.InvalidNumber c k → TokenNeeds lossy b at c k
 needs_number lossy b at k c st r = record { order = st.at.order; begun = by st.why }
   where
-    refused : k < length b → Refused b code.InvalidNumber c k → c ≡ code.InvalidNumber
+    refused : k < length b → RefusesLiteral b code.InvalidNumber c k → c ≡ code.InvalidNumber
     refused l (inl (m, e)) = e
     refused l (inr (m, e)) = absurd (omega arith)
 

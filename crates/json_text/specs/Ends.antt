@@ -41,7 +41,7 @@ pub record IsNewAt (text : List ℕ) (lossy : Bool) (limit i : ℕ) (s : ParserS
   pub unfailed : s.failure ≡ None
 
 -- the closing bracket comes next, and the new parser begins right behind it
-pub record TakesEnd (old : ParserState) (k : Kind) (new : ParserState) : Type 0 where
+pub record ReadsEnd (old : ParserState) (k : Kind) (new : ParserState) : Type 0 where
   pub at : ℕ
   pub next : ComesNext old at
   pub closes : ByteAt old.text at (closing k)

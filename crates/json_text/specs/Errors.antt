@@ -15,44 +15,44 @@ pub record Row : Type 0 where
   pub number : ℕ
   pub category : Category
 
-abbrev pub row : List ℕ → ℕ → Category → Row
-row n k c = record { name = n; number = k; category = c }
+abbrev pub code_row : List ℕ → ℕ → Category → Row
+code_row n k c = record { name = n; number = k; category = c }
 
-abbrev pub row_of : ErrorCode → Row
-row_of code.NoMemory = row (codes "NoMemory") 1 category.Memory
-row_of code.Io = row (codes "Io") 2 category.Io
-row_of code.TooLarge = row (codes "TooLarge") 3 category.Limit
-row_of code.InvalidUTF8 = row (codes "InvalidUTF8") 4 category.Syntax
-row_of code.EofWhileParsing = row (codes "EofWhileParsing") 5 category.Eof
-row_of code.InvalidLiteral = row (codes "InvalidLiteral") 6 category.Syntax
-row_of code.InvalidNumber = row (codes "InvalidNumber") 7 category.Syntax
-row_of code.ExpectedColon = row (codes "ExpectedColon") 8 category.Syntax
-row_of code.ExpectedArrayCommaOrEnd = row (codes "ExpectedArrayCommaOrEnd") 9 category.Syntax
-row_of code.ExpectedObjectCommaOrEnd = row (codes "ExpectedObjectCommaOrEnd") 10 category.Syntax
-row_of code.ExpectObjectKeyOrEnd = row (codes "ExpectObjectKeyOrEnd") 11 category.Syntax
-row_of code.TrailingComma = row (codes "TrailingComma") 12 category.Syntax
-row_of code.InvalidJsonValue = row (codes "InvalidJsonValue") 13 category.Syntax
-row_of code.ControlCharacter = row (codes "ControlCharacter") 14 category.Syntax
-row_of code.InvalidEscape = row (codes "InvalidEscape") 15 category.Syntax
-row_of code.InvalidSurrogate = row (codes "InvalidSurrogate") 16 category.Syntax
-row_of code.TrailingCharacters = row (codes "TrailingCharacters") 17 category.Syntax
-row_of code.RecursionLimitExceeded = row (codes "RecursionLimitExceeded") 18 category.Limit
-row_of code.NotFound = row (codes "NotFound") 19 category.NotFound
-row_of code.TypeUnmatched = row (codes "TypeUnmatched") 20 category.TypeUnmatched
-row_of code.NumberOutOfRange = row (codes "NumberOutOfRange") 21 category.TypeUnmatched
-row_of code.SerExpectKeyIsStrOrNum = row (codes "SerExpectKeyIsStrOrNum") 22 category.TypeUnmatched
-row_of code.ExpectedNumericKey = row (codes "ExpectedNumericKey") 23 category.TypeUnmatched
-row_of code.BadWords = row (codes "BadWords") 24 category.Syntax
-row_of code.DuplicateKey = row (codes "DuplicateKey") 25 category.Syntax
+abbrev pub row_of_code : ErrorCode → Row
+row_of_code code.NoMemory = code_row (codes "NoMemory") 1 category.Memory
+row_of_code code.Io = code_row (codes "Io") 2 category.Io
+row_of_code code.TooLarge = code_row (codes "TooLarge") 3 category.Limit
+row_of_code code.InvalidUTF8 = code_row (codes "InvalidUTF8") 4 category.Syntax
+row_of_code code.EofWhileParsing = code_row (codes "EofWhileParsing") 5 category.Eof
+row_of_code code.InvalidLiteral = code_row (codes "InvalidLiteral") 6 category.Syntax
+row_of_code code.InvalidNumber = code_row (codes "InvalidNumber") 7 category.Syntax
+row_of_code code.ExpectedColon = code_row (codes "ExpectedColon") 8 category.Syntax
+row_of_code code.ExpectedArrayCommaOrEnd = code_row (codes "ExpectedArrayCommaOrEnd") 9 category.Syntax
+row_of_code code.ExpectedObjectCommaOrEnd = code_row (codes "ExpectedObjectCommaOrEnd") 10 category.Syntax
+row_of_code code.ExpectObjectKeyOrEnd = code_row (codes "ExpectObjectKeyOrEnd") 11 category.Syntax
+row_of_code code.TrailingComma = code_row (codes "TrailingComma") 12 category.Syntax
+row_of_code code.InvalidJsonValue = code_row (codes "InvalidJsonValue") 13 category.Syntax
+row_of_code code.ControlCharacter = code_row (codes "ControlCharacter") 14 category.Syntax
+row_of_code code.InvalidEscape = code_row (codes "InvalidEscape") 15 category.Syntax
+row_of_code code.InvalidSurrogate = code_row (codes "InvalidSurrogate") 16 category.Syntax
+row_of_code code.TrailingCharacters = code_row (codes "TrailingCharacters") 17 category.Syntax
+row_of_code code.RecursionLimitExceeded = code_row (codes "RecursionLimitExceeded") 18 category.Limit
+row_of_code code.NotFound = code_row (codes "NotFound") 19 category.NotFound
+row_of_code code.TypeUnmatched = code_row (codes "TypeUnmatched") 20 category.TypeUnmatched
+row_of_code code.NumberOutOfRange = code_row (codes "NumberOutOfRange") 21 category.TypeUnmatched
+row_of_code code.SerExpectKeyIsStrOrNum = code_row (codes "SerExpectKeyIsStrOrNum") 22 category.TypeUnmatched
+row_of_code code.ExpectedNumericKey = code_row (codes "ExpectedNumericKey") 23 category.TypeUnmatched
+row_of_code code.BadWords = code_row (codes "BadWords") 24 category.Syntax
+row_of_code code.DuplicateKey = code_row (codes "DuplicateKey") 25 category.Syntax
 
 abbrev pub name_of : ErrorCode → List ℕ
-name_of c = (row_of c).name
+name_of c = (row_of_code c).name
 
 abbrev pub number_of : ErrorCode → ℕ
-number_of c = (row_of c).number
+number_of c = (row_of_code c).number
 
 abbrev pub category_of : ErrorCode → Category
-category_of c = (row_of c).category
+category_of c = (row_of_code c).category
 
 -- the offset, the line and the column of a place in the input
 abbrev pub offset_of : Place → Option ℕ

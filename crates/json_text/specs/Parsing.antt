@@ -11,7 +11,7 @@ use Rattle.json_grammar.specs.Needs.{IsGap}
 use Rattle.json_text.specs.declared.error.Error.{Error}
 use Rattle.json_text.specs.declared.event.Event.{Event}
 use Rattle.json_text.specs.declared.event.Event.TheVariants as event
-use Rattle.json_text.specs.Events.{Means, IsRead, raw_size, token_bytes, EndsToken}
+use Rattle.json_text.specs.Events.{Means, IsRead, raw_size, event_bytes, EndsToken}
 use Rattle.json_text.specs.Faults.{IsFault, FaultFrom, IsInValue}
 use Rattle.json_text.specs.Due.{NextNeeds}
 use Rattle.json_text.specs.Positions.{place_at}
@@ -71,7 +71,7 @@ pub record TakesToken (old : ParserState) (e : Event) (new : ParserState) : Type
   pub begins : ℕ
   pub order : (old.index ≤ begins) × (begins < new.index)
   pub gap : IsGap (piece new.text old.index begins)
-  pub bytes : piece new.text begins new.index ≡ token_bytes e
+  pub bytes : piece new.text begins new.index ≡ event_bytes e
   pub mode : IsRead old.lossy e
 
 -- so at each event but the end
@@ -101,8 +101,8 @@ pub record IsDue (old : ParserState) (e : Error) : Type 0 where
   pub needs : NextNeeds old.lossy (input old) (taken old) e.code offset
 
 -- the events so far begin the tokens of each text that begins so; where the last is a number, of each in which it goes no further
-abbrev pub EventsBegin : ParserState → Type 0
-EventsBegin s = (ts : List Token) → HasGiven s ts → (t : Tree) (b : List ℕ) → is_text s.lossy t (take (taken s) (input s) ++ b) → LastEnds s.spot ts b → (m : List Token) × (tokens t ≡ ts ++ m)
+abbrev pub EventsBeginTexts : ParserState → Type 0
+EventsBeginTexts s = (ts : List Token) → HasGiven s ts → (t : Tree) (b : List ℕ) → is_text s.lossy t (take (taken s) (input s) ++ b) → LastEnds s.spot ts b → (m : List Token) × (tokens t ≡ ts ++ m)
 
 -- one value was read, whatever follows it, and the parser stands right behind it: a number is the longest there, and no digit follows a leading zero
 abbrev pub HasRead : ParserState → Type 0

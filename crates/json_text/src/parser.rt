@@ -7,8 +7,8 @@ ghost use Rattle.json_grammar.specs.Given.{piece};
 ghost use Rattle.json_text.specs.Faults.{IsFault, IsInValue, ValueFaultFrom};
 ghost use Rattle.json_text.specs.Due.{NextNeeds};
 ghost use Rattle.json_text.specs.Parsing.{input, taken, HasGiven, SameInput, IsWhole, Goes, IsTight};
-ghost use Rattle.json_text.specs.Parsing.{IsLent, Refuses, IsDue, EventsBegin, HasRead};
-ghost use Rattle.json_text.specs.Ends.{ComesNext, NothingLeft, IsNewAt, TrailsAt, TakesEnd, LacksEnd, no_end as spec_no_end};
+ghost use Rattle.json_text.specs.Parsing.{IsLent, Refuses, IsDue, EventsBeginTexts, HasRead};
+ghost use Rattle.json_text.specs.Ends.{ComesNext, NothingLeft, IsNewAt, TrailsAt, ReadsEnd, LacksEnd, no_end as spec_no_end};
 ghost use Rattle.json_text.specs.Positions.{place_at};
 
 use crate::error::{Error, ErrorCode, Result};
@@ -307,7 +307,7 @@ impl<'a> Parser<'a> {
             → ValueFaultFrom self.old.lossy self.old.limit self.old.start self.old.text e.code e.place) }
         ensures whole { IfOk result (λ e. e ≡ Event.End → IsWhole self.old) }
         ensures reads { OnOk result (¬ (IsWhole self.old) → IsWhole self.new → HasRead self.new) }
-        ensures begins { EventsBegin self.new }
+        ensures begins { EventsBeginTexts self.new }
     {
         self.next_by::<0>()
     }
@@ -328,7 +328,7 @@ impl<'a> Parser<'a> {
             → ValueFaultFrom self.old.lossy self.old.limit self.old.start self.old.text e.code e.place) }
         ensures whole { IfOk result (λ e. e ≡ Event.End → IsWhole self.old) }
         ensures reads { OnOk result (¬ (IsWhole self.old) → IsWhole self.new → HasRead self.new) }
-        ensures begins { EventsBegin self.new }
+        ensures begins { EventsBeginTexts self.new }
     {
         if self.failure.is_some() {
             return Err(self.refusal());
@@ -391,7 +391,7 @@ impl<'a> Parser<'a> {
 
     /// Takes whitespace and the bracket that closes a container of this kind, and begins anew after it.
     fn end_of(&mut self, kind: Kind) -> Result<()>
-        ensures ok { OnOk result (TakesEnd self.old kind self.new) }
+        ensures ok { OnOk result (ReadsEnd self.old kind self.new) }
         ensures err { IfErr result (LacksEnd self.old kind) }
         ensures kept { OnErr result (self.new ≡ self.old) }
     {
@@ -412,7 +412,7 @@ impl<'a> Parser<'a> {
     /// next byte that is no whitespace; then the parser does not move. Behind `]` it is a new parser of the same limit and mode.
     pub fn end_seq(&mut self) -> Result<()>
         requires { HasGiven self.old [] ⊎ IsWhole self.old }
-        ensures ok { OnOk result (TakesEnd self.old Kind.Array self.new) }
+        ensures ok { OnOk result (ReadsEnd self.old Kind.Array self.new) }
         ensures err { IfErr result (LacksEnd self.old Kind.Array) }
         ensures kept { OnErr result (self.new ≡ self.old) }
     {
@@ -425,7 +425,7 @@ impl<'a> Parser<'a> {
     /// limit and mode.
     pub fn end_map(&mut self) -> Result<()>
         requires { HasGiven self.old [] ⊎ IsWhole self.old }
-        ensures ok { OnOk result (TakesEnd self.old Kind.Object self.new) }
+        ensures ok { OnOk result (ReadsEnd self.old Kind.Object self.new) }
         ensures err { IfErr result (LacksEnd self.old Kind.Object) }
         ensures kept { OnErr result (self.new ≡ self.old) }
     {

@@ -5,7 +5,7 @@ use Rattle.json_grammar.specs.Sizes.{nodes, pairs_nodes}
 use Rattle.json_grammar.specs.Tree.{Tree, null, boolean, num, text, list, pairs, Trees, no_trees, tree_and, Pairs, no_pairs, pair_and, list_trees, list_pairs, trees_list, pairs_list}
 use Rattle.json_model.specs.Print.{shown, trees_shown, more_trees_shown, pairs_shown, more_pairs_shown, quoted}
 use Rattle.json_print.specs.Calls.{comma}
-use Rattle.json_value.specs.Seen.{list_of, pairs_of}
+use Rattle.json_value.specs.Seen.{list_of, object_pairs}
 use Rattle.json_value.proofs.Trees.{array_back, object_back}
 
 -- ---- with no indent a level is like the other
@@ -110,7 +110,7 @@ pub member_shown : (ps : List (List ℕ × Tree)) (i : ℕ) (c k : List ℕ) (u 
 member_shown ps i c k u s e = ap (λ x. (object_text ps i ++ (x ++ (quoted k ++ 58 ∷ []))) ++ shown None 0 u) s ∙ member_behind ps i k u e ∙ ap (object_text ps) (next i)
 
 -- an object is the list of its members
-pub pairs_itself : (t : Tree) (ps : List (List ℕ × Tree)) → Some ps ≡ pairs_of t → pairs (list_pairs ps) ≡ t
+pub pairs_itself : (t : Tree) (ps : List (List ℕ × Tree)) → Some ps ≡ object_pairs t → pairs (list_pairs ps) ≡ t
 pairs_itself (pairs us) ps e = let s : ps ≡ pairs_list us = cc in ap (λ l. pairs (list_pairs l)) s ∙ object_back (pairs us) refl
 pairs_itself null ps e = absurd (cc)
 pairs_itself (boolean b) ps e = absurd (cc)

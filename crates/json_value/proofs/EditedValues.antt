@@ -7,11 +7,11 @@ use Rattle.json_value.specs.Denotes.{tree_of, list_in, pairs_in, pair_of, text_b
 use Rattle.json_model.specs.Edit.{Step, key_step, index_step}
 use Rattle.json_value.specs.Edits.{steps_of, step_of}
 use Rattle.json_value.specs.FirstMember.{IsFirstOf}
-use Rattle.json_value.specs.Lending.{first_node, Puts}
+use Rattle.json_value.specs.Lending.{first_node, PutsAtPath}
 use Rattle.json_value.specs.Rows.{owned, keyed_so, IsOwnObject}
 use Rattle.json_value.specs.Spots.{spot_of_text}
 use Rattle.json_value.specs.Steps.{child}
-use Rattle.json_value.specs.Touched.{ArrayTouched, ObjectTouched, AtElement, AtMember, Appended, Touches, RemovalTouches, unkeyed, Along, ReplacedBy, Exchanges, Adds, OfValue, UpsertedAt, Upserts, ExchangesOrUpserts}
+use Rattle.json_value.specs.Touched.{ArrayTouched, ObjectTouched, AtElement, AtMember, Appended, Touches, RemovalTouches, unkeyed, Along, ReplacedBy, Exchanges, AppendsItem, OfValue, UpsertedAt, Upserts, ExchangesOrUpserts}
 use Rattle.json_value.specs.Written.{FirstElements, FirstMembers, value_in}
 use Rattle.json_value.specs.declared.container.Container.{Container}
 use Rattle.json_value.specs.declared.pair.Keyed.{Keyed}
@@ -94,7 +94,7 @@ pub member_exchanged : (k : List ℕ) (ps : List (Keyed Value)) (i : ℕ) (p : K
 member_exchanged k ps i p x w old new is first same =
     object_as old new (λ items now. became (AtMember k (ReplacedBy x w)) ps (set ps i (keyed_so p.key w)) items now (at_member (ReplacedBy x w) k ps i p w is first (sym same, refl)))
 
-pub element_added : (vs us : List Value) (v w old new : Value) (i : ℕ) → us ≡ vs ++ v ∷ [] → i ≡ length vs → ArrayTouched (ReplacedBy vs (set us i w)) old new → Adds w old new
+pub element_added : (vs us : List Value) (v w old new : Value) (i : ℕ) → us ≡ vs ++ v ∷ [] → i ≡ length vs → ArrayTouched (ReplacedBy vs (set us i w)) old new → AppendsItem w old new
 element_added vs us v w old new i made end = array_as old new (λ items now. became (λ items now. now ≡ items ++ w ∷ []) vs (set us i w) items now (last_set vs us v i made end w))
 
 -- the member at the first member of a key, with another value
@@ -138,6 +138,6 @@ pub exchanged_here : (path : List PointerNode) (x w : Value) → path ≡ [] →
 exchanged_here path x w e = subst (λ (q : List PointerNode). Exchanges (steps_of q) x w x w) (sym e) (refl, refl)
 
 pub puts_along : (path rest : List PointerNode) (x y z w old new : Value) → 0 < length path → rest ≡ drop 1 path → child (step_of (first_node path)) (tree_of old) ≡ Some (tree_of x)
-    → Puts (step_of (first_node path) ∷ []) x y old new → Puts (steps_of rest) z w x y → Puts (steps_of path) z w old new
+    → PutsAtPath (step_of (first_node path) ∷ []) x y old new → PutsAtPath (steps_of rest) z w x y → PutsAtPath (steps_of path) z w old new
 puts_along path rest x y z w old new more shorter here e f =
     (along path rest (tree_of old) (tree_of x) more shorter here (tree_of new) (tree_of y) (tree_of w) e.0 f.0, exchanged_along path rest x y z w old new more shorter e.1 f.1)

@@ -6,10 +6,10 @@ use Rattle.json_text.specs.declared.error.ErrorCode.{ErrorCode}
 use Rattle.json_text.specs.declared.error.Place.{Place}
 use Rattle.json_model.specs.Edit.{Step, key_step, index_step, Changed, at_path, edited_once}
 use Rattle.json_value.specs.Denotes.{tree_of}
-use Rattle.json_value.specs.Edits.{edit_of, path_of, change_of, RefusesChange}
-use Rattle.json_value.specs.Lending.{Puts}
+use Rattle.json_value.specs.Edits.{edit_of, edit_path, change_of, RefusesChange}
+use Rattle.json_value.specs.Lending.{PutsAtPath}
 use Rattle.json_value.specs.Steps.{child, tree_at}
-use Rattle.json_value.specs.Touched.{Along, ReplacedBy, KeptAlong, Same, Touches, Keeps, ChangeTouches, ChangeKeeps}
+use Rattle.json_value.specs.Touched.{Along, ReplacedBy, KeptAlong, Same, Touches, KeepsOnRefusal, ChangeTouches, ChangeKeeps}
 use Rattle.json_value.specs.declared.path.Edit.{Edit}
 use Rattle.json_value.specs.declared.path.Edit.TheVariants.{Set, Insert, Push, Remove}
 use Rattle.json_value.specs.declared.value.Value.{Value}
@@ -21,7 +21,7 @@ use Rattle.json_value.proofs.WhereStepsLead.{onward, change_refused_there}
 
 -- ---- trees
 
-edited_there : (d : Edit) (t : Tree) → edited_once (edit_of d) t ≡ at_path (path_of d) (change_of d) t
+edited_there : (d : Edit) (t : Tree) → edited_once (edit_of d) t ≡ at_path (edit_path d) (change_of d) t
 edited_there (Set p v) t = refl
 edited_there (Insert p k v) t = refl
 edited_there (Push p v) t = refl
@@ -64,11 +64,11 @@ kept_along_as (index_step i ∷ p) Kept Others other old new (inr t) = inr (arra
 
 -- ---- the value x at the end of the path of an edit was changed to y
 
-module _ (d : Edit) (p : List Step) (is : p ≡ path_of d) where
+module _ (d : Edit) (p : List Step) (is : p ≡ edit_path d) where
   way : (t : Tree) → edited_once (edit_of d) t ≡ at_path p (change_of d) t
   way t = edited_there d t ∙ ap (λ (q : List Step). at_path q (change_of d) t) (sym is)
 
-  module _ (x y old new : Value) (here : tree_at p (tree_of old) ≡ Some (tree_of x)) (puts : Puts p x y old new) where
+  module _ (x y old new : Value) (here : tree_at p (tree_of old) ≡ Some (tree_of x)) (puts : PutsAtPath p x y old new) where
     pub edit_made : change_of d (tree_of x) ≡ Ok (tree_of y) → edited_once (edit_of d) (tree_of old) ≡ Ok (tree_of new)
     edit_made e = way (tree_of old) ∙ there_along p (tree_of old) (tree_of x) (change_of d) (Ok (tree_of y)) here e ∙ puts.0
 
@@ -82,15 +82,15 @@ module _ (d : Edit) (p : List Step) (is : p ≡ path_of d) where
         refuses_so (change_of d (tree_of x)) (edited_once (edit_of d) (tree_of old))
         (λ r e. way (tree_of old) ∙ change_refused_there p (change_of d) (tree_of old) (tree_of x) r here e)
 
-    pub edit_touches : ChangeTouches d x y → Touches (path_of d) d old new
+    pub edit_touches : ChangeTouches d x y → Touches (edit_path d) d old new
     edit_touches h =
         subst (λ (q : List Step). Touches q d old new) is
         (along_as p (ReplacedBy x y) (ChangeTouches d) (λ before after. became (ChangeTouches d) x y before after h) old new puts.1)
 
-    pub edit_keeps : ChangeKeeps d x y → Keeps (path_of d) d old new
+    pub edit_keeps : ChangeKeeps d x y → KeepsOnRefusal (edit_path d) d old new
     edit_keeps h =
-        subst (λ (q : List Step). Keeps q d old new) is
+        subst (λ (q : List Step). KeepsOnRefusal q d old new) is
         (kept_of p (ChangeKeeps d) old new (along_as p (ReplacedBy x y) (ChangeKeeps d) (λ before after. became (ChangeKeeps d) x y before after h) old new puts.1))
 
-  pub unlent_keeps : (old new : Value) → KeptAlong p Same old new → Keeps (path_of d) d old new
-  unlent_keeps old new h = subst (λ (q : List Step). Keeps q d old new) is (kept_along_as p Same (ChangeKeeps d) (change_as_was d) old new h)
+  pub unlent_keeps : (old new : Value) → KeptAlong p Same old new → KeepsOnRefusal (edit_path d) d old new
+  unlent_keeps old new h = subst (λ (q : List Step). KeepsOnRefusal q d old new) is (kept_along_as p Same (ChangeKeeps d) (change_as_was d) old new h)

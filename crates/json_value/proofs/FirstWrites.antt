@@ -5,7 +5,7 @@ use Rattle.std.proofs.lemmas.List.Folds.{flat_map-map}
 use Rattle.std.proofs.lemmas.Option.{none-some, same_Some}
 use Rattle.json_grammar.specs.Tree.{Tree, null, boolean, num, text, list, pairs}
 use Rattle.json_doc.specs.Kinds.{type_number}
-use Rattle.json_doc.specs.Places.{child_of, key_of}
+use Rattle.json_doc.specs.Places.{child_of, key_position}
 use Rattle.json_doc.specs.Readings.{elements, type_of}
 use Rattle.json_doc.specs.declared.cell.Cell.TheVariants as cell
 use Rattle.json_doc.specs.declared.json_type.JsonType.{JsonType}
@@ -36,7 +36,7 @@ abbrev child_spot : CellRef → ℕ → CellRef
 child_spot s i = record { cells = s.cells; bytes = s.bytes; at = child_of s.cells s.at i }
 
 abbrev key_spot : CellRef → ℕ → CellRef
-key_spot s i = record { cells = s.cells; bytes = s.bytes; at = key_of s.cells s.at i }
+key_spot s i = record { cells = s.cells; bytes = s.bytes; at = key_position s.cells s.at i }
 
 -- there is no other place of the kind
 kind_there : (k : JsonType) (x s : CellRef) → kind_spot k x ≡ Some s → x ≡ s

@@ -9,7 +9,7 @@ use Rattle.json_number.specs.Numbers.{value_of, text_of_number}
 use Rattle.json_number.specs.declared.number.Number.{Number}
 use Rattle.json_number.proofs.Forms.{reads}
 use Rattle.json_number.proofs.Integers.{prints_its_literal}
-use Rattle.json_print.specs.Given.{Given, given, given_integer, token_of, given_tokens}
+use Rattle.json_print.specs.Given.{TokenOrInteger, given, given_integer, token_of, given_tokens}
 use Rattle.json_print.proofs.Taking.{tokens_append}
 use Rattle.json_doc.proofs.Properness.{view_proper}
 use Rattle.json_value.specs.Denotes.{tree_of, literal_bytes}

@@ -14,10 +14,10 @@ use Rattle.json_doc.specs.Docs.{doc_tree}
 use Rattle.json_doc.specs.Left.{doc_pair}
 use Rattle.json_doc.specs.declared.doc.Doc.{Doc}
 use Rattle.json_doc.specs.OpenNames.{front_of}
-use Rattle.json_print.specs.Orders.{Pair, In, Rise, numbered_in, inserted_all}
+use Rattle.json_print.specs.Orders.{Pair, In, Rise, numbered_in, inserted_pairs}
 use Rattle.json_print.proofs.Orders.{all_in}
 use Rattle.json_value.specs.Denotes.{pair_of}
-use Rattle.json_value.specs.KeyOrder.{keyed, IsKeyOrder, IsEntry, AreEntries, numbers_in, numbers_from, owned_key, place_key}
+use Rattle.json_value.specs.KeyOrder.{key_and_number, IsKeyOrder, IsEntry, AreEntries, numbers_in, numbers_from, owned_key, place_key}
 use Rattle.json_value.specs.declared.key_order.Entry.{Entry}
 use Rattle.json_value.specs.declared.pair.Keyed.{Keyed}
 use Rattle.json_value.specs.declared.value.Value.{Value}
@@ -124,10 +124,10 @@ plain_inserted x (y ∷ ys) h k = go (bytes_less y.0 x.0) (bytes_less (plain y).
     go false true e ih = true_false (sym e)
     go false false e ih = refl
 
-plain_all : (xs : List Pair) → ((x : Pair) → In x xs → IsFronted x) → map plain (inserted_all xs) ≡ inserted_all (map plain xs)
+plain_all : (xs : List Pair) → ((x : Pair) → In x xs → IsFronted x) → map plain (inserted_pairs xs) ≡ inserted_pairs (map plain xs)
 plain_all [] h = refl
 plain_all (x ∷ xs) h =
-    plain_inserted x (inserted_all xs) (h x (inl refl)) (λ y i. h y (inr (all_in y xs i))) ∙ ap (numbered_in (plain x)) (plain_all xs (λ y i. h y (inr i)))
+    plain_inserted x (inserted_pairs xs) (h x (inl refl)) (λ y i. h y (inr (all_in y xs i))) ∙ ap (numbered_in (plain x)) (plain_all xs (λ y i. h y (inr i)))
 
 -- ---- entries
 
@@ -140,14 +140,14 @@ entries_fronted key [] h x i = absurd i
 entries_fronted key (e ∷ es) h x (inl q) = (key e.number, ap (λ (y : Pair). y.0) q ∙ ap (λ n. n ∷ key e.number) h.0.0, h.0.1)
 entries_fronted key (e ∷ es) h x (inr i) = entries_fronted key es h.1 x i
 
-plain_keyed : (key : ℕ → List ℕ) (es : List Entry) → map plain (map (fronted_pair key) es) ≡ map (keyed key) (numbers_in es)
+plain_keyed : (key : ℕ → List ℕ) (es : List Entry) → map plain (map (fronted_pair key) es) ≡ map (key_and_number key) (numbers_in es)
 plain_keyed key [] = refl
-plain_keyed key (e ∷ es) = ap (λ ps. keyed key e.number ∷ ps) (plain_keyed key es)
+plain_keyed key (e ∷ es) = ap (λ ps. key_and_number key e.number ∷ ps) (plain_keyed key es)
 
 -- sorted by the fronts, the keys and the numbers they stand in the order of the keys
-pub order_by_fronts : (key : ℕ → List ℕ) (xs ys : List Entry) → AreEntries key xs → map (fronted_pair key) ys ≡ inserted_all (map (fronted_pair key) xs) → IsKeyOrder key (numbers_in xs) (numbers_in ys)
+pub order_by_fronts : (key : ℕ → List ℕ) (xs ys : List Entry) → AreEntries key xs → map (fronted_pair key) ys ≡ inserted_pairs (map (fronted_pair key) xs) → IsKeyOrder key (numbers_in xs) (numbers_in ys)
 order_by_fronts key xs ys h e =
-    sym (plain_keyed key ys) ∙ ap (map plain) e ∙ plain_all (map (fronted_pair key) xs) (entries_fronted key xs h) ∙ ap inserted_all (plain_keyed key xs)
+    sym (plain_keyed key ys) ∙ ap (map plain) e ∙ plain_all (map (fronted_pair key) xs) (entries_fronted key xs h) ∙ ap inserted_pairs (plain_keyed key xs)
 
 pub then_then : (a b c : Ordering) → ordering_then a (ordering_then b c) ≡ ordering_then (ordering_then a b) c
 then_then Less b c = refl
@@ -155,12 +155,12 @@ then_then Equal b c = refl
 then_then Greater b c = refl
 
 -- their numbers rise as those of the members do
-number_among : (key : ℕ → List ℕ) (es : List Entry) (z : Pair) → In z (map (fronted_pair key) es) → (w : Pair) × In w (map (keyed key) (numbers_in es)) × (w.1 ≡ z.1)
+number_among : (key : ℕ → List ℕ) (es : List Entry) (z : Pair) → In z (map (fronted_pair key) es) → (w : Pair) × In w (map (key_and_number key) (numbers_in es)) × (w.1 ≡ z.1)
 number_among key [] z i = absurd i
-number_among key (e ∷ es) z (inl q) = (keyed key e.number, inl refl, ap (λ (y : Pair). y.1) (sym q))
+number_among key (e ∷ es) z (inl q) = (key_and_number key e.number, inl refl, ap (λ (y : Pair). y.1) (sym q))
 number_among key (e ∷ es) z (inr i) = let r = number_among key es z i in (r.0, inr r.1, r.2)
 
-pub rise_fronted : (key : ℕ → List ℕ) (es : List Entry) → Rise (map (keyed key) (numbers_in es)) → Rise (map (fronted_pair key) es)
+pub rise_fronted : (key : ℕ → List ℕ) (es : List Entry) → Rise (map (key_and_number key) (numbers_in es)) → Rise (map (fronted_pair key) es)
 rise_fronted key [] h = tt
 rise_fronted key (e ∷ es) h = (λ z i. let r = number_among key es z i in subst (λ n. e.number < n) r.2 (h.0 r.0 r.1), rise_fronted key es h.1)
 

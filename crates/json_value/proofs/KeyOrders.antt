@@ -8,14 +8,14 @@ use Rattle.json_model.specs.Sort.{bytes_less, pair_in, sorted, trees_sorted, pai
 use Rattle.json_doc.specs.Docs.{doc_cells, doc_text, doc_tree}
 use Rattle.json_doc.specs.Left.{doc_pair}
 use Rattle.json_doc.specs.Places.{place_behind, places_from, AllBelow}
-use Rattle.json_doc.specs.Trees.{text_of, trees_from}
+use Rattle.json_doc.specs.Trees.{text_of_tree, trees_from}
 use Rattle.json_doc.specs.declared.cell.Cell.{Cell}
 use Rattle.json_doc.specs.declared.doc.Doc.{Doc}
 use Rattle.json_doc.proofs.Trees.{step_ahead}
-use Rattle.json_print.specs.Orders.{Pair, In, Rise, numbered_in, inserted_all}
+use Rattle.json_print.specs.Orders.{Pair, In, Rise, numbered_in, inserted_pairs}
 use Rattle.json_print.proofs.Orders.{in_from, all_in}
 use Rattle.json_value.specs.Denotes.{pair_of}
-use Rattle.json_value.specs.KeyOrder.{keyed, IsKeyOrder, place_key, numbers_from, member_at, owned_key}
+use Rattle.json_value.specs.KeyOrder.{key_and_number, IsKeyOrder, place_key, numbers_from, member_at, owned_key}
 use Rattle.json_value.specs.declared.pair.Keyed.{Keyed}
 use Rattle.json_value.specs.declared.value.Value.{Value}
 
@@ -38,11 +38,11 @@ pair_inserted tree x (y ∷ ys) = go (bytes_less y.0 x.0) (pair_inserted tree x 
     go true ih = ap (pair_and y.0 (tree y.1)) ih
     go false ih = refl
 
-all_inserted : (tree : ℕ → Tree) (xs : List Pair) → list_pairs (map (member (λ n. sorted (tree n))) (inserted_all xs)) ≡ pairs_sorted (list_pairs (map (member tree) xs))
+all_inserted : (tree : ℕ → Tree) (xs : List Pair) → list_pairs (map (member (λ n. sorted (tree n))) (inserted_pairs xs)) ≡ pairs_sorted (list_pairs (map (member tree) xs))
 all_inserted tree [] = refl
-all_inserted tree (x ∷ xs) = pair_inserted (λ n. sorted (tree n)) x (inserted_all xs) ∙ ap (pair_in x.0 (sorted (tree x.1))) (all_inserted tree xs)
+all_inserted tree (x ∷ xs) = pair_inserted (λ n. sorted (tree n)) x (inserted_pairs xs) ∙ ap (pair_in x.0 (sorted (tree x.1))) (all_inserted tree xs)
 
-map_keyed : (key : ℕ → List ℕ) (tree : ℕ → Tree) (ns : List ℕ) → map (member tree) (map (keyed key) ns) ≡ map (paired key tree) ns
+map_keyed : (key : ℕ → List ℕ) (tree : ℕ → Tree) (ns : List ℕ) → map (member tree) (map (key_and_number key) ns) ≡ map (paired key tree) ns
 map_keyed key tree [] = refl
 map_keyed key tree (n ∷ ns) = ap (λ xs. paired key tree n ∷ xs) (map_keyed key tree ns)
 
@@ -52,9 +52,9 @@ sorted_at tree n = sorted (tree n)
 
 pub in_order : (key : ℕ → List ℕ) (tree : ℕ → Tree) (ns order : List ℕ) → IsKeyOrder key ns order → list_pairs (map (paired key (sorted_at tree)) order) ≡ pairs_sorted (list_pairs (map (paired key tree) ns))
 in_order key tree ns order e =
-    ap list_pairs (sym (map_keyed key (sorted_at tree) order) ∙ ap (map (member (sorted_at tree))) e) ∙ all_inserted tree (map (keyed key) ns) ∙ ap (λ xs. pairs_sorted (list_pairs xs)) (map_keyed key tree ns)
+    ap list_pairs (sym (map_keyed key (sorted_at tree) order) ∙ ap (map (member (sorted_at tree))) e) ∙ all_inserted tree (map (key_and_number key) ns) ∙ ap (λ xs. pairs_sorted (list_pairs xs)) (map_keyed key tree ns)
 
-in_keyed : (key : ℕ → List ℕ) (ns : List ℕ) (z : Pair) → In z (map (keyed key) ns) → In z.1 ns
+in_keyed : (key : ℕ → List ℕ) (ns : List ℕ) (z : Pair) → In z (map (key_and_number key) ns) → In z.1 ns
 in_keyed key [] z h = absurd h
 in_keyed key (n ∷ ns) z (inl e) = inl (ap (λ (x : Pair). x.1) e)
 in_keyed key (n ∷ ns) z (inr h) = inr (in_keyed key ns z h)
@@ -62,9 +62,9 @@ in_keyed key (n ∷ ns) z (inr h) = inr (in_keyed key ns z h)
 -- each number of the order is one of the numbers
 pub number_in : (key : ℕ → List ℕ) (ns order : List ℕ) → IsKeyOrder key ns order → (i n : ℕ) → i < length order → n ≡ get_or order i n → In n ns
 number_in key ns order e i n l g =
-    let at : get_or (map (keyed key) order) i (keyed key n) ≡ keyed key n = get_or-map (keyed key) order i n (keyed key n) l ∙ ap (keyed key) (sym g) in
-    let there = in_from (map (keyed key) order) (keyed key n) i (omega (arith, l, length-map order (keyed key))) at in
-    in_keyed key ns (keyed key n) (all_in (keyed key n) (map (keyed key) ns) (subst (In (keyed key n)) e there))
+    let at : get_or (map (key_and_number key) order) i (key_and_number key n) ≡ key_and_number key n = get_or-map (key_and_number key) order i n (key_and_number key n) l ∙ ap (key_and_number key) (sym g) in
+    let there = in_from (map (key_and_number key) order) (key_and_number key n) i (omega (arith, l, length-map order (key_and_number key))) at in
+    in_keyed key ns (key_and_number key n) (all_in (key_and_number key n) (map (key_and_number key) ns) (subst (In (key_and_number key n)) e there))
 
 -- no value has more nodes than all
 pub value_in : (key : ℕ → List ℕ) (tree : ℕ → Tree) (ns : List ℕ) (n : ℕ) → In n ns → nodes (tree n) ≤ pairs_nodes (list_pairs (map (paired key tree) ns))
@@ -121,21 +121,21 @@ trees_length cells bytes at [] = refl
 trees_length cells bytes at (c ∷ cs) = ap suc (trees_length cells bytes (at + 1) cs)
 
 -- past the last cell there is no key
-pub no_key : (d : Doc) (at : ℕ) → length (doc_cells d) ≤ at → text_of (doc_tree d at) ≡ []
-no_key d at l = ap text_of (get_or_past (trees_from (doc_cells d) (doc_text d) 0 (doc_cells d)) at null (omega (arith, l, trees_length (doc_cells d) (doc_text d) 0 (doc_cells d))))
+pub no_key : (d : Doc) (at : ℕ) → length (doc_cells d) ≤ at → text_of_tree (doc_tree d at) ≡ []
+no_key d at l = ap text_of_tree (get_or_past (trees_from (doc_cells d) (doc_text d) 0 (doc_cells d)) at null (omega (arith, l, trees_length (doc_cells d) (doc_text d) 0 (doc_cells d))))
 
-up_to : (cells : List Cell) (key : ℕ → List ℕ) (keys at n m : ℕ) → m ≤ at → ((k : ℕ) → k < place_behind cells k) → (z : Pair) → In z (map (keyed key) (places_from cells keys at n)) → m ≤ z.1
+up_to : (cells : List Cell) (key : ℕ → List ℕ) (keys at n m : ℕ) → m ≤ at → ((k : ℕ) → k < place_behind cells k) → (z : Pair) → In z (map (key_and_number key) (places_from cells keys at n)) → m ≤ z.1
 up_to cells key keys at zero m l up z h = absurd h
 up_to cells key keys at (suc n) m l up z (inl e) = omega (arith, l, ap (λ (x : Pair). x.1) e)
 up_to cells key keys at (suc n) m l up z (inr h) = up_to cells key keys (place_behind cells at + keys) n m (omega (arith, l, up at)) up z h
 
-places_rise : (cells : List Cell) (key : ℕ → List ℕ) (keys at n : ℕ) → ((k : ℕ) → k < place_behind cells k) → Rise (map (keyed key) (places_from cells keys at n))
+places_rise : (cells : List Cell) (key : ℕ → List ℕ) (keys at n : ℕ) → ((k : ℕ) → k < place_behind cells k) → Rise (map (key_and_number key) (places_from cells keys at n))
 places_rise cells key keys at zero up = tt
 places_rise cells key keys at (suc n) up =
     let next = place_behind cells at + keys in
     (λ z h. let more : suc at ≤ z.1 = up_to cells key keys next n (suc at) (omega (arith, up at)) up z h in omega (arith, more), places_rise cells key keys next n up)
 
-pub rise_in_doc : (d : Doc) (key : ℕ → List ℕ) (keys at n : ℕ) → Rise (map (keyed key) (places_from (doc_cells d) keys at n))
+pub rise_in_doc : (d : Doc) (key : ℕ → List ℕ) (keys at n : ℕ) → Rise (map (key_and_number key) (places_from (doc_cells d) keys at n))
 rise_in_doc d key keys at n = places_rise (doc_cells d) key keys at n (λ k. step_ahead (doc_cells d) (doc_text d) k d.in_place)
 
 pub place_below : (cells : List Cell) (keys at n p : ℕ) → AllBelow cells keys at n → In p (places_from cells keys at n) → p < length cells
@@ -156,12 +156,12 @@ module _ (d e : Doc) (places ns : List ℕ) (same : e ≡ d) (is : IsKeyOrder (p
 
 -- ---- the numbers of owned members
 
-from_up : (key : ℕ → List ℕ) (k n m : ℕ) → m ≤ k → (z : Pair) → In z (map (keyed key) (numbers_from k n)) → m ≤ z.1
+from_up : (key : ℕ → List ℕ) (k n m : ℕ) → m ≤ k → (z : Pair) → In z (map (key_and_number key) (numbers_from k n)) → m ≤ z.1
 from_up key k zero m l z h = absurd h
 from_up key k (suc n) m l z (inl e) = omega (arith, l, ap (λ (x : Pair). x.1) e)
 from_up key k (suc n) m l z (inr h) = from_up key (suc k) n m (omega (arith, l)) z h
 
-pub numbers_rise : (key : ℕ → List ℕ) (k n : ℕ) → Rise (map (keyed key) (numbers_from k n))
+pub numbers_rise : (key : ℕ → List ℕ) (k n : ℕ) → Rise (map (key_and_number key) (numbers_from k n))
 numbers_rise key k zero = tt
 numbers_rise key k (suc n) = (λ z h. let more : suc k ≤ z.1 = from_up key (suc k) n (suc k) (omega arith) z h in omega (arith, more), numbers_rise key (suc k) n)
 

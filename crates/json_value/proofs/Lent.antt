@@ -19,7 +19,7 @@ use Rattle.json_value.specs.Readings.{members}
 use Rattle.json_value.specs.Denotes.{tree_of, pair_of, text_bytes}
 use Rattle.json_value.specs.Edits.{RefusesChange}
 use Rattle.json_value.specs.FirstMember.{IsFirstOf}
-use Rattle.json_value.specs.Lending.{opened, opened_with, with_key, put_or_insert}
+use Rattle.json_value.specs.Lending.{null_as_object, opened_with, with_null_member, put_or_insert}
 use Rattle.json_value.specs.Rows.{owned, keyed_so}
 use Rattle.json_value.specs.Seen.{first_of}
 use Rattle.json_value.specs.Steps.{child, tree_or_null, key_in, index_in}
@@ -91,7 +91,7 @@ inserted-twice k u v (pair_and n t ps) = by (bytes_eq n k) refl (inserted-twice 
     by true is e = ap (λ (c : Bool). cond c (pair_and n u ps) (pair_and n v (inserted k u ps))) is
     by false is e = ap (λ (c : Bool). cond c (pair_and n u (inserted k v ps)) (pair_and n t (inserted k u (inserted k v ps)))) is ∙ ap (pair_and n t) e
 
-pub inserted-with : (k : List ℕ) (u : Tree) (ps : Pairs) → inserted k u (with_key k ps) ≡ inserted k u ps
+pub inserted-with : (k : List ℕ) (u : Tree) (ps : Pairs) → inserted k u (with_null_member k ps) ≡ inserted k u ps
 inserted-with k u ps = by (has_key k ps)
   where
     by : (b : Bool) → inserted k u (cond b ps (inserted k null ps)) ≡ inserted k u ps
@@ -107,7 +107,7 @@ found-inserted k u (pair_and n t ps) = by (bytes_eq n k) refl (found-inserted k 
     by true is e = ap (λ (c : Bool). option_map (λ (q : List ℕ × Tree). q.1) (cond c (Some (n, u)) (first_of k (pairs_list ps)))) is
     by false is e = ap (λ (c : Bool). option_map (λ (q : List ℕ × Tree). q.1) (cond c (Some (n, t)) (first_of k (pairs_list (inserted k u ps))))) is ∙ e
 
-pub found-with : (k : List ℕ) (ps : Pairs) (u : Tree) → child (key_step k) (pairs (with_key k ps)) ≡ Some u → u ≡ tree_or_null (child (key_step k) (pairs ps))
+pub found-with : (k : List ℕ) (ps : Pairs) (u : Tree) → child (key_step k) (pairs (with_null_member k ps)) ≡ Some u → u ≡ tree_or_null (child (key_step k) (pairs ps))
 found-with k ps u h = by (has_key k ps) refl h
   where
     by : (b : Bool) → has_key k ps ≡ b → child (key_step k) (pairs (cond b ps (inserted k null ps))) ≡ Some u → u ≡ tree_or_null (child (key_step k) (pairs ps))
@@ -117,7 +117,7 @@ found-with k ps u h = by (has_key k ps) refl h
 
 -- ---- null as an object
 
-pub opened_put : (k : List ℕ) (u t : Tree) → on_pairs (λ ps. Ok (inserted k u ps)) (opened_with k t) ≡ on_pairs (λ ps. Ok (inserted k u ps)) (opened t)
+pub opened_put : (k : List ℕ) (u t : Tree) → on_pairs (λ ps. Ok (inserted k u ps)) (opened_with k t) ≡ on_pairs (λ ps. Ok (inserted k u ps)) (null_as_object t)
 opened_put k u null = ap (λ (b : Bool). Ok (pairs (cond b (pair_and k u no_pairs) (pair_and k null (inserted k u no_pairs))))) (self_key k)
 opened_put k u (boolean b) = refl
 opened_put k u (num l) = refl
@@ -134,7 +134,7 @@ opened_found k (list ts) = refl
 opened_found k (pairs ps) = refl
 
 -- a tree that stays no object is no null
-pub unopened : (k : List ℕ) (t : Tree) → ((f : Pairs → Changed Pairs) → on_pairs f (opened_with k t) ≡ Err type_unmatched) → (opened_with k t ≡ t) × ((f : Pairs → Changed Pairs) → on_pairs f (opened t) ≡ Err type_unmatched)
+pub unopened : (k : List ℕ) (t : Tree) → ((f : Pairs → Changed Pairs) → on_pairs f (opened_with k t) ≡ Err type_unmatched) → (opened_with k t ≡ t) × ((f : Pairs → Changed Pairs) → on_pairs f (null_as_object t) ≡ Err type_unmatched)
 unopened k null h = absurd (ok_err (h (λ ps. Ok ps)))
   where
     ok_err : Ok (pairs (pair_and k null no_pairs)) ≡ Err type_unmatched → ⊥
@@ -204,17 +204,17 @@ module _ (k : List ℕ) (ps qs : List (Keyed Value)) (key : Text) (is : qs ≡ p
       let there : IsFirstOf k (map pair_of qs) (length (map pair_of ps)) = subst (λ (xs : List (List ℕ × Tree)). IsFirstOf k xs (length (map pair_of ps))) (sym grown) (first_pushed k (map pair_of ps) (text_bytes key, null) none same) in
       subst (λ (j : ℕ). IsFirstOf k (map pair_of qs) j) (length-map ps pair_of ∙ sym e) there
 
-  pub seated_pairs : list_pairs (map pair_of qs) ≡ with_key k (list_pairs (map pair_of ps))
+  pub seated_pairs : list_pairs (map pair_of qs) ≡ with_null_member k (list_pairs (map pair_of ps))
   seated_pairs =
       ap list_pairs grown ∙ ap (λ (m : List ℕ). list_pairs (map pair_of ps ++ (m, null) ∷ [])) same ∙ sym (inserted-beside k (map pair_of ps) null none)
       ∙ sym (ap (λ (b : Bool). cond b (list_pairs (map pair_of ps)) (inserted k null (list_pairs (map pair_of ps)))) none)
 
 -- a key that is there is not appended
-pub seated_there : (k : List ℕ) (ps : Pairs) → has_key k ps ≡ true → ps ≡ with_key k ps
+pub seated_there : (k : List ℕ) (ps : Pairs) → has_key k ps ≡ true → ps ≡ with_null_member k ps
 seated_there k ps h = sym (ap (λ (b : Bool). cond b ps (inserted k null ps)) h)
 
 -- a write to the first member of the key, once it is there
-module _ (t : Tree) (k : List ℕ) (ps qs : List (Keyed Value)) (is : t ≡ pairs (list_pairs (map pair_of ps))) (made : list_pairs (map pair_of qs) ≡ with_key k (list_pairs (map pair_of ps)))
+module _ (t : Tree) (k : List ℕ) (ps qs : List (Keyed Value)) (is : t ≡ pairs (list_pairs (map pair_of ps))) (made : list_pairs (map pair_of qs) ≡ with_null_member k (list_pairs (map pair_of ps)))
     (i : ℕ) (p : Keyed Value) (read : p ≡ get_or qs i p) (first : IsFirstOf k (map pair_of qs) i) where
   pub seated_put : (w : Value) (n : Tree) → n ≡ pairs (list_pairs (map pair_of (set qs i (keyed_so p.key w)))) → on_pairs (λ ms. Ok (inserted k (tree_of w) ms)) t ≡ Ok n
   seated_put w n e =

@@ -2,9 +2,9 @@
 use Rattle.std.proofs.Common.{◌≡◌, Ok, Err, Result, MutBor, true, false, refl, subst, sym}
 use Rattle.std.specs.Prelude.{IsOk, OnErr, IfOk}
 use lib.Dec.{T}
-use Rattle.json_value.specs.Lending.{name_of_ok, IsLent, UnlessLent}
+use Rattle.json_value.specs.Lending.{name_of_ok, IsReferenceLent, UnlessLent}
 
-pub place_ok : {X E : Type 0} (r : Result (MutBor X) E) → IsLent (name_of_ok r) → IsOk r
+pub place_ok : {X E : Type 0} (r : Result (MutBor X) E) → IsReferenceLent (name_of_ok r) → IsOk r
 place_ok (Ok x) p = refl
 place_ok (Err e) p = absurd p
 
@@ -29,7 +29,7 @@ pub on_ok : {A B C : Type 0} (r : Result A B) {P : A → Type 0} → IsOk r → 
 on_ok (Ok x) ok h p = h x p
 on_ok (Err e) ok h p = never_ok ok
 
-pub ok_place : {X E : Type 0} (r : Result (MutBor X) E) → IsOk r → IsLent (name_of_ok r)
+pub ok_place : {X E : Type 0} (r : Result (MutBor X) E) → IsOk r → IsReferenceLent (name_of_ok r)
 ok_place (Ok x) p = tt
 ok_place (Err e) p = never_ok p
 

@@ -12,17 +12,17 @@ use Rattle.json_text.specs.declared.error.Place.TheVariants.{None as nowhere}
 use Rattle.json_model.specs.Edit.{Step, Changed, Refusal, not_found, type_unmatched, at_path}
 use Rattle.json_value.specs.Denotes.{tree_of}
 use Rattle.json_value.specs.Edits.{RefusesChange, steps_of, step_of as node_step}
-use Rattle.json_value.specs.Lending.{first_node, none_or, missing_as_none, lent, name_of, name_of_ok, LeadsTo, Opens}
+use Rattle.json_value.specs.Lending.{first_node, none_or, missing_as_none, lent, lent_name, name_of_ok, LeadsTo, Opens}
 use Rattle.json_value.specs.Steps.{child, tree_at}
 use Rattle.json_value.specs.declared.value.Value.{Value}
 use Rattle.json_value.specs.declared.path.PointerNode.{PointerNode}
 use Rattle.json_value.proofs.LentPaths.{there, back, split, seen_along, refused_along, refused_first}
 
-none_name : (X : Type 0) (c : ErrorCode) (e : Error) → name_of (none_or {X = X} c e) ≡ name_of_ok {X = X} {E = Error} (Err e)
+none_name : (X : Type 0) (c : ErrorCode) (e : Error) → lent_name (none_or {X = X} c e) ≡ name_of_ok {X = X} {E = Error} (Err e)
 none_name X NoMemory e = refl
 none_name X _ e = refl
 
-pub missing_name : {X : Type 0} (r : Result (MutBor X) Error) → name_of (missing_as_none r) ≡ name_of_ok r
+pub missing_name : {X : Type 0} (r : Result (MutBor X) Error) → lent_name (missing_as_none r) ≡ name_of_ok r
 missing_name (Ok x) = refl
 missing_name {X} (Err e) = none_name X e.code e
 

@@ -5,10 +5,10 @@ use Rattle.json_grammar.specs.Tree.{Tree, Pairs, list, pairs, list_trees, list_p
 use Rattle.json_model.specs.Edit.{Step, key_step, index_step, Changed, type_unmatched, on_pairs, has_key}
 use Rattle.json_value.specs.Denotes.{tree_of, pair_of, text_bytes}
 use Rattle.json_value.specs.Edits.{step_of, steps_of}
-use Rattle.json_value.specs.Lending.{opened_with, first_node, Puts, PutsNothing, AddsNothing, UpsertsNothing}
+use Rattle.json_value.specs.Lending.{opened_with, first_node, PutsAtPath, PutsNothing, AddsNothing, UpsertsNothing}
 use Rattle.json_value.specs.Rows.{IsOwnObject, owned}
 use Rattle.json_value.specs.Steps.{child}
-use Rattle.json_value.specs.Touched.{ArrayTouched, ObjectTouched, ReplacedBy, Exchanges, Same, ArrayKept, ObjectKept, ElementKept, MemberKept, KeptAlong, RemovalKeeps, ChangeKeeps, Keeps}
+use Rattle.json_value.specs.Touched.{ArrayTouched, ObjectTouched, ReplacedBy, Exchanges, Same, ArrayKept, ObjectKept, ElementKept, MemberKept, KeptAlong, RemovalKeeps, ChangeKeeps, KeepsOnRefusal}
 use Rattle.json_value.specs.declared.pair.Keyed.{Keyed}
 use Rattle.json_value.specs.declared.path.PointerNode.{PointerNode}
 use Rattle.json_value.specs.declared.path.PointerNode.TheVariants.{Key, Index}
@@ -128,7 +128,7 @@ kept_whole (s ∷ p) rest x z old new more shorter e h =
     kept_deeper (step_of s) (steps_of p) x z old new e (subst (λ (q : List PointerNode). KeptAlong (steps_of q) Same x z) shorter h)
 
 pub nothing_along : (path rest : List PointerNode) (x z old new : Value) → 0 < length path → rest ≡ drop 1 path → child (step_of (first_node path)) (tree_of old) ≡ Some (tree_of x)
-    → Puts (step_of (first_node path) ∷ []) x z old new → PutsNothing (steps_of rest) x z → PutsNothing (steps_of path) old new
+    → PutsAtPath (step_of (first_node path) ∷ []) x z old new → PutsNothing (steps_of rest) x z → PutsNothing (steps_of path) old new
 nothing_along path rest x z old new more shorter here e h =
     (along_kept (step_of (first_node path)) (tree_of old) (tree_of x) here (tree_of new) (tree_of z) e.0 h.0, kept_whole path rest x z old new more shorter e.1 h.1)
 

@@ -12,7 +12,7 @@ use Rattle.json_grammar.specs.Tree.{Tree, null, boolean, num, text, list, pairs,
 use Rattle.json_model.specs.Same.{keys, first_value, same, trees_same, first_same}
 use Rattle.json_model.proofs.Equality.{first_agree}
 use Rattle.json_value.specs.SameMembers.{value_at, keys_in, agree_at}
-use Rattle.json_value.specs.Seen.{list_of, pairs_of, first_of}
+use Rattle.json_value.specs.Seen.{list_of, object_pairs, first_of}
 use Rattle.json_doc.proofs.Trees.{list_back}
 use Rattle.json_value.proofs.Trees.{pairs_back, pairs_again}
 
@@ -27,7 +27,7 @@ array_seen (text s) xs e = absurd (cc)
 array_seen (list ts) xs e = let s : xs ≡ trees_list ts = cc in ap list (sym (list_back ts) ∙ ap list_trees (sym s))
 array_seen (pairs ps) xs e = absurd (cc)
 
-pub object_seen : (t : Tree) (xs : List (List ℕ × Tree)) → Some xs ≡ pairs_of t → t ≡ pairs (list_pairs xs)
+pub object_seen : (t : Tree) (xs : List (List ℕ × Tree)) → Some xs ≡ object_pairs t → t ≡ pairs (list_pairs xs)
 object_seen null xs e = absurd (cc)
 object_seen (boolean b) xs e = absurd (cc)
 object_seen (num l) xs e = absurd (cc)

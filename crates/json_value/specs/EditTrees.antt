@@ -44,3 +44,8 @@ edit_named name _ = None
 abbrev pub edit_in : Tree → Option Edit
 edit_in (list (tree_and (text name) ts)) = edit_named name (trees_list ts)
 edit_in _ = None
+
+-- the edits that a tree spells: a list of them
+abbrev pub edits_in : Tree → Option (List Edit)
+edits_in (list ts) = each_in edit_in (trees_list ts)
+edits_in _ = None

@@ -29,11 +29,11 @@ abbrev pub path_steps : Path → List Step
 path_steps p = steps_of p.steps.items
 
 -- the steps to the place of an edit
-abbrev pub path_of : Edit → List Step
-path_of (Set p v) = path_steps p
-path_of (Insert p k v) = path_steps p
-path_of (Push p v) = path_steps p
-path_of (Remove p s) = path_steps p
+abbrev pub edit_path : Edit → List Step
+edit_path (Set p v) = path_steps p
+edit_path (Insert p k v) = path_steps p
+edit_path (Push p v) = path_steps p
+edit_path (Remove p s) = path_steps p
 
 -- the edit of trees that an edit is
 abbrev pub edit_of : Edit → model.Edit

@@ -2,22 +2,22 @@
 use Rattle.std.specs.Prelude.{◌≡◌, ℕ, zero, suc, ◌-◌, ◌<◌, List, [], ◌∷◌, get_or, map, slice_index_or}
 use Rattle.json_grammar.specs.Tree.{Tree, null}
 use Rattle.json_doc.specs.Docs.{doc_tree}
-use Rattle.json_doc.specs.Trees.{text_of}
+use Rattle.json_doc.specs.Trees.{text_of_tree}
 use Rattle.json_doc.specs.declared.doc.Doc.{Doc}
 use Rattle.json_doc.specs.OpenNames.{front_of}
-use Rattle.json_print.specs.Orders.{Pair, inserted_all}
+use Rattle.json_print.specs.Orders.{Pair, inserted_pairs}
 use Rattle.json_value.specs.Denotes.{pair_of}
 use Rattle.json_value.specs.declared.key_order.Entry.{Entry}
 use Rattle.json_value.specs.declared.pair.Keyed.{Keyed}
 use Rattle.json_value.specs.declared.value.Value.{Value}
 
 -- a number with its key
-abbrev pub keyed : (ℕ → List ℕ) → ℕ → Pair
-keyed key n = (key n, n)
+abbrev pub key_and_number : (ℕ → List ℕ) → ℕ → Pair
+key_and_number key n = (key n, n)
 
 -- the second are the first in the order of their keys, and those of one key in the order in which they were
 abbrev pub IsKeyOrder : (ℕ → List ℕ) → List ℕ → List ℕ → Type 0
-IsKeyOrder key numbers order = map (keyed key) order ≡ inserted_all (map (keyed key) numbers)
+IsKeyOrder key numbers order = map (key_and_number key) order ≡ inserted_pairs (map (key_and_number key) numbers)
 
 -- ---- entries of an index
 
@@ -37,7 +37,7 @@ numbers_in es = map (λ (e : Entry). e.number) es
 
 -- the key that stands before a place
 abbrev pub place_key : Doc → ℕ → List ℕ
-place_key d at = text_of (doc_tree d (at - 1))
+place_key d at = text_of_tree (doc_tree d (at - 1))
 
 -- ---- an owned object: its members are numbered from 0 on
 

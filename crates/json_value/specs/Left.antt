@@ -4,7 +4,7 @@ use Rattle.std.specs.List.{zip}
 use Rattle.std.specs.Borrow.{Bor}
 use Rattle.std.specs.Iterator.{YieldsFirstBy}
 use Rattle.json_grammar.specs.Tree.{Tree}
-use Rattle.json_doc.specs.Left.{children_places, children_left, pairs_places, pairs_left}
+use Rattle.json_doc.specs.Left.{children_places, children_left, places_of_pairs, pairs_left}
 use Rattle.json_doc.specs.Seen.{view_doc}
 use Rattle.json_value.specs.Denotes.{tree_of, pair_of}
 use Rattle.json_value.specs.Seen.{seen, member_seen}
@@ -50,7 +50,7 @@ elements_sights_left s = sights_to_come s.left
 
 -- so of the members, each behind its key
 abbrev pub packed_member_sights : PackedMembers → List (List ℕ × Sight)
-packed_member_sights p = zip (map (λ q. q.0) (pairs_left p.members)) (map (place_of (view_doc p.packed.view) (doc_held p.packed.holder)) (pairs_places p.members))
+packed_member_sights p = zip (map (λ q. q.0) (pairs_left p.members)) (map (place_of (view_doc p.packed.view) (doc_held p.packed.holder)) (places_of_pairs p.members))
 
 abbrev pub member_sights_to_come : MembersLeft → List (List ℕ × Sight)
 member_sights_to_come (members.Packed p) = packed_member_sights p

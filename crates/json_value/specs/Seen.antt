@@ -49,9 +49,9 @@ list_of (list ts) = Some (trees_list ts)
 list_of _ = None
 
 -- the members of the object, of no other kind
-abbrev pub pairs_of : Tree → Option (List (List ℕ × Tree))
-pairs_of (pairs ps) = Some (pairs_list ps)
-pairs_of _ = None
+abbrev pub object_pairs : Tree → Option (List (List ℕ × Tree))
+object_pairs (pairs ps) = Some (pairs_list ps)
+object_pairs _ = None
 
 -- the first member of the key
 abbrev pub first_of : {X : Type 0} → List ℕ → List (List ℕ × X) → Option (List ℕ × X)

@@ -11,7 +11,7 @@ use Rattle.json_doc.specs.declared.doc.Doc.{Doc}
 use Rattle.json_value.specs.Denotes.{text_bytes}
 use Rattle.json_value.specs.Readings.{members}
 use Rattle.json_value.specs.Said.{place_tree}
-use Rattle.json_value.specs.Seen.{first_of, list_of, pairs_of}
+use Rattle.json_value.specs.Seen.{first_of, list_of, object_pairs}
 use Rattle.json_value.specs.Sights.{Sight, whole_value, place_of, nowhere, doc_held, sight_of}
 use Rattle.json_value.specs.declared.array_view.ArrayView.{ArrayView}
 use Rattle.json_value.specs.declared.array_view.ArrayForm.{ArrayForm}
@@ -70,21 +70,21 @@ level_members (Value-F.Object o) = Some (object_sights o)
 level_members _ = None
 
 -- the elements of the array, of no other kind
-abbrev pub elements_of : Sight → Option (List Sight)
-elements_of (whole_value v) = level_elements (out-Value v)
-elements_of (place_of d held at) = option_map (elements_at d held at) (list_of (doc_tree d at))
-elements_of nowhere = None
+abbrev pub sight_elements : Sight → Option (List Sight)
+sight_elements (whole_value v) = level_elements (out-Value v)
+sight_elements (place_of d held at) = option_map (elements_at d held at) (list_of (doc_tree d at))
+sight_elements nowhere = None
 
 -- the members of the object, of no other kind
-abbrev pub members_of : Sight → Option (List (List ℕ × Sight))
-members_of (whole_value v) = level_members (out-Value v)
-members_of (place_of d held at) = option_map (members_at d held at) (pairs_of (doc_tree d at))
-members_of nowhere = None
+abbrev pub sight_members : Sight → Option (List (List ℕ × Sight))
+sight_members (whole_value v) = level_members (out-Value v)
+sight_members (place_of d held at) = option_map (members_at d held at) (object_pairs (doc_tree d at))
+sight_members nowhere = None
 
 -- the value of the first member of a key, or the element of an index, counted from 0
 abbrev pub sight_after : Step → Sight → Option Sight
-sight_after (key_step k) s = option_and_then (λ ps. option_map (λ p. p.1) (first_of k ps)) (members_of s)
-sight_after (index_step i) s = option_and_then (λ ss. slice_get ss i) (elements_of s)
+sight_after (key_step k) s = option_and_then (λ ps. option_map (λ p. p.1) (first_of k ps)) (sight_members s)
+sight_after (index_step i) s = option_and_then (λ ss. slice_get ss i) (sight_elements s)
 
 -- what stands where the steps lead
 abbrev pub sight_along : List Step → Sight → Option Sight

@@ -6,7 +6,7 @@ use Rattle.json_model.specs.Edit.{Step, key_step, index_step, has_key}
 use Rattle.json_value.specs.Denotes.{tree_of, pair_of, text_bytes, list_in, pairs_in}
 use Rattle.json_value.specs.FirstMember.{IsFirstOf}
 use Rattle.json_value.specs.Rows.{owned}
-use Rattle.json_value.specs.Places.{Origin, origin_of}
+use Rattle.json_value.specs.Places.{Origin, value_origin}
 use Rattle.json_value.specs.Spots.{spot_of_text}
 use Rattle.json_value.specs.Written.{FirstElements, FirstMembers, value_in, with_value}
 use Rattle.json_value.specs.declared.container.Container.{Container}
@@ -67,15 +67,15 @@ pub record Appended (k : List ℕ) (Is : Keyed Value → Type 0) (items now : Li
 
 -- a member whose key stands where this one does, and whose value and its parts stand so
 abbrev pub HasOrigin : Text → Origin → Keyed Value → Type 0
-HasOrigin k s m = (spot_of_text m.key ≡ spot_of_text k) × (origin_of m.value ≡ s)
+HasOrigin k s m = (spot_of_text m.key ≡ spot_of_text k) × (value_origin m.value ≡ s)
 
 -- a value that stands so came to the first member of the key, or with a member of its own
 abbrev pub Inserts : Text → Origin → List (Keyed Value) → List (Keyed Value) → Type 0
-Inserts k s items now = AtMember (text_bytes k) (λ before after. origin_of after ≡ s) items now ⊎ Appended (text_bytes k) (HasOrigin k s) items now
+Inserts k s items now = AtMember (text_bytes k) (λ before after. value_origin after ≡ s) items now ⊎ Appended (text_bytes k) (HasOrigin k s) items now
 
 -- a value that stands so came behind the others
 abbrev pub Pushes : Origin → List Value → List Value → Type 0
-Pushes s items now = (v : Value) × (origin_of v ≡ s) × (now ≡ items ++ v ∷ [])
+Pushes s items now = (v : Value) × (value_origin v ≡ s) × (now ≡ items ++ v ∷ [])
 
 -- the members but those of the key
 abbrev pub unkeyed : List ℕ → List (Keyed Value) → List (Keyed Value)
@@ -88,9 +88,9 @@ RemovalTouches (Index i) old new = ArrayTouched (λ items now. now ≡ remove it
 
 -- what the edit leaves of the value at its place
 abbrev pub ChangeTouches : Edit → Value → Value → Type 0
-ChangeTouches (Set p v) old new = origin_of new ≡ origin_of v
-ChangeTouches (Insert p k v) old new = ObjectTouched (Inserts k (origin_of v)) old new
-ChangeTouches (Push p v) old new = ArrayTouched (Pushes (origin_of v)) old new
+ChangeTouches (Set p v) old new = value_origin new ≡ value_origin v
+ChangeTouches (Insert p k v) old new = ObjectTouched (Inserts k (value_origin v)) old new
+ChangeTouches (Push p v) old new = ArrayTouched (Pushes (value_origin v)) old new
 ChangeTouches (Remove p s) old new = RemovalTouches s old new
 
 -- the value to which the steps lead was changed so
@@ -144,8 +144,8 @@ ChangeKeeps (Push p v) old new = ArrayKept Same old new
 ChangeKeeps (Remove p s) old new = RemovalKeeps s old new
 
 -- what the edit leaves of the value from which the steps lead to its place, if it is refused
-abbrev pub Keeps : List Step → Edit → (old new : Value) → Type 0
-Keeps p e = KeptAlong p (ChangeKeeps e)
+abbrev pub KeepsOnRefusal : List Step → Edit → (old new : Value) → Type 0
+KeepsOnRefusal p e = KeptAlong p (ChangeKeeps e)
 
 -- ---- through a lent place
 
@@ -158,8 +158,8 @@ abbrev pub Exchanges : List Step → (x w old new : Value) → Type 0
 Exchanges p x w = Along p (ReplacedBy x w)
 
 -- w came behind the other elements
-abbrev pub Adds : (w old new : Value) → Type 0
-Adds w = ArrayTouched (λ items now. now ≡ items ++ w ∷ [])
+abbrev pub AppendsItem : (w old new : Value) → Type 0
+AppendsItem w = ArrayTouched (λ items now. now ≡ items ++ w ∷ [])
 
 -- a member of this value, whose key is no place
 abbrev pub OfValue : Value → Keyed Value → Type 0

@@ -6,7 +6,7 @@ ghost use Rattle.json_doc.specs.Readings.{elements};
 ghost use Rattle.json_doc.specs.Seen.{view_doc, view_place, view_tree};
 ghost use Rattle.json_value.specs.Denotes.{tree_of};
 ghost use Rattle.json_value.specs.Seen.{seen, elements_seen, list_of};
-ghost use Rattle.json_value.specs.SightParts.{elements_at, elements_of, elements_sights};
+ghost use Rattle.json_value.specs.SightParts.{elements_at, sight_elements, elements_sights};
 ghost use Rattle.json_value.specs.Sights.{whole_value, place_of, doc_held, sight_of};
 
 use crate::packed_view::PackedView;
@@ -42,7 +42,7 @@ impl<'a> ArrayView<'a> {
     pub(crate) fn of_packed(packed: PackedView<'a>) -> Option<ArrayView<'a>>
         ensures trees { option_map elements_seen result ≡ list_of (view_tree packed.entry.view) }
         ensures sights { let p = packed.entry in option_map elements_sights result
-            ≡ elements_of (place_of (view_doc p.view) (doc_held p.holder) (view_place p.view)) }
+            ≡ sight_elements (place_of (view_doc p.view) (doc_held p.holder) (view_place p.view)) }
     {
         match packed.view.get_type() {
             JsonType::Array => Some(ArrayView {
@@ -54,7 +54,7 @@ impl<'a> ArrayView<'a> {
 
     pub(crate) fn of_value(value: &'a Value) -> Option<ArrayView<'a>>
         ensures trees { option_map elements_seen result ≡ list_of (tree_of value.now) }
-        ensures sights { option_map elements_sights result ≡ elements_of (whole_value value.now) }
+        ensures sights { option_map elements_sights result ≡ sight_elements (whole_value value.now) }
     {
         match value {
             Value::Array(array) => Some(array.view()),

@@ -6,7 +6,7 @@ ghost use Rattle.json_text.specs.Errors.{not_found, type_unmatched};
 ghost use Rattle.json_model.specs.Edit.{key_step, index_step};
 ghost use Rattle.json_value.specs.Denotes.{tree_of, pair_of};
 ghost use Rattle.json_value.specs.Edits.{FailsAlong, FailsOnList, FailsOnPairs};
-ghost use Rattle.json_value.specs.Lending.{opened, opened_with, PutsNothing, LeadsTo, AddsNothing, UpsertsNothing, PutsAt, PutsMember, Appends, PutsOrInserts, FailsToInsert, BecomesList, BecomesPairs, BecomesPairsOrNull};
+ghost use Rattle.json_value.specs.Lending.{null_as_object, opened_with, PutsNothing, LeadsTo, AddsNothing, UpsertsNothing, PutsAt, PutsMember, AppendsElement, PutsOrInserts, FailsToInsert, BecomesList, BecomesPairs, BecomesPairsOrNull};
 ghost use Rattle.json_value.specs.Rows.{value_row, pair_row, vec_row, IsOwnObject};
 ghost use Rattle.json_value.specs.declared.value.Value.{Value, Null as NullValue};
 ghost use Rattle.json_value.specs.Steps.{child, tree_or_null};
@@ -66,7 +66,7 @@ pub(crate) trait ContainerMut {
             (λ n w. BecomesPairsOrNull result w (held self.old) (held n)) (λ n. held n ≡ held self.old)) }
         ensures value { IfOk result (λ v. opened_with key.now (tree_of (held self.old))
             ≡ pairs (list_pairs (map pair_of v.now.items))) }
-        ensures refused { FailsOnPairs (opened (tree_of (held self.old))) result };
+        ensures refused { FailsOnPairs (null_as_object (tree_of (held self.old))) result };
 }
 
 impl Value {
@@ -261,7 +261,7 @@ pub(crate) fn append_of<S: ContainerMut>(
 ) -> Result<&mut Value>
     requires { type_of (tree_of (S.held container.old)) ≡ JsonType.Array }
     ensures* writes_back { sem 𝓛 (LendsSoOk S.row value_row container.entry result
-        (λ n w. Appends w (S.held container.old) (S.held n))
+        (λ n w. AppendsElement w (S.held container.old) (S.held n))
         (λ n. AddsNothing (S.held container.old) (S.held n))) }
     ensures value { IfOk result (λ v. v.now ≡ val) }
     ensures only { OnlyNoMemory result }

@@ -5,7 +5,7 @@ ghost use Rattle.json_grammar.specs.Tree.{list, list_trees, pairs, list_pairs};
 ghost use Rattle.json_model.specs.Print.{shown};
 ghost use Rattle.json_print.specs.Calls.{comma};
 ghost use Rattle.json_value.specs.Denotes.{tree_of, list_in, pairs_in};
-ghost use Rattle.json_value.specs.Seen.{seen, elements_seen, members_seen, list_of, pairs_of};
+ghost use Rattle.json_value.specs.Seen.{seen, elements_seen, members_seen, list_of, object_pairs};
 
 use crate::array_view::ArrayView;
 use crate::container::Container;
@@ -55,7 +55,7 @@ fn show<W: fmt::Write>(view: View<'_>, f: &mut fmt::Formatter<W>) -> fmt::Result
 
 fn show_scalar<W: fmt::Write>(view: View<'_>, f: &mut fmt::Formatter<W>) -> fmt::Result
     requires array { list_of (seen view) ≡ None }
-    requires object { pairs_of (seen view) ≡ None }
+    requires object { object_pairs (seen view) ≡ None }
     ensures { WritesOnOk W.write_str_gives f.old result (shown None 0 (seen view.entry)) f.new }
 {
     if let Some(text) = view.text() {

@@ -2,7 +2,7 @@
 ghost use Rattle.std.specs.Prelude.{◌≡◌, map, None};
 ghost use Rattle.json_grammar.specs.Tree.{list, list_trees, pairs, list_pairs};
 ghost use Rattle.json_model.specs.Sort.{sorted, NeverFall};
-ghost use Rattle.json_print.specs.Standing.{TakesValue};
+ghost use Rattle.json_print.specs.Standing.{TurnTakesValue};
 ghost use Rattle.json_value.specs.Denotes.{tree_of, pair_of};
 ghost use Rattle.json_value.specs.Emitting.{tree_given};
 ghost use Rattle.json_value.specs.EmittingSorted.{SortWalks};
@@ -19,7 +19,7 @@ use std::alloc::Global;
 
 #[cycle(sorted_value)]
 pub(crate) fn sort_value<E: Events>(value: &Value, alloc: Global, out: &mut E) -> SortWalked
-    requires { E.failed out.old ≡ None → TakesValue (E.stand (E.state out.old)).turn }
+    requires { E.failed out.old ≡ None → TurnTakesValue (E.stand (E.state out.old)).turn }
     ensures { SortWalks E.after E.stopped (E.state out.old) (E.state out.new)
         (E.failed out.old) (E.failed out.new) (tree_given (sorted (tree_of value.now))) result }
 {
@@ -40,7 +40,7 @@ pub(crate) fn sort_value<E: Events>(value: &Value, alloc: Global, out: &mut E) -
 
 #[cycle(sorted_value)]
 fn sort_values<E: Events>(values: &Vec<Value>, alloc: Global, out: &mut E) -> SortWalked
-    requires { E.failed out.old ≡ None → TakesValue (E.stand (E.state out.old)).turn }
+    requires { E.failed out.old ≡ None → TurnTakesValue (E.stand (E.state out.old)).turn }
     ensures { SortWalks E.after E.stopped (E.state out.old) (E.state out.new)
         (E.failed out.old) (E.failed out.new)
         (tree_given (sorted (list (list_trees (map tree_of values.now.items))))) result }
@@ -55,7 +55,7 @@ fn sort_values<E: Events>(values: &Vec<Value>, alloc: Global, out: &mut E) -> So
 
 #[cycle(sorted_value)]
 fn sort_pairs<E: Events>(values: &Vec<Pair>, alloc: Global, out: &mut E) -> SortWalked
-    requires { E.failed out.old ≡ None → TakesValue (E.stand (E.state out.old)).turn }
+    requires { E.failed out.old ≡ None → TurnTakesValue (E.stand (E.state out.old)).turn }
     ensures { SortWalks E.after E.stopped (E.state out.old) (E.state out.new)
         (E.failed out.old) (E.failed out.new)
         (tree_given (sorted (pairs (list_pairs (map pair_of values.now.items))))) result }
@@ -70,7 +70,7 @@ fn sort_pairs<E: Events>(values: &Vec<Pair>, alloc: Global, out: &mut E) -> Sort
 // Gives the tokens of an object whose keys stand in order.
 #[cycle(sorted_value)]
 fn sort_in_place<E: Events>(values: &Vec<Pair>, alloc: Global, out: &mut E) -> SortWalked
-    requires come { E.failed out.old ≡ None → TakesValue (E.stand (E.state out.old)).turn }
+    requires come { E.failed out.old ≡ None → TurnTakesValue (E.stand (E.state out.old)).turn }
     requires ordered { NeverFall (list_pairs (map pair_of values.now.items)) }
     ensures { SortWalks E.after E.stopped (E.state out.old) (E.state out.new)
         (E.failed out.old) (E.failed out.new)
@@ -88,7 +88,7 @@ fn sort_in_place<E: Events>(values: &Vec<Pair>, alloc: Global, out: &mut E) -> S
 // Gives the tokens of an object by an index of its members.
 #[cycle(sorted_value)]
 fn sort_by_numbers<E: Events>(values: &Vec<Pair>, alloc: Global, out: &mut E) -> SortWalked
-    requires { E.failed out.old ≡ None → TakesValue (E.stand (E.state out.old)).turn }
+    requires { E.failed out.old ≡ None → TurnTakesValue (E.stand (E.state out.old)).turn }
     ensures { SortWalks E.after E.stopped (E.state out.old) (E.state out.new)
         (E.failed out.old) (E.failed out.new)
         (tree_given (sorted (pairs (list_pairs (map pair_of values.now.items))))) result }

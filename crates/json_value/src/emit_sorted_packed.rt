@@ -5,7 +5,7 @@ ghost use Rattle.json_model.specs.Sort.{sorted, NeverFall};
 ghost use Rattle.json_doc.specs.Left.{children_left, pairs_doc, pairs_left};
 ghost use Rattle.json_doc.specs.Readings.{elements};
 ghost use Rattle.json_doc.specs.Seen.{view_tree};
-ghost use Rattle.json_print.specs.Standing.{TakesValue};
+ghost use Rattle.json_print.specs.Standing.{TurnTakesValue};
 ghost use Rattle.json_value.specs.Emitting.{tree_given};
 ghost use Rattle.json_value.specs.EmittingSorted.{SortWalks};
 ghost use Rattle.json_value.specs.Readings.{members};
@@ -20,7 +20,7 @@ use std::alloc::Global;
 // Gives the tokens of the tree that is seen, sorted, to `out`, up to the first that meets an error or lacks memory.
 #[cycle(sorted_document)]
 pub(crate) fn sort_document<E: Events>(view: DocView<'_>, alloc: Global, out: &mut E) -> SortWalked
-    requires { E.failed out.old ≡ None → TakesValue (E.stand (E.state out.old)).turn }
+    requires { E.failed out.old ≡ None → TurnTakesValue (E.stand (E.state out.old)).turn }
     ensures { SortWalks E.after E.stopped (E.state out.old) (E.state out.new)
         (E.failed out.old) (E.failed out.new) (tree_given (sorted (view_tree view.entry))) result }
 {
@@ -50,7 +50,7 @@ fn keys_in_order(view: DocView<'_>) -> bool
 // Gives the tokens of an array of these elements.
 #[cycle(sorted_document)]
 fn sort_children<E: Events>(children: DocChildren<'_>, alloc: Global, out: &mut E) -> SortWalked
-    requires { E.failed out.old ≡ None → TakesValue (E.stand (E.state out.old)).turn }
+    requires { E.failed out.old ≡ None → TurnTakesValue (E.stand (E.state out.old)).turn }
     ensures { SortWalks E.after E.stopped (E.state out.old) (E.state out.new)
         (E.failed out.old) (E.failed out.new)
         (tree_given (sorted (list (list_trees (children_left children.entry))))) result }
@@ -66,7 +66,7 @@ fn sort_children<E: Events>(children: DocChildren<'_>, alloc: Global, out: &mut 
 // Gives the tokens of an object whose keys stand in order.
 #[cycle(sorted_document)]
 fn sort_in_place<E: Events>(members: DocPairs<'_>, alloc: Global, out: &mut E) -> SortWalked
-    requires come { E.failed out.old ≡ None → TakesValue (E.stand (E.state out.old)).turn }
+    requires come { E.failed out.old ≡ None → TurnTakesValue (E.stand (E.state out.old)).turn }
     requires ordered { NeverFall (list_pairs (pairs_left members)) }
     ensures { SortWalks E.after E.stopped (E.state out.old) (E.state out.new)
         (E.failed out.old) (E.failed out.new)
@@ -89,7 +89,7 @@ fn sort_by_places<E: Events>(
     alloc: Global,
     out: &mut E,
 ) -> SortWalked
-    requires come { E.failed out.old ≡ None → TakesValue (E.stand (E.state out.old)).turn }
+    requires come { E.failed out.old ≡ None → TurnTakesValue (E.stand (E.state out.old)).turn }
     requires doc { pairs_doc members ≡ doc.now }
     ensures { SortWalks E.after E.stopped (E.state out.old) (E.state out.new)
         (E.failed out.old) (E.failed out.new)
@@ -108,7 +108,7 @@ fn sort_by_places<E: Events>(
 }
 
 fn sort_no_values<E: Events>(out: &mut E) -> SortWalked
-    requires { E.failed out.old ≡ None → TakesValue (E.stand (E.state out.old)).turn }
+    requires { E.failed out.old ≡ None → TurnTakesValue (E.stand (E.state out.old)).turn }
     ensures { SortWalks E.after E.stopped (E.state out.old) (E.state out.new)
         (E.failed out.old) (E.failed out.new) (tree_given (sorted (list no_trees))) result }
 {
@@ -116,7 +116,7 @@ fn sort_no_values<E: Events>(out: &mut E) -> SortWalked
 }
 
 fn sort_no_pairs<E: Events>(out: &mut E) -> SortWalked
-    requires { E.failed out.old ≡ None → TakesValue (E.stand (E.state out.old)).turn }
+    requires { E.failed out.old ≡ None → TurnTakesValue (E.stand (E.state out.old)).turn }
     ensures { SortWalks E.after E.stopped (E.state out.old) (E.state out.new)
         (E.failed out.old) (E.failed out.new) (tree_given (sorted (pairs no_pairs))) result }
 {
@@ -125,7 +125,7 @@ fn sort_no_pairs<E: Events>(out: &mut E) -> SortWalked
 
 // Gives the tokens of the array of the elements that are seen.
 pub(crate) fn sort_elements<E: Events>(view: DocView<'_>, alloc: Global, out: &mut E) -> SortWalked
-    requires { E.failed out.old ≡ None → TakesValue (E.stand (E.state out.old)).turn }
+    requires { E.failed out.old ≡ None → TurnTakesValue (E.stand (E.state out.old)).turn }
     ensures { SortWalks E.after E.stopped (E.state out.old) (E.state out.new)
         (E.failed out.old) (E.failed out.new)
         (tree_given (sorted (list (list_trees (elements (view_tree view.entry)))))) result }
@@ -138,7 +138,7 @@ pub(crate) fn sort_elements<E: Events>(view: DocView<'_>, alloc: Global, out: &m
 
 // Gives the tokens of the object of the members that are seen.
 pub(crate) fn sort_members<E: Events>(view: DocView<'_>, alloc: Global, out: &mut E) -> SortWalked
-    requires { E.failed out.old ≡ None → TakesValue (E.stand (E.state out.old)).turn }
+    requires { E.failed out.old ≡ None → TurnTakesValue (E.stand (E.state out.old)).turn }
     ensures { SortWalks E.after E.stopped (E.state out.old) (E.state out.new)
         (E.failed out.old) (E.failed out.new)
         (tree_given (sorted (pairs (list_pairs (members (view_tree view.entry)))))) result }

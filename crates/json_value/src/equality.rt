@@ -7,7 +7,7 @@ ghost use Rattle.json_doc.specs.Readings.{type_of};
 ghost use Rattle.json_doc.specs.declared.json_type.JsonType.TheVariants as JsonType;
 ghost use Rattle.json_model.specs.Same.{same};
 ghost use Rattle.json_value.specs.SameMembers.{agree_at, keys_in, tree_of_array, tree_of_object};
-ghost use Rattle.json_value.specs.Seen.{seen, elements_seen, members_seen, list_of, pairs_of, first_of};
+ghost use Rattle.json_value.specs.Seen.{seen, elements_seen, members_seen, list_of, object_pairs, first_of};
 ghost use Rattle.std.specs.Cmp.{partial_equiv_from_equiv, on_equiv};
 ghost use Rattle.std.specs.Ordering.{on};
 ghost use Rattle.std.specs.Fmt.{decimal, signed_decimal};
@@ -145,7 +145,7 @@ pub(crate) fn are_same(first: View<'_>, second: View<'_>) -> bool
 
 fn are_scalars_same(first: View<'_>, second: View<'_>) -> bool
     requires array { list_of (seen first) ≡ None }
-    requires object { pairs_of (seen first) ≡ None }
+    requires object { object_pairs (seen first) ≡ None }
     ensures { result ≡ same (seen first.entry) (seen second.entry) }
 {
     match first.get_type() {
@@ -212,8 +212,8 @@ pub(crate) fn are_objects_same(first: ObjectView<'_>, second: ObjectView<'_>) ->
     }
 }
 
-// Whether two objects of as many members are the same, where that shows member by member: nothing is told
-// where their keys differ at some place, or where values do behind a key that stood before.
+// Whether two objects of as many members are the same, where that shows member by member: the answer is open
+// where their keys differ at some place, or where values do after a key that was there before.
 #[cycle(same)]
 fn are_members_same(first: ObjectView<'_>, second: ObjectView<'_>) -> Option<bool>
     requires { length (members_seen first) ≡ length (members_seen second) }

@@ -5,11 +5,11 @@ ghost use Rattle.std.specs.Cmp.Lexicographic.{slice_cmp};
 ghost use Rattle.std.specs.Ordering.{nat_cmp, ordering_then};
 ghost use Rattle.json_grammar.specs.Tree.{list_pairs};
 ghost use Rattle.json_model.specs.Sort.{bytes_less, NeverFall};
-ghost use Rattle.json_doc.specs.Left.{pairs_doc, pairs_left, pairs_places};
+ghost use Rattle.json_doc.specs.Left.{pairs_doc, pairs_left, places_of_pairs};
 ghost use Rattle.json_print.specs.Orders.{Rise};
 ghost use Rattle.json_value.specs.Denotes.{pair_of};
 ghost use Rattle.json_value.specs.Failures.{OnlyNoMemory};
-ghost use Rattle.json_value.specs.KeyOrder.{keyed, AreEntries, IsEntry, IsKeyOrder, place_key, numbers_from, numbers_in, owned_key};
+ghost use Rattle.json_value.specs.KeyOrder.{key_and_number, AreEntries, IsEntry, IsKeyOrder, place_key, numbers_from, numbers_in, owned_key};
 
 use crate::pair::Pair;
 use json_doc::{Doc, DocPairs, front_number};
@@ -17,7 +17,7 @@ use json_text::Result;
 use std::alloc::Global;
 use std::cmp::Ordering;
 
-// A member in an index. Most keys differ in their first eight bytes, whose number stands here: then no look is needed at
+// A member in an index. Most keys differ in their first eight bytes, whose number is kept here: then no look is needed at
 // the keys, which lie far apart in memory.
 #[derive(Clone, Copy)]
 pub(crate) struct Entry {
@@ -106,7 +106,7 @@ fn compare<K: Keys>(keys: &K, a: Entry, b: Entry) -> Ordering
 
 fn sort_by_key<K: Keys>(keys: &K, entries: &mut [Entry])
     requires entries { AreEntries (K.key_of keys.now) entries.old }
-    requires rise { Rise (map (keyed (K.key_of keys.now)) (numbers_in entries.old)) }
+    requires rise { Rise (map (key_and_number (K.key_of keys.now)) (numbers_in entries.old)) }
     ensures { IsKeyOrder (K.key_of keys.now) (numbers_in entries.old) (numbers_in entries.new) }
 {
     entries.sort_unstable_by(|a, b| compare(keys, *a, *b));
@@ -142,7 +142,7 @@ pub(crate) fn owned_never_fall(pairs: &Vec<Pair>) -> bool
 }
 
 fn entries_of_doc(alloc: Global, doc: &Doc, pairs: DocPairs<'_>) -> Result<Vec<Entry>>
-    ensures places { IfOk result (λ v. numbers_in v.items ≡ pairs_places pairs.entry) }
+    ensures places { IfOk result (λ v. numbers_in v.items ≡ places_of_pairs pairs.entry) }
     ensures entries { IfOk result (λ v. AreEntries (place_key doc.now) v.items) }
     ensures only { OnlyNoMemory result }
 {
@@ -171,7 +171,7 @@ fn entries_of_pairs(alloc: Global, pairs: &Vec<Pair>) -> Result<Vec<Entry>>
 pub(crate) fn packed_in_order(alloc: Global, doc: &Doc, pairs: DocPairs<'_>) -> Result<Vec<Entry>>
     requires { pairs_doc pairs ≡ doc.now }
     ensures order { IfOk result (λ order. IsKeyOrder (place_key doc.now)
-        (pairs_places pairs.entry) (numbers_in order.items)) }
+        (places_of_pairs pairs.entry) (numbers_in order.items)) }
     ensures only { OnlyNoMemory result }
 {
     let mut entries = entries_of_doc(alloc, doc, pairs)?;

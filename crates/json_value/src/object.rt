@@ -3,7 +3,7 @@ ghost use Rattle.std.specs.Prelude.{◌≡◌, ◌≤◌, ◌↔◌, [], map, If
 ghost use Rattle.std.specs.Borrow.{Lends, LendsIfOk, sem};
 ghost use Rattle.json_grammar.specs.Tree.{pairs, list_pairs};
 ghost use Rattle.json_model.specs.Print.{shown};
-ghost use Rattle.json_doc.specs.Left.{pairs_doc, pairs_places, pairs_left};
+ghost use Rattle.json_doc.specs.Left.{pairs_doc, places_of_pairs, pairs_left};
 ghost use Rattle.json_value.specs.Denotes.{tree_of, pair_of, pairs_in};
 ghost use Rattle.json_value.specs.Said.{place_tree};
 ghost use Rattle.json_value.specs.Readings.{members};
@@ -61,7 +61,7 @@ fn unpack_members(alloc: Global, doc: &Rc<Doc>, mut members: DocPairs<'_>) -> Re
     requires { pairs_doc members ≡ doc.now.value }
     ensures pairs { IfOk result (λ v. map pair_of v.items ≡ pairs_left members.entry) }
     ensures spots { IfOk result (λ v. map member_spots v.items
-        ≡ map (read_member_spots doc.now.value) (pairs_places members.entry)) }
+        ≡ map (read_member_spots doc.now.value) (places_of_pairs members.entry)) }
     ensures only { OnlyNoMemory result }
 {
     let mut list = Vec::with_capacity(alloc, members.len())?;

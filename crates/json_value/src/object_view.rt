@@ -5,8 +5,8 @@ ghost use Rattle.json_doc.specs.Left.{pairs_doc, pairs_left};
 ghost use Rattle.json_doc.specs.Seen.{view_doc, view_place, view_tree};
 ghost use Rattle.json_value.specs.Denotes.{tree_of, pair_of};
 ghost use Rattle.json_value.specs.Readings.{members};
-ghost use Rattle.json_value.specs.Seen.{seen, members_seen, pairs_of, first_of, member_seen};
-ghost use Rattle.json_value.specs.SightParts.{members_at, member_sight, pair_sight, members_of, members_sights};
+ghost use Rattle.json_value.specs.Seen.{seen, members_seen, object_pairs, first_of, member_seen};
+ghost use Rattle.json_value.specs.SightParts.{members_at, member_sight, pair_sight, sight_members, members_sights};
 ghost use Rattle.json_value.specs.Sights.{whole_value, place_of, doc_held, sight_of};
 
 use crate::packed_view::PackedView;
@@ -40,9 +40,9 @@ impl<'a> ObjectView<'a> {
     ghost use Rattle.json_value.specs.Left.{members_left, members_sights_left};
 
     pub(crate) fn of_packed(packed: PackedView<'a>) -> Option<ObjectView<'a>>
-        ensures trees { option_map members_seen result ≡ pairs_of (view_tree packed.entry.view) }
+        ensures trees { option_map members_seen result ≡ object_pairs (view_tree packed.entry.view) }
         ensures sights { let p = packed.entry in option_map members_sights result
-            ≡ members_of (place_of (view_doc p.view) (doc_held p.holder) (view_place p.view)) }
+            ≡ sight_members (place_of (view_doc p.view) (doc_held p.holder) (view_place p.view)) }
     {
         match packed.view.get_type() {
             JsonType::Object => Some(ObjectView {
@@ -53,8 +53,8 @@ impl<'a> ObjectView<'a> {
     }
 
     pub(crate) fn of_value(value: &'a Value) -> Option<ObjectView<'a>>
-        ensures trees { option_map members_seen result ≡ pairs_of (tree_of value.now) }
-        ensures sights { option_map members_sights result ≡ members_of (whole_value value.now) }
+        ensures trees { option_map members_seen result ≡ object_pairs (tree_of value.now) }
+        ensures sights { option_map members_sights result ≡ sight_members (whole_value value.now) }
     {
         match value {
             Value::Object(object) => Some(object.view()),

@@ -7,10 +7,10 @@ ghost use Rattle.json_value.specs.Written.{with_value, value_in};
 ghost use Rattle.json_grammar.specs.Tree.{list_pairs};
 ghost use Rattle.json_model.specs.Edit.{inserted, without_key, has_key};
 ghost use Rattle.json_value.specs.FirstMember.{IsFirstOf};
-ghost use Rattle.json_value.specs.Places.{origin_of};
+ghost use Rattle.json_value.specs.Places.{value_origin};
 ghost use Rattle.json_value.specs.Touched.{Inserts, unkeyed, UpsertedAt};
 ghost use Rattle.json_value.specs.Merged.{with_member};
-ghost use Rattle.json_value.specs.Lending.{with_key};
+ghost use Rattle.json_value.specs.Lending.{with_null_member};
 ghost use Rattle.json_value.specs.Failures.{OnlyNoMemory};
 
 use crate::text::Text;
@@ -116,7 +116,7 @@ pub(crate) fn insert_pair(
         (list_pairs (map pair_of pairs.old.items)) ≡ list_pairs (map pair_of pairs.new.items)) }
     ensures kept { OnErr result (pairs.new.items ≡ pairs.old.items) }
     ensures only { OnlyNoMemory result }
-    ensures children { OnOk result (Inserts key.now (origin_of value)
+    ensures children { OnOk result (Inserts key.now (value_origin value)
         pairs.old.items pairs.new.items) }
 {
     match find_key(pairs.as_slice(), key.as_str()) {
@@ -155,7 +155,7 @@ pub(crate) fn put_pair(members: &mut Vec<Pair>, pair: Pair) -> Result<()>
 pub(crate) fn find_or_insert(pairs: &mut Vec<Pair>, alloc: Global, key: &str) -> Result<usize>
     ensures first { IfOk result (λ i. IsFirstOf key.now (map pair_of pairs.new.items) i) }
     ensures pairs { IfOk result (λ i. list_pairs (map pair_of pairs.new.items)
-        ≡ with_key key.now (list_pairs (map pair_of pairs.old.items))) }
+        ≡ with_null_member key.now (list_pairs (map pair_of pairs.old.items))) }
     ensures seated { IfOk result (λ i. UpsertedAt key.now i pairs.old.items pairs.new.items) }
     ensures kept { OnErr result (pairs.new.items ≡ pairs.old.items) }
     ensures absent { OnErr result (has_key key.now

@@ -1,6 +1,6 @@
 // Paths and edits.
 ghost use Rattle.std.specs.Prelude.{◌≡◌, [], ◌∷◌, ◌++◌, OnOk, OnErr};
-ghost use Rattle.json_value.specs.Edits.{step_of, steps_of, path_steps, path_of, edit_of, edit_at};
+ghost use Rattle.json_value.specs.Edits.{step_of, steps_of, path_steps, edit_path, edit_of, edit_at};
 ghost use Rattle.json_value.specs.Failures.{OnlyNoMemory};
 
 use crate::text::Text;
@@ -99,7 +99,7 @@ impl Edit {
     /// The path to the place of the change.
     pub fn path(&self) -> &Path
         ensures edit { edit_of self.now ≡ edit_at (path_steps result.now) self.now }
-        ensures steps { path_steps result.now ≡ path_of self.now }
+        ensures steps { path_steps result.now ≡ edit_path self.now }
     {
         match self {
             Edit::Set { path, .. }

@@ -6,7 +6,7 @@ ghost use Rattle.std.specs.Fn.{FnOnceReturnsAtMut};
 ghost use Rattle.json_model.specs.Edit.{set_at, edited_once};
 ghost use Rattle.json_value.specs.Denotes.{tree_of};
 ghost use Rattle.json_value.specs.Edits.{step_of, steps_of, Makes, FailsAs, FailsAlong};
-ghost use Rattle.json_value.specs.Lending.{missing_as_none, Puts, PutsNothing, LeadsTo, LendsAlong, first_node, PutsAt};
+ghost use Rattle.json_value.specs.Lending.{missing_as_none, PutsAtPath, PutsNothing, LeadsTo, LendsAlong, first_node, PutsAt};
 ghost use Rattle.json_value.specs.Rows.{value_row};
 ghost use Rattle.json_value.specs.Steps.{tree_at};
 ghost use Rattle.json_value.specs.Touched.{Along, Same, KeptAlong};
@@ -39,7 +39,7 @@ pub trait Places {
     /// the tree, and changes nothing but that packed containers on the way may have been copied by one level.
     fn place_mut<'v>(&'v mut self, alloc: Global, path: &[PointerNode]) -> Result<&'v mut Value>
         ensures* writes_back { sem 𝓛 (LendsSoOk Self.row value_row self.entry result
-            (λ n w. IfOk result (λ v. Puts (steps_of path.now) v.now w (held self.old) (held n)))
+            (λ n w. IfOk result (λ v. PutsAtPath (steps_of path.now) v.now w (held self.old) (held n)))
             (λ n. PutsNothing (steps_of path.now) (held self.old) (held n))) }
         ensures stands { LeadsTo (steps_of path.now) (tree_of (held self.old)) result };
 }
@@ -81,7 +81,7 @@ pub fn update<V: Places, F: FnOnce(&mut Value)>(
     ensures ok { OnOk result ((x : Value) × (y : Value)
         × (tree_at (steps_of path.now) (tree_of (V.held target.old)) ≡ Some (tree_of x))
         × (FnOnceReturnsAtMut F.FnOnce change x tt y)
-        × Puts (steps_of path.now) x y (V.held target.old) (V.held target.new)) }
+        × PutsAtPath (steps_of path.now) x y (V.held target.old) (V.held target.new)) }
     ensures kept { OnErr result (tree_of (V.held target.new) ≡ tree_of (V.held target.old)) }
     ensures kept_along { OnErr result (KeptAlong (steps_of path.now) Same
         (V.held target.old) (V.held target.new)) }

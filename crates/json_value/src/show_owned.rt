@@ -45,7 +45,7 @@ pub(crate) fn show_value<W: Sink, L: Layout>(
     }
 }
 
-// A key, and what stands before it and behind it.
+// A key, and what is written before it and after it.
 fn show_key<W: Sink, L: Layout>(
     key: &Text,
     layout: L,
@@ -62,7 +62,7 @@ fn show_key<W: Sink, L: Layout>(
     layout.colon(out)
 }
 
-// An element, and what stands before it.
+// An element, and what is written before it.
 #[cycle(shown_value)]
 fn show_owned_element<W: Sink, L: Layout>(
     value: &Value,

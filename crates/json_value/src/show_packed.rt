@@ -1,4 +1,4 @@
-// The text of a document's tree, written from left to right: what stands around each part is known from its place.
+// The text of a document's tree, written from left to right: what surrounds each part is known from its position.
 ghost use Rattle.json_grammar.specs.Tree.{list, list_trees, pairs, list_pairs};
 ghost use Rattle.json_grammar.specs.Grammar.{boolean_bytes};
 ghost use Rattle.json_model.specs.Print.{shown};
@@ -58,7 +58,7 @@ pub(crate) fn show_bool<W: Sink>(boolean: bool, out: &mut BufferedWriter<W>) -> 
     }
 }
 
-// What stands at a place. Its callers are functions of their own, so that each stays in line.
+// The value at a position. Its callers are functions of their own, so that each stays in line.
 macro_rules! shown_node {
     ($node:ident, $layout:ident, $level:ident, $out:ident) => {
         match $node {
@@ -119,7 +119,7 @@ fn show_member<W: Sink, L: Layout>(
     shown_node!(node, layout, level, out)
 }
 
-// An element, and what stands before it.
+// An element, and what is written before it.
 #[cycle(shown)]
 #[inline(always)]
 fn show_element<W: Sink, L: Layout>(

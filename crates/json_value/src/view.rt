@@ -7,8 +7,8 @@ ghost use Rattle.json_doc.specs.Readings.{type_of, bool_of, integer_of, literal_
 ghost use Rattle.json_doc.specs.Seen.{view_doc, view_place, view_tree};
 ghost use Rattle.json_value.specs.Denotes.{tree_of};
 ghost use Rattle.json_value.specs.Places.{places_in};
-ghost use Rattle.json_value.specs.Seen.{seen, elements_seen, members_seen, list_of, pairs_of};
-ghost use Rattle.json_value.specs.SightParts.{elements_of, elements_sights, members_of, members_sights, sight_after, sight_along, or_nowhere};
+ghost use Rattle.json_value.specs.Seen.{seen, elements_seen, members_seen, list_of, object_pairs};
+ghost use Rattle.json_value.specs.SightParts.{sight_elements, elements_sights, sight_members, members_sights, sight_after, sight_along, or_nowhere};
 ghost use Rattle.json_value.specs.Sights.{sight_of, place_of, nowhere};
 ghost use Rattle.json_value.specs.Spots.{spot_in, spot_of};
 ghost use Rattle.json_value.specs.ViewSpots.{spot_seen, spot_kept, places_kept};
@@ -19,7 +19,7 @@ ghost use Rattle.json_value.specs.Steps.{child, tree_at, tree_or_null};
 ghost use Rattle.json_doc.specs.Docs.{doc_cells, doc_tree};
 ghost use Rattle.json_model.specs.Print.{shown};
 ghost use Rattle.json_print.specs.Showing.{RanOut, Shows};
-ghost use Rattle.json_print.specs.Standing.{TakesValue};
+ghost use Rattle.json_print.specs.Standing.{TurnTakesValue};
 ghost use Rattle.json_print.specs.TextWriting.{WritesText};
 ghost use Rattle.json_print.specs.Given.{given_tokens};
 ghost use Rattle.json_value.specs.Emitting.{Emits, Walks, tree_given};
@@ -150,7 +150,7 @@ impl<'a> View<'a> {
     #[inline]
     pub fn as_array(self) -> Option<ArrayView<'a>>
         ensures trees { option_map elements_seen result ≡ list_of (seen self.entry) }
-        ensures sights { option_map elements_sights result ≡ elements_of (sight_of self.entry) }
+        ensures sights { option_map elements_sights result ≡ sight_elements (sight_of self.entry) }
     {
         match self.form {
             ViewForm::Packed(packed) => ArrayView::of_packed(packed),
@@ -162,8 +162,8 @@ impl<'a> View<'a> {
     /// The object; none of another kind.
     #[inline]
     pub fn as_object(self) -> Option<ObjectView<'a>>
-        ensures trees { option_map members_seen result ≡ pairs_of (seen self.entry) }
-        ensures sights { option_map members_sights result ≡ members_of (sight_of self.entry) }
+        ensures trees { option_map members_seen result ≡ object_pairs (seen self.entry) }
+        ensures sights { option_map members_sights result ≡ sight_members (sight_of self.entry) }
     {
         match self.form {
             ViewForm::Packed(packed) => ObjectView::of_packed(packed),
@@ -279,7 +279,7 @@ impl<'a> View<'a> {
     /// that meets an error, which is returned. Where the events had returned an error it is returned
     /// again, and nothing changes; else a value may come there.
     pub fn emit<E: Events>(self, out: &mut E) -> Result<()>
-        requires { E.failed out.old ≡ None → TakesValue (E.stand (E.state out.old)).turn }
+        requires { E.failed out.old ≡ None → TurnTakesValue (E.stand (E.state out.old)).turn }
         ensures given { Emits E.after E.stopped (E.state out.old) (E.state out.new)
             (E.failed out.old) (E.failed out.new) (tree_given (seen self.entry)) result }
         ensures tokens { given_tokens (tree_given (seen self.entry)) ≡ tokens (seen self.entry) }
@@ -312,7 +312,7 @@ impl<'a> View<'a> {
     /// `NoMemory` where memory runs out; then the events have taken the first of these tokens, and no
     /// error.
     pub fn emit_sorted<E: Events>(self, alloc: Global, out: &mut E) -> Result<()>
-        requires { E.failed out.old ≡ None → TakesValue (E.stand (E.state out.old)).turn }
+        requires { E.failed out.old ≡ None → TurnTakesValue (E.stand (E.state out.old)).turn }
         ensures given { EmitsOrLacks E.after E.stopped (E.state out.old) (E.state out.new)
             (E.failed out.old) (E.failed out.new) (tree_given (sorted (seen self.entry))) result }
         ensures tokens { given_tokens (tree_given (sorted (seen self.entry)))
@@ -343,7 +343,7 @@ fn show<W: Sink, L: Layout>(view: View<'_>, layout: L, out: &mut BufferedWriter<
 }
 
 fn walk<E: Events>(view: View<'_>, out: &mut E) -> Walked
-    requires { E.failed out.old ≡ None → TakesValue (E.stand (E.state out.old)).turn }
+    requires { E.failed out.old ≡ None → TurnTakesValue (E.stand (E.state out.old)).turn }
     ensures { Walks E.after E.stopped (E.state out.old) (E.state out.new)
         (E.failed out.old) (E.failed out.new) (tree_given (seen view.entry)) result }
 {
@@ -355,7 +355,7 @@ fn walk<E: Events>(view: View<'_>, out: &mut E) -> Walked
 }
 
 fn walk_sorted<E: Events>(view: View<'_>, alloc: Global, out: &mut E) -> SortWalked
-    requires { E.failed out.old ≡ None → TakesValue (E.stand (E.state out.old)).turn }
+    requires { E.failed out.old ≡ None → TurnTakesValue (E.stand (E.state out.old)).turn }
     ensures { SortWalks E.after E.stopped (E.state out.old) (E.state out.new)
         (E.failed out.old) (E.failed out.new) (tree_given (sorted (seen view.entry))) result }
 {

@@ -5,15 +5,15 @@ use Rattle.json_grammar.specs.Tree.{Tree, null, boolean, num, text, list, pairs,
 use Rattle.json_text.specs.declared.error.Error.{Error}
 use Rattle.json_text.specs.Errors.{no_memory, out_of_range, key_refused}
 use Rattle.json_model.specs.Datum.{Datum}
-use Rattle.json_model.specs.Datum.{tree_of as datum_tree}
+use Rattle.json_model.specs.Datum.{tree_of_datum as datum_tree}
 use Rattle.json_model.specs.Merged.{merged, trees_merged, values_merged}
 use Rattle.json_model.proofs.Merging.{once_put}
 use Rattle.json_print.specs.Data.{parts, before_gap, is_whole}
-use Rattle.json_print.specs.Given.{Given, given, given_integer, given_tokens}
+use Rattle.json_print.specs.Given.{TokenOrInteger, given, given_integer, given_tokens}
 use Rattle.json_print.specs.Taking.{after_all, StopsAmong, Takes}
 use Rattle.json_print.proofs.Data.{whole_tree}
 use Rattle.json_write.specs.Building.{Frame, Work, Build, new_frame, frame_take, work_after, build_after, at_start, is_inside, StopsAs, StopsBuild, first_refusal}
-use Rattle.json_write.specs.Writing.{Writes}
+use Rattle.json_write.specs.Writing.{WritesDatumTokens}
 use Rattle.json_write.proofs.Parts.{after_append, wrote}
 use Rattle.json_write.proofs.Refused.{Refuses, refused_or}
 
@@ -69,14 +69,14 @@ mutual
       ∙ ap (λ us. in_rows us fs) (append_assoc qs ((k, merged t) ∷ []) (pairs_list (values_merged ps)))
 
 -- the work does not depend on what may come, nor on the integers
-work_of : (b : Build) (gs : List Given) → (after_all build_after b gs).work ≡ work_all b.work (given_tokens gs)
+work_of : (b : Build) (gs : List TokenOrInteger) → (after_all build_after b gs).work ≡ work_all b.work (given_tokens gs)
 work_of b [] = refl
 work_of b (g ∷ gs) = work_of (build_after b g) gs
 
 -- ---- integers by value
 
 -- each lies inside
-abbrev all_inside : List Given → Bool
+abbrev all_inside : List TokenOrInteger → Bool
 all_inside [] = true
 all_inside (given t ∷ gs) = all_inside gs
 all_inside (given_integer n ∷ gs) = is_inside n && all_inside gs
@@ -89,20 +89,20 @@ and_true : (a : Bool) → (a && true) ≡ a
 and_true true = refl
 and_true false = refl
 
-fits_all : (b : Build) (gs : List Given) → (after_all build_after b gs).fits ≡ (b.fits && all_inside gs)
+fits_all : (b : Build) (gs : List TokenOrInteger) → (after_all build_after b gs).fits ≡ (b.fits && all_inside gs)
 fits_all b [] = sym (and_true b.fits)
 fits_all b (given t ∷ gs) = fits_all (build_after b (given t)) gs
 fits_all b (given_integer n ∷ gs) = fits_all (build_after b (given_integer n)) gs ∙ and_assoc b.fits (is_inside n) (all_inside gs)
 
 -- where the value goes on being built each lay inside
-all_fit : (old new : Build) (gs : List Given) → old ≡ at_start → new.fits ≡ true → new ≡ after_all build_after old gs → all_inside gs ≡ true
+all_fit : (old new : Build) (gs : List TokenOrInteger) → old ≡ at_start → new.fits ≡ true → new ≡ after_all build_after old gs → all_inside gs ≡ true
 all_fit old new gs s f w = sym (ap (λ (b : Build). b.fits && all_inside gs) s) ∙ sym (fits_all old gs) ∙ sym (ap (λ (b : Build). b.fits) w) ∙ f
 
 one_refusal : (b : Bool) (o : Option Error) (c : Bool) → (b && c) ≡ true → (c ≡ true → o ≡ None) → cond b o (Some out_of_range) ≡ None
 one_refusal true o c h f = f h
 one_refusal false o c h f = absurd (cc)
 
-none_refused : (ps : List (Option Given)) → is_whole ps ≡ true → all_inside (before_gap ps) ≡ true → first_refusal ps ≡ None
+none_refused : (ps : List (Option TokenOrInteger)) → is_whole ps ≡ true → all_inside (before_gap ps) ≡ true → first_refusal ps ≡ None
 none_refused [] w h = refl
 none_refused (None ∷ ps) w h = absurd (cc)
 none_refused (Some (given t) ∷ ps) w h = none_refused ps w h
@@ -112,7 +112,7 @@ key_first : (b : Bool) (o : Option Error) (c : Bool) → (b && c) ≡ true → (
 key_first true o c h f = f h
 key_first false o c h f = absurd (cc)
 
-key_is_first : (ps : List (Option Given)) → is_whole ps ≡ false → all_inside (before_gap ps) ≡ true → first_refusal ps ≡ Some key_refused
+key_is_first : (ps : List (Option TokenOrInteger)) → is_whole ps ≡ false → all_inside (before_gap ps) ≡ true → first_refusal ps ≡ Some key_refused
 key_is_first [] w h = absurd (cc)
 key_is_first (None ∷ ps) w h = refl
 key_is_first (Some (given t) ∷ ps) w h = key_is_first ps w h
@@ -123,7 +123,7 @@ cond_same true x = refl
 cond_same false x = refl
 
 -- an integer that lies outside stands before the first such key
-outside_is_first : (ps : List (Option Given)) (front back : List Given) (n : ℤ) → before_gap ps ≡ front ++ given_integer n ∷ back → is_inside n ≡ false → first_refusal ps ≡ Some out_of_range
+outside_is_first : (ps : List (Option TokenOrInteger)) (front back : List TokenOrInteger) (n : ℤ) → before_gap ps ≡ front ++ given_integer n ∷ back → is_inside n ≡ false → first_refusal ps ≡ Some out_of_range
 outside_is_first [] [] back n e o = absurd (cc)
 outside_is_first [] (g ∷ front) back n e o = absurd (cc)
 outside_is_first (None ∷ ps) [] back n e o = absurd (cc)
@@ -138,7 +138,7 @@ outside_is_first (Some (given_integer m) ∷ ps) (g ∷ front) back n e o =
 
 -- ---- the answers
 
-pub value_built : (d : Datum) (old new : Build) (err failed : Option Error) (u : Unit {0}) (v : Tree) → old ≡ at_start → Writes build_after StopsBuild old new err failed (parts d) (Ok u) → ((t : Tree) → new.work.top ≡ frame_take (new_frame array) t → v ≡ t)
+pub value_built : (d : Datum) (old new : Build) (err failed : Option Error) (u : Unit {0}) (v : Tree) → old ≡ at_start → WritesDatumTokens build_after StopsBuild old new err failed (parts d) (Ok u) → ((t : Tree) → new.work.top ≡ frame_take (new_frame array) t → v ≡ t)
     → option_map merged (datum_tree d) ≡ Some v
 value_built d old new err failed u v s h k =
     let w = wrote h in let t = whole_tree d w.whole in
@@ -146,7 +146,7 @@ value_built d old new err failed u v s h k =
     ap (λ (b : Build). b.work) w.state ∙ work_of old (before_gap (parts d)) ∙ ap₂ (λ (b : Build) ts. work_all b.work ts) s t.spelled ∙ tree_built at_start.work t.tree in
     ap (option_map merged) t.is ∙ ap Some (sym (k (merged t.tree) (ap (λ (x : Work). x.top) built)))
 
-pub value_fits : (d : Datum) (old new : Build) (err failed : Option Error) (u : Unit {0}) → old ≡ at_start → new.fits ≡ true → Writes build_after StopsBuild old new err failed (parts d) (Ok u) → first_refusal (parts d) ≡ None
+pub value_fits : (d : Datum) (old new : Build) (err failed : Option Error) (u : Unit {0}) → old ≡ at_start → new.fits ≡ true → WritesDatumTokens build_after StopsBuild old new err failed (parts d) (Ok u) → first_refusal (parts d) ≡ None
 value_fits d old new err failed u s f h = let w = wrote h in none_refused (parts d) w.whole (all_fit old new (before_gap (parts d)) s f w.state)
 
 stopped_build : (d : Datum) (old new : Build) (e : Error) → StopsAmong build_after StopsBuild old new (before_gap (parts d)) e → (e ≡ no_memory) ⊎ (first_refusal (parts d) ≡ Some e)
@@ -159,6 +159,6 @@ stopped_build d old new e s =
 refused_build : (d : Datum) (old new : Build) (e : Error) → old ≡ at_start → new.fits ≡ true → Refuses build_after old new (parts d) e → first_refusal (parts d) ≡ Some e
 refused_build d old new e s f q = key_is_first (parts d) q.gap (all_fit old new (before_gap (parts d)) s f q.state) ∙ ap Some (sym q.is)
 
-pub value_refused : (d : Datum) (old new : Build) (err failed : Option Error) (e : Error) → err ≡ None → old ≡ at_start → new.fits ≡ true → Writes build_after StopsBuild old new err failed (parts d) (Err e)
+pub value_refused : (d : Datum) (old new : Build) (err failed : Option Error) (e : Error) → err ≡ None → old ≡ at_start → new.fits ≡ true → WritesDatumTokens build_after StopsBuild old new err failed (parts d) (Err e)
     → (e ≡ no_memory) ⊎ (first_refusal (parts d) ≡ Some e)
 value_refused d old new err failed e n s f h = elim (refused_or n h) [ inl q ↦ inr (refused_build d old new e s f q) | inr t ↦ stopped_build d old new e t ]

@@ -3,10 +3,10 @@ use Rattle.std.proofs.Common.{◌≡◌, List, [], ◌∷◌, ◌++◌, Bool, tr
 use Rattle.json_text.specs.declared.error.Error.{Error}
 use Rattle.json_text.specs.Errors.{key_refused}
 use Rattle.json_print.specs.Data.{before_gap, is_whole}
-use Rattle.json_print.specs.Given.{Given, token_of}
+use Rattle.json_print.specs.Given.{TokenOrInteger, token_of}
 use Rattle.json_print.specs.Taking.{after_all, Takes}
 use Rattle.json_print.proofs.Data.{before_append, whole_append, gap_append}
-use Rattle.json_write.specs.Writing.{Writes, IsTokenProper, AreTokensProper}
+use Rattle.json_write.specs.Writing.{WritesDatumTokens, IsTokenProper, AreTokensProper}
 
 pub after_append : {S T : Type 0} (after : S → T → S) (s : S) (a b : List T) → after_all after s (a ++ b) ≡ after_all after (after_all after s a) b
 after_append after s [] b = refl
@@ -14,23 +14,23 @@ after_append after s (x ∷ a) b = after_append after (after s x) a b
 
 -- ---- where the gaps are
 
-pub whole_front : (ps qs : List (Option Given)) → is_whole (ps ++ qs) ≡ true → is_whole ps ≡ true
+pub whole_front : (ps qs : List (Option TokenOrInteger)) → is_whole (ps ++ qs) ≡ true → is_whole ps ≡ true
 whole_front [] qs w = refl
 whole_front (None ∷ ps) qs w = absurd (cc)
 whole_front (Some t ∷ ps) qs w = whole_front ps qs w
 
-pub whole_back : (ps qs : List (Option Given)) → is_whole (ps ++ qs) ≡ true → is_whole qs ≡ true
+pub whole_back : (ps qs : List (Option TokenOrInteger)) → is_whole (ps ++ qs) ≡ true → is_whole qs ≡ true
 whole_back [] qs w = w
 whole_back (None ∷ ps) qs w = absurd (cc)
 whole_back (Some t ∷ ps) qs w = whole_back ps qs w
 
-before_gap_append : (ps qs : List (Option Given)) → is_whole ps ≡ false → before_gap (ps ++ qs) ≡ before_gap ps
+before_gap_append : (ps qs : List (Option TokenOrInteger)) → is_whole ps ≡ false → before_gap (ps ++ qs) ≡ before_gap ps
 before_gap_append [] qs w = absurd (cc)
 before_gap_append (None ∷ ps) qs w = refl
 before_gap_append (Some t ∷ ps) qs w = ap (λ ts. t ∷ ts) (before_gap_append ps qs w)
 
 -- what stands behind
-before_more : (ps qs : List (Option Given)) → (more : List Given) × (before_gap (ps ++ qs) ≡ before_gap ps ++ more)
+before_more : (ps qs : List (Option TokenOrInteger)) → (more : List TokenOrInteger) × (before_gap (ps ++ qs) ≡ before_gap ps ++ more)
 before_more [] qs = (before_gap qs, refl)
 before_more (None ∷ ps) qs = ([], refl)
 before_more (Some t ∷ ps) qs = let r = before_more ps qs in (r.0, ap (λ ts. t ∷ ts) r.1)
@@ -43,7 +43,7 @@ pub answer_gap : (b : Bool) (x : Error) → ◌≡◌ {A = Result (Unit {0}) Err
 answer_gap true x e = absurd (cc)
 answer_gap false x e = refl
 
-proper_append : (a b : List Given) → AreTokensProper a → AreTokensProper b → AreTokensProper (a ++ b)
+proper_append : (a b : List TokenOrInteger) → AreTokensProper a → AreTokensProper b → AreTokensProper (a ++ b)
 proper_append [] b h k = k
 proper_append (t ∷ a) b h k = (h.0, proper_append a b h.1 k)
 
@@ -53,35 +53,35 @@ if_none (Some e) P f = absurd (cc)
 
 -- ---- what Ok tells
 
-pub record Wrote {S : Type 0} (after : S → Given → S) (old new : S) (err err' : Option Error) (ps : List (Option Given)) : Type 0 where
+pub record Wrote {S : Type 0} (after : S → TokenOrInteger → S) (old new : S) (err err' : Option Error) (ps : List (Option TokenOrInteger)) : Type 0 where
   pub begun : err ≡ None
   pub fresh : err' ≡ None
   pub state : new ≡ after_all after old (before_gap ps)
   pub whole : is_whole ps ≡ true
   pub proper : AreTokensProper (before_gap ps)
 
-pub wrote : {S : Type 0} {after : S → Given → S} {stopped : S → Given → S → Error → Type 0} {old new : S} {err err' : Option Error} {ps : List (Option Given)} {u : Unit {0}} → Writes after stopped old new err err' ps (Ok u) → Wrote after old new err err' ps
+pub wrote : {S : Type 0} {after : S → TokenOrInteger → S} {stopped : S → TokenOrInteger → S → Error → Type 0} {old new : S} {err err' : Option Error} {ps : List (Option TokenOrInteger)} {u : Unit {0}} → WritesDatumTokens after stopped old new err err' ps (Ok u) → Wrote after old new err err' ps
 wrote {err = None} {err' = None} {ps = ps} {u = u} h = record { begun = refl; fresh = refl; state = h.given refl; whole = answer_whole (is_whole ps) u (h.answer refl); proper = h.proper refl }
 wrote {err = Some x} {err' = None} h = let r = h.kept.0 in absurd (cc)
 wrote {err' = Some e} h = let r = h.again in absurd (cc)
 
 -- ---- one
 
-pub writes_token : {S : Type 0} {after : S → Given → S} {stopped : S → Given → S → Error → Type 0} {old new : S} {err err' : Option Error} {t : Given} {r : Result (Unit {0}) Error}
-    → IsTokenProper (token_of t) → Takes after stopped old new err err' t r → Writes after stopped old new err err' (Some t ∷ []) r
+pub writes_token : {S : Type 0} {after : S → TokenOrInteger → S} {stopped : S → TokenOrInteger → S → Error → Type 0} {old new : S} {err err' : Option Error} {t : TokenOrInteger} {r : Result (Unit {0}) Error}
+    → IsTokenProper (token_of t) → Takes after stopped old new err err' t r → WritesDatumTokens after stopped old new err err' (Some t ∷ []) r
 writes_token {r = Ok u} p h = rw h.fresh (record { given = λ _. h.ok; answer = λ _. refl; proper = λ _. (p, tt); again = tt; stops = λ _. tt; kept = h.again })
 writes_token {old = old} {t = t} {r = Err e} p h =
     rw h.failed (record { given = λ n. absurd (cc); answer = λ n. absurd (cc); proper = λ n. absurd (cc); again = refl; stops = λ n. record { front = []; at = t; back = []; whole = refl; left = h.stopped n }; kept = h.again })
 
 -- a key that has no text
-pub writes_gap : {S : Type 0} {after : S → Given → S} {stopped : S → Given → S → Error → Type 0} {old : S} {err : Option Error} {ps : List (Option Given)}
-    → err ≡ None → Writes after stopped old old err err (None ∷ ps) (Err key_refused)
+pub writes_gap : {S : Type 0} {after : S → TokenOrInteger → S} {stopped : S → TokenOrInteger → S → Error → Type 0} {old : S} {err : Option Error} {ps : List (Option TokenOrInteger)}
+    → err ≡ None → WritesDatumTokens after stopped old old err err (None ∷ ps) (Err key_refused)
 writes_gap n = rw n (record { given = λ _. refl; answer = λ _. refl; proper = λ _. tt; again = tt; stops = λ _. tt; kept = tt })
 
 -- ---- one after another
 
-pub writes_then : {S : Type 0} {after : S → Given → S} {stopped : S → Given → S → Error → Type 0} {old mid new : S} {err err' err'' : Option Error} {ps qs : List (Option Given)} {r : Result (Unit {0}) Error}
-    → Wrote after old mid err err' ps → Writes after stopped mid new err' err'' qs r → Writes after stopped old new err err'' (ps ++ qs) r
+pub writes_then : {S : Type 0} {after : S → TokenOrInteger → S} {stopped : S → TokenOrInteger → S → Error → Type 0} {old mid new : S} {err err' err'' : Option Error} {ps qs : List (Option TokenOrInteger)} {r : Result (Unit {0}) Error}
+    → Wrote after old mid err err' ps → WritesDatumTokens after stopped mid new err' err'' qs r → WritesDatumTokens after stopped old new err err'' (ps ++ qs) r
 writes_then {after = after} {old = old} {mid = mid} {err = err} {err'' = None} {ps = ps} {qs = qs} w h =
     record {
       given = λ n. h.given n ∙ ap (λ s. after_all after s (before_gap qs)) w.state ∙ sym (after_append after old (before_gap ps) (before_gap qs)) ∙ ap (after_all after old) (sym (before_append ps qs w.whole));
@@ -109,8 +109,8 @@ writes_then {after = after} {stopped = stopped} {old = old} {new = new} {err = e
     }
 
 -- what is answered first stays
-pub writes_stop : {S : Type 0} {after : S → Given → S} {stopped : S → Given → S → Error → Type 0} {old new : S} {err err' : Option Error} {ps : List (Option Given)} {e : Error}
-    → Writes after stopped old new err err' ps (Err e) → (qs : List (Option Given)) → Writes after stopped old new err err' (ps ++ qs) (Err e)
+pub writes_stop : {S : Type 0} {after : S → TokenOrInteger → S} {stopped : S → TokenOrInteger → S → Error → Type 0} {old new : S} {err err' : Option Error} {ps : List (Option TokenOrInteger)} {e : Error}
+    → WritesDatumTokens after stopped old new err err' ps (Err e) → (qs : List (Option TokenOrInteger)) → WritesDatumTokens after stopped old new err err' (ps ++ qs) (Err e)
 writes_stop {after = after} {old = old} {err' = None} {ps = ps} {e = e} h qs =
     let gap = answer_gap (is_whole ps) e (h.answer refl) in
     record {
@@ -132,7 +132,7 @@ writes_stop {err' = Some x} {ps = ps} h qs =
       kept = h.kept;
     }
 
-pub wrote_then : {S : Type 0} {after : S → Given → S} {old mid new : S} {err err' err'' : Option Error} {ps qs : List (Option Given)} → Wrote after old mid err err' ps → Wrote after mid new err' err'' qs → Wrote after old new err err'' (ps ++ qs)
+pub wrote_then : {S : Type 0} {after : S → TokenOrInteger → S} {old mid new : S} {err err' err'' : Option Error} {ps qs : List (Option TokenOrInteger)} → Wrote after old mid err err' ps → Wrote after mid new err' err'' qs → Wrote after old new err err'' (ps ++ qs)
 wrote_then {after = after} {old = old} {ps = ps} {qs = qs} v w =
     record {
       begun = v.begun;
@@ -143,14 +143,14 @@ wrote_then {after = after} {old = old} {ps = ps} {qs = qs} v w =
     }
 
 -- the same of equal parts
-pub writes_same : {S : Type 0} {after : S → Given → S} {stopped : S → Given → S → Error → Type 0} {old new : S} {err err' : Option Error} {ps qs : List (Option Given)} {r : Result (Unit {0}) Error}
-    → Writes after stopped old new err err' ps r → ps ≡ qs → Writes after stopped old new err err' qs r
-writes_same {after = after} {stopped = stopped} {old = old} {new = new} {err = err} {err' = err'} {r = r} h e = subst (λ x. Writes after stopped old new err err' x r) e h
+pub writes_same : {S : Type 0} {after : S → TokenOrInteger → S} {stopped : S → TokenOrInteger → S → Error → Type 0} {old new : S} {err err' : Option Error} {ps qs : List (Option TokenOrInteger)} {r : Result (Unit {0}) Error}
+    → WritesDatumTokens after stopped old new err err' ps r → ps ≡ qs → WritesDatumTokens after stopped old new err err' qs r
+writes_same {after = after} {stopped = stopped} {old = old} {new = new} {err = err} {err' = err'} {r = r} h e = subst (λ x. WritesDatumTokens after stopped old new err err' x r) e h
 
-pub wrote_same : {S : Type 0} {after : S → Given → S} {old new : S} {err err' : Option Error} {ps qs : List (Option Given)} → Wrote after old new err err' ps → ps ≡ qs → Wrote after old new err err' qs
+pub wrote_same : {S : Type 0} {after : S → TokenOrInteger → S} {old new : S} {err err' : Option Error} {ps qs : List (Option TokenOrInteger)} → Wrote after old new err err' ps → ps ≡ qs → Wrote after old new err err' qs
 wrote_same {after = after} {old = old} {new = new} {err = err} {err' = err'} h e = subst (λ x. Wrote after old new err err' x) e h
 
 -- what `?` answers
-pub writes_err : {S : Type 0} {after : S → Given → S} {stopped : S → Given → S → Error → Type 0} {old new : S} {err err' : Option Error} {ps : List (Option Given)} {r : Result (Unit {0}) Error} {e : Error}
-    → Writes after stopped old new err err' ps (Err e) → (y : Error) × (r ≡ Err y) × (y ≡ e) → Writes after stopped old new err err' ps r
-writes_err {after = after} {stopped = stopped} {old = old} {new = new} {err = err} {err' = err'} {ps = ps} h p = subst (λ x. Writes after stopped old new err err' ps x) (sym (p.1 ∙ ap Err p.2)) h
+pub writes_err : {S : Type 0} {after : S → TokenOrInteger → S} {stopped : S → TokenOrInteger → S → Error → Type 0} {old new : S} {err err' : Option Error} {ps : List (Option TokenOrInteger)} {r : Result (Unit {0}) Error} {e : Error}
+    → WritesDatumTokens after stopped old new err err' ps (Err e) → (y : Error) × (r ≡ Err y) × (y ≡ e) → WritesDatumTokens after stopped old new err err' ps r
+writes_err {after = after} {stopped = stopped} {old = old} {new = new} {err = err} {err' = err'} {ps = ps} h p = subst (λ x. WritesDatumTokens after stopped old new err err' ps x) (sym (p.1 ∙ ap Err p.2)) h

@@ -6,7 +6,7 @@ use Rattle.json_grammar.specs.declared.Kind.TheVariants.{Array as array, Object 
 use Rattle.json_grammar.proofs.TextUtf8.{text_utf8}
 use Rattle.json_model.specs.Print.{shown, IsIndent}
 use Rattle.json_model.proofs.Printing.{shown_text}
-use Rattle.json_print.specs.Given.{Given, given_tokens}
+use Rattle.json_print.specs.Given.{TokenOrInteger, given_tokens}
 use Rattle.json_write.specs.Writing.{IsTokenProper, AreTokensProper}
 
 abbrev AreProperTokens : List Token → Type 0
@@ -38,10 +38,10 @@ mutual
   pairs_proper no_pairs h = tt
   pairs_proper (pair_and k t ps) h = (h.0, tree_proper t (front_proper (tokens t) (pairs_tokens ps) h.1), pairs_proper ps (back_proper (tokens t) (pairs_tokens ps) h.1))
 
-given_proper : (gs : List Given) → AreTokensProper gs → AreProperTokens (given_tokens gs)
+given_proper : (gs : List TokenOrInteger) → AreTokensProper gs → AreProperTokens (given_tokens gs)
 given_proper [] h = tt
 given_proper (g ∷ gs) h = (h.0, given_proper gs h.1)
 
 -- so its text is UTF-8
-pub shown_utf8 : (i : Option (List ℕ)) (t : Tree) (gs : List Given) → IsIndent i → given_tokens gs ≡ tokens t → AreTokensProper gs → IsUtf8 (shown i 0 t)
+pub shown_utf8 : (i : Option (List ℕ)) (t : Tree) (gs : List TokenOrInteger) → IsIndent i → given_tokens gs ≡ tokens t → AreTokensProper gs → IsUtf8 (shown i 0 t)
 shown_utf8 i t gs n e h = text_utf8 false t (shown i 0 t) (shown_text false i t n (tree_proper t (subst AreProperTokens e (given_proper gs h))))

@@ -3,23 +3,23 @@ use Rattle.std.proofs.Common.{◌≡◌, ◌⊎◌, inl, inr, List, Bool, true, 
 use Rattle.json_text.specs.declared.error.Error.{Error}
 use Rattle.json_text.specs.Errors.{key_refused}
 use Rattle.json_print.specs.Data.{before_gap, is_whole}
-use Rattle.json_print.specs.Given.{Given}
+use Rattle.json_print.specs.Given.{TokenOrInteger}
 use Rattle.json_print.specs.Taking.{StopsAmong, after_all}
-use Rattle.json_write.specs.Writing.{Writes}
+use Rattle.json_write.specs.Writing.{WritesDatumTokens}
 use Rattle.json_write.proofs.Parts.{answer_gap}
 
 pub if_err : {T : Type 0} (P : Error → Type 0) (r : Result T Error) (e : Error) → (y : Error) × (r ≡ Err y) × (y ≡ e) → P e → IfErr r P
 if_err P r e q h = subst (λ x. IfErr x P) (sym (q.1 ∙ ap Err q.2)) h
 
 -- a key was refused, and what stands before it was given
-pub record Refuses {S : Type 0} (after : S → Given → S) (old new : S) (ps : List (Option Given)) (e : Error) : Type 0 where
+pub record Refuses {S : Type 0} (after : S → TokenOrInteger → S) (old new : S) (ps : List (Option TokenOrInteger)) (e : Error) : Type 0 where
   pub is : e ≡ key_refused
   pub gap : is_whole ps ≡ false
   pub state : new ≡ after_all after old (before_gap ps)
 
 -- a key was refused, or the events met an error
-pub refused_or : {S : Type 0} {after : S → Given → S} {stopped : S → Given → S → Error → Type 0} {old new : S} {err err' : Option Error} {ps : List (Option Given)} {e : Error}
-    → err ≡ None → Writes after stopped old new err err' ps (Err e) → Refuses after old new ps e ⊎ StopsAmong after stopped old new (before_gap ps) e
+pub refused_or : {S : Type 0} {after : S → TokenOrInteger → S} {stopped : S → TokenOrInteger → S → Error → Type 0} {old new : S} {err err' : Option Error} {ps : List (Option TokenOrInteger)} {e : Error}
+    → err ≡ None → WritesDatumTokens after stopped old new err err' ps (Err e) → Refuses after old new ps e ⊎ StopsAmong after stopped old new (before_gap ps) e
 refused_or {err' = None} {ps = ps} {e = e} n h =
     let gap = answer_gap (is_whole ps) e (h.answer refl) in inl (record { is = refused (is_whole ps) gap (h.answer refl); gap = gap; state = h.given refl })
   where

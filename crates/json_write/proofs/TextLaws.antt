@@ -4,7 +4,7 @@ use Rattle.json_grammar.specs.declared.Kind.{Kind}
 use Rattle.json_grammar.specs.declared.Kind.TheVariants.{Array as array, Object as object}
 use Rattle.json_grammar.specs.Tree.{Tree, null, boolean, num, text, list, pairs, Trees, no_trees, tree_and, Pairs, no_pairs, pair_and, Token, end, tokens, trees_tokens, pairs_tokens}
 use Rattle.json_model.specs.Print.{shown, trees_shown, more_trees_shown, pairs_shown, more_pairs_shown, quoted}
-use Rattle.json_print.specs.Given.{Given, given_tokens}
+use Rattle.json_print.specs.Given.{TokenOrInteger, given_tokens}
 use Rattle.json_print.specs.Taking.{after_all}
 use Rattle.json_write.specs.declared.lead.Lead.{Lead}
 use Rattle.json_write.specs.declared.lead.Lead.TheVariants.{Nothing, Comma, Colon}
@@ -78,6 +78,6 @@ mutual
       ∙ same_bytes _ _ Comma o (more_pair_bytes b (quoted k) s (more_pairs_shown None d ps))
 
 -- what is given, by its tokens
-pub given_all : (s : TextState) (gs : List Given) → after_all given_put s gs ≡ all s (given_tokens gs)
+pub given_all : (s : TextState) (gs : List TokenOrInteger) → after_all given_put s gs ≡ all s (given_tokens gs)
 given_all s [] = refl
 given_all s (g ∷ gs) = given_all (given_put s g) gs

@@ -8,28 +8,28 @@ use Rattle.json_text.specs.declared.error.Error.{Error}
 use Rattle.json_number.specs.Integers.{integer_in}
 use Rattle.json_number.proofs.Integers.{prints_its_literal}
 use Rattle.json_print.specs.Data.{parts, data_parts, rows_parts, before_gap, is_whole}
-use Rattle.json_print.specs.Given.{Given, given}
+use Rattle.json_print.specs.Given.{TokenOrInteger, given}
 use Rattle.json_print.specs.Taking.{after_all}
 use Rattle.json_value.specs.Emitting.{Emits, number_given, tree_given, trees_given, pairs_given}
-use Rattle.json_write.specs.TreeDatum.{number_datum, tree_datum, trees_data, pairs_rows}
-use Rattle.json_write.specs.Writing.{Writes, AreTokensProper}
+use Rattle.json_write.specs.TreeDatum.{number_datum, tree_datum, tree_list_data, tree_member_rows}
+use Rattle.json_write.specs.Writing.{WritesDatumTokens, AreTokensProper}
 
 -- as parts, of which none is missing
-somes : List Given → List (Option Given)
+somes : List TokenOrInteger → List (Option TokenOrInteger)
 somes [] = []
 somes (g ∷ gs) = Some g ∷ somes gs
 
-somes_append : (a b : List Given) → somes (a ++ b) ≡ somes a ++ somes b
+somes_append : (a b : List TokenOrInteger) → somes (a ++ b) ≡ somes a ++ somes b
 unfolding somes
 somes_append [] b = refl
 somes_append (g ∷ a) b = ap (λ ps. Some g ∷ ps) (somes_append a b)
 
-before_somes : (gs : List Given) → before_gap (somes gs) ≡ gs
+before_somes : (gs : List TokenOrInteger) → before_gap (somes gs) ≡ gs
 unfolding somes
 before_somes [] = refl
 before_somes (g ∷ gs) = ap (λ z. g ∷ z) (before_somes gs)
 
-whole_somes : (gs : List Given) → is_whole (somes gs) ≡ true
+whole_somes : (gs : List TokenOrInteger) → is_whole (somes gs) ≡ true
 unfolding somes
 whole_somes [] = refl
 whole_somes (g ∷ gs) = whole_somes gs
@@ -50,15 +50,15 @@ mutual
   tree_parts (list ts) = ap (λ ps. Some (given (begin array)) ∷ (ps ++ Some (given (end array)) ∷ [])) (trees_parts ts) ∙ ap (λ ps. Some (given (begin array)) ∷ ps) (sym (somes_append (trees_given ts) (given (end array) ∷ [])))
   tree_parts (pairs ps) = ap (λ qs. Some (given (begin object)) ∷ (qs ++ Some (given (end object)) ∷ [])) (pairs_parts ps) ∙ ap (λ qs. Some (given (begin object)) ∷ qs) (sym (somes_append (pairs_given ps) (given (end object) ∷ [])))
 
-  trees_parts : (ts : Trees) → data_parts (trees_data ts) ≡ somes (trees_given ts)
+  trees_parts : (ts : Trees) → data_parts (tree_list_data ts) ≡ somes (trees_given ts)
   trees_parts no_trees = refl
   trees_parts (tree_and t ts) = ap₂ (λ a b. a ++ b) (tree_parts t) (trees_parts ts) ∙ sym (somes_append (tree_given t) (trees_given ts))
 
-  pairs_parts : (ps : Pairs) → rows_parts (pairs_rows ps) ≡ somes (pairs_given ps)
+  pairs_parts : (ps : Pairs) → rows_parts (tree_member_rows ps) ≡ somes (pairs_given ps)
   pairs_parts no_pairs = refl
   pairs_parts (pair_and k t ps) = ap (λ qs. Some (given (key_token k)) ∷ qs) (ap₂ (λ a b. a ++ b) (tree_parts t) (pairs_parts ps) ∙ sym (somes_append (tree_given t) (pairs_given ps)))
 
-proper_append : (a b : List Given) → AreTokensProper a → AreTokensProper b → AreTokensProper (a ++ b)
+proper_append : (a b : List TokenOrInteger) → AreTokensProper a → AreTokensProper b → AreTokensProper (a ++ b)
 proper_append [] b h k = k
 proper_append (g ∷ a) b h k = (h.0, proper_append a b h.1 k)
 
@@ -84,8 +84,8 @@ mutual
   pairs_given_proper no_pairs h = tt
   pairs_given_proper (pair_and k t ps) h = (h.0, proper_append (tree_given t) (pairs_given ps) (given_proper t h.1) (pairs_given_proper ps h.2))
 
-emitted : {S : Type 0} {after : S → Given → S} {stopped : S → Given → S → Error → Type 0} {old new : S} {err err' : Option Error} {gs : List Given} {r : Result (Unit {0}) Error}
-    → AreTokensProper gs → Emits after stopped old new err err' gs r → Writes after stopped old new err err' (somes gs) r
+emitted : {S : Type 0} {after : S → TokenOrInteger → S} {stopped : S → TokenOrInteger → S → Error → Type 0} {old new : S} {err err' : Option Error} {gs : List TokenOrInteger} {r : Result (Unit {0}) Error}
+    → AreTokensProper gs → Emits after stopped old new err err' gs r → WritesDatumTokens after stopped old new err err' (somes gs) r
 emitted {after = after} {old = old} {gs = gs} {r = Ok u} p h =
     rw h.fresh (record {
       given = λ _. h.all ∙ ap (after_all after old) (sym (before_somes gs));
@@ -106,9 +106,9 @@ emitted {gs = gs} {r = Err e} p h =
     })
 
 -- a tree is written
-pub tree_written : {S : Type 0} {after : S → Given → S} {stopped : S → Given → S → Error → Type 0} {old new : S} {err err' : Option Error} {r : Result (Unit {0}) Error} (t : Tree)
-    → IsProper t → Emits after stopped old new err err' (tree_given t) r → Writes after stopped old new err err' (parts (tree_datum t)) r
-tree_written {after = after} {stopped = stopped} {old = old} {new = new} {err = err} {err' = err'} {r = r} t p h = subst (λ ps. Writes after stopped old new err err' ps r) (sym (tree_parts t)) (emitted (given_proper t p) h)
+pub tree_written : {S : Type 0} {after : S → TokenOrInteger → S} {stopped : S → TokenOrInteger → S → Error → Type 0} {old new : S} {err err' : Option Error} {r : Result (Unit {0}) Error} (t : Tree)
+    → IsProper t → Emits after stopped old new err err' (tree_given t) r → WritesDatumTokens after stopped old new err err' (parts (tree_datum t)) r
+tree_written {after = after} {stopped = stopped} {old = old} {new = new} {err = err} {err' = err'} {r = r} t p h = subst (λ ps. WritesDatumTokens after stopped old new err err' ps r) (sym (tree_parts t)) (emitted (given_proper t p) h)
 
 -- ---- by index
 

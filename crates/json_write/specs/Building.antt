@@ -5,12 +5,12 @@ use Rattle.json_grammar.specs.declared.Kind.TheVariants.{Array as array, Object 
 use Rattle.json_grammar.specs.Tree.{Tree, null, boolean, num, text, list, pairs, no_pairs, list_trees, Token, null_token, boolean_token, num_token, text_token, begin, end, key_token}
 use Rattle.json_text.specs.declared.error.Error.{Error}
 use Rattle.json_text.specs.Errors.{no_memory, out_of_range, key_refused}
-use Rattle.json_print.specs.Standing.{Stand, stand_after}
+use Rattle.json_print.specs.Standing.{ExpectedTokens, stand_after}
 use Rattle.json_value.specs.Denotes.{tree_of, pair_of, text_bytes}
 use Rattle.json_model.specs.Merged.{inserted_all}
 use Rattle.json_write.specs.declared.builder.Builder.{Builder}
 use Rattle.json_write.specs.declared.level.Level.{Level}
-use Rattle.json_print.specs.Given.{Given, given, given_integer, token_of}
+use Rattle.json_print.specs.Given.{TokenOrInteger, given, given_integer, token_of}
 use Rattle.json_print.specs.Taking.{Takes}
 use Rattle.json_write.specs.Nesting.{nesting_stand, at_first}
 
@@ -58,7 +58,7 @@ pub record Work : Type 0 where
   pub outer : List Frame
 
 pub record Build : Type 0 where
-  pub stand : Stand
+  pub stand : ExpectedTokens
   pub work : Work
   -- each integer by value so far lies in i64 or u64
   pub fits : Bool
@@ -79,37 +79,37 @@ work_after w (begin k) = record { top = new_frame k; outer = w.top ∷ w.outer }
 work_after w (end k) = ended (frame_tree w.top) w.outer
 work_after w (key_token k) = record w { top = frame_key w.top k }
 
-abbrev pub fits_after : Bool → Given → Bool
+abbrev pub fits_after : Bool → TokenOrInteger → Bool
 fits_after b (given t) = b
 fits_after b (given_integer n) = b && is_inside n
 
-abbrev pub build_after : Build → Given → Build
+abbrev pub build_after : Build → TokenOrInteger → Build
 build_after b t = record { stand = stand_after b.stand (token_of t); work = work_after b.work (token_of t); fits = fits_after b.fits t }
 
 -- a value is behind
-abbrev pub placed : Tree → Build → Given → Build
+abbrev pub placed : Tree → Build → TokenOrInteger → Build
 placed u b t = record { stand = stand_after b.stand null_token; work = record (b.work) { top = frame_take b.work.top u }; fits = b.fits }
 
 -- no token was taken yet
 abbrev pub at_start : Build
 at_start = record { stand = at_first; work = record { top = new_frame array; outer = [] }; fits = true }
 
-abbrev pub StopsAs : Error → Build → Given → Build → Error → Type 0
+abbrev pub StopsAs : Error → Build → TokenOrInteger → Build → Error → Type 0
 StopsAs x b t b' e = e ≡ x
 
-abbrev pub StopsMemory : Build → Given → Build → Error → Type 0
+abbrev pub StopsMemory : Build → TokenOrInteger → Build → Error → Type 0
 StopsMemory b t b' e = e ≡ no_memory
 
 -- memory ran out, or it is an integer that has no room
-abbrev pub StopsBuild : Build → Given → Build → Error → Type 0
+abbrev pub StopsBuild : Build → TokenOrInteger → Build → Error → Type 0
 StopsBuild b t b' e = (e ≡ no_memory) ⊎ ((e ≡ out_of_range) × ((z : ℤ) × (t ≡ given_integer z) × (is_inside z ≡ false)))
 
 -- a call of a builder: what it builds goes on so, or it stops so
-abbrev pub Builds : (Build → Given → Build) → (Build → Given → Build → Error → Type 0) → Builder → Builder → Given → Result (Unit {0}) Error → Type 0
+abbrev pub Builds : (Build → TokenOrInteger → Build) → (Build → TokenOrInteger → Build → Error → Type 0) → Builder → Builder → TokenOrInteger → Result (Unit {0}) Error → Type 0
 Builds next stops old new g result = Takes next stops (build_of old) (build_of new) old.failed new.failed g result
 
 -- the first from the left of a key that has no text and an integer, which is no key, that lies outside
-abbrev pub first_refusal : List (Option Given) → Option Error
+abbrev pub first_refusal : List (Option TokenOrInteger) → Option Error
 first_refusal [] = None
 first_refusal (None ∷ ps) = Some key_refused
 first_refusal (Some (given t) ∷ ps) = first_refusal ps

@@ -6,7 +6,7 @@ use Rattle.json_text.specs.Errors.{no_memory, writing_failed, key_refused}
 use Rattle.json_text.specs.Known.{Appends}
 use Rattle.json_text.specs.Outside.{SinkState}
 use Rattle.json_text.specs.Transfer.{AppendsFront}
-use Rattle.json_model.specs.Datum.{Datum, tree_of}
+use Rattle.json_model.specs.Datum.{Datum, tree_of_datum}
 use Rattle.json_model.specs.Print.{shown}
 use Rattle.json_print.specs.Printer.{StopCause}
 
@@ -16,7 +16,7 @@ two_spaces = Some (codes "  ")
 
 -- the text of the datum's tree with an indent or none; none where a key has no text
 abbrev pub datum_text : Option (List ℕ) → Datum → Option (List ℕ)
-datum_text i d = option_map (shown i 0) (tree_of d)
+datum_text i d = option_map (shown i 0) (tree_of_datum d)
 
 -- the sink failed or memory ran out while the text was written, of which a front was gained
 pub record StopsText (old new : SinkState) (text : List ℕ) (e : Error) : Type 0 where
@@ -24,12 +24,12 @@ pub record StopsText (old new : SinkState) (text : List ℕ) (e : Error) : Type 
   pub front : AppendsFront old.gained new.gained text
 
 -- why no text was written: a key has none, memory ran out before the first byte, or the text stopped
-abbrev pub Fails : SinkState → SinkState → Option (List ℕ) → Datum → Error → Type 0
-Fails old new i d e =
-    ((e ≡ key_refused) × (tree_of d ≡ None) × (new ≡ old)) ⊎ (((e ≡ no_memory) × (new ≡ old)) ⊎ ((t : Tree) × (tree_of d ≡ Some t) × StopsText old new (shown i 0 t) e))
+abbrev pub SendingFails : SinkState → SinkState → Option (List ℕ) → Datum → Error → Type 0
+SendingFails old new i d e =
+    ((e ≡ key_refused) × (tree_of_datum d ≡ None) × (new ≡ old)) ⊎ (((e ≡ no_memory) × (new ≡ old)) ⊎ ((t : Tree) × (tree_of_datum d ≡ Some t) × StopsText old new (shown i 0 t) e))
 
 -- the sink gained the text of the datum's tree, with an indent or none
 pub record WritesDatum (old new : SinkState) (i : Option (List ℕ)) (d : Datum) (result : Result (Unit {0}) Error) : Type 0 where
-  pub ok : OnOk result ((t : Tree) × (tree_of d ≡ Some t) × Appends old.gained new.gained (shown i 0 t))
-  pub err : IfErr result (Fails old new i d)
+  pub ok : OnOk result ((t : Tree) × (tree_of_datum d ≡ Some t) × Appends old.gained new.gained (shown i 0 t))
+  pub err : IfErr result (SendingFails old new i d)
   pub told : old.faults < new.faults → IsErrOf result writing_failed

@@ -2,14 +2,14 @@
 use Rattle.std.specs.Prelude.{◌≡◌, ℕ, List, [], ◌∷◌, ◌++◌, take, reverse, Bool, true, false, Option, Some, None, Result}
 use Rattle.json_grammar.specs.declared.Kind.{Kind}
 use Rattle.json_grammar.specs.Grammar.{null_bytes, boolean_bytes}
-use Rattle.json_grammar.specs.Place.{bracket, closing}
+use Rattle.json_grammar.specs.Place.{bracket, closing, outside}
 use Rattle.json_grammar.specs.Tree.{Token, null_token, boolean_token, num_token, text_token, begin, end, key_token}
 use Rattle.json_model.specs.Print.{quoted}
 use Rattle.json_text.specs.declared.error.Error.{Error}
 use Rattle.json_text.specs.Errors.{no_memory}
-use Rattle.json_print.specs.Given.{Given, token_of}
+use Rattle.json_print.specs.Given.{TokenOrInteger, token_of}
 use Rattle.json_print.specs.Taking.{Takes}
-use Rattle.json_print.specs.Standing.{Stand, behind, first_turn, outside}
+use Rattle.json_print.specs.Standing.{ExpectedTokens, turn_after_value, first_turn}
 use Rattle.json_print.specs.declared.events.Turn.{Turn}
 use Rattle.json_print.specs.declared.events.Turn.TheVariants.{Value as at_value, Member as at_member}
 use Rattle.json_write.specs.declared.lead.Lead.{Lead}
@@ -31,12 +31,12 @@ first_in (k ∷ ks) = first_turn k
 
 abbrev pub turn_by : Lead → List Kind → Turn
 turn_by Nothing opened = first_in opened
-turn_by Comma opened = behind opened
+turn_by Comma opened = turn_after_value opened
 turn_by Colon opened = at_member
 
 -- what may come next
-abbrev pub text_stand : TextState → Stand
-text_stand s = record { turn = turn_by s.lead s.opened; opened = s.opened }
+abbrev pub text_expected : TextState → ExpectedTokens
+text_expected s = record { turn = turn_by s.lead s.opened; opened = s.opened }
 
 -- a scalar of this text more
 abbrev pub scalar_put : TextState → List ℕ → TextState
@@ -55,7 +55,7 @@ token_put s (begin k) = record { bytes = s.bytes ++ (lead_bytes s.lead ++ bracke
 token_put s (end k) = record { bytes = s.bytes ++ closing k ∷ []; lead = Comma; opened = outside s.opened }
 token_put s (key_token t) = string_put Colon s t
 
-abbrev pub given_put : TextState → Given → TextState
+abbrev pub given_put : TextState → TokenOrInteger → TextState
 given_put s g = token_put s (token_of g)
 
 -- memory ran out
@@ -76,12 +76,12 @@ abbrev pub kept_error : Bool → Option Error
 kept_error true = Some no_memory
 kept_error false = None
 
-abbrev pub error_of : TextWriter → Option Error
-error_of w = kept_error w.failed
+abbrev pub writer_error : TextWriter → Option Error
+writer_error w = kept_error w.failed
 
 abbrev pub text_state : TextWriter → TextState
 text_state w = record { bytes = buffered w.buffer; lead = w.lead; opened = reverse w.opened.items }
 
 -- a call of a text writer: what is written goes on so, or memory runs out
 abbrev pub PutsText : {T : Type 0} → (TextState → T → TextState) → TextWriter → TextWriter → T → Result (Unit {0}) Error → Type 0
-PutsText next old new t result = Takes next StopsAtMemory (text_state old) (text_state new) (error_of old) (error_of new) t result
+PutsText next old new t result = Takes next StopsAtMemory (text_state old) (text_state new) (writer_error old) (writer_error new) t result

@@ -15,13 +15,13 @@ abbrev mutual
   tree_datum (boolean b) = boolean_datum b
   tree_datum (num l) = number_datum (integer_in l) l
   tree_datum (text s) = text_datum s
-  tree_datum (list ts) = list_datum (trees_data ts)
-  tree_datum (pairs ps) = rows_datum (pairs_rows ps)
+  tree_datum (list ts) = list_datum (tree_list_data ts)
+  tree_datum (pairs ps) = rows_datum (tree_member_rows ps)
 
-  pub trees_data : Trees → Data
-  trees_data no_trees = no_data
-  trees_data (tree_and t ts) = datum_and (tree_datum t) (trees_data ts)
+  pub tree_list_data : Trees → Data
+  tree_list_data no_trees = no_data
+  tree_list_data (tree_and t ts) = datum_and (tree_datum t) (tree_list_data ts)
 
-  pub pairs_rows : Pairs → Rows
-  pairs_rows no_pairs = no_rows
-  pairs_rows (pair_and k t ps) = row_and (text_datum k) (tree_datum t) (pairs_rows ps)
+  pub tree_member_rows : Pairs → Rows
+  tree_member_rows no_pairs = no_rows
+  tree_member_rows (pair_and k t ps) = row_and (text_datum k) (tree_datum t) (tree_member_rows ps)

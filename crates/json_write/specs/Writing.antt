@@ -5,11 +5,11 @@ use Rattle.json_grammar.specs.Tree.{Token, num_token, text_token, key_token}
 use Rattle.json_text.specs.declared.error.Error.{Error}
 use Rattle.json_text.specs.Errors.{key_refused}
 use Rattle.json_print.specs.Data.{before_gap, is_whole}
-use Rattle.json_print.specs.Given.{Given, token_of}
+use Rattle.json_print.specs.Given.{TokenOrInteger, token_of}
 use Rattle.json_print.specs.Taking.{after_all, StopsAmong}
 
 -- what is answered where the events met no error
-abbrev pub answer_of : List (Option Given) → Result (Unit {0}) Error
+abbrev pub answer_of : List (Option TokenOrInteger) → Result (Unit {0}) Error
 answer_of ps = cond (is_whole ps) (Ok tt) (Err key_refused)
 
 -- a literal that is a number (RFC 8259, section 6), and a string or a name that is UTF-8 (section 8.1)
@@ -19,12 +19,12 @@ IsTokenProper (text_token s) = IsUtf8 s
 IsTokenProper (key_token s) = IsUtf8 s
 IsTokenProper t = Unit {0}
 
-abbrev pub AreTokensProper : List Given → Type 0
+abbrev pub AreTokensProper : List TokenOrInteger → Type 0
 AreTokensProper [] = Unit {0}
 AreTokensProper (g ∷ gs) = IsTokenProper (token_of g) × AreTokensProper gs
 
 -- what stands before the first key that has no text was given in turn, up to what met an error
-pub record Writes {S : Type 0} (after : S → Given → S) (stopped : S → Given → S → Error → Type 0) (old new : S) (err err' : Option Error) (ps : List (Option Given)) (result : Result (Unit {0}) Error) : Type 0 where
+pub record WritesDatumTokens {S : Type 0} (after : S → TokenOrInteger → S) (stopped : S → TokenOrInteger → S → Error → Type 0) (old new : S) (err err' : Option Error) (ps : List (Option TokenOrInteger)) (result : Result (Unit {0}) Error) : Type 0 where
   -- where the events met no error, all of it was given, and the answer is Ok exactly where each key has a text
   pub given : err' ≡ None → new ≡ after_all after old (before_gap ps)
   pub answer : err' ≡ None → result ≡ answer_of ps

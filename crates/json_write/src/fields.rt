@@ -2,9 +2,9 @@
 ghost use Rattle.std.specs.Prelude.{◌≡◌, None};
 ghost use Rattle.json_model.specs.Datum.{Rows, no_rows, row_and, rows_datum, text_datum};
 ghost use Rattle.json_print.specs.Data.{parts, rows_parts};
-ghost use Rattle.json_print.specs.Standing.{TakesValue};
+ghost use Rattle.json_print.specs.Standing.{TurnTakesValue};
 ghost use Rattle.json_write.specs.FieldRows.{rows_append, AtKey};
-ghost use Rattle.json_write.specs.Writing.{Writes};
+ghost use Rattle.json_write.specs.Writing.{WritesDatumTokens};
 
 use crate::Serialize;
 use crate::giving::{begin_rows, end_rows, give_key};
@@ -31,7 +31,7 @@ pub trait Fields {
     /// there.
     fn give<E: Events>(&self, out: &mut E) -> Result<()>
         requires { E.failed out.old ≡ None → AtKey (E.stand (E.state out.old)) }
-        ensures { Writes E.after E.stopped (E.state out.old) (E.state out.new)
+        ensures { WritesDatumTokens E.after E.stopped (E.state out.old) (E.state out.new)
             (E.failed out.old) (E.failed out.new) (rows_parts (rows self.now)) result };
 }
 
@@ -76,8 +76,8 @@ impl<A: Fields, B: Fields> Fields for (A, B) {
 /// Gives an object of these members: the body of [`Serialize::serialize`] of a type with fields.
 #[inline(always)]
 pub fn give_fields<F: Fields, E: Events>(fields: &F, out: &mut E) -> Result<()>
-    requires { E.failed out.old ≡ None → TakesValue (E.stand (E.state out.old)).turn }
-    ensures { Writes E.after E.stopped (E.state out.old) (E.state out.new)
+    requires { E.failed out.old ≡ None → TurnTakesValue (E.stand (E.state out.old)).turn }
+    ensures { WritesDatumTokens E.after E.stopped (E.state out.old) (E.state out.new)
         (E.failed out.old) (E.failed out.new) (parts (rows_datum (F.rows fields.now))) result }
 {
     begin_rows(None, out)?;

@@ -4,9 +4,9 @@ ghost use Rattle.std.specs.Fmt.{decimal, signed_decimal};
 ghost use Rattle.json_grammar.specs.Grammar.{number};
 ghost use Rattle.json_grammar.specs.Tree.{null_token, boolean_token, num_token, text_token, begin, end, key_token};
 ghost use Rattle.json_grammar.specs.declared.Kind.TheVariants.{Array as array, Object as object};
-ghost use Rattle.json_print.specs.Standing.{TakesValue, TakesKey, TakesEnd};
+ghost use Rattle.json_print.specs.Standing.{TurnTakesValue, TurnTakesKey, TurnTakesEnd};
 ghost use Rattle.json_print.specs.Given.{given, given_integer};
-ghost use Rattle.json_write.specs.Writing.{Writes};
+ghost use Rattle.json_write.specs.Writing.{WritesDatumTokens};
 
 use json_print::Events;
 use json_text::Result;
@@ -14,8 +14,8 @@ use json_text::Result;
 /// Gives a null.
 #[inline(always)]
 pub fn give_null<E: Events>(out: &mut E) -> Result<()>
-    requires { E.failed out.old ≡ None → TakesValue (E.stand (E.state out.old)).turn }
-    ensures { Writes E.after E.stopped (E.state out.old) (E.state out.new)
+    requires { E.failed out.old ≡ None → TurnTakesValue (E.stand (E.state out.old)).turn }
+    ensures { WritesDatumTokens E.after E.stopped (E.state out.old) (E.state out.new)
         (E.failed out.old) (E.failed out.new) (Some (given null_token) ∷ []) result }
 {
     out.null()
@@ -24,8 +24,8 @@ pub fn give_null<E: Events>(out: &mut E) -> Result<()>
 /// Gives a truth value.
 #[inline(always)]
 pub fn give_boolean<E: Events>(b: bool, out: &mut E) -> Result<()>
-    requires { E.failed out.old ≡ None → TakesValue (E.stand (E.state out.old)).turn }
-    ensures { Writes E.after E.stopped (E.state out.old) (E.state out.new)
+    requires { E.failed out.old ≡ None → TurnTakesValue (E.stand (E.state out.old)).turn }
+    ensures { WritesDatumTokens E.after E.stopped (E.state out.old) (E.state out.new)
         (E.failed out.old) (E.failed out.new) (Some (given (boolean_token b)) ∷ []) result }
 {
     out.boolean(b)
@@ -34,8 +34,8 @@ pub fn give_boolean<E: Events>(b: bool, out: &mut E) -> Result<()>
 /// Gives an integer.
 #[inline(always)]
 pub fn give_int<E: Events>(n: i128, out: &mut E) -> Result<()>
-    requires { E.failed out.old ≡ None → TakesValue (E.stand (E.state out.old)).turn }
-    ensures { Writes E.after E.stopped (E.state out.old) (E.state out.new)
+    requires { E.failed out.old ≡ None → TurnTakesValue (E.stand (E.state out.old)).turn }
+    ensures { WritesDatumTokens E.after E.stopped (E.state out.old) (E.state out.new)
         (E.failed out.old) (E.failed out.new) (Some (given_integer n) ∷ []) result }
 {
     out.int(n)
@@ -44,8 +44,8 @@ pub fn give_int<E: Events>(n: i128, out: &mut E) -> Result<()>
 /// Gives an integer from zero on.
 #[inline(always)]
 pub fn give_uint<E: Events>(n: u128, out: &mut E) -> Result<()>
-    requires { E.failed out.old ≡ None → TakesValue (E.stand (E.state out.old)).turn }
-    ensures { Writes E.after E.stopped (E.state out.old) (E.state out.new)
+    requires { E.failed out.old ≡ None → TurnTakesValue (E.stand (E.state out.old)).turn }
+    ensures { WritesDatumTokens E.after E.stopped (E.state out.old) (E.state out.new)
         (E.failed out.old) (E.failed out.new) (Some (given_integer (pos n)) ∷ []) result }
 {
     out.uint(n)
@@ -55,8 +55,8 @@ pub fn give_uint<E: Events>(n: u128, out: &mut E) -> Result<()>
 #[inline(always)]
 pub fn give_literal<E: Events>(literal: &str, out: &mut E) -> Result<()>
     requires number { number literal.now }
-    requires turn { E.failed out.old ≡ None → TakesValue (E.stand (E.state out.old)).turn }
-    ensures { Writes E.after E.stopped (E.state out.old) (E.state out.new)
+    requires turn { E.failed out.old ≡ None → TurnTakesValue (E.stand (E.state out.old)).turn }
+    ensures { WritesDatumTokens E.after E.stopped (E.state out.old) (E.state out.new)
         (E.failed out.old) (E.failed out.new) (Some (given (num_token literal.now)) ∷ []) result }
 {
     out.raw_number(literal)
@@ -65,8 +65,8 @@ pub fn give_literal<E: Events>(literal: &str, out: &mut E) -> Result<()>
 /// Gives a string, by its characters.
 #[inline(always)]
 pub fn give_text<E: Events>(s: &str, out: &mut E) -> Result<()>
-    requires { E.failed out.old ≡ None → TakesValue (E.stand (E.state out.old)).turn }
-    ensures { Writes E.after E.stopped (E.state out.old) (E.state out.new)
+    requires { E.failed out.old ≡ None → TurnTakesValue (E.stand (E.state out.old)).turn }
+    ensures { WritesDatumTokens E.after E.stopped (E.state out.old) (E.state out.new)
         (E.failed out.old) (E.failed out.new) (Some (given (text_token s.now)) ∷ []) result }
 {
     out.text(s)
@@ -75,8 +75,8 @@ pub fn give_text<E: Events>(s: &str, out: &mut E) -> Result<()>
 /// Begins an array. The hint is how many elements come, where that is known; it changes nothing that is given.
 #[inline(always)]
 pub fn begin_list<E: Events>(hint: Option<usize>, out: &mut E) -> Result<()>
-    requires { E.failed out.old ≡ None → TakesValue (E.stand (E.state out.old)).turn }
-    ensures { Writes E.after E.stopped (E.state out.old) (E.state out.new)
+    requires { E.failed out.old ≡ None → TurnTakesValue (E.stand (E.state out.old)).turn }
+    ensures { WritesDatumTokens E.after E.stopped (E.state out.old) (E.state out.new)
         (E.failed out.old) (E.failed out.new) (Some (given (begin array)) ∷ []) result }
 {
     out.begin_array(hint)
@@ -85,8 +85,8 @@ pub fn begin_list<E: Events>(hint: Option<usize>, out: &mut E) -> Result<()>
 /// Ends the array that was begun last.
 #[inline(always)]
 pub fn end_list<E: Events>(out: &mut E) -> Result<()>
-    requires { E.failed out.old ≡ None → TakesEnd (E.stand (E.state out.old)).turn array }
-    ensures { Writes E.after E.stopped (E.state out.old) (E.state out.new)
+    requires { E.failed out.old ≡ None → TurnTakesEnd (E.stand (E.state out.old)).turn array }
+    ensures { WritesDatumTokens E.after E.stopped (E.state out.old) (E.state out.new)
         (E.failed out.old) (E.failed out.new) (Some (given (end array)) ∷ []) result }
 {
     out.end_array()
@@ -95,8 +95,8 @@ pub fn end_list<E: Events>(out: &mut E) -> Result<()>
 /// Begins an object. The hint is how many members come, where that is known; it changes nothing that is given.
 #[inline(always)]
 pub fn begin_rows<E: Events>(hint: Option<usize>, out: &mut E) -> Result<()>
-    requires { E.failed out.old ≡ None → TakesValue (E.stand (E.state out.old)).turn }
-    ensures { Writes E.after E.stopped (E.state out.old) (E.state out.new)
+    requires { E.failed out.old ≡ None → TurnTakesValue (E.stand (E.state out.old)).turn }
+    ensures { WritesDatumTokens E.after E.stopped (E.state out.old) (E.state out.new)
         (E.failed out.old) (E.failed out.new) (Some (given (begin object)) ∷ []) result }
 {
     out.begin_object(hint)
@@ -105,8 +105,8 @@ pub fn begin_rows<E: Events>(hint: Option<usize>, out: &mut E) -> Result<()>
 /// Gives the key of the next member, by its characters.
 #[inline(always)]
 pub fn give_key<E: Events>(s: &str, out: &mut E) -> Result<()>
-    requires { E.failed out.old ≡ None → TakesKey (E.stand (E.state out.old)).turn }
-    ensures { Writes E.after E.stopped (E.state out.old) (E.state out.new)
+    requires { E.failed out.old ≡ None → TurnTakesKey (E.stand (E.state out.old)).turn }
+    ensures { WritesDatumTokens E.after E.stopped (E.state out.old) (E.state out.new)
         (E.failed out.old) (E.failed out.new) (Some (given (key_token s.now)) ∷ []) result }
 {
     out.key(s)
@@ -115,8 +115,8 @@ pub fn give_key<E: Events>(s: &str, out: &mut E) -> Result<()>
 /// Ends the object that was begun last.
 #[inline(always)]
 pub fn end_rows<E: Events>(out: &mut E) -> Result<()>
-    requires { E.failed out.old ≡ None → TakesEnd (E.stand (E.state out.old)).turn object }
-    ensures { Writes E.after E.stopped (E.state out.old) (E.state out.new)
+    requires { E.failed out.old ≡ None → TurnTakesEnd (E.stand (E.state out.old)).turn object }
+    ensures { WritesDatumTokens E.after E.stopped (E.state out.old) (E.state out.new)
         (E.failed out.old) (E.failed out.new) (Some (given (end object)) ∷ []) result }
 {
     out.end_object()

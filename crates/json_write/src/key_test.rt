@@ -2,12 +2,12 @@
 ghost use Rattle.std.specs.Prelude.{◌≡◌, ◌⊎◌, None, Some, OnOk, IfErr, refl};
 ghost use Rattle.json_grammar.specs.Tree.{Tree, null_token, begin, end};
 ghost use Rattle.json_text.specs.Errors.{no_memory, key_refused};
-ghost use Rattle.json_model.specs.Datum.{tree_of};
+ghost use Rattle.json_model.specs.Datum.{tree_of_datum};
 ghost use Rattle.json_print.specs.Given.{given};
 ghost use Rattle.json_print.specs.Standing as standing;
 ghost use Rattle.json_write.specs.Nesting.{at_first};
 ghost use Rattle.json_write.specs.Testing as testing;
-ghost use Rattle.json_write.specs.Testing.{Tests, stand_of};
+ghost use Rattle.json_write.specs.Testing.{Tests, expected_in_test};
 
 use crate::Serialize;
 use crate::nesting::Nesting;
@@ -25,7 +25,7 @@ pub(crate) struct KeyTest {
 impl KeyTest {
     fn new(alloc: Global) -> KeyTest
         ensures fresh { result.failed ≡ None }
-        ensures stand { stand_of result ≡ at_first }
+        ensures stand { expected_in_test result ≡ at_first }
     {
         KeyTest {
             nesting: Nesting::new(alloc),
@@ -71,9 +71,9 @@ impl KeyTest {
 }
 
 impl Events for KeyTest {
-    ghost State = { standing.Stand };
+    ghost State = { standing.ExpectedTokens };
 
-    ghost state = { stand_of };
+    ghost state = { expected_in_test };
 
     ghost after = { testing.stand_given };
 
@@ -143,9 +143,9 @@ impl Events for KeyTest {
 
 // Whether each key of the value has a text.
 pub(crate) fn test_keys<T: Serialize>(alloc: Global, value: &T) -> Result<()>
-    ensures ok { OnOk result ((t : Tree) × (tree_of (T.datum value.now) ≡ Some t)) }
+    ensures ok { OnOk result ((t : Tree) × (tree_of_datum (T.datum value.now) ≡ Some t)) }
     ensures err { IfErr result (λ e. (e ≡ no_memory)
-        ⊎ ((e ≡ key_refused) × (tree_of (T.datum value.now) ≡ None))) }
+        ⊎ ((e ≡ key_refused) × (tree_of_datum (T.datum value.now) ≡ None))) }
 {
     let mut test = KeyTest::new(alloc);
     value.serialize(&mut test)

@@ -1,9 +1,9 @@
 // Lists.
 ghost use Rattle.std.specs.Prelude.{◌≡◌, [], ◌∷◌, None, map};
-ghost use Rattle.json_print.specs.Standing.{TakesValue};
+ghost use Rattle.json_print.specs.Standing.{TurnTakesValue};
 ghost use Rattle.json_model.specs.Datum.{list_datum, list_data};
 ghost use Rattle.json_print.specs.Data.{parts};
-ghost use Rattle.json_write.specs.Writing.{Writes};
+ghost use Rattle.json_write.specs.Writing.{WritesDatumTokens};
 
 use crate::giving::{begin_list, end_list};
 use crate::{KeyRoom, Serialize};
@@ -11,8 +11,8 @@ use json_print::Events;
 use json_text::Result;
 
 fn serialize_list<T: Serialize, E: Events>(items: &[T], out: &mut E) -> Result<()>
-    requires { E.failed out.old ≡ None → TakesValue (E.stand (E.state out.old)).turn }
-    ensures { Writes E.after E.stopped (E.state out.old) (E.state out.new)
+    requires { E.failed out.old ≡ None → TurnTakesValue (E.stand (E.state out.old)).turn }
+    ensures { WritesDatumTokens E.after E.stopped (E.state out.old) (E.state out.new)
         (E.failed out.old) (E.failed out.new)
         (parts (list_datum (list_data (map T.datum items.now)))) result }
 {

@@ -53,7 +53,7 @@ impl TextWriter {
     /// Events that were given nothing yet.
     pub(crate) fn new(alloc: Global) -> TextWriter
         ensures starts { text_state result ≡ texts.empty_text }
-        ensures fresh { texts.error_of result ≡ None }
+        ensures fresh { texts.writer_error result ≡ None }
     {
         TextWriter {
             buffer: TextBuffer::new(alloc),
@@ -201,11 +201,11 @@ impl Events for TextWriter {
 
     ghost after = { texts.given_put };
 
-    ghost stand = { texts.text_stand };
+    ghost stand = { texts.text_expected };
 
     ghost stopped = { texts.StopsAtMemory };
 
-    ghost failed = { texts.error_of };
+    ghost failed = { texts.writer_error };
 
     ghost moves = { λ s g. text_moves s (token_of g) };
 

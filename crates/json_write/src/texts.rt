@@ -1,7 +1,7 @@
 // Texts in memory.
 ghost use Rattle.std.specs.Prelude.{◌≡◌, ◌⊎◌, None, Some, IfOk, IfErr, IsUtf8, string_bytes};
 ghost use Rattle.json_text.specs.Errors.{no_memory, key_refused};
-ghost use Rattle.json_model.specs.Datum.{tree_of};
+ghost use Rattle.json_model.specs.Datum.{tree_of_datum};
 ghost use Rattle.json_write.specs.Sending.{datum_text, two_spaces};
 
 use crate::Serialize;
@@ -15,7 +15,7 @@ pub fn to_vec<T: Serialize>(alloc: Global, value: &T) -> Result<Vec<u8>>
     ensures ok { IfOk result (λ v. datum_text None (T.datum value.now) ≡ Some v.items) }
     ensures utf8 { IfOk result (λ v. IsUtf8 v.items) }
     ensures err { IfErr result (λ e. (e ≡ no_memory)
-        ⊎ ((e ≡ key_refused) × (tree_of (T.datum value.now) ≡ None))) }
+        ⊎ ((e ≡ key_refused) × (tree_of_datum (T.datum value.now) ≡ None))) }
 {
     let mut out = TextWriter::new(alloc);
     value.serialize(&mut out)?;
@@ -28,7 +28,7 @@ pub fn to_vec_pretty<T: Serialize>(alloc: Global, value: &T) -> Result<Vec<u8>>
     ensures ok { IfOk result (λ v. datum_text two_spaces (T.datum value.now) ≡ Some v.items) }
     ensures utf8 { IfOk result (λ v. IsUtf8 v.items) }
     ensures err { IfErr result (λ e. (e ≡ no_memory)
-        ⊎ ((e ≡ key_refused) × (tree_of (T.datum value.now) ≡ None))) }
+        ⊎ ((e ≡ key_refused) × (tree_of_datum (T.datum value.now) ≡ None))) }
 {
     let mut out = Serializer::pretty(alloc, VecSink::new(alloc));
     value.serialize(&mut out)?;
@@ -39,7 +39,7 @@ pub fn to_vec_pretty<T: Serialize>(alloc: Global, value: &T) -> Result<Vec<u8>>
 pub fn to_string<T: Serialize>(alloc: Global, value: &T) -> Result<String>
     ensures ok { IfOk result (λ s. datum_text None (T.datum value.now) ≡ Some (string_bytes s)) }
     ensures err { IfErr result (λ e. (e ≡ no_memory)
-        ⊎ ((e ≡ key_refused) × (tree_of (T.datum value.now) ≡ None))) }
+        ⊎ ((e ≡ key_refused) × (tree_of_datum (T.datum value.now) ≡ None))) }
 {
     let bytes = to_vec(alloc, value)?;
     Ok(unsafe { String::from_utf8_unchecked(bytes) })
@@ -51,7 +51,7 @@ pub fn to_string_pretty<T: Serialize>(alloc: Global, value: &T) -> Result<String
     ensures ok { IfOk result (λ s.
         datum_text two_spaces (T.datum value.now) ≡ Some (string_bytes s)) }
     ensures err { IfErr result (λ e. (e ≡ no_memory)
-        ⊎ ((e ≡ key_refused) × (tree_of (T.datum value.now) ≡ None))) }
+        ⊎ ((e ≡ key_refused) × (tree_of_datum (T.datum value.now) ≡ None))) }
 {
     let bytes = to_vec_pretty(alloc, value)?;
     Ok(unsafe { String::from_utf8_unchecked(bytes) })

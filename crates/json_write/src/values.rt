@@ -1,12 +1,12 @@
 // Values and views.
 ghost use Rattle.std.specs.Prelude.{◌≡◌, None, map, option_map};
-ghost use Rattle.json_print.specs.Standing.{TakesValue};
+ghost use Rattle.json_print.specs.Standing.{TurnTakesValue};
 ghost use Rattle.json_number.specs.Numbers.{value_of};
 ghost use Rattle.json_value.specs.Denotes.{tree_of, list_in, pairs_in};
 ghost use Rattle.json_value.specs.Seen.{seen, elements_seen, members_seen};
 ghost use Rattle.json_model.specs.Datum.{list_datum, list_data, rows_datum, list_rows, row_of, text_datum};
 ghost use Rattle.json_print.specs.Data.{parts};
-ghost use Rattle.json_write.specs.Writing.{Writes};
+ghost use Rattle.json_write.specs.Writing.{WritesDatumTokens};
 ghost use Rattle.json_write.specs.TreeDatum.{tree_datum};
 
 use crate::giving::{begin_list, begin_rows, end_list, end_rows, give_key};
@@ -61,8 +61,8 @@ impl Serialize for Value {
 }
 
 fn serialize_elements<E: Events>(view: ArrayView<'_>, out: &mut E) -> Result<()>
-    requires { E.failed out.old ≡ None → TakesValue (E.stand (E.state out.old)).turn }
-    ensures { Writes E.after E.stopped (E.state out.old) (E.state out.new)
+    requires { E.failed out.old ≡ None → TurnTakesValue (E.stand (E.state out.old)).turn }
+    ensures { WritesDatumTokens E.after E.stopped (E.state out.old) (E.state out.new)
         (E.failed out.old) (E.failed out.new)
         (parts (list_datum (list_data (map tree_datum (elements_seen view.entry))))) result }
 {
@@ -90,8 +90,8 @@ impl Serialize for Container<Value> {
 }
 
 fn serialize_members<E: Events>(view: ObjectView<'_>, out: &mut E) -> Result<()>
-    requires { E.failed out.old ≡ None → TakesValue (E.stand (E.state out.old)).turn }
-    ensures { Writes E.after E.stopped (E.state out.old) (E.state out.new)
+    requires { E.failed out.old ≡ None → TurnTakesValue (E.stand (E.state out.old)).turn }
+    ensures { WritesDatumTokens E.after E.stopped (E.state out.old) (E.state out.new)
         (E.failed out.old) (E.failed out.new)
         (parts (rows_datum (list_rows
         (map (row_of text_datum tree_datum) (members_seen view.entry))))) result }

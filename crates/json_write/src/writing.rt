@@ -3,7 +3,7 @@ ghost use Rattle.std.specs.Prelude.{◌≡◌, ℕ, List, Option, None, Some, fa
 ghost use Rattle.json_grammar.specs.Tree.{Tree};
 ghost use Rattle.json_model.specs.Print.{shown};
 ghost use Rattle.json_print.specs.Layouts.{LaidOut};
-ghost use Rattle.json_model.specs.Datum.{tree_of};
+ghost use Rattle.json_model.specs.Datum.{tree_of_datum};
 ghost use Rattle.json_print.specs.TextWriting.{WritesText};
 ghost use Rattle.json_write.specs.Sending.{WritesDatum, two_spaces};
 
@@ -21,7 +21,7 @@ fn formatted<W: Sink, T: Serialize, F: Formatter + Drop>(
     writer: W,
 ) -> (W, Result<()>)
     requires fresh { F.fresh formatter }
-    ensures text { (t : Tree) (indent : Option (List ℕ)) → tree_of (T.datum value.now) ≡ Some t
+    ensures text { (t : Tree) (indent : Option (List ℕ)) → tree_of_datum (T.datum value.now) ≡ Some t
         → LaidOut F.form formatter indent 0 false
         → WritesText (W.state writer) (W.state result.0) (shown indent 0 t) result.1 }
 {

@@ -13,19 +13,19 @@ use Rattle.json_text.specs.Known.{append_known}
 use Rattle.json_text.specs.Outside.{SourceState, SinkState, Rose}
 use Rattle.json_command.specs.Input.{IsInput}
 use Rattle.json_command.proofs.KnownBytes.{input_known, fault_known, large_known}
-use Rattle.json_data.specs.Calls.{ReadingFails}
+use Rattle.json_data.specs.Calls.{TypedReadingFails}
 use Rattle.json_data.specs.Reading.{read_list}
 use Rattle.json_data.specs.ReadingValues.{read_edit}
-use Rattle.json_value.specs.EditTrees.{both, each_in, edit_in}
-use Rattle.reshape.specs.Reshape.{Layout, laid_out, Reshapes, ReadsUnfit, Refuses}
-use Rattle.reshape.specs.Words.{edits_in, Spells}
+use Rattle.json_value.specs.EditTrees.{both, each_in, edit_in, edits_in}
+use Rattle.reshape.specs.Reshape.{Layout, laid_out, Reshapes, ReadsUnfit, ReshapingRefuses}
+use Rattle.reshape.specs.Words.{SpellsEdits}
 use Rattle.reshape.proofs.Spelled.{none_spelled}
 use Rattle.mezdruk_c.specs.Editing.{EditedText, UnfitText, EditingFails}
 
 -- ---- edits that are spelled
 
 -- what is not read spells no edits, or memory ran out
-pub not_spelled : (b : List ℕ) (code : ErrorCode) (place : Place) → ReadingFails 254 (read_list read_edit) b code place → (code ≡ NoMemory) ⊎ ((es : List Edit) → ¬ (Spells b es))
+pub not_spelled : (b : List ℕ) (code : ErrorCode) (place : Place) → TypedReadingFails 254 (read_list read_edit) b code place → (code ≡ NoMemory) ⊎ ((es : List Edit) → ¬ (SpellsEdits b es))
 not_spelled b NoMemory place h = inl refl
 not_spelled b code place h = inr (none_spelled b code place (λ e. cc) h)
 
@@ -58,7 +58,7 @@ few_edits (text s) es e = absurd (none_some e)
 few_edits (pairs ps) es e = absurd (none_some e)
 
 -- a text spells fewer edits than it has bytes
-pub few_spelled : (b : List ℕ) (es : List Edit) → Spells b es → length es < 2 ^ 32
+pub few_spelled : (b : List ℕ) (es : List Edit) → SpellsEdits b es → length es < 2 ^ 32
 few_spelled b es s = omega (arith, few_edits s.tree es s.edits, (text_fits false s.tree b s.input.text).0, s.input.short)
 
 -- ---- the text of the edited tree
@@ -75,7 +75,7 @@ module _ (rules : Rules) (es : List Edit) where
   unfit_text source source' b number why h known = record { tree = h.tree; input = input_known rules source source' b h.tree h.reads known; refused = h.refused }
 
   -- where neither the source nor the sink failed
-  pub not_edited : (l : Layout) (source source' : SourceState) (sink sink' : SinkState) (b : List ℕ) (code : ErrorCode) (place : Place) → Refuses rules es l source source' sink sink' code place → source.left ≡ Some b
+  pub not_edited : (l : Layout) (source source' : SourceState) (sink sink' : SinkState) (b : List ℕ) (code : ErrorCode) (place : Place) → ReshapingRefuses rules es l source source' sink sink' code place → source.left ≡ Some b
       → ¬ (Rose source.faults source'.faults) → ¬ (Rose sink.faults sink'.faults) → EditingFails rules es b code place
   not_edited l source source' sink sink' b NoMemory nowhere h known reads writes = tt
   not_edited l source source' sink sink' b Io Reading h known reads writes = absurd (reads h.0)

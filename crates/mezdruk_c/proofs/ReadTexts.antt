@@ -13,7 +13,7 @@ use Rattle.json_doc.specs.Docs.{IsDocOf, doc_cells, doc_root, doc_text, doc_tree
 use Rattle.json_doc.specs.Reading.{ReadingFailsWith}
 use Rattle.json_doc.proofs.Trees.{spelled}
 use Rattle.json_command.specs.Input.{max_bytes, IsInput, too_large, not_utf8, no_text}
-use Rattle.mezdruk_c.specs.Texts.{TextFails}
+use Rattle.mezdruk_c.specs.Texts.{ReadingTextFails}
 
 -- the tree at the root of a document of a tree is that tree
 root_is : (d : Doc) (t : Tree) → IsDocOf d t → doc_tree d (doc_root d) ≡ t
@@ -26,18 +26,18 @@ module _ (rules : Rules) where
       subst (λ u. IsInput rules b u) (sym (root_is d t doc)) (record { short = short; text = subst (λ b. is_text false t b) same spelt; fit = fit })
 
   -- too many bytes
-  pub text_large : (b : List ℕ) → max_bytes < length b → TextFails rules b TooLarge nowhere
+  pub text_large : (b : List ℕ) → max_bytes < length b → ReadingTextFails rules b TooLarge nowhere
   text_large b h = too_large h
 
   -- bytes that are not UTF-8
-  pub text_not_utf8 : (b : List ℕ) (code : ErrorCode) (place : Place) → length b ≤ max_bytes → Utf8Cause b code place → TextFails rules b code place
+  pub text_not_utf8 : (b : List ℕ) (code : ErrorCode) (place : Place) → length b ≤ max_bytes → Utf8Cause b code place → ReadingTextFails rules b code place
   text_not_utf8 b InvalidUTF8 place short h = not_utf8 short h
   text_not_utf8 b code place short h = absurd h
 
   -- a text with a fault
-  text_faulty : (b : List ℕ) (code : ErrorCode) (place : Place) → length b ≤ max_bytes → IsUtf8 b → ReadingFailsWith rules b code place → TextFails rules b code place
+  text_faulty : (b : List ℕ) (code : ErrorCode) (place : Place) → length b ≤ max_bytes → IsUtf8 b → ReadingFailsWith rules b code place → ReadingTextFails rules b code place
   text_faulty b NoMemory nowhere short u h = tt
   text_faulty b code place short u h = no_text short u h
 
-  pub text_not_read : (b seen : List ℕ) (code : ErrorCode) (place : Place) → length b ≤ max_bytes → seen ≡ b → IsUtf8 b → ReadingFailsWith rules seen code place → TextFails rules b code place
+  pub text_not_read : (b seen : List ℕ) (code : ErrorCode) (place : Place) → length b ≤ max_bytes → seen ≡ b → IsUtf8 b → ReadingFailsWith rules seen code place → ReadingTextFails rules b code place
   text_not_read b seen code place short same u h = text_faulty b code place short u (subst (λ b. ReadingFailsWith rules b code place) same h)

@@ -12,12 +12,12 @@ use Rattle.mezdruk_c.specs.declared.failure.Failure.{Failure}
 use Rattle.mezdruk_c.specs.declared.failure.Failure.TheVariants.{Options as bad_options, Argument, Text, Patch}
 use Rattle.mezdruk_c.specs.declared.fault.Fault.{Fault}
 use Rattle.mezdruk_c.specs.declared.options.Options.{Options}
-use Rattle.mezdruk_c.specs.Asked.{HasRules, rules_asked}
+use Rattle.mezdruk_c.specs.Asked.{HasRules, rules_of_options}
 use Rattle.mezdruk_c.specs.Checking.{CheckFails}
-use Rattle.mezdruk_c.specs.Failures.{argument_status_of, text_status_of, patch_status_of, status_of}
-use Rattle.mezdruk_c.specs.Faults.{Fails, Settles, fault_at}
+use Rattle.mezdruk_c.specs.Failures.{argument_status_of, text_status_of, patch_status_of, status_of_failure}
+use Rattle.mezdruk_c.specs.Faults.{CallFailsFor, TellsOutcome, fault_at}
 use Rattle.json_command.specs.Input.{IsValid, InputFault}
-use Rattle.mezdruk_c.specs.Texts.{TextFails}
+use Rattle.mezdruk_c.specs.Texts.{ReadingTextFails}
 use Rattle.json_command.proofs.Inputs.{one_input_fault, valid_no_fault, no_want, no_not_found, no_type_unmatched}
 
 -- ---- a failure has a status other than 0
@@ -36,7 +36,7 @@ patch_some : (c : PatchCode) → patch_status_of c ≢ 0
 patch_some patch.NoMemory e = omega (arith, e)
 patch_some c e = omega (arith, e)
 
-pub status_some : (f : Failure) → status_of f ≢ 0
+pub status_some : (f : Failure) → status_of_failure f ≢ 0
 status_some bad_options e = omega (arith, e)
 status_some (Argument x) e = argument_some x.code e
 status_some (Text x) e = text_some x.code e
@@ -44,28 +44,28 @@ status_some (Patch x) e = patch_some x.code e
 
 -- ---- a success and a failure
 
-pub settled_done : (r : Result (Unit {0}) Failure) (n : ℕ) (fault : Fault) (Done : Type 0) → Settles r n fault → OnOk r Done → n ≡ 0 → Done
+pub settled_done : (r : Result (Unit {0}) Failure) (n : ℕ) (fault : Fault) (Done : Type 0) → TellsOutcome r n fault → OnOk r Done → n ≡ 0 → Done
 settled_done (Ok x) n fault Done s done e = done
 settled_done (Err f) n fault Done s done e = absurd (status_some f (sym s.0 ∙ e))
 
-pub settled_failed : (r : Result (Unit {0}) Failure) (n : ℕ) (fault : Fault) (Why : Failure → Type 0) → Settles r n fault → IfErr r Why → n ≢ 0 → Fails Why n fault
+pub settled_failed : (r : Result (Unit {0}) Failure) (n : ℕ) (fault : Fault) (Why : Failure → Type 0) → TellsOutcome r n fault → IfErr r Why → n ≢ 0 → CallFailsFor Why n fault
 settled_failed (Ok x) n fault Why s why h = absurd (h s)
 settled_failed (Err f) n fault Why s why h = record { failure = f; why = why; status_is = s.0; fault_is = s.1 }
 
 -- ---- a check
 
 -- a valid text fails only for want of memory
-valid_fails : (rules : Rules) (b : List ℕ) (code : ErrorCode) (place : Place) → IsValid rules b → TextFails rules b code place → text_status_of code ≡ 6
+valid_fails : (rules : Rules) (b : List ℕ) (code : ErrorCode) (place : Place) → IsValid rules b → ReadingTextFails rules b code place → text_status_of code ≡ 6
 valid_fails rules b NoMemory nowhere valid h = refl
 valid_fails rules b code place valid h = absurd (valid_no_fault rules b code place valid h)
 
-valid_check : (o : Options) (b : List ℕ) (f : Failure) → HasRules o → IsValid (rules_asked o) b → CheckFails o b f → status_of f ≡ 6
+valid_check : (o : Options) (b : List ℕ) (f : Failure) → HasRules o → IsValid (rules_of_options o) b → CheckFails o b f → status_of_failure f ≡ 6
 valid_check o b bad_options has valid why = absurd (why has)
-valid_check o b (Text e) has valid why = valid_fails (rules_asked o) b e.code e.place valid why.1
+valid_check o b (Text e) has valid why = valid_fails (rules_of_options o) b e.code e.place valid why.1
 valid_check o b (Argument e) has valid why = absurd why
 valid_check o b (Patch e) has valid why = absurd why
 
-pub check_complete : (r : Result (Unit {0}) Failure) (n : ℕ) (fault : Fault) (o : Options) (b : List ℕ) → Settles r n fault → IfErr r (CheckFails o b) → HasRules o → IsValid (rules_asked o) b → (n ≡ 0) ⊎ (n ≡ 6)
+pub check_complete : (r : Result (Unit {0}) Failure) (n : ℕ) (fault : Fault) (o : Options) (b : List ℕ) → TellsOutcome r n fault → IfErr r (CheckFails o b) → HasRules o → IsValid (rules_of_options o) b → (n ≡ 0) ⊎ (n ≡ 6)
 check_complete (Ok x) n fault o b s why has valid = inl s
 check_complete (Err f) n fault o b s why has valid = inr (s.0 ∙ valid_check o b f has valid why)
 
@@ -86,18 +86,18 @@ told_fault rules b n fault code code' place place' status told h h' = by (one_in
     by : (code' ≡ code) × (place' ≡ place) → Told code place n fault
     by (e, f) = inl (status ∙ fault_status rules b code' place' h', rw (← e, ← f) told)
 
-told_text : (rules : Rules) (b : List ℕ) (n : ℕ) (fault : Fault) (code code' : ErrorCode) (place place' : Place) → n ≡ text_status_of code' → fault ≡ fault_at (number_of code') place' → InputFault rules b code place → TextFails rules b code' place'
+told_text : (rules : Rules) (b : List ℕ) (n : ℕ) (fault : Fault) (code code' : ErrorCode) (place place' : Place) → n ≡ text_status_of code' → fault ≡ fault_at (number_of code') place' → InputFault rules b code place → ReadingTextFails rules b code' place'
     → Told code place n fault
 told_text rules b n fault code NoMemory place nowhere status told h why = inr status
 told_text rules b n fault code code' place place' status told h why = told_fault rules b n fault code code' place place' status told h why
 
-told_check : (o : Options) (b : List ℕ) (f : Failure) (n : ℕ) (fault : Fault) (code : ErrorCode) (place : Place) → HasRules o → Settles (Err f) n fault → CheckFails o b f → InputFault (rules_asked o) b code place → Told code place n fault
+told_check : (o : Options) (b : List ℕ) (f : Failure) (n : ℕ) (fault : Fault) (code : ErrorCode) (place : Place) → HasRules o → TellsOutcome (Err f) n fault → CheckFails o b f → InputFault (rules_of_options o) b code place → Told code place n fault
 told_check o b bad_options n fault code place has s why h = absurd (why has)
-told_check o b (Text e) n fault code place has s why h = told_text (rules_asked o) b n fault code e.code place e.place s.0 s.1 h why.1
+told_check o b (Text e) n fault code place has s why h = told_text (rules_of_options o) b n fault code e.code place e.place s.0 s.1 h why.1
 told_check o b (Argument e) n fault code place has s why h = absurd why
 told_check o b (Patch e) n fault code place has s why h = absurd why
 
-pub check_exact : (r : Result (Unit {0}) Failure) (n : ℕ) (fault : Fault) (o : Options) (b : List ℕ) (code : ErrorCode) (place : Place) → Settles r n fault → OnOk r (HasRules o × IsValid (rules_asked o) b) → IfErr r (CheckFails o b) → HasRules o
-    → InputFault (rules_asked o) b code place → Told code place n fault
-check_exact (Ok x) n fault o b code place s valid why has h = absurd (valid_no_fault (rules_asked o) b code place valid.1 h)
+pub check_exact : (r : Result (Unit {0}) Failure) (n : ℕ) (fault : Fault) (o : Options) (b : List ℕ) (code : ErrorCode) (place : Place) → TellsOutcome r n fault → OnOk r (HasRules o × IsValid (rules_of_options o) b) → IfErr r (CheckFails o b) → HasRules o
+    → InputFault (rules_of_options o) b code place → Told code place n fault
+check_exact (Ok x) n fault o b code place s valid why has h = absurd (valid_no_fault (rules_of_options o) b code place valid.1 h)
 check_exact (Err f) n fault o b code place s valid why has h = told_check o b f n fault code place has s why h

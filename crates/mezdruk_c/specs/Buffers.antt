@@ -5,10 +5,10 @@ use Rattle.mezdruk_c.specs.declared.payload.Payload.TheVariants.{Bytes}
 use Rattle.mezdruk_c.specs.declared.buffer.Buffer.{Buffer}
 
 -- the bytes of a payload, where there is one
-abbrev pub bytes_of : Bool → Payload → List ℕ
-bytes_of true (Bytes v) = v.items
-bytes_of full x = []
+abbrev pub payload_bytes : Bool → Payload → List ℕ
+payload_bytes true (Bytes v) = v.items
+payload_bytes full x = []
 
 -- the bytes that a buffer shows to C: `length` bytes at `bytes`
 abbrev pub buffer_bytes : Buffer → List ℕ
-buffer_bytes b = bytes_of b.owner.held.full b.owner.held.value
+buffer_bytes b = payload_bytes b.owner.held.full b.owner.held.value

@@ -5,21 +5,21 @@ use Rattle.json_text.specs.Ruled.{usual_rules}
 use Rattle.mezdruk_c.specs.declared.failure.Failure.{Failure}
 use Rattle.mezdruk_c.specs.declared.failure.Failure.TheVariants.{Options as bad_options, Argument, Text}
 use Rattle.mezdruk_c.specs.declared.options.Options.{Options}
-use Rattle.mezdruk_c.specs.Asked.{HasRules, rules_asked}
-use Rattle.mezdruk_c.specs.Texts.{TextFails}
+use Rattle.mezdruk_c.specs.Asked.{HasRules, rules_of_options}
+use Rattle.mezdruk_c.specs.Texts.{ReadingTextFails}
 
 -- a text that is an argument fails so, by the usual rules
 abbrev pub IsArgumentFailure : List ℕ → Failure → Type 0
-IsArgumentFailure b (Argument e) = TextFails usual_rules b e.code e.place
+IsArgumentFailure b (Argument e) = ReadingTextFails usual_rules b e.code e.place
 IsArgumentFailure b failure = ⊥
 
 -- a text fails so, by rules
 abbrev pub IsTextFailure : Rules → List ℕ → Failure → Type 0
-IsTextFailure rules b (Text e) = TextFails rules b e.code e.place
+IsTextFailure rules b (Text e) = ReadingTextFails rules b e.code e.place
 IsTextFailure rules b failure = ⊥
 
 -- the options are not valid, or the text is not by their rules, or memory ran out
 abbrev pub CheckFails : Options → List ℕ → Failure → Type 0
 CheckFails o text bad_options = ¬ (HasRules o)
-CheckFails o text (Text e) = HasRules o × TextFails (rules_asked o) text e.code e.place
+CheckFails o text (Text e) = HasRules o × ReadingTextFails (rules_of_options o) text e.code e.place
 CheckFails o text failure = ⊥

@@ -8,12 +8,12 @@ use Rattle.json_text.specs.declared.error.ErrorCode.{ErrorCode}
 use Rattle.json_text.specs.declared.error.ErrorCode.TheVariants.{NoMemory, NotFound, TypeUnmatched}
 use Rattle.json_text.specs.declared.error.Place.{Place}
 use Rattle.json_text.specs.declared.error.Place.TheVariants.{Edit as in_edit}
-use Rattle.reshape.specs.Words.{Spells}
+use Rattle.reshape.specs.Words.{SpellsEdits}
 use Rattle.mezdruk_c.specs.declared.failure.Failure.{Failure}
 use Rattle.mezdruk_c.specs.declared.failure.Failure.TheVariants.{Options as bad_options, Argument, Text}
 use Rattle.mezdruk_c.specs.declared.options.Options.{Options}
-use Rattle.mezdruk_c.specs.Asked.{AreOptions, rules_asked, text_asked}
-use Rattle.mezdruk_c.specs.Texts.{TextFails}
+use Rattle.mezdruk_c.specs.Asked.{AreOptions, rules_of_options, text_by_options}
+use Rattle.mezdruk_c.specs.Texts.{ReadingTextFails}
 
 -- the text is one of a tree by the rules, all edits apply to it, and the output is what is printed of the edited tree
 pub record EditedText (rules : Rules) (es : List Edit) (print : Tree → List ℕ) (text output : List ℕ) : Type 0 where
@@ -33,27 +33,27 @@ pub record UnfitText (rules : Rules) (es : List Edit) (text : List ℕ) (number 
 abbrev pub EditingFails : Rules → List Edit → List ℕ → ErrorCode → Place → Type 0
 EditingFails rules es text NotFound (in_edit number) = UnfitText rules es text number not_found
 EditingFails rules es text TypeUnmatched (in_edit number) = UnfitText rules es text number type_unmatched
-EditingFails rules es text code place = TextFails rules text code place
+EditingFails rules es text code place = ReadingTextFails rules text code place
 
 -- the edits are spelled so, they apply to the tree of the text, and the output is the text of the edited tree in the layout of the options
 pub record EditsText (o : Options) (text edits output : List ℕ) : Type 0 where
   pub es : List Edit
-  pub spelled : Spells edits es
+  pub spelled : SpellsEdits edits es
   pub tree : Tree
-  pub input : IsInput (rules_asked o) text tree
+  pub input : IsInput (rules_of_options o) text tree
   pub changed : Tree
   pub applied : edited es tree ≡ Ok changed
-  pub is : text_asked o changed ≡ Some output
+  pub is : text_by_options o changed ≡ Some output
 
 -- the edits are spelled so, and the text is not edited
 pub record FailsOnText (o : Options) (text edits : List ℕ) (code : ErrorCode) (place : Place) : Type 0 where
   pub es : List Edit
-  pub spelled : Spells edits es
-  pub why : EditingFails (rules_asked o) es text code place
+  pub spelled : SpellsEdits edits es
+  pub why : EditingFails (rules_of_options o) es text code place
 
 -- why editing fails: one row for each kind of failure
 abbrev pub EditFails : Options → List ℕ → List ℕ → Failure → Type 0
 EditFails o text edits bad_options = ¬ (AreOptions o)
-EditFails o text edits (Argument e) = (e.code ≡ NoMemory) ⊎ ((es : List Edit) → ¬ (Spells edits es))
+EditFails o text edits (Argument e) = (e.code ≡ NoMemory) ⊎ ((es : List Edit) → ¬ (SpellsEdits edits es))
 EditFails o text edits (Text e) = FailsOnText o text edits e.code e.place
 EditFails o text edits failure = ⊥

@@ -25,8 +25,8 @@ patch_status_of patch.NoMemory = 6
 patch_status_of code = 3
 
 -- of a failure
-abbrev pub status_of : Failure → ℕ
-status_of Options = 2
-status_of (Argument e) = argument_status_of e.code
-status_of (Text e) = text_status_of e.code
-status_of (Patch e) = patch_status_of e.code
+abbrev pub status_of_failure : Failure → ℕ
+status_of_failure Options = 2
+status_of_failure (Argument e) = argument_status_of e.code
+status_of_failure (Text e) = text_status_of e.code
+status_of_failure (Patch e) = patch_status_of e.code

@@ -3,11 +3,11 @@ use Rattle.std.specs.Prelude.{◌≡◌, ℕ, ◌-◌, ◌^◌, Option, Some, No
 use Rattle.json_text.specs.Errors.{number_of}
 use Rattle.json_text.specs.declared.error.Place.{Place}
 use Rattle.json_text.specs.declared.error.Place.TheVariants.{At, Edit}
-use Rattle.json_patch.specs.Errors.{number_of as patch_number}
+use Rattle.json_patch.specs.Errors.{patch_code_number as patch_number}
 use Rattle.mezdruk_c.specs.declared.failure.Failure.{Failure}
 use Rattle.mezdruk_c.specs.declared.failure.Failure.TheVariants.{Options, Argument, Text, Patch}
 use Rattle.mezdruk_c.specs.declared.fault.Fault.{Fault}
-use Rattle.mezdruk_c.specs.Failures.{status_of}
+use Rattle.mezdruk_c.specs.Failures.{status_of_failure}
 
 -- what stands for no offset and no item: the greatest number of the type
 abbrev pub no_number : ℕ
@@ -36,13 +36,13 @@ fault_of (Text e) = fault_at (number_of e.code) e.place
 fault_of (Patch e) = fault_in (patch_number e.code) e.op
 
 -- a status and a fault tell an outcome
-abbrev pub Settles : Result (Unit {0}) Failure → ℕ → Fault → Type 0
-Settles (Ok done) status fault = status ≡ 0
-Settles (Err failure) status fault = (status ≡ status_of failure) × (fault ≡ fault_of failure)
+abbrev pub TellsOutcome : Result (Unit {0}) Failure → ℕ → Fault → Type 0
+TellsOutcome (Ok done) status fault = status ≡ 0
+TellsOutcome (Err failure) status fault = (status ≡ status_of_failure failure) × (fault ≡ fault_of failure)
 
 -- a call failed for such a reason, and the status and the fault tell it
-pub record Fails (Why : Failure → Type 0) (status : ℕ) (fault : Fault) : Type 0 where
+pub record CallFailsFor (Why : Failure → Type 0) (status : ℕ) (fault : Fault) : Type 0 where
   pub failure : Failure
   pub why : Why failure
-  pub status_is : status ≡ status_of failure
+  pub status_is : status ≡ status_of_failure failure
   pub fault_is : fault ≡ fault_of failure

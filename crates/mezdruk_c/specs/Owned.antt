@@ -9,5 +9,5 @@ if_full true x = Some x
 if_full false x = None
 
 -- the value that an owner owns
-abbrev pub owned : Owner → Option Payload
-owned o = if_full o.held.full o.held.value
+abbrev pub owned_payload : Owner → Option Payload
+owned_payload o = if_full o.held.full o.held.value

@@ -3,7 +3,7 @@ use Rattle.std.specs.Prelude.{ℕ, List, Bool, true, false, Option, Some, None, 
 use Rattle.std.specs.Option.{option_and_then}
 use Rattle.json_grammar.specs.Tree.{Tree}
 use Rattle.json_doc.specs.Docs.{doc_cells, doc_tree}
-use Rattle.json_doc.specs.Readings.{elements, keys, values}
+use Rattle.json_doc.specs.Readings.{elements, object_keys, values}
 use Rattle.mezdruk_c.specs.declared.payload.Payload.{Payload}
 use Rattle.mezdruk_c.specs.declared.payload.Payload.TheVariants.{Document as a_document}
 
@@ -26,5 +26,5 @@ abbrev pub member_of : Option Tree → ℕ → Option Tree
 member_of t i = option_and_then (λ u. slice_get (values u) i) t
 
 -- the name of that member
-abbrev pub name_of : Option Tree → ℕ → Option (List ℕ)
-name_of t i = option_and_then (λ u. slice_get (keys u) i) t
+abbrev pub member_name : Option Tree → ℕ → Option (List ℕ)
+member_name t i = option_and_then (λ u. slice_get (object_keys u) i) t

@@ -3,8 +3,8 @@ use Rattle.std.specs.Prelude.{◌≡◌, ℕ, List, Some, None}
 use Rattle.std.specs.Result.{result_ok}
 use Rattle.json_grammar.specs.Tree.{Tree}
 use Rattle.json_command.specs.Input.{IsInput}
-use Rattle.json_patch.specs.Errors.{no_memory}
-use Rattle.json_patch.specs.Pointer.{Token, pointer_of, value_at_pointer}
+use Rattle.json_patch.specs.Errors.{no_memory_in_patch}
+use Rattle.json_patch.specs.Pointer.{ReferenceToken, pointer_of, value_at_pointer}
 use Rattle.json_patch.specs.declared.error.PatchCode.{PatchCode}
 use Rattle.json_patch.specs.declared.error.PatchCode.TheVariants.{NoMemory, BadPointer, NotFound}
 use Rattle.json_text.specs.Errors.{no_memory as no_memory_for_text}
@@ -12,18 +12,18 @@ use Rattle.json_text.specs.Utf8.{Utf8Cause}
 use Rattle.mezdruk_c.specs.declared.failure.Failure.{Failure}
 use Rattle.mezdruk_c.specs.declared.failure.Failure.TheVariants.{Options as bad_options, Argument, Text, Patch}
 use Rattle.mezdruk_c.specs.declared.options.Options.{Options}
-use Rattle.mezdruk_c.specs.Asked.{AreOptions, rules_asked, text_asked}
-use Rattle.mezdruk_c.specs.Texts.{TextFails}
+use Rattle.mezdruk_c.specs.Asked.{AreOptions, rules_of_options, text_by_options}
+use Rattle.mezdruk_c.specs.Texts.{ReadingTextFails}
 
 -- the pointer references this part of a tree (RFC 6901)
 pub record IsPointed (tree : Tree) (pointer : List ℕ) (part : Tree) : Type 0 where
-  pub tokens : List Token
+  pub tokens : List ReferenceToken
   pub parsed : pointer_of pointer ≡ Some tokens
   pub found : result_ok (value_at_pointer tokens tree) ≡ Some part
 
 -- the pointer references nothing in a tree
 pub record PointsNowhere (tree : Tree) (pointer : List ℕ) : Type 0 where
-  pub tokens : List Token
+  pub tokens : List ReferenceToken
   pub parsed : pointer_of pointer ≡ Some tokens
   pub found : result_ok (value_at_pointer tokens tree) ≡ None
 
@@ -42,20 +42,20 @@ PointingFails tree pointer failure = ⊥
 -- the output is the text of the part of the tree that the pointer references
 pub record GetsText (o : Options) (text pointer output : List ℕ) : Type 0 where
   pub tree : Tree
-  pub input : IsInput (rules_asked o) text tree
+  pub input : IsInput (rules_of_options o) text tree
   pub part : Tree
   pub pointed : IsPointed tree pointer part
-  pub is : text_asked o part ≡ Some output
+  pub is : text_by_options o part ≡ Some output
 
 -- the text was read, and the pointer references nothing in its tree
 pub record FailsInTree (o : Options) (text pointer : List ℕ) (code : PatchCode) : Type 0 where
   pub tree : Tree
-  pub input : IsInput (rules_asked o) text tree
+  pub input : IsInput (rules_of_options o) text tree
   pub why : PatchCodeFails tree pointer code
 
 -- why there is no such part: one row for each kind of failure
 abbrev pub GetFails : Options → List ℕ → List ℕ → Failure → Type 0
 GetFails o text pointer bad_options = ¬ (AreOptions o)
 GetFails o text pointer (Argument e) = Utf8Cause pointer e.code e.place
-GetFails o text pointer (Text e) = TextFails (rules_asked o) text e.code e.place
+GetFails o text pointer (Text e) = ReadingTextFails (rules_of_options o) text e.code e.place
 GetFails o text pointer (Patch e) = FailsInTree o text pointer e.code

@@ -7,12 +7,12 @@ use Rattle.json_text.specs.Errors.{no_memory, not_found}
 use Rattle.mezdruk_c.specs.declared.failure.Failure.{Failure}
 use Rattle.mezdruk_c.specs.declared.failure.Failure.TheVariants.{Options as bad_options, Text}
 use Rattle.mezdruk_c.specs.declared.options.Options.{Options}
-use Rattle.mezdruk_c.specs.Asked.{AreOptions, text_asked}
+use Rattle.mezdruk_c.specs.Asked.{AreOptions, text_by_options}
 
 -- there is a tree, and the output is its text in the style
-abbrev pub IsPrinted : Style → Option Tree → List ℕ → Type 0
-IsPrinted style (Some tree) output = output ≡ printed style tree
-IsPrinted style None output = ⊥
+abbrev pub IsPrintedTree : Style → Option Tree → List ℕ → Type 0
+IsPrintedTree style (Some tree) output = output ≡ printed style tree
+IsPrintedTree style None output = ⊥
 
 -- memory ran out, or there is no tree
 abbrev pub FailsToPrint : Option Tree → Failure → Type 0
@@ -21,7 +21,7 @@ FailsToPrint tree failure = ⊥
 
 -- there is a tree, and the output is its text in the layout of the options
 abbrev pub PrintsNode : Options → Option Tree → List ℕ → Type 0
-PrintsNode o (Some tree) output = text_asked o tree ≡ Some output
+PrintsNode o (Some tree) output = text_by_options o tree ≡ Some output
 PrintsNode o None output = ⊥
 
 -- the options are not valid, or there is no tree, or memory ran out

@@ -8,6 +8,6 @@ use Rattle.json_text.specs.declared.error.Place.TheVariants.{None as nowhere}
 use Rattle.json_command.specs.Input.{InputFault}
 
 -- memory ran out, or the text has this fault by the rules (RFC 8259)
-abbrev pub TextFails : Rules → List ℕ → ErrorCode → Place → Type 0
-TextFails rules b NoMemory nowhere = ⊤
-TextFails rules b code place = InputFault rules b code place
+abbrev pub ReadingTextFails : Rules → List ℕ → ErrorCode → Place → Type 0
+ReadingTextFails rules b NoMemory nowhere = ⊤
+ReadingTextFails rules b code place = InputFault rules b code place

@@ -14,10 +14,10 @@ abbrev pub integer_shown : ℕ → ℕ → ℤ → Option ℤ
 integer_shown form natural negative = if form == 1 then Some (pos natural) else (if form == 2 then Some negative else None)
 
 -- the bytes of a string, or the literal of a number that is no integer of 64 bits
-abbrev pub text_shown : Tree → Option (List ℕ)
-text_shown (text s) = Some s
-text_shown (num l) = literal_unless (integer_in l) l
-text_shown t = None
+abbrev pub text_or_literal : Tree → Option (List ℕ)
+text_or_literal (text s) = Some s
+text_or_literal (num l) = literal_unless (integer_in l) l
+text_or_literal t = None
 
 -- the length of the bytes, where there are some
 abbrev pub length_or : Option (List ℕ) → ℕ → ℕ
@@ -26,4 +26,4 @@ length_or None n = n
 
 -- how many bytes, elements or members there are
 abbrev pub length_shown : Tree → ℕ
-length_shown t = length_or (text_shown t) (length (children t))
+length_shown t = length_or (text_or_literal t) (length (children t))

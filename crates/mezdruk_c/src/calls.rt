@@ -2,9 +2,9 @@
 ghost use Rattle.std.specs.Prelude.{◌≡◌, ◌↔◌, None, IfSome, IsSome, IsTrue};
 ghost use Rattle.std.specs.Bool.{OnTrue, OnFalse};
 ghost use Rattle.mezdruk_c.specs.Copying.{CopiesText};
-ghost use Rattle.mezdruk_c.specs.Documents.{node_tree, text_at, name_at};
+ghost use Rattle.mezdruk_c.specs.Documents.{document_node_tree, text_at, name_at};
 ghost use Rattle.mezdruk_c.specs.Nodes.{ShowsTree};
-ghost use Rattle.mezdruk_c.specs.Owned.{owned};
+ghost use Rattle.mezdruk_c.specs.Owned.{owned_payload};
 ghost use Rattle.mezdruk_c.specs.Payloads.{element_of, member_of};
 
 use crate::document::Document;
@@ -22,9 +22,9 @@ pub extern "C" fn mezdruk_read(
     node: u32,
     shown: &mut Node,
 ) -> bool
-    ensures known { IsTrue result ↔ IsSome (node_tree document.old node) }
-    ensures shown { OnTrue result (IfSome (node_tree document.old node) (ShowsTree shown.new)) }
-    ensures kept { owned document.new.owner ≡ owned document.old.owner }
+    ensures known { IsTrue result ↔ IsSome (document_node_tree document.old node) }
+    ensures shown { OnTrue result (IfSome (document_node_tree document.old node) (ShowsTree shown.new)) }
+    ensures kept { owned_payload document.new.owner ≡ owned_payload document.old.owner }
 {
     let Some(payload) = document.owner.take(alloc) else {
         return false;
@@ -49,10 +49,10 @@ pub extern "C" fn mezdruk_element(
     index: usize,
     element: &mut u32,
 ) -> bool
-    ensures found { OnTrue result (node_tree document.old element.new
-        ≡ element_of (node_tree document.old node) index) }
-    ensures lacks { OnFalse result (element_of (node_tree document.old node) index ≡ None) }
-    ensures kept { owned document.new.owner ≡ owned document.old.owner }
+    ensures found { OnTrue result (document_node_tree document.old element.new
+        ≡ element_of (document_node_tree document.old node) index) }
+    ensures lacks { OnFalse result (element_of (document_node_tree document.old node) index ≡ None) }
+    ensures kept { owned_payload document.new.owner ≡ owned_payload document.old.owner }
 {
     let Some(payload) = document.owner.take(alloc) else {
         return false;
@@ -78,10 +78,10 @@ pub extern "C" fn mezdruk_member(
     index: usize,
     value: &mut u32,
 ) -> bool
-    ensures found { OnTrue result (node_tree document.old value.new
-        ≡ member_of (node_tree document.old node) index) }
-    ensures lacks { OnFalse result (member_of (node_tree document.old node) index ≡ None) }
-    ensures kept { owned document.new.owner ≡ owned document.old.owner }
+    ensures found { OnTrue result (document_node_tree document.old value.new
+        ≡ member_of (document_node_tree document.old node) index) }
+    ensures lacks { OnFalse result (member_of (document_node_tree document.old node) index ≡ None) }
+    ensures kept { owned_payload document.new.owner ≡ owned_payload document.old.owner }
 {
     let Some(payload) = document.owner.take(alloc) else {
         return false;
@@ -110,7 +110,7 @@ pub extern "C" fn mezdruk_text(
     ensures known { IsTrue result ↔ IsSome (text_at document.old node) }
     ensures copied { OnTrue result (IfSome (text_at document.old node)
         (CopiesText bytes.old bytes.new length.new)) }
-    ensures kept { owned document.new.owner ≡ owned document.old.owner }
+    ensures kept { owned_payload document.new.owner ≡ owned_payload document.old.owner }
 {
     let Some(payload) = document.owner.take(alloc) else {
         return false;
@@ -140,7 +140,7 @@ pub extern "C" fn mezdruk_name(
     ensures known { IsTrue result ↔ IsSome (name_at document.old node index) }
     ensures copied { OnTrue result (IfSome (name_at document.old node index)
         (CopiesText bytes.old bytes.new length.new)) }
-    ensures kept { owned document.new.owner ≡ owned document.old.owner }
+    ensures kept { owned_payload document.new.owner ≡ owned_payload document.old.owner }
 {
     let Some(payload) = document.owner.take(alloc) else {
         return false;

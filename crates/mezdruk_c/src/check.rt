@@ -4,9 +4,9 @@ ghost use Rattle.json_command.specs.Input.{IsValid, InputFault};
 ghost use Rattle.json_text.specs.declared.error.ErrorCode.{ErrorCode};
 ghost use Rattle.json_text.specs.declared.error.Place.{Place};
 ghost use Rattle.json_text.specs.Errors.{number_of};
-ghost use Rattle.mezdruk_c.specs.Asked.{HasRules, rules_asked};
+ghost use Rattle.mezdruk_c.specs.Asked.{HasRules, rules_of_options};
 ghost use Rattle.mezdruk_c.specs.Checking.{CheckFails};
-ghost use Rattle.mezdruk_c.specs.Faults.{Fails, fault_at};
+ghost use Rattle.mezdruk_c.specs.Faults.{CallFailsFor, fault_at};
 
 use crate::failure::Failure;
 use crate::fault::{Fault, settle};
@@ -17,7 +17,7 @@ use std::alloc::Global;
 // Fails unless the text is valid by the rules of the options.
 fn check(alloc: Global, text: &[u8], options: &Options) -> Result<(), Failure>
     ensures valid { OnOk result (HasRules options.now
-        × IsValid (rules_asked options.now) text.now) }
+        × IsValid (rules_of_options options.now) text.now) }
     ensures failed { IfErr result (CheckFails options.now text.now) }
 {
     let Some(rules) = options.rules() else {
@@ -39,12 +39,12 @@ pub extern "C" fn mezdruk_check(
     options: &Options,
     fault: &mut Fault,
 ) -> u8
-    ensures valid { result ≡ 0 → IsValid (rules_asked options.now) text.now }
-    ensures failed { result ≢ 0 → Fails (CheckFails options.now text.now) result fault.new }
-    ensures complete { HasRules options.now → IsValid (rules_asked options.now) text.now
+    ensures valid { result ≡ 0 → IsValid (rules_of_options options.now) text.now }
+    ensures failed { result ≢ 0 → CallFailsFor (CheckFails options.now text.now) result fault.new }
+    ensures complete { HasRules options.now → IsValid (rules_of_options options.now) text.now
         → (result ≡ 0) ⊎ (result ≡ 6) }
     ensures exact { HasRules options.now → (code : ErrorCode) (place : Place)
-        → InputFault (rules_asked options.now) text.now code place
+        → InputFault (rules_of_options options.now) text.now code place
         → ((result ≡ 1) × (fault.new ≡ fault_at (number_of code) place)) ⊎ (result ≡ 6) }
 {
     settle(check(alloc, text, options), fault)

@@ -20,12 +20,12 @@ pub struct Document {
 impl Document {
     ghost use Rattle.json_doc.specs.Docs.{doc_root};
     ghost use Rattle.json_text.specs.Errors.{no_memory};
-    ghost use Rattle.mezdruk_c.specs.Owned.{owned};
+    ghost use Rattle.mezdruk_c.specs.Owned.{owned_payload};
     ghost use Rattle.mezdruk_c.specs.declared.payload.Payload.TheVariants.{Document as a_document};
 
     /// An empty document.
     pub fn empty(alloc: Global) -> Document
-        ensures { owned result.owner ≡ None }
+        ensures { owned_payload result.owner ≡ None }
     {
         Document {
             root: 0,
@@ -35,7 +35,7 @@ impl Document {
 
     /// A document of these contents. Fails with `NoMemory` if memory runs out.
     pub fn of(alloc: Global, doc: Rc<Doc>) -> Result<Document>
-        ensures ok { IfOk result (λ d. owned d.owner ≡ Some (a_document doc)) }
+        ensures ok { IfOk result (λ d. owned_payload d.owner ≡ Some (a_document doc)) }
         ensures root { IfOk result (λ d. d.root ≡ doc_root doc.value) }
         ensures only { IfErr result (λ e. e ≡ no_memory) }
     {

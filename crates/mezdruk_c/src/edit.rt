@@ -5,10 +5,10 @@ ghost use Rattle.json_text.specs.Ruled.{rules_of};
 ghost use Rattle.json_text.specs.declared.error.ErrorCode.TheVariants.{NoMemory};
 ghost use Rattle.json_value.specs.Edits.{edit_of};
 ghost use Rattle.json_print.specs.Styles.{printed};
-ghost use Rattle.reshape.specs.Words.{Spells};
+ghost use Rattle.reshape.specs.Words.{SpellsEdits};
 ghost use Rattle.mezdruk_c.specs.Buffers.{buffer_bytes};
 ghost use Rattle.mezdruk_c.specs.Editing.{EditedText, EditingFails, EditsText, EditFails};
-ghost use Rattle.mezdruk_c.specs.Faults.{Fails};
+ghost use Rattle.mezdruk_c.specs.Faults.{CallFailsFor};
 
 use crate::buffer::Buffer;
 use crate::failure::Failure;
@@ -23,9 +23,9 @@ use std::alloc::Global;
 
 // Returns the edits that a text spells.
 fn read_edits(alloc: Global, edits: &[u8]) -> TextResult<Vec<Edit>>
-    ensures ok { IfOk result (λ v. Spells edits.now (map edit_of v.items)) }
+    ensures ok { IfOk result (λ v. SpellsEdits edits.now (map edit_of v.items)) }
     ensures failed { IfErr result (λ e. (e.code ≡ NoMemory)
-        ⊎ ((es : List TreeEdit) → ¬ (Spells edits.now es))) }
+        ⊎ ((es : List TreeEdit) → ¬ (SpellsEdits edits.now es))) }
 {
     match from_slice::<Vec<Edit>>(alloc, edits) {
         Ok(list) => Ok(list),
@@ -88,7 +88,7 @@ pub extern "C" fn mezdruk_edit(
     ensures done { result ≡ 0
         → EditsText options.now text.now edits.now (buffer_bytes output.new) }
     ensures failed { result ≢ 0
-        → Fails (EditFails options.now text.now edits.now) result fault.new }
+        → CallFailsFor (EditFails options.now text.now edits.now) result fault.new }
     ensures kept { result ≢ 0 → output.new ≡ output.old }
 {
     give(edit(alloc, text, edits, options), output, fault)

@@ -1,6 +1,6 @@
 // Why a call failed.
 ghost use Rattle.std.specs.Prelude.{◌≡◌};
-ghost use Rattle.mezdruk_c.specs.Failures.{argument_status_of, text_status_of, patch_status_of, status_of};
+ghost use Rattle.mezdruk_c.specs.Failures.{argument_status_of, text_status_of, patch_status_of, status_of_failure};
 
 use json_patch::{PatchCode, PatchError};
 use json_text::{Error, ErrorCode};
@@ -53,7 +53,7 @@ impl Failure {
     /// Returns the status: 1 if the text is not valid, 2 if the options, the edits or the patch are
     /// not, 3 if a change does not apply, and 6 if memory ran out.
     pub fn status(&self) -> u8
-        ensures { result ≡ status_of self.now }
+        ensures { result ≡ status_of_failure self.now }
     {
         match self {
             Failure::Options => 2,

@@ -1,7 +1,7 @@
 // What C learns of a failure.
 ghost use Rattle.std.specs.Prelude.{◌≡◌};
-ghost use Rattle.mezdruk_c.specs.Faults.{fault_with, fault_at, fault_in, fault_of, Settles};
-ghost use Rattle.mezdruk_c.specs.Given.{Gives};
+ghost use Rattle.mezdruk_c.specs.Faults.{fault_with, fault_at, fault_in, fault_of, TellsOutcome};
+ghost use Rattle.mezdruk_c.specs.Given.{ReturnsBuffer};
 
 use crate::buffer::Buffer;
 use crate::failure::Failure;
@@ -91,7 +91,7 @@ impl Fault {
 /// Returns the status of an outcome, 0 for a success, and writes the buffer of a success or the fault
 /// of a failure.
 pub fn give(outcome: Result<Buffer, Failure>, output: &mut Buffer, fault: &mut Fault) -> u8
-    ensures { Gives outcome output.old output.new result fault.new }
+    ensures { ReturnsBuffer outcome output.old output.new result fault.new }
 {
     match outcome {
         Ok(buffer) => {
@@ -107,7 +107,7 @@ pub fn give(outcome: Result<Buffer, Failure>, output: &mut Buffer, fault: &mut F
 
 /// Returns the status of an outcome, 0 for a success, and writes the fault of a failure.
 pub fn settle(outcome: Result<(), Failure>, fault: &mut Fault) -> u8
-    ensures { Settles outcome result fault.new }
+    ensures { TellsOutcome outcome result fault.new }
 {
     match outcome {
         Ok(()) => 0,

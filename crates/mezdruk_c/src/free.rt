@@ -1,7 +1,7 @@
 // What gives memory back.
 ghost use Rattle.std.specs.Prelude.{◌≡◌, [], None};
 ghost use Rattle.mezdruk_c.specs.Buffers.{buffer_bytes};
-ghost use Rattle.mezdruk_c.specs.Owned.{owned};
+ghost use Rattle.mezdruk_c.specs.Owned.{owned_payload};
 
 use crate::buffer::Buffer;
 use crate::document::Document;
@@ -18,7 +18,7 @@ pub extern "C" fn mezdruk_free(alloc: Global, buffer: &mut Buffer)
 /// Frees a document, which is empty then. An empty document stays so.
 #[unsafe(no_mangle)]
 pub extern "C" fn mezdruk_free_document(alloc: Global, document: &mut Document)
-    ensures { owned document.new.owner ≡ None }
+    ensures { owned_payload document.new.owner ≡ None }
 {
     *document = Document::empty(alloc);
 }

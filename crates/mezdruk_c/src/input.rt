@@ -3,7 +3,7 @@ ghost use Rattle.std.specs.Prelude.{IfOk, IfErr};
 ghost use Rattle.json_doc.specs.Docs.{doc_root, doc_tree};
 ghost use Rattle.json_text.specs.Ruled.{rules_of};
 ghost use Rattle.json_command.specs.Input.{IsInput};
-ghost use Rattle.mezdruk_c.specs.Texts.{TextFails};
+ghost use Rattle.mezdruk_c.specs.Texts.{ReadingTextFails};
 
 use json_doc::{Doc, read_document_with};
 use json_text::{Error, ErrorCode, Place, Result, Rules, check_utf8};
@@ -19,7 +19,7 @@ const MAX_BYTES: usize = 4_294_967_295;
 pub fn read_text(alloc: Global, text: &[u8], rules: Rules) -> Result<Rc<Doc>>
     ensures ok { IfOk result (λ d. IsInput (rules_of rules) text.now
         (doc_tree d.value (doc_root d.value))) }
-    ensures failed { IfErr result (λ e. TextFails (rules_of rules) text.now e.code e.place) }
+    ensures failed { IfErr result (λ e. ReadingTextFails (rules_of rules) text.now e.code e.place) }
 {
     if text.len() > MAX_BYTES {
         return Err(Error {

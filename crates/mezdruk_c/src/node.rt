@@ -2,7 +2,7 @@
 ghost use Rattle.std.specs.Prelude.{◌≡◌, ℕ, option_map};
 ghost use Rattle.json_doc.specs.Readings.{bool_of, integer_of};
 ghost use Rattle.json_doc.specs.Seen.{view_tree};
-ghost use Rattle.mezdruk_c.specs.Trees.{boolean_number, integer_shown, text_shown, length_shown};
+ghost use Rattle.mezdruk_c.specs.Trees.{boolean_number, integer_shown, text_or_literal, length_shown};
 ghost use Rattle.mezdruk_c.specs.Nodes.{ShowsTree};
 
 use json_doc::DocView;
@@ -54,7 +54,7 @@ fn integer_as(view: DocView<'_>) -> (u8, u64, i64)
 
 /// Returns the bytes of a string, or the literal of a number that is no integer of 64 bits.
 pub fn text_of(view: DocView<'_>) -> Option<&str>
-    ensures { option_map (λ s. s.now) result ≡ text_shown (view_tree view.entry) }
+    ensures { option_map (λ s. s.now) result ≡ text_or_literal (view_tree view.entry) }
 {
     match view.text() {
         Some(text) => Some(text),

@@ -68,12 +68,12 @@ impl Options {
     ghost use Rattle.json_grammar.specs.Tree.{Tree};
     ghost use Rattle.json_print.specs.Styles.{printed};
     ghost use Rattle.json_text.specs.Ruled.{rules_of};
-    ghost use Rattle.mezdruk_c.specs.Asked.{AreOptions, HasRules, rules_asked, sorts_asked, text_asked};
+    ghost use Rattle.mezdruk_c.specs.Asked.{AreOptions, HasRules, rules_of_options, sorts_asked, text_by_options};
 
     /// Returns the rules, or `None` if the levels are more than 1,024.
     pub fn rules(&self) -> Option<Rules>
         ensures { MatchOption result (¬ (HasRules self.now))
-            (λ r. HasRules self.now × (rules_of r ≡ rules_asked self.now)) }
+            (λ r. HasRules self.now × (rules_of r ≡ rules_of_options self.now)) }
     {
         Rules::new(self.depth, self.unique_keys != 0)
     }
@@ -93,8 +93,8 @@ impl Options {
     /// Returns the rules and the style, or `None` if the options are not valid.
     pub fn asked(&self) -> Option<Asked>
         ensures { MatchOption result (¬ (AreOptions self.now))
-            (λ a. (rules_of a.rules ≡ rules_asked self.now)
-            × ((tree : Tree) → text_asked self.now tree ≡ Some (printed a.style tree))) }
+            (λ a. (rules_of a.rules ≡ rules_of_options self.now)
+            × ((tree : Tree) → text_by_options self.now tree ≡ Some (printed a.style tree))) }
     {
         match (self.rules(), self.style()) {
             (Some(rules), Some(style)) => Some(Asked { rules, style }),

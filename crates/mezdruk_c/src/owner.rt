@@ -15,11 +15,11 @@ pub struct Owner {
 }
 
 impl Owner {
-    ghost use Rattle.mezdruk_c.specs.Owned.{owned};
+    ghost use Rattle.mezdruk_c.specs.Owned.{owned_payload};
 
     /// An owner of nothing.
     pub fn empty(alloc: Global) -> Owner
-        ensures { owned result ≡ None }
+        ensures { owned_payload result ≡ None }
     {
         Owner {
             full: false,
@@ -29,7 +29,7 @@ impl Owner {
 
     /// An owner of the value.
     pub fn of(payload: Box<Payload>) -> Owner
-        ensures { owned result ≡ Some payload.value }
+        ensures { owned_payload result ≡ Some payload.value }
     {
         Owner {
             full: true,
@@ -39,7 +39,7 @@ impl Owner {
 
     /// Returns the value, or `None` if there is none.
     pub fn into_box(self) -> Option<Box<Payload>>
-        ensures { option_map (λ b. b.value) result ≡ owned self }
+        ensures { option_map (λ b. b.value) result ≡ owned_payload self }
     {
         let Owner { full, held } = self;
         if full {
@@ -52,8 +52,8 @@ impl Owner {
 
     /// Takes the value out, and leaves nothing.
     pub fn take(&mut self, alloc: Global) -> Option<Box<Payload>>
-        ensures value { option_map (λ b. b.value) result ≡ owned self.old }
-        ensures left { owned self.new ≡ None }
+        ensures value { option_map (λ b. b.value) result ≡ owned_payload self.old }
+        ensures left { owned_payload self.new ≡ None }
     {
         replace(self, Owner::empty(alloc)).into_box()
     }

@@ -1,8 +1,8 @@
 // Parsing a text into a document.
 ghost use Rattle.std.specs.Prelude.{◌≡◌, ◌≢◌, IfOk, IfErr};
 ghost use Rattle.mezdruk_c.specs.Checking.{CheckFails};
-ghost use Rattle.mezdruk_c.specs.Faults.{Fails};
-ghost use Rattle.mezdruk_c.specs.Parsing.{IsDocumentOf, Keeps};
+ghost use Rattle.mezdruk_c.specs.Faults.{CallFailsFor};
+ghost use Rattle.mezdruk_c.specs.Parsing.{IsDocumentOf, KeepsDocument};
 
 use crate::document::Document;
 use crate::failure::Failure;
@@ -30,7 +30,7 @@ fn parse(alloc: Global, text: &[u8], options: &Options) -> Result<Document, Fail
 
 // Keeps the document of a success.
 fn keep(outcome: Result<Document, Failure>, document: &mut Document) -> Result<(), Failure>
-    ensures { Keeps outcome document.old document.new result }
+    ensures { KeepsDocument outcome document.old document.new result }
 {
     match outcome {
         Ok(parsed) => {
@@ -52,7 +52,7 @@ pub extern "C" fn mezdruk_parse(
     fault: &mut Fault,
 ) -> u8
     ensures done { result ≡ 0 → IsDocumentOf options.now text.now document.new }
-    ensures failed { result ≢ 0 → Fails (CheckFails options.now text.now) result fault.new }
+    ensures failed { result ≢ 0 → CallFailsFor (CheckFails options.now text.now) result fault.new }
     ensures kept { result ≢ 0 → document.new ≡ document.old }
 {
     settle(keep(parse(alloc, text, options), document), fault)

@@ -1,8 +1,8 @@
 // Patching a text.
 ghost use Rattle.std.specs.Prelude.{◌≡◌, ◌≢◌, IfOk, IfErr};
 ghost use Rattle.mezdruk_c.specs.Buffers.{buffer_bytes};
-ghost use Rattle.mezdruk_c.specs.Patching.{PatchesText, PatchFails, MergesText, MergeFails};
-ghost use Rattle.mezdruk_c.specs.Faults.{Fails};
+ghost use Rattle.mezdruk_c.specs.Patching.{PatchesText, PatchCallFails, MergesText, MergeFails};
+ghost use Rattle.mezdruk_c.specs.Faults.{CallFailsFor};
 
 use crate::buffer::Buffer;
 use crate::failure::Failure;
@@ -17,7 +17,7 @@ use std::alloc::Global;
 #[tactic(auto, using(crate::proofs::PatchedTexts::argument_not_patched, crate::proofs::PatchedTexts::text_not_patched, crate::proofs::PatchedTexts::patch_no_memory))]
 fn patched(alloc: Global, text: &[u8], patch: &[u8], options: &Options) -> Result<Buffer, Failure>
     ensures done { IfOk result (λ b. PatchesText options.now text.now patch.now (buffer_bytes b)) }
-    ensures failed { IfErr result (PatchFails options.now text.now patch.now) }
+    ensures failed { IfErr result (PatchCallFails options.now text.now patch.now) }
 {
     let Some(asked) = options.asked() else {
         return Err(Failure::Options);
@@ -75,7 +75,7 @@ pub extern "C" fn mezdruk_patch(
     ensures done { result ≡ 0
         → PatchesText options.now text.now operations.now (buffer_bytes output.new) }
     ensures failed { result ≢ 0
-        → Fails (PatchFails options.now text.now operations.now) result fault.new }
+        → CallFailsFor (PatchCallFails options.now text.now operations.now) result fault.new }
     ensures kept { result ≢ 0 → output.new ≡ output.old }
 {
     give(patched(alloc, text, operations, options), output, fault)
@@ -96,7 +96,7 @@ pub extern "C" fn mezdruk_merge(
     ensures done { result ≡ 0
         → MergesText options.now text.now patch.now (buffer_bytes output.new) }
     ensures failed { result ≢ 0
-        → Fails (MergeFails options.now text.now patch.now) result fault.new }
+        → CallFailsFor (MergeFails options.now text.now patch.now) result fault.new }
     ensures kept { result ≢ 0 → output.new ≡ output.old }
 {
     give(merged(alloc, text, patch, options), output, fault)

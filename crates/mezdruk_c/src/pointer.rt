@@ -2,7 +2,7 @@
 ghost use Rattle.std.specs.Prelude.{◌≡◌, ◌≢◌, IfOk, IfErr};
 ghost use Rattle.mezdruk_c.specs.Buffers.{buffer_bytes};
 ghost use Rattle.mezdruk_c.specs.Pointing.{GetsText, GetFails, IsPointed, PointingFails};
-ghost use Rattle.mezdruk_c.specs.Faults.{Fails};
+ghost use Rattle.mezdruk_c.specs.Faults.{CallFailsFor};
 ghost use Rattle.json_value.specs.Denotes.{tree_of};
 
 use crate::buffer::Buffer;
@@ -74,7 +74,7 @@ pub extern "C" fn mezdruk_get(
     ensures done { result ≡ 0
         → GetsText options.now text.now pointer.now (buffer_bytes output.new) }
     ensures failed { result ≢ 0
-        → Fails (GetFails options.now text.now pointer.now) result fault.new }
+        → CallFailsFor (GetFails options.now text.now pointer.now) result fault.new }
     ensures kept { result ≢ 0 → output.new ≡ output.old }
 {
     give(get(alloc, text, pointer, options), output, fault)

@@ -4,11 +4,11 @@ ghost use Rattle.json_doc.specs.Docs.{doc_cells, doc_tree};
 ghost use Rattle.json_print.specs.Styles.{printed};
 ghost use Rattle.json_text.specs.Errors.{no_memory};
 ghost use Rattle.mezdruk_c.specs.Buffers.{buffer_bytes};
-ghost use Rattle.mezdruk_c.specs.Documents.{node_tree};
-ghost use Rattle.mezdruk_c.specs.Faults.{Fails};
-ghost use Rattle.mezdruk_c.specs.Owned.{owned};
+ghost use Rattle.mezdruk_c.specs.Documents.{document_node_tree};
+ghost use Rattle.mezdruk_c.specs.Faults.{CallFailsFor};
+ghost use Rattle.mezdruk_c.specs.Owned.{owned_payload};
 ghost use Rattle.mezdruk_c.specs.Payloads.{tree_in};
-ghost use Rattle.mezdruk_c.specs.PrintedNodes.{IsPrinted, FailsToPrint, PrintsNode, PrintFails};
+ghost use Rattle.mezdruk_c.specs.PrintedNodes.{IsPrintedTree, FailsToPrint, PrintsNode, PrintFails};
 
 use crate::buffer::Buffer;
 use crate::document::Document;
@@ -51,7 +51,7 @@ fn print_node(
     node: u32,
     style: Style<'_>,
 ) -> Result<Buffer, Failure>
-    ensures done { IfOk result (λ b. IsPrinted style.entry (tree_in payload.now node)
+    ensures done { IfOk result (λ b. IsPrintedTree style.entry (tree_in payload.now node)
         (buffer_bytes b)) }
     ensures failed { IfErr result (FailsToPrint (tree_in payload.now node)) }
 {
@@ -74,10 +74,10 @@ fn print(
     node: u32,
     style: Style<'_>,
 ) -> Result<Buffer, Failure>
-    ensures done { IfOk result (λ b. IsPrinted style.entry (node_tree document.old node)
+    ensures done { IfOk result (λ b. IsPrintedTree style.entry (document_node_tree document.old node)
         (buffer_bytes b)) }
-    ensures failed { IfErr result (FailsToPrint (node_tree document.old node)) }
-    ensures kept { owned document.new.owner ≡ owned document.old.owner }
+    ensures failed { IfErr result (FailsToPrint (document_node_tree document.old node)) }
+    ensures kept { owned_payload document.new.owner ≡ owned_payload document.old.owner }
 {
     let Some(payload) = document.owner.take(alloc) else {
         return Err(NO_NODE);
@@ -94,10 +94,10 @@ fn print_by(
     node: u32,
     options: &Options,
 ) -> Result<Buffer, Failure>
-    ensures done { IfOk result (λ b. PrintsNode options.now (node_tree document.old node)
+    ensures done { IfOk result (λ b. PrintsNode options.now (document_node_tree document.old node)
         (buffer_bytes b)) }
-    ensures failed { IfErr result (PrintFails options.now (node_tree document.old node)) }
-    ensures kept { owned document.new.owner ≡ owned document.old.owner }
+    ensures failed { IfErr result (PrintFails options.now (document_node_tree document.old node)) }
+    ensures kept { owned_payload document.new.owner ≡ owned_payload document.old.owner }
 {
     match options.asked() {
         Some(asked) => print(alloc, document, node, asked.style),
@@ -117,11 +117,11 @@ pub extern "C" fn mezdruk_print(
     output: &mut Buffer,
     fault: &mut Fault,
 ) -> u8
-    ensures done { result ≡ 0 → PrintsNode options.now (node_tree document.old node)
+    ensures done { result ≡ 0 → PrintsNode options.now (document_node_tree document.old node)
         (buffer_bytes output.new) }
     ensures failed { result ≢ 0
-        → Fails (PrintFails options.now (node_tree document.old node)) result fault.new }
-    ensures kept { owned document.new.owner ≡ owned document.old.owner }
+        → CallFailsFor (PrintFails options.now (document_node_tree document.old node)) result fault.new }
+    ensures kept { owned_payload document.new.owner ≡ owned_payload document.old.owner }
     ensures stays { result ≢ 0 → output.new ≡ output.old }
 {
     give(print_by(alloc, document, node, options), output, fault)

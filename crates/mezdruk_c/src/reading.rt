@@ -2,10 +2,10 @@
 ghost use Rattle.std.specs.Prelude.{◌≡◌, None, MatchOption, IsSomeAnd, option_map};
 ghost use Rattle.std.specs.Option.{option_and_then};
 ghost use Rattle.json_doc.specs.Seen.{view_tree};
-ghost use Rattle.mezdruk_c.specs.Payloads.{tree_in, element_of, member_of, name_of};
+ghost use Rattle.mezdruk_c.specs.Payloads.{tree_in, element_of, member_of, member_name};
 ghost use Rattle.mezdruk_c.specs.Copying.{CopiesText, CopiesFound};
 ghost use Rattle.mezdruk_c.specs.Nodes.{ShowsTree};
-ghost use Rattle.mezdruk_c.specs.Trees.{text_shown};
+ghost use Rattle.mezdruk_c.specs.Trees.{text_or_literal};
 
 use crate::node::{Node, node_of, text_of};
 use crate::payload::Payload;
@@ -80,7 +80,7 @@ pub fn member_in(payload: &Payload, node: u32, index: usize) -> Option<u32>
 
 /// Returns the name of a member of an object.
 pub fn name_in(payload: &Payload, node: u32, index: usize) -> Option<&str>
-    ensures { option_map (λ s. s.now) result ≡ name_of (tree_in payload.now node) index }
+    ensures { option_map (λ s. s.now) result ≡ member_name (tree_in payload.now node) index }
 {
     match view_in(payload, node) {
         Some(view) => view.key(index),
@@ -91,7 +91,7 @@ pub fn name_in(payload: &Payload, node: u32, index: usize) -> Option<&str>
 /// Returns the bytes of a string, or the literal of a number that is no integer of 64 bits.
 pub fn text_in(payload: &Payload, node: u32) -> Option<&str>
     ensures { option_map (λ s. s.now) result
-        ≡ option_and_then text_shown (tree_in payload.now node) }
+        ≡ option_and_then text_or_literal (tree_in payload.now node) }
 {
     match view_in(payload, node) {
         Some(view) => text_of(view),

@@ -4,8 +4,8 @@ use Rattle.std.specs.Prelude.{◌==◌}
 use Rattle.std.specs.List.{before_first, after_first, position_or_len}
 use Rattle.std.proofs.lemmas.Bool.{and_parts}
 use Rattle.std.proofs.lemmas.Slice.Eq.{bytes_eq-Decides}
-use Rattle.json_command.specs.Options.{number_up_to}
-use Rattle.reshape.specs.Options.{made_in, depth_in, indent_in, is_edits_word, is_sorting, is_unique, is_known, Command, Asks, AsksMade}
+use Rattle.json_command.specs.Options.{number_up_to, depth_in}
+use Rattle.reshape.specs.Options.{made_in, indent_in, is_edits_word, is_sorting, is_unique, is_known, Command, Asks, AsksMade}
 
 module _ (w : List ℕ) where
   made_name : (n : ℕ) → made_in w ≡ Some n → before_first (λ x. x == 61) w ≡ codes "--make"

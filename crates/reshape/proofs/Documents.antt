@@ -23,7 +23,7 @@ use Rattle.json_value.specs.Denotes.{tree_of}
 use Rattle.json_command.proofs.Inputs.{no_io, no_not_found, no_type_unmatched}
 use Rattle.json_command.specs.Reading.{ReadsInput, InputFails}
 use Rattle.json_command.specs.Printing.{HasRunOut, PrintingFails, Prints, RunsOutOnlyWith}
-use Rattle.reshape.specs.Reshape.{Layout, laid_out, ordered, EditingRefuses, Reshapes, Refuses}
+use Rattle.reshape.specs.Reshape.{Layout, laid_out, ordered, EditingRefuses, Reshapes, ReshapingRefuses}
 
 module _ (rules : Rules) where
   -- the edits of the value at the root are those of the document's tree
@@ -55,7 +55,7 @@ module _ (rules : Rules) where
   reshaped es l source source' sink sink' tree changed (Err e) reads indent proper applied gains flushed = tt
 
   -- reading was refused, and nothing was written
-  pub reading_refused : (es : List Edit) (l : Layout) (source source' : SourceState) (sink : SinkState) (code : ErrorCode) (place : Place) → InputFails rules source source' code place → Refuses rules es l source source' sink sink code place
+  pub reading_refused : (es : List Edit) (l : Layout) (source source' : SourceState) (sink : SinkState) (code : ErrorCode) (place : Place) → InputFails rules source source' code place → ReshapingRefuses rules es l source source' sink sink code place
   reading_refused es l source source' sink NoMemory nowhere h = inl refl
   reading_refused es l source source' sink Io Reading h = (h, refl)
   reading_refused es l source source' sink TooLarge nowhere h = (h.0, h.1, refl)
@@ -65,7 +65,7 @@ module _ (rules : Rules) where
   reading_refused es l source source' sink code place h = (h, refl)
 
   -- an edit did not apply, and nothing was written
-  pub editing_refused : (es : List Edit) (l : Layout) (source source' : SourceState) (sink : SinkState) (tree : Tree) (code : ErrorCode) (place : Place) → ReadsInput rules source source' tree → EditingRefuses es tree code place → Refuses rules es l source source' sink sink code place
+  pub editing_refused : (es : List Edit) (l : Layout) (source source' : SourceState) (sink : SinkState) (tree : Tree) (code : ErrorCode) (place : Place) → ReadsInput rules source source' tree → EditingRefuses es tree code place → ReshapingRefuses rules es l source source' sink sink code place
   editing_refused es l source source' sink tree NoMemory nowhere r h = inl refl
   editing_refused es l source source' sink tree NotFound (in_edit n) r h = (record { tree = tree; reads = r; refused = h }, refl)
   editing_refused es l source source' sink tree TypeUnmatched (in_edit n) r h = (record { tree = tree; reads = r; refused = h }, refl)
@@ -79,7 +79,7 @@ module _ (rules : Rules) where
   -- the text was not written whole
   printing_refused : (es : List Edit) (l : Layout) (source source' : SourceState) (sink sink' : SinkState) (tree changed : Tree) (code : ErrorCode) (place : Place) → ReadsInput rules source source' tree → edited es tree ≡ Ok changed
       → (l.sorts ≡ false → RunsOutOnlyWith {A = Unit {0}} sink sink' (length (laid_out l changed)) (Err (record { code = code; place = place })))
-      → PrintingFails sink sink' (laid_out l changed) code place → Refuses rules es l source source' sink sink' code place
+      → PrintingFails sink sink' (laid_out l changed) code place → ReshapingRefuses rules es l source source' sink sink' code place
   printing_refused es l source source' sink sink' tree changed NoMemory nowhere r a k (inl same) = inl same
   printing_refused es l source source' sink sink' tree changed NoMemory nowhere r a k (inr gains) =
       elim (unless_sorted l.sorts (sink' ≡ sink) (HasRunOut sink' (length (laid_out l changed))) (λ s. k s refl)) [
@@ -90,6 +90,6 @@ module _ (rules : Rules) where
   printing_refused es l source source' sink sink' tree changed code place r a k h = absurd h
 
   pub print_refused : (es : List Edit) (l : Layout) (source source' : SourceState) (sink sink' : SinkState) (tree changed : Tree) (r : Result (Unit {0}) Error) → ReadsInput rules source source' tree → edited es tree ≡ Ok changed → Prints sink sink' (laid_out l changed) r
-      → (l.sorts ≡ false → RunsOutOnlyWith sink sink' (length (laid_out l changed)) r) → IfErr r (λ e. Refuses rules es l source source' sink sink' e.code e.place)
+      → (l.sorts ≡ false → RunsOutOnlyWith sink sink' (length (laid_out l changed)) r) → IfErr r (λ e. ReshapingRefuses rules es l source source' sink sink' e.code e.place)
   print_refused es l source source' sink sink' tree changed (Ok u) read a p k = tt
   print_refused es l source source' sink sink' tree changed (Err e) read a p k = printing_refused es l source source' sink sink' tree changed e.code e.place read a k p.err

@@ -7,11 +7,12 @@ use Rattle.std.proofs.lemmas.Option.{slice_get_within, get_or_from_slice_get}
 use Rattle.json_grammar.specs.Grammar.{ws}
 use Rattle.json_model.specs.Print.{IsIndent}
 use Rattle.reshape.specs.Words.{AsksEdits}
-use Rattle.reshape.specs.Options.{spaces, width_in, is_option, is_edits_word, indent_in, is_sorting, is_unique, depth_in, is_known, IsReshaping}
-use Rattle.reshape.specs.Gathering.{IsRole, HasRole, Holds}
+use Rattle.reshape.specs.Options.{spaces, is_option, is_edits_word, indent_in, is_sorting, is_unique, is_known, IsReshaping}
+use Rattle.reshape.specs.Gathering.{IsRole, HasRole, HoldsWords}
 use Rattle.reshape.proofs.Numerals.{depth_few}
 use Rattle.reshape.specs.declared.options.Role.{Role}
 use Rattle.reshape.specs.declared.options.Role.TheVariants.{Indent, SortKeys, UniqueKeys, Depth, EditsWord}
+use Rattle.json_command.specs.Options.{depth_in, width_in}
 
 -- ---- one more element
 
@@ -96,7 +97,7 @@ abbrev pub Word : Type 0
 Word = Option (List ℕ)
 
 module _ (ws : List (List ℕ)) (w : List ℕ) where
-  more_indent : (i : List ℕ) (s u : Bool) (d : Option ℕ) (e : Word) → IsRole w true (Some i) false false None → Holds ws None s u d e → Holds (ws ++ w ∷ []) (Some i) s u d e
+  more_indent : (i : List ℕ) (s u : Bool) (d : Option ℕ) (e : Word) → IsRole w true (Some i) false false None → HoldsWords ws None s u d e → HoldsWords (ws ++ w ∷ []) (Some i) s u d e
   more_indent i s u d e r h =
       record {
         known = all_last is_known ws w h.known (known_indent (is_edits_word w) (indent_in w) (is_sorting w) (is_unique w) (is_some (depth_in w)) i r.indent_is);
@@ -107,7 +108,7 @@ module _ (ws : List (List ℕ)) (w : List ℕ) where
         edits = filter_skips is_edits_word ws w (not_true (is_option w) r.option) ∙ h.edits;
       }
 
-  more_sorting : (i : Word) (u : Bool) (d : Option ℕ) (e : Word) → IsRole w true None true false None → Holds ws i false u d e → Holds (ws ++ w ∷ []) i true u d e
+  more_sorting : (i : Word) (u : Bool) (d : Option ℕ) (e : Word) → IsRole w true None true false None → HoldsWords ws i false u d e → HoldsWords (ws ++ w ∷ []) i true u d e
   more_sorting i u d e r h =
       record {
         known = all_last is_known ws w h.known (known_sorting (is_edits_word w) (is_some (indent_in w)) (is_sorting w) (is_unique w) (is_some (depth_in w)) r.sorting);
@@ -118,7 +119,7 @@ module _ (ws : List (List ℕ)) (w : List ℕ) where
         edits = filter_skips is_edits_word ws w (not_true (is_option w) r.option) ∙ h.edits;
       }
 
-  more_unique : (i : Word) (s : Bool) (d : Option ℕ) (e : Word) → IsRole w true None false true None → Holds ws i s false d e → Holds (ws ++ w ∷ []) i s true d e
+  more_unique : (i : Word) (s : Bool) (d : Option ℕ) (e : Word) → IsRole w true None false true None → HoldsWords ws i s false d e → HoldsWords (ws ++ w ∷ []) i s true d e
   more_unique i s d e r h =
       record {
         known = all_last is_known ws w h.known (known_unique (is_edits_word w) (is_some (indent_in w)) (is_sorting w) (is_unique w) (is_some (depth_in w)) r.differing);
@@ -129,7 +130,7 @@ module _ (ws : List (List ℕ)) (w : List ℕ) where
         edits = filter_skips is_edits_word ws w (not_true (is_option w) r.option) ∙ h.edits;
       }
 
-  more_depth : (i : Word) (s u : Bool) (n : ℕ) (e : Word) → IsRole w true None false false (Some n) → Holds ws i s u None e → Holds (ws ++ w ∷ []) i s u (Some n) e
+  more_depth : (i : Word) (s u : Bool) (n : ℕ) (e : Word) → IsRole w true None false false (Some n) → HoldsWords ws i s u None e → HoldsWords (ws ++ w ∷ []) i s u (Some n) e
   more_depth i s u n e r h =
       record {
         known = all_last is_known ws w h.known (known_depth (is_edits_word w) (is_some (indent_in w)) (is_sorting w) (is_unique w) (depth_in w) n r.depth_is);
@@ -140,7 +141,7 @@ module _ (ws : List (List ℕ)) (w : List ℕ) where
         edits = filter_skips is_edits_word ws w (not_true (is_option w) r.option) ∙ h.edits;
       }
 
-  more_edits : (i : Word) (s u : Bool) (d : Option ℕ) → IsRole w false None false false None → Holds ws i s u d None → Holds (ws ++ w ∷ []) i s u d (Some w)
+  more_edits : (i : Word) (s u : Bool) (d : Option ℕ) → IsRole w false None false false None → HoldsWords ws i s u d None → HoldsWords (ws ++ w ∷ []) i s u d (Some w)
   more_edits i s u d r h =
       record {
         known = all_last is_known ws w h.known (known_edits (is_option w) (is_some (indent_in w)) (is_sorting w) (is_unique w) (is_some (depth_in w)) r.option);
@@ -169,21 +170,21 @@ two_long (z ∷ xs) x ys true n e = omega (arith, length-append xs (x ∷ ys))
 two_long (z ∷ xs) x ys false n e = omega arith
 
 module _ (ws : List (List ℕ)) (w : List ℕ) (more : List (List ℕ)) where
-  indent_again : (i j : List ℕ) (s u : Bool) (d : Option ℕ) (e : Word) → IsRole w true (Some i) false false None → Holds ws (Some j) s u d e → ¬ (IsReshaping (ws ++ w ∷ more))
+  indent_again : (i j : List ℕ) (s u : Bool) (d : Option ℕ) (e : Word) → IsRole w true (Some i) false false None → HoldsWords ws (Some j) s u d e → ¬ (IsReshaping (ws ++ w ∷ more))
   indent_again i j s u d e r h (c, a) =
       two_picked c.layout.indent j i (filter_map indent_in more) (sym (picks_take indent_in ws w i more r.indent_is ∙ ap (λ l. l ++ i ∷ filter_map indent_in more) h.indent_is) ∙ a.indent)
 
-  sorting_again : (i : Word) (u : Bool) (d : Option ℕ) (e : Word) → IsRole w true None true false None → Holds ws i true u d e → ¬ (IsReshaping (ws ++ w ∷ more))
+  sorting_again : (i : Word) (u : Bool) (d : Option ℕ) (e : Word) → IsRole w true None true false None → HoldsWords ws i true u d e → ¬ (IsReshaping (ws ++ w ∷ more))
   sorting_again i u d e r h (c, a) = two_long (filter is_sorting ws) w (filter is_sorting more) c.layout.sorts h.sorting (sym (ap length (filter_takes is_sorting ws w more r.sorting)) ∙ a.sorting)
 
-  unique_again : (i : Word) (s : Bool) (d : Option ℕ) (e : Word) → IsRole w true None false true None → Holds ws i s true d e → ¬ (IsReshaping (ws ++ w ∷ more))
+  unique_again : (i : Word) (s : Bool) (d : Option ℕ) (e : Word) → IsRole w true None false true None → HoldsWords ws i s true d e → ¬ (IsReshaping (ws ++ w ∷ more))
   unique_again i s d e r h (c, a) = two_long (filter is_unique ws) w (filter is_unique more) c.rules.unique h.differing (sym (ap length (filter_takes is_unique ws w more r.differing)) ∙ a.unique)
 
-  depth_again : (i : Word) (s u : Bool) (n m : ℕ) (e : Word) → IsRole w true None false false (Some n) → Holds ws i s u (Some m) e → ¬ (IsReshaping (ws ++ w ∷ more))
+  depth_again : (i : Word) (s u : Bool) (n m : ℕ) (e : Word) → IsRole w true None false false (Some n) → HoldsWords ws i s u (Some m) e → ¬ (IsReshaping (ws ++ w ∷ more))
   depth_again i s u n m e r h (c, a) =
       two_picked a.depth m n (filter_map depth_in more) (sym (picks_take depth_in ws w n more r.depth_is ∙ ap (λ l. l ++ n ∷ filter_map depth_in more) h.depth_is) ∙ a.depth_is)
 
-  edits_again : (v : List ℕ) (i : Word) (s u : Bool) (d : Option ℕ) → IsRole w false None false false None → Holds ws i s u d (Some v) → ¬ (IsReshaping (ws ++ w ∷ more))
+  edits_again : (v : List ℕ) (i : Word) (s u : Bool) (d : Option ℕ) → IsRole w false None false false None → HoldsWords ws i s u d (Some v) → ¬ (IsReshaping (ws ++ w ∷ more))
   edits_again v i s u d r h (c, a) =
       subst (λ l. AsksEdits l c.es) (filter_takes is_edits_word ws w more (not_false (is_option w) r.option) ∙ ap (λ l. l ++ w ∷ filter is_edits_word more) h.edits) a.edits
 
@@ -198,10 +199,10 @@ nothing_there (Some x) e = cc
 
 module _ (ws : List (List ℕ)) (w : List ℕ) (r : Role) (o e : Option (Bor (List ℕ))) (s u : Bool) (d : Option ℕ) (h : HasRole w r) where
   abbrev Has : Option (Bor (List ℕ)) → Bool → Bool → Option ℕ → Option (Bor (List ℕ)) → Type 0
-  Has o s u d e = Holds ws (texts o) s u d (texts e)
+  Has o s u d e = HoldsWords ws (texts o) s u d (texts e)
 
   abbrev HasNow : Word → Bool → Bool → Option ℕ → Word → Type 0
-  HasNow i s u d e = Holds (ws ++ w ∷ []) i s u d e
+  HasNow i s u d e = HoldsWords (ws ++ w ∷ []) i s u d e
 
   pub indent_taken : (i : Bor (List ℕ)) → r ≡ Indent i → is_some o ≡ false → Has o s u d e → HasNow (Some i.now) s u d (texts e)
   indent_taken i k n g = more_indent ws w i.now s u d (texts e) (subst (HasRole w) k h) (subst (λ o. Has o s u d e) (nothing_there o n) g)
@@ -293,12 +294,12 @@ picked f P h (w ∷ words) i e = by f P w (f w) (filter_map f words) i (h w) (pi
     by f P w None more i h k e = k e
     by f P w (Some t) more i h k e = let same : t ≡ i = cc in subst P same (h t refl)
 
-pub gathered_indent : (words : List (List ℕ)) (i : Option (List ℕ)) (s u : Bool) (d : Option ℕ) (w : Option (List ℕ)) → Holds words i s u d w → IsIndent i
+pub gathered_indent : (words : List (List ℕ)) (i : Option (List ℕ)) (s u : Bool) (d : Option ℕ) (w : Option (List ℕ)) → HoldsWords words i s u d w → IsIndent i
 gathered_indent words None s u d w h = tt
 gathered_indent words (Some i) s u d w h = picked indent_in ws indent_ws words i h.indent_is
 
 -- ---- the levels are few
 
-pub gathered_depth : (words : List (List ℕ)) (i : Option (List ℕ)) (s u : Bool) (d : Option ℕ) (w : Option (List ℕ)) → Holds words i s u d w → ForSome d (λ n. n ≤ 1024)
+pub gathered_depth : (words : List (List ℕ)) (i : Option (List ℕ)) (s u : Bool) (d : Option ℕ) (w : Option (List ℕ)) → HoldsWords words i s u d w → ForSome d (λ n. n ≤ 1024)
 gathered_depth words i s u None w h = λ n e. cc
 gathered_depth words i s u (Some m) w h = λ n e. picked depth_in (λ n. n ≤ 1024) depth_few words n (h.depth_is ∙ ap option_to_list e)

@@ -12,7 +12,7 @@ use Rattle.json_text.specs.declared.error.Place.TheVariants.{None as nowhere, Re
 use Rattle.json_text.specs.Errors.{no_memory}
 use Rattle.json_text.specs.Outside.{SourceState, SinkState}
 use Rattle.json_command.specs.Reading.{ReadsInput, KnownFault}
-use Rattle.reshape.specs.Reshape.{Layout, Reshapes, ReadsUnfit, Refuses}
+use Rattle.reshape.specs.Reshape.{Layout, Reshapes, ReadsUnfit, ReshapingRefuses}
 use Rattle.reshape.specs.Known.{KnownFit, KnownUnfit, edit_refused}
 use Rattle.json_command.proofs.KnownBytes.{large_known, fault_known, no_fault, same_fault, same_made, fault_not_read, one_of}
 
@@ -38,7 +38,7 @@ module _ (rules : Rules) where
   fit_not_unfit es source source' sink sink' n why h fit = ok_err fit.changed (n, why) (sym fit.applies ∙ sym (same_made rules (edited es) source source' h.tree fit.tree fit.input.bytes h.reads fit.input.known fit.input.input) ∙ h.refused)
 
   -- nothing but want of memory refuses it
-  pub fit_refused : (es : List Edit) (l : Layout) (source source' : SourceState) (sink sink' : SinkState) (code : ErrorCode) (place : Place) → Refuses rules es l source source' sink sink' code place
+  pub fit_refused : (es : List Edit) (l : Layout) (source source' : SourceState) (sink sink' : SinkState) (code : ErrorCode) (place : Place) → ReshapingRefuses rules es l source source' sink sink' code place
       → KnownFit rules es source source' sink sink' → error code place ≡ no_memory
   fit_refused es l source source' sink sink' NoMemory nowhere cause fit = refl
   fit_refused es l source source' sink sink' Io Reading cause fit = absurd (fit.input.read cause.0)
@@ -48,7 +48,7 @@ module _ (rules : Rules) where
   fit_refused es l source source' sink sink' TypeUnmatched (in_edit n) cause fit = absurd (fit_not_unfit es source source' sink sink' n type_unmatched cause.0 fit)
   fit_refused es l source source' sink sink' code place cause fit = absurd (no_fault rules fit.input.bytes fit.tree code place fit.input.input (fault_known rules source source' fit.input.bytes code place cause.0 fit.input.known))
 
-  pub fit_outcome : (r : Outcome) (es : List Edit) (l : Layout) (source source' : SourceState) (sink sink' : SinkState) → IfErr r (λ e. Refuses rules es l source source' sink sink' e.code e.place)
+  pub fit_outcome : (r : Outcome) (es : List Edit) (l : Layout) (source source' : SourceState) (sink sink' : SinkState) → IfErr r (λ e. ReshapingRefuses rules es l source source' sink sink' e.code e.place)
       → KnownFit rules es source source' sink sink' → IsOkUnless r no_memory
   fit_outcome (Ok x) es l source source' sink sink' h fit = tt
   fit_outcome (Err e) es l source source' sink sink' h fit = fit_refused es l source source' sink sink' e.code e.place h fit
@@ -56,7 +56,7 @@ module _ (rules : Rules) where
   -- ---- bytes with a fault
 
   -- they are refused for it, or for want of memory
-  pub fault_refused : (es : List Edit) (l : Layout) (source source' : SourceState) (sink sink' : SinkState) (code code' : ErrorCode) (place place' : Place) → Refuses rules es l source source' sink sink' code' place'
+  pub fault_refused : (es : List Edit) (l : Layout) (source source' : SourceState) (sink sink' : SinkState) (code code' : ErrorCode) (place place' : Place) → ReshapingRefuses rules es l source source' sink sink' code' place'
       → KnownFault rules source source' code place → (error code' place' ≡ error code place) ⊎ (error code' place' ≡ no_memory)
   fault_refused es l source source' sink sink' code NoMemory place nowhere cause bad = inr refl
   fault_refused es l source source' sink sink' code Io place Reading cause bad = absurd (bad.read cause.0)
@@ -70,7 +70,7 @@ module _ (rules : Rules) where
   fault_not_done es l source source' sink sink' code place r bad = fault_not_read rules source source' r.tree code place r.reads bad
 
   pub fault_outcome : (r : Outcome) (es : List Edit) (l : Layout) (source source' : SourceState) (sink sink' : SinkState) (code : ErrorCode) (place : Place) → OnOk r (Reshapes rules es l source source' sink sink')
-      → IfErr r (λ e. Refuses rules es l source source' sink sink' e.code e.place) → KnownFault rules source source' code place → IsErrOf r (error code place) ⊎ IsErrOf r no_memory
+      → IfErr r (λ e. ReshapingRefuses rules es l source source' sink sink' e.code e.place) → KnownFault rules source source' code place → IsErrOf r (error code place) ⊎ IsErrOf r no_memory
   fault_outcome (Ok x) es l source source' sink sink' code place d h bad = absurd (fault_not_done es l source source' sink sink' code place d bad)
   fault_outcome (Err e) es l source source' sink sink' code place d h bad = one_of e (error code place) no_memory (fault_refused es l source source' sink sink' code e.code place e.place h bad)
 
@@ -87,7 +87,7 @@ module _ (rules : Rules) where
       ap (λ p. edit_refused p.0 p.1) same
 
   -- it is refused for that edit, or for want of memory
-  pub unfit_refused : (es : List Edit) (l : Layout) (source source' : SourceState) (sink sink' : SinkState) (n : ℕ) (why : Refusal) (code : ErrorCode) (place : Place) → Refuses rules es l source source' sink sink' code place
+  pub unfit_refused : (es : List Edit) (l : Layout) (source source' : SourceState) (sink sink' : SinkState) (n : ℕ) (why : Refusal) (code : ErrorCode) (place : Place) → ReshapingRefuses rules es l source source' sink sink' code place
       → KnownUnfit rules es source source' n why → (error code place ≡ edit_refused n why) ⊎ (error code place ≡ no_memory)
   unfit_refused es l source source' sink sink' n why NoMemory nowhere cause unfit = inr refl
   unfit_refused es l source source' sink sink' n why Io Reading cause unfit = absurd (unfit.input.read cause.0)
@@ -101,6 +101,6 @@ module _ (rules : Rules) where
   unfit_not_done es l source source' sink sink' n why r unfit = unfit_applied es source source' r.tree r.changed n why r.reads r.applied unfit
 
   pub unfit_outcome : (r : Outcome) (es : List Edit) (l : Layout) (source source' : SourceState) (sink sink' : SinkState) (n : ℕ) (why : Refusal) → OnOk r (Reshapes rules es l source source' sink sink')
-      → IfErr r (λ e. Refuses rules es l source source' sink sink' e.code e.place) → KnownUnfit rules es source source' n why → IsErrOf r (edit_refused n why) ⊎ IsErrOf r no_memory
+      → IfErr r (λ e. ReshapingRefuses rules es l source source' sink sink' e.code e.place) → KnownUnfit rules es source source' n why → IsErrOf r (edit_refused n why) ⊎ IsErrOf r no_memory
   unfit_outcome (Ok x) es l source source' sink sink' n why d h unfit = absurd (unfit_not_done es l source source' sink sink' n why d unfit)
   unfit_outcome (Err e) es l source source' sink sink' n why d h unfit = one_of e (edit_refused n why) no_memory (unfit_refused es l source source' sink sink' n why e.code e.place h unfit)

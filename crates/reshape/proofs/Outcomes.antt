@@ -18,7 +18,7 @@ use Rattle.reshape.specs.declared.edits.Edits.{Edits}
 use Rattle.reshape.specs.declared.asked_style.AskedStyle.{AskedStyle}
 use Rattle.reshape.specs.declared.command.Asked.{Asked}
 use Rattle.reshape.specs.declared.command.Asked.TheVariants.{Reshape, Made}
-use Rattle.reshape.specs.Reshape.{Layout, RunsOut, Reshapes, Refuses}
+use Rattle.reshape.specs.Reshape.{Layout, RunsOut, Reshapes, ReshapingRefuses}
 use Rattle.json_command.specs.Statuses.{status_of}
 use Rattle.json_command.specs.Reporting.{Reports}
 use Rattle.reshape.specs.Run.{WithCommand, RunRefuses, Did, Fails, IsGood, IsBad, IsUnfit}
@@ -36,15 +36,15 @@ so_of words c P asked h = subst P (one_asked words h.command c h.asked asked) h.
 
 -- why it was refused, of the command that the words ask for
 run_cause : (words : List (List ℕ)) (c : Command) (source source' : SourceState) (sink sink' : SinkState) (code : ErrorCode) (place : Place) → Asks words c → RunRefuses words source source' sink sink' code place
-    → Refuses c.rules c.es c.layout source source' sink sink' code place
+    → ReshapingRefuses c.rules c.es c.layout source source' sink sink' code place
 run_cause words c source source' sink sink' NoMemory nowhere asked (inl same) = inl same
 run_cause words c source source' sink sink' NoMemory nowhere asked (inr h) = inr (so_of words c (λ c. RunsOut c.rules c.es c.layout source source' sink sink') asked h)
 run_cause words c source source' sink sink' BadWords nowhere asked h = absurd (h.0 (inl (c, asked)))
-run_cause words c source source' sink sink' code place asked h = so_of words c (λ c. Refuses c.rules c.es c.layout source source' sink sink' code place) asked h
+run_cause words c source source' sink sink' code place asked h = so_of words c (λ c. ReshapingRefuses c.rules c.es c.layout source source' sink sink' code place) asked h
 
 -- the same of all that the words may ask for
 cause_of : (words : List (List ℕ)) (c : Command) (source source' : SourceState) (sink sink' : SinkState) (code : ErrorCode) (place : Place) → Asks words c → Fails words source source' sink sink' code place
-    → Refuses c.rules c.es c.layout source source' sink sink' code place
+    → ReshapingRefuses c.rules c.es c.layout source source' sink sink' code place
 cause_of words c source source' sink sink' code place asked (inl h) = run_cause words c source source' sink sink' code place asked h
 cause_of words c source source' sink sink' code place asked (inr m) = absurd (apart words m.number c m.asked asked)
 
@@ -140,7 +140,7 @@ made_status words source source' sink sink' code place (inl cause) making = befo
 made_status words source source' sink sink' code place (inr m) making = printing_status sink sink' m.so.1.text code place m.so.1.fails
 
 -- the causes of the engine, for the command that the words ask for
-pub run_refuses : (words : List (List ℕ)) (c : Command) (source source' : SourceState) (sink sink' : SinkState) (code : ErrorCode) (place : Place) → Asks words c → Refuses c.rules c.es c.layout source source' sink sink' code place → RunRefuses words source source' sink sink' code place
+pub run_refuses : (words : List (List ℕ)) (c : Command) (source source' : SourceState) (sink sink' : SinkState) (code : ErrorCode) (place : Place) → Asks words c → ReshapingRefuses c.rules c.es c.layout source source' sink sink' code place → RunRefuses words source source' sink sink' code place
 run_refuses words c source source' sink sink' NoMemory nowhere asked (inl same) = inl same
 run_refuses words c source source' sink sink' NoMemory nowhere asked (inr gains) = inr (record { command = c; asked = asked; so = gains })
 run_refuses words c source source' sink sink' BadWords nowhere asked h = absurd (no_words c.rules h.0.bytes nowhere h.0.fault)
@@ -148,12 +148,12 @@ run_refuses words c source source' sink sink' code place asked h = record { comm
 
 -- so of a result, where these are the rules, the edits and the layout of that command
 pub run_refused : (r : Result (Unit {0}) Error) (words : List (List ℕ)) (c : Command) (rules : Rules) (es : List Edit) (l : Layout) (source source' : SourceState) (sink sink' : SinkState) → Asks words c → rules ≡ c.rules → es ≡ c.es → l ≡ c.layout
-    → IfErr r (λ e. Refuses rules es l source source' sink sink' e.code e.place) → IfErr r (λ e. Fails words source source' sink sink' e.code e.place)
+    → IfErr r (λ e. ReshapingRefuses rules es l source source' sink sink' e.code e.place) → IfErr r (λ e. Fails words source source' sink sink' e.code e.place)
 run_refused (Ok x) words c rules es l source source' sink sink' asked u f g h = tt
 run_refused (Err e) words c rules es l source source' sink sink' asked u f g h =
     inl (run_refuses words c source source' sink sink' e.code e.place asked
-    (subst (λ rules. Refuses rules c.es c.layout source source' sink sink' e.code e.place) u
-    (subst (λ es. Refuses rules es c.layout source source' sink sink' e.code e.place) f (subst (λ l. Refuses rules es l source source' sink sink' e.code e.place) g h))))
+    (subst (λ rules. ReshapingRefuses rules c.es c.layout source source' sink sink' e.code e.place) u
+    (subst (λ es. ReshapingRefuses rules es c.layout source source' sink sink' e.code e.place) f (subst (λ l. ReshapingRefuses rules es l source source' sink sink' e.code e.place) g h))))
 
 -- ---- what is done for the words
 

@@ -12,11 +12,12 @@ use Rattle.json_model.specs.Datum.{Datum, list_datum, list_data}
 use Rattle.json_model.specs.Edit.{Edit}
 use Rattle.json_value.specs.declared.path.Edit.{Edit as ValueEdit}
 use Rattle.json_value.specs.Edits.{edit_of}
-use Rattle.json_data.specs.Calls.{ReadsText, TreeRefused, ReadingFails}
+use Rattle.json_value.specs.EditTrees.{edits_in}
+use Rattle.json_data.specs.Calls.{ReadsTypedText, TreeRefused, TypedReadingFails}
 use Rattle.json_data.specs.Reading.{gives, refuses, read_list}
 use Rattle.json_data.specs.ReadingValues.{edit_datum, read_edit}
 use Rattle.json_data.proofs.ValueData.{list_edits, list_none}
-use Rattle.reshape.specs.Words.{edits_in, Spells}
+use Rattle.reshape.specs.Words.{SpellsEdits}
 use Rattle.json_command.proofs.Inputs.{utf8_no_fault}
 
 none_some : {A : Type 0} {x : A} → None ≡ Some x → ⊥
@@ -45,18 +46,18 @@ mapped [] = refl
 mapped (e ∷ es) = ap (λ (ds : List Datum). edit_datum (edit_of e) ∷ ds) (mapped es)
 
 pub word_spells : (word : List ℕ) (es : List ValueEdit) → ¬ (2 ^ 32 ≤ length word)
-    → ReadsText 254 (read_list read_edit) word (gives (list_datum (list_data (map (λ e. edit_datum (edit_of e)) es)))) → Spells word (map edit_of es)
+    → ReadsTypedText 254 (read_list read_edit) word (gives (list_datum (list_data (map (λ e. edit_datum (edit_of e)) es)))) → SpellsEdits word (map edit_of es)
 word_spells word es l (t, i, d, e) = record {
   tree = t;
   input = record { short = omega (arith, l); text = i; fit = (d, λ u. absurd (cc)) };
   edits = edits_read t (map edit_of es) (e ∙ ap (λ (ds : List Datum). gives (list_datum (list_data ds))) (mapped es));
 }
 
-refused_none : (word : List ℕ) (c : ErrorCode) (place : Place) → TreeRefused 254 (read_list read_edit) word c place → (es : List Edit) → ¬ (Spells word es)
+refused_none : (word : List ℕ) (c : ErrorCode) (place : Place) → TreeRefused 254 (read_list read_edit) word c place → (es : List Edit) → ¬ (SpellsEdits word es)
 refused_none word c place ((t, i, d, e), b) es s = none_some (sym (edits_refused t c e) ∙ ap edits_in (one_tree false t s.tree word i s.input.text) ∙ s.edits)
 
 -- a word of which no edits are read spells none
-pub none_spelled : (word : List ℕ) (c : ErrorCode) (place : Place) → c ≢ NoMemory → ReadingFails 254 (read_list read_edit) word c place → (es : List Edit) → ¬ (Spells word es)
+pub none_spelled : (word : List ℕ) (c : ErrorCode) (place : Place) → c ≢ NoMemory → TypedReadingFails 254 (read_list read_edit) word c place → (es : List Edit) → ¬ (SpellsEdits word es)
 none_spelled word NoMemory place n h es s = absurd (n refl)
 none_spelled word TooLarge nowhere n h es s = omega (arith, h, s.input.short)
 none_spelled word InvalidUTF8 place n h es s = utf8_no_fault word h.0 h.1 (text_utf8 false s.tree word s.input.text)

@@ -5,8 +5,8 @@ use Rattle.json_grammar.specs.Sizes.{nodes, trees_nodes}
 use Rattle.json_grammar.proofs.Values.{one_tree}
 use Rattle.json_grammar.proofs.Sizes.{text_fits, nodes_some}
 use Rattle.json_model.specs.Edit.{Edit}
-use Rattle.json_value.specs.EditTrees.{both, each_in, edit_in}
-use Rattle.reshape.specs.Words.{edits_in, Spells, AsksEdits}
+use Rattle.json_value.specs.EditTrees.{both, each_in, edit_in, edits_in}
+use Rattle.reshape.specs.Words.{SpellsEdits, AsksEdits}
 use Rattle.reshape.specs.Options.{is_edits_word, depth_or_usual, Command, Asks}
 
 same_some : {A : Type 0} {x y : A} → Some x ≡ Some y → x ≡ y
@@ -17,7 +17,7 @@ none_some e = cc
 
 -- ---- one command
 
-one_spelled : (w : List ℕ) (es es' : List Edit) → Spells w es → Spells w es' → es ≡ es'
+one_spelled : (w : List ℕ) (es es' : List Edit) → SpellsEdits w es → SpellsEdits w es' → es ≡ es'
 one_spelled w es es' h h' =
     let e : h.tree ≡ h'.tree = one_tree false h.tree h'.tree w h.input.text h'.input.text in same_some (sym h.edits ∙ ap edits_in e ∙ h'.edits)
 

@@ -1,15 +1,14 @@
 -- What the known bytes of a source come to: a text to which the edits apply, or one to which they do not apply.
 use Rattle.std.specs.Prelude.{◌≡◌, ◌⊎◌, ℕ, List, Result, Ok, Err, IsErrOf}
-use Rattle.json_text.specs.declared.error.ErrorCode.{ErrorCode}
-use Rattle.json_text.specs.declared.error.ErrorCode.TheVariants.{NotFound, TypeUnmatched}
 use Rattle.json_text.specs.declared.error.Error.{Error}
 use Rattle.json_text.specs.declared.error.Place.TheVariants.{Edit as in_edit}
 use Rattle.json_text.specs.Errors.{no_memory}
 use Rattle.json_text.specs.Outside.{SourceState, SinkState, Rose}
 use Rattle.json_grammar.specs.Tree.{Tree}
 use Rattle.json_grammar.specs.Rules.{Rules}
-use Rattle.json_model.specs.Edit.{Edit, edited, Refusal, not_found, type_unmatched}
+use Rattle.json_model.specs.Edit.{Edit, edited, Refusal}
 use Rattle.json_command.specs.Reading.{KnownInput}
+use Rattle.json_command.specs.Statuses.{code_of_refusal}
 
 -- the known bytes are a text that fits the rules, to which the edits apply, and nothing failed
 pub record KnownFit (rules : Rules) (es : List Edit) (source source' : SourceState) (sink sink' : SinkState) : Type 0 where
@@ -25,14 +24,9 @@ pub record KnownUnfit (rules : Rules) (es : List Edit) (source source' : SourceS
   pub input : KnownInput rules source source' tree
   pub refused : edited es tree ≡ Err (number, why)
 
--- the code of a refusal of an edit
-abbrev pub code_of : Refusal → ErrorCode
-code_of not_found = NotFound
-code_of type_unmatched = TypeUnmatched
-
 -- the refusal of the edit of this number
 abbrev pub edit_refused : ℕ → Refusal → Error
-edit_refused number why = record { code = code_of why; place = in_edit number }
+edit_refused number why = record { code = code_of_refusal why; place = in_edit number }
 
 -- the edit that does not apply to the known bytes is returned as the error, or memory runs out
 abbrev pub ReturnsUnfit : {A : Type 0} → Rules → List Edit → SourceState → SourceState → Result A Error → Type 0

@@ -1,8 +1,8 @@
 -- What all words of the command line ask for: the options, in any order, and the edits word among them.
-use Rattle.std.specs.Prelude.{◌≡◌, ◌⊎◌, ℕ, ◌-◌, Bool, true, not, cond, ◌&&◌, ◌||◌, nat_le, List, [], ◌∷◌, length, take, drop, replicate, filter, filter_map, Option, Some, None, is_some, unwrap_or, option_map, option_to_list, bytes_eq, codes}
+use Rattle.std.specs.Prelude.{◌≡◌, ◌⊎◌, ℕ, Bool, true, not, cond, ◌||◌, List, [], ◌∷◌, length, take, drop, replicate, filter, filter_map, Option, Some, None, is_some, unwrap_or, option_map, option_to_list, bytes_eq, codes}
 use Rattle.std.specs.List.{list_all}
 use Rattle.json_grammar.specs.Rules.{Rules}
-use Rattle.json_command.specs.Options.{number_after}
+use Rattle.json_command.specs.Options.{number_after, depth_in, width_in}
 use Rattle.json_text.specs.Ruled.{usual_rules}
 use Rattle.json_model.specs.Edit.{Edit}
 use Rattle.reshape.specs.Words.{AsksEdits}
@@ -20,11 +20,6 @@ is_edits_word w = not (is_option w)
 abbrev pub spaces : ℕ → List ℕ
 spaces n = replicate n 32
 
--- the number that one digit from 0 to 8 is
-abbrev pub width_in : List ℕ → Option ℕ
-width_in (d ∷ []) = cond (nat_le 48 d && nat_le d 56) (Some (d - 48)) None
-width_in _ = None
-
 -- the indent that a word asks for: --pretty two spaces, --tabs one tab, --indent=N so many spaces
 abbrev pub indent_in : List ℕ → Option (List ℕ)
 indent_in w =
@@ -39,10 +34,6 @@ is_sorting w = bytes_eq w (codes "--sort-keys")
 -- the word that asks for names that differ
 abbrev pub is_unique : List ℕ → Bool
 is_unique w = bytes_eq w (codes "--unique-keys")
-
--- the most levels of the input that a word asks for: --depth=N so many, 1,024 at most
-abbrev pub depth_in : List ℕ → Option ℕ
-depth_in w = number_after (codes "--depth") 1024 w
 
 -- the records of made input that a word asks for: --make=N so many, 100,000 at most
 abbrev pub made_in : List ℕ → Option ℕ

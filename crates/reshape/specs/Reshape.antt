@@ -79,11 +79,11 @@ EditingRefuses es tree TypeUnmatched (in_edit number) = edited es tree ≡ Err (
 EditingRefuses es tree code place = ⊥
 
 -- why it was refused, and what that left in the sink: one row for each answer
-abbrev pub Refuses : Rules → List Edit → Layout → SourceState → SourceState → SinkState → SinkState → ErrorCode → Place → Type 0
-Refuses rules es l source source' sink sink' NoMemory nowhere = (sink' ≡ sink) ⊎ RunsOut rules es l source source' sink sink'
-Refuses rules es l source source' sink sink' Io Reading = Rose source.faults source'.faults × (sink' ≡ sink)
-Refuses rules es l source source' sink sink' TooLarge nowhere = RoseBy (max_bytes + 1) source.given source'.given × IfSome source.left (λ b. max_bytes < length b) × (sink' ≡ sink)
-Refuses rules es l source source' sink sink' NotFound (in_edit number) = ReadsUnfit rules es source source' number not_found × (sink' ≡ sink)
-Refuses rules es l source source' sink sink' TypeUnmatched (in_edit number) = ReadsUnfit rules es source source' number type_unmatched × (sink' ≡ sink)
-Refuses rules es l source source' sink sink' Io Writing = Rose sink.faults sink'.faults × GainsFront rules es l source source' sink sink'
-Refuses rules es l source source' sink sink' code place = ReadsFault rules source source' code place × (sink' ≡ sink)
+abbrev pub ReshapingRefuses : Rules → List Edit → Layout → SourceState → SourceState → SinkState → SinkState → ErrorCode → Place → Type 0
+ReshapingRefuses rules es l source source' sink sink' NoMemory nowhere = (sink' ≡ sink) ⊎ RunsOut rules es l source source' sink sink'
+ReshapingRefuses rules es l source source' sink sink' Io Reading = Rose source.faults source'.faults × (sink' ≡ sink)
+ReshapingRefuses rules es l source source' sink sink' TooLarge nowhere = RoseBy (max_bytes + 1) source.given source'.given × IfSome source.left (λ b. max_bytes < length b) × (sink' ≡ sink)
+ReshapingRefuses rules es l source source' sink sink' NotFound (in_edit number) = ReadsUnfit rules es source source' number not_found × (sink' ≡ sink)
+ReshapingRefuses rules es l source source' sink sink' TypeUnmatched (in_edit number) = ReadsUnfit rules es source source' number type_unmatched × (sink' ≡ sink)
+ReshapingRefuses rules es l source source' sink sink' Io Writing = Rose sink.faults sink'.faults × GainsFront rules es l source source' sink sink'
+ReshapingRefuses rules es l source source' sink sink' code place = ReadsFault rules source source' code place × (sink' ≡ sink)

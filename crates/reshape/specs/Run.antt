@@ -10,7 +10,7 @@ use Rattle.json_text.specs.FaultText.{text_of}
 use Rattle.json_model.specs.Edit.{Refusal}
 use Rattle.reshape.specs.Options.{Command, Asks, AsksMade, IsAsked}
 use Rattle.reshape.specs.Made.{GainsSummary, SummaryFails}
-use Rattle.reshape.specs.Reshape.{Reshapes, RunsOut, Refuses}
+use Rattle.reshape.specs.Reshape.{Reshapes, RunsOut, ReshapingRefuses}
 use Rattle.reshape.specs.Known.{KnownFit, KnownUnfit}
 use Rattle.json_command.specs.Reading.{KnownFault}
 use Rattle.json_command.specs.Statuses.{status_of}
@@ -26,7 +26,7 @@ pub record WithCommand (words : List (List ℕ)) (holds : Command → Type 0) : 
 abbrev pub RunRefuses : List (List ℕ) → SourceState → SourceState → SinkState → SinkState → ErrorCode → Place → Type 0
 RunRefuses words source source' sink sink' NoMemory nowhere = (sink' ≡ sink) ⊎ WithCommand words (λ c. RunsOut c.rules c.es c.layout source source' sink sink')
 RunRefuses words source source' sink sink' BadWords nowhere = (¬ IsAsked words) × (source' ≡ source) × (sink' ≡ sink)
-RunRefuses words source source' sink sink' code place = WithCommand words (λ c. Refuses c.rules c.es c.layout source source' sink sink' code place)
+RunRefuses words source source' sink sink' code place = WithCommand words (λ c. ReshapingRefuses c.rules c.es c.layout source source' sink sink' code place)
 
 -- the words ask for made input of so many records, and of their number this holds
 pub record WithMade (words : List (List ℕ)) (holds : ℕ → Type 0) : Type 0 where
@@ -50,7 +50,7 @@ pub record Done (words : List (List ℕ)) (source source' : SourceState) (sink s
   pub silent : errs' ≡ errs
 
 -- any other status: one error, with its status, its cause, what it left, and its text on errs
-pub record Refused (status : ℕ) (words : List (List ℕ)) (source source' : SourceState) (sink sink' errs errs' : SinkState) : Type 0 where
+pub record ReportsRunError (status : ℕ) (words : List (List ℕ)) (source source' : SourceState) (sink sink' errs errs' : SinkState) : Type 0 where
   pub error : Error
   pub status_is : status ≡ status_of error.code error.place
   pub cause : Fails words source source' sink sink' error.code error.place

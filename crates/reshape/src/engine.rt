@@ -5,7 +5,7 @@ ghost use Rattle.json_text.specs.Errors.{no_memory};
 ghost use Rattle.json_text.specs.Ruled.{rules_of, usual_rules};
 ghost use Rattle.json_text.specs.Transfer.{TakesAtMost};
 ghost use Rattle.json_command.specs.Input.{max_bytes};
-ghost use Rattle.reshape.specs.Reshape.{layout_of, Reshapes, Refuses};
+ghost use Rattle.reshape.specs.Reshape.{layout_of, Reshapes, ReshapingRefuses};
 ghost use Rattle.json_command.specs.Printing.{ReturnsWriteError};
 ghost use Rattle.json_command.specs.Reading.{ReturnsReadError, ReturnsFault};
 ghost use Rattle.reshape.specs.Known.{KnownFit, ReturnsUnfit};
@@ -30,7 +30,7 @@ fn pass<S: Source, K: Sink>(
     ensures done { OnOk result (Reshapes (rules_of rules) (map edit_of edits.now)
         (layout_of style.entry) (S.state source.old) (S.state source.new)
         (K.state sink.old) (K.state sink.new)) }
-    ensures refused { IfErr result (λ e. Refuses (rules_of rules) (map edit_of edits.now)
+    ensures refused { IfErr result (λ e. ReshapingRefuses (rules_of rules) (map edit_of edits.now)
         (layout_of style.entry) (S.state source.old) (S.state source.new)
         (K.state sink.old) (K.state sink.new) e.code e.place) }
     ensures taken { TakesAtMost (max_bytes + 1) (S.state source.old) (S.state source.new) }
@@ -64,7 +64,7 @@ pub fn reshape_with<S: Source, K: Sink>(
     ensures done { OnOk result (Reshapes (rules_of rules) (map edit_of edits.now)
         (layout_of style.entry) (S.state source.old) (S.state source.new)
         (K.state sink.old) (K.state sink.new)) }
-    ensures refused { IfErr result (λ e. Refuses (rules_of rules) (map edit_of edits.now)
+    ensures refused { IfErr result (λ e. ReshapingRefuses (rules_of rules) (map edit_of edits.now)
         (layout_of style.entry) (S.state source.old) (S.state source.new)
         (K.state sink.old) (K.state sink.new) e.code e.place) }
     ensures taken { TakesAtMost (max_bytes + 1) (S.state source.old) (S.state source.new) }
@@ -93,7 +93,7 @@ pub fn reshape<S: Source, K: Sink>(
     ensures done { OnOk result (Reshapes usual_rules (map edit_of edits.now)
         (layout_of style.entry) (S.state source.old) (S.state source.new)
         (K.state sink.old) (K.state sink.new)) }
-    ensures refused { IfErr result (λ e. Refuses usual_rules (map edit_of edits.now)
+    ensures refused { IfErr result (λ e. ReshapingRefuses usual_rules (map edit_of edits.now)
         (layout_of style.entry) (S.state source.old) (S.state source.new)
         (K.state sink.old) (K.state sink.new) e.code e.place) }
     ensures taken { TakesAtMost (max_bytes + 1) (S.state source.old) (S.state source.new) }

@@ -2,8 +2,9 @@
 ghost use Rattle.std.specs.Prelude.{◌≡◌, ◌≢◌, ◌≤◌, ℕ, List, [], ◌∷◌, ◌++◌, false, option_map, IfSome, IfNone, MatchOption};
 ghost use Rattle.std.specs.Option.{ForSome};
 ghost use Rattle.json_text.specs.Ruled.{rules_of};
-ghost use Rattle.reshape.specs.Options.{spaces, width_in, indent_in, depth_in, made_in, depth_or_usual, is_known, IsReshaping, AsksMade, IsMaking};
+ghost use Rattle.reshape.specs.Options.{spaces, indent_in, made_in, depth_or_usual, is_known, IsReshaping, AsksMade, IsMaking};
 ghost use Rattle.reshape.specs.Gathering.{HasRole, Gathered};
+ghost use Rattle.json_command.specs.Options.{depth_in, width_in};
 
 use json_command::option_number;
 use json_text::{Rules, Words};

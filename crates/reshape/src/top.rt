@@ -9,7 +9,7 @@ ghost use Rattle.reshape.specs.Options.{IsAsked, IsMaking};
 ghost use Rattle.json_command.specs.Printing.{ReturnsWriteError};
 ghost use Rattle.json_command.specs.Reading.{ReturnsReadError};
 ghost use Rattle.json_command.specs.Reporting.{StatusReports};
-ghost use Rattle.reshape.specs.Run.{Did, Fails, Done, Refused, IsGood, IsBad, IsUnfit};
+ghost use Rattle.reshape.specs.Run.{Did, Fails, Done, ReportsRunError, IsGood, IsBad, IsUnfit};
 ghost use Rattle.reshape.specs.Known.{edit_refused};
 
 use crate::command::Asked;
@@ -58,7 +58,7 @@ pub fn run<S: Source, K: Sink, E: Sink>(
 ) -> u8
     ensures done { result ≡ 0 → Done words.now (S.state source.old) (S.state source.new)
         (K.state sink.old) (K.state sink.new) (E.state errs.old) (E.state errs.new) }
-    ensures refused { result ≢ 0 → Refused result words.now
+    ensures refused { result ≢ 0 → ReportsRunError result words.now
         (S.state source.old) (S.state source.new)
         (K.state sink.old) (K.state sink.new) (E.state errs.old) (E.state errs.new) }
     ensures taken { TakesAtMost (max_bytes + 1) (S.state source.old) (S.state source.new) }

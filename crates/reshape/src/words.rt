@@ -2,7 +2,7 @@
 ghost use Rattle.std.specs.Prelude.{◌≡◌, ◌⊎◌, List, IfOk, IfErr, option_map, option_to_list};
 ghost use Rattle.json_text.specs.Errors.{no_memory, bad_words};
 ghost use Rattle.json_model.specs.Edit.{Edit as TreeEdit};
-ghost use Rattle.reshape.specs.Words.{Spells, AsksEdits};
+ghost use Rattle.reshape.specs.Words.{SpellsEdits, AsksEdits};
 ghost use Rattle.reshape.specs.Options.{IsAsked};
 ghost use Rattle.reshape.specs.Asked.{edits_of, AsksFor};
 
@@ -18,9 +18,9 @@ use std::alloc::Global;
 
 // The edits that a word spells, by the usual rules.
 fn read_word(alloc: Global, word: &str) -> Result<Edits>
-    ensures ok { IfOk result (λ es. Spells word.now (edits_of es)) }
+    ensures ok { IfOk result (λ es. SpellsEdits word.now (edits_of es)) }
     ensures err { IfErr result (λ e. (e ≡ no_memory)
-        ⊎ ((e ≡ bad_words) × ((es : List TreeEdit) → ¬ (Spells word.now es)))) }
+        ⊎ ((e ≡ bad_words) × ((es : List TreeEdit) → ¬ (SpellsEdits word.now es)))) }
 {
     match from_str::<Vec<Edit>>(alloc, word) {
         Ok(list) => Ok(Edits { list }),

@@ -1,9 +1,9 @@
 // Tokens that are taken at once, and those whose events wait.
 ghost use Rattle.std.specs.Prelude.{◌≡◌, ◌<◌, ◌≤◌, ◌^◌, true, false, None, IfSome, IsSome, MatchOption};
 ghost use Rattle.json_grammar.specs.Tree.{null, boolean, begin as begin_token, end as end_token};
-ghost use Rattle.json_data.specs.Stand.{NotWhole, TakesOne, TakesTree, TakesInteger, TakesNegative, TakesText, TakesKey};
+ghost use Rattle.json_data.specs.Stand.{NotWhole, TakesOne, TakesTree, TakesInteger, TakesNegative, TakesText, TakesKeyPiece};
 ghost use Rattle.json_data.specs.Pieces.{Says};
-ghost use Rattle.json_data.specs.Text.{text_taken, text_stand};
+ghost use Rattle.json_data.specs.Text.{text_taken, text_tokens_state};
 
 use crate::ahead::piece;
 use crate::brackets::begin_kind;
@@ -25,9 +25,9 @@ impl<'a> TextTokens<'a> {
     /// Takes the token that waits where it is a text.
     #[inline(always)]
     fn waiting_text(&mut self) -> Option<Piece<&'a str>>
-        requires { NotWhole (text_stand self.old) }
+        requires { NotWhole (text_tokens_state self.old) }
         ensures takes { MatchOption result (self.new ≡ self.old) (λ p.
-            TakesText text_taken text_stand (λ s. Says s p.escaped p.text.now) self.old self.new) }
+            TakesText text_taken text_tokens_state (λ s. Says s p.escaped p.text.now) self.old self.new) }
         ensures unfailed { IsSome result → self.new.failed ≡ None }
         ensures again { IsSome self.old.failed → result ≡ None }
     {
@@ -50,9 +50,9 @@ impl<'a> TextTokens<'a> {
     /// Takes the token that waits where it is the bracket that opens a container of the kind.
     #[inline(always)]
     fn waiting_begin(&mut self, kind: Kind) -> bool
-        requires { NotWhole (text_stand self.old) }
+        requires { NotWhole (text_tokens_state self.old) }
         ensures begun { result ≡ true
-            → TakesOne text_taken text_stand self.old self.new (begin_token kind) }
+            → TakesOne text_taken text_tokens_state self.old self.new (begin_token kind) }
         ensures kept { result ≡ false → self.new ≡ self.old }
         ensures unfailed { result ≡ true → self.new.failed ≡ None }
         ensures again { IsSome self.old.failed → result ≡ false }
@@ -74,10 +74,10 @@ impl<'a> TextTokens<'a> {
     /// Takes the next token where it is an integer from 0 to `most`.
     #[inline(always)]
     pub(super) fn take_integer(&mut self, most: u64) -> Option<u64>
-        requires { NotWhole (text_stand self.old) }
+        requires { NotWhole (text_tokens_state self.old) }
         ensures most { IfSome result (λ n. n ≤ most) }
         ensures takes { MatchOption result (self.new ≡ self.old)
-            (TakesInteger text_taken text_stand self.old self.new) }
+            (TakesInteger text_taken text_tokens_state self.old self.new) }
         ensures unfailed { IsSome result → self.new.failed ≡ None }
         ensures again { IsSome self.old.failed → result ≡ None }
     {
@@ -93,11 +93,11 @@ impl<'a> TextTokens<'a> {
     /// Takes the next token where it is an integer below 0 of at most this magnitude.
     #[inline(always)]
     pub(super) fn take_negative(&mut self, least: u64) -> Option<u64>
-        requires whole { NotWhole (text_stand self.old) }
+        requires whole { NotWhole (text_tokens_state self.old) }
         requires fits { least ≤ 2 ^ 63 }
         ensures least { IfSome result (λ n. (0 < n) × (n ≤ least)) }
         ensures takes { MatchOption result (self.new ≡ self.old)
-            (TakesNegative text_taken text_stand self.old self.new) }
+            (TakesNegative text_taken text_tokens_state self.old self.new) }
         ensures unfailed { IsSome result → self.new.failed ≡ None }
         ensures again { IsSome self.old.failed → result ≡ None }
     {
@@ -113,9 +113,9 @@ impl<'a> TextTokens<'a> {
     /// Takes the next token where it is `null`.
     #[inline(always)]
     pub(super) fn take_null(&mut self) -> bool
-        requires { NotWhole (text_stand self.old) }
+        requires { NotWhole (text_tokens_state self.old) }
         ensures takes { result ≡ true
-            → TakesTree text_taken text_stand self.old self.new null }
+            → TakesTree text_taken text_tokens_state self.old self.new null }
         ensures kept { result ≡ false → self.new ≡ self.old }
         ensures unfailed { result ≡ true → self.new.failed ≡ None }
         ensures again { IsSome self.old.failed → result ≡ false }
@@ -132,9 +132,9 @@ impl<'a> TextTokens<'a> {
     /// Takes the next token where it is `true` or `false`.
     #[inline(always)]
     pub(super) fn take_boolean(&mut self) -> Option<bool>
-        requires { NotWhole (text_stand self.old) }
+        requires { NotWhole (text_tokens_state self.old) }
         ensures takes { MatchOption result (self.new ≡ self.old) (λ b.
-            TakesTree text_taken text_stand self.old self.new (boolean b)) }
+            TakesTree text_taken text_tokens_state self.old self.new (boolean b)) }
         ensures unfailed { IsSome result → self.new.failed ≡ None }
         ensures again { IsSome self.old.failed → result ≡ None }
     {
@@ -150,9 +150,9 @@ impl<'a> TextTokens<'a> {
     /// Takes the next token where it is a text.
     #[inline(always)]
     pub(super) fn take_text(&mut self) -> Option<Piece<&'a str>>
-        requires { NotWhole (text_stand self.old) }
+        requires { NotWhole (text_tokens_state self.old) }
         ensures takes { MatchOption result (self.new ≡ self.old) (λ p.
-            TakesText text_taken text_stand (λ s. Says s p.escaped p.text.now) self.old self.new) }
+            TakesText text_taken text_tokens_state (λ s. Says s p.escaped p.text.now) self.old self.new) }
         ensures unfailed { IsSome result → self.new.failed ≡ None }
         ensures again { IsSome self.old.failed → result ≡ None }
     {
@@ -168,9 +168,9 @@ impl<'a> TextTokens<'a> {
     /// Takes the next token where it is a name.
     #[inline(always)]
     pub(super) fn take_key(&mut self) -> Option<Piece<&'a str>>
-        requires { NotWhole (text_stand self.old) }
+        requires { NotWhole (text_tokens_state self.old) }
         ensures takes { MatchOption result (self.new ≡ self.old) (λ p.
-            TakesKey text_taken text_stand (λ s. Says s p.escaped p.text.now) self.old self.new) }
+            TakesKeyPiece text_taken text_tokens_state (λ s. Says s p.escaped p.text.now) self.old self.new) }
         ensures unfailed { IsSome result → self.new.failed ≡ None }
         ensures again { IsSome self.old.failed → result ≡ None }
     {
@@ -186,9 +186,9 @@ impl<'a> TextTokens<'a> {
     /// Takes the next token where it is the bracket that opens a container of the kind.
     #[inline(always)]
     pub(super) fn take_begin(&mut self, kind: Kind) -> bool
-        requires { NotWhole (text_stand self.old) }
+        requires { NotWhole (text_tokens_state self.old) }
         ensures begun { result ≡ true
-            → TakesOne text_taken text_stand self.old self.new (begin_token kind) }
+            → TakesOne text_taken text_tokens_state self.old self.new (begin_token kind) }
         ensures kept { result ≡ false → self.new ≡ self.old }
         ensures unfailed { result ≡ true → self.new.failed ≡ None }
         ensures again { IsSome self.old.failed → result ≡ false }
@@ -205,9 +205,9 @@ impl<'a> TextTokens<'a> {
     /// Takes the next token where it is the bracket that closes a container of the kind.
     #[inline(always)]
     pub(super) fn take_end(&mut self, kind: Kind) -> bool
-        requires { NotWhole (text_stand self.old) }
+        requires { NotWhole (text_tokens_state self.old) }
         ensures ended { result ≡ true
-            → TakesOne text_taken text_stand self.old self.new (end_token kind) }
+            → TakesOne text_taken text_tokens_state self.old self.new (end_token kind) }
         ensures kept { result ≡ false → self.new ≡ self.old }
         ensures unfailed { result ≡ true → self.new.failed ≡ None }
         ensures again { IsSome self.old.failed → result ≡ false }

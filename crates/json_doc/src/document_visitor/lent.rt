@@ -6,7 +6,7 @@ ghost use Rattle.json_grammar.specs.Grammar.{chars, number};
 ghost use Rattle.json_number.specs.Integers.{integer_in};
 ghost use Rattle.json_doc.specs.Lent.{IsLentBy, IsPieceAt};
 ghost use Rattle.json_doc.specs.Recorded.{visitor_state, Holds, TakesNoMemory};
-ghost use Rattle.json_doc.specs.State.{Fits, after_event, MayCome, HoldsMore};
+ghost use Rattle.json_doc.specs.State.{Fits, after_event, MayComeAfter, HoldsMore};
 
 use super::DocumentVisitor;
 use json_text::Span;
@@ -18,7 +18,7 @@ impl DocumentVisitor {
         requires number { number literal.now }
         requires raw { integer_in literal.now ≡ None }
         requires come { (visitor_state self.old).full ≡ false
-            → MayCome (Holds self.old) (num_token literal.now) }
+            → MayComeAfter (Holds self.old) (num_token literal.now) }
         requires lent { IsPieceAt literal.now input.now from }
         ensures answer { IsTrue result ↔ Fits (visitor_state self.old) 1 (length literal.now) }
         ensures state { visitor_state self.new
@@ -39,7 +39,7 @@ impl DocumentVisitor {
     #[inline(always)]
     pub(crate) fn take_str(&mut self, s: Span<'_>, input: &[u8], from: usize) -> bool
         requires come { (visitor_state self.old).full ≡ false
-            → (t : List ℕ) × chars s.lossy t s.raw.now × MayCome (Holds self.old) (text_token t) }
+            → (t : List ℕ) × chars s.lossy t s.raw.now × MayComeAfter (Holds self.old) (text_token t) }
         requires lent { IsLentBy s input.now from }
         ensures answer { IsTrue result
             ↔ Fits (visitor_state self.old) 1 (length s.entry.raw.now) }
@@ -61,7 +61,7 @@ impl DocumentVisitor {
     #[inline(always)]
     pub(crate) fn take_key(&mut self, s: Span<'_>, input: &[u8], from: usize) -> bool
         requires come { (visitor_state self.old).full ≡ false
-            → (t : List ℕ) × chars s.lossy t s.raw.now × MayCome (Holds self.old) (key_token t) }
+            → (t : List ℕ) × chars s.lossy t s.raw.now × MayComeAfter (Holds self.old) (key_token t) }
         requires lent { IsLentBy s input.now from }
         ensures answer { IsTrue result
             ↔ Fits (visitor_state self.old) 1 (length s.entry.raw.now) }

@@ -26,7 +26,7 @@ fn first_key(turn: Turn) -> bool
 }
 
 impl<W: Sink, F: Formatter> Serializer<W, F> {
-    // What stands before a value, where members wait.
+    // What is written before a value, where members wait.
     #[inline(never)]
     fn value_begin(&mut self) -> Step
         requires { self.old.failed ≡ None }
@@ -55,7 +55,7 @@ impl<W: Sink, F: Formatter> Serializer<W, F> {
         }
     }
 
-    // What stands behind a value, where members wait.
+    // What is written after a value, where members wait.
     #[inline(never)]
     fn value_end(&mut self) -> Step
         requires { self.old.failed ≡ None }
@@ -311,7 +311,7 @@ impl<W: Sink, F: Formatter> Serializer<W, F> {
         }
     }
 
-    // What stands before the end of a container.
+    // What is written before the end of a container.
     #[inline(always)]
     fn empty(&mut self, kind: Kind) -> Step
         requires { self.old.failed ≡ None }
@@ -329,7 +329,7 @@ impl<W: Sink, F: Formatter> Serializer<W, F> {
         }
     }
 
-    // The end of a container behind its members, where members wait around it.
+    // The end of a container after its members, where members wait around it.
     #[inline(never)]
     fn close_waiting(&mut self, kind: Kind) -> Step
         requires { self.old.failed ≡ None }
@@ -340,7 +340,7 @@ impl<W: Sink, F: Formatter> Serializer<W, F> {
         self.value_end()
     }
 
-    // The end of a container behind its members.
+    // The end of a container after its members.
     #[inline(always)]
     fn close(&mut self, kind: Kind) -> Step
         requires { self.old.failed ≡ None }
@@ -378,7 +378,7 @@ impl<W: Sink, F: Formatter> Serializer<W, F> {
         }
     }
 
-    // A key and what stands around it, where members wait.
+    // A key and what is written around it, where members wait.
     #[inline(never)]
     fn key_waiting(&mut self, key: &str) -> Step
         requires { self.old.failed ≡ None }
@@ -390,7 +390,7 @@ impl<W: Sink, F: Formatter> Serializer<W, F> {
         self.call_waiting(Part::EndKey)
     }
 
-    // A key and what stands around it.
+    // A key and what is written around it.
     #[inline(always)]
     fn write_key(&mut self, key: &str) -> Step
         requires { self.old.failed ≡ None }

@@ -167,7 +167,7 @@ impl<W: Sink, F: Formatter> Serializer<W, F> {
         }
     }
 
-    // What stands before a value.
+    // What is written before a value.
     #[inline(always)]
     pub(super) fn value_begin_straight(&mut self) -> Step
         requires goes { self.old.failed ≡ None }
@@ -188,7 +188,7 @@ impl<W: Sink, F: Formatter> Serializer<W, F> {
         }
     }
 
-    // What stands behind a value.
+    // What is written after a value.
     #[inline(always)]
     pub(super) fn value_end_straight(&mut self) -> Step
         requires goes { self.old.failed ≡ None }

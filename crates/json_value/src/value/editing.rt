@@ -2,9 +2,9 @@
 ghost use Rattle.std.specs.Prelude.{◌≡◌, OnOk, OnErr};
 ghost use Rattle.json_model.specs.Edit.{removed, edited_once};
 ghost use Rattle.json_value.specs.Denotes.{tree_of, text_bytes};
-ghost use Rattle.json_value.specs.Edits.{step_of, path_of, edit_of, change_of, Makes, FailsAs, inserted_in, pushed_in};
-ghost use Rattle.json_value.specs.Places.{origin_of};
-ghost use Rattle.json_value.specs.Touched.{ArrayTouched, ObjectTouched, Inserts, Pushes, RemovalTouches, ChangeTouches, Touches, Same, ArrayKept, ObjectKept, RemovalKeeps, ChangeKeeps, Keeps};
+ghost use Rattle.json_value.specs.Edits.{step_of, edit_path, edit_of, change_of, Makes, FailsAs, inserted_in, pushed_in};
+ghost use Rattle.json_value.specs.Places.{value_origin};
+ghost use Rattle.json_value.specs.Touched.{ArrayTouched, ObjectTouched, Inserts, Pushes, RemovalTouches, ChangeTouches, Touches, Same, ArrayKept, ObjectKept, RemovalKeeps, ChangeKeeps, KeepsOnRefusal};
 
 use crate::container_mut::{not_found, type_unmatched};
 use crate::pair::{insert_pair, remove_pairs};
@@ -22,7 +22,7 @@ impl Value {
         ensures kept { OnErr result (tree_of self.new ≡ tree_of self.old) }
         ensures refused { FailsAs (inserted_in (text_bytes key.now) (tree_of value.now)
             (tree_of self.old)) result }
-        ensures children { OnOk result (ObjectTouched (Inserts key.now (origin_of value.now))
+        ensures children { OnOk result (ObjectTouched (Inserts key.now (value_origin value.now))
             self.old self.new) }
         ensures kept_along { OnErr result (ObjectKept Same self.old self.new) }
     {
@@ -41,7 +41,7 @@ impl Value {
             self.new) }
         ensures kept { OnErr result (tree_of self.new ≡ tree_of self.old) }
         ensures refused { FailsAs (pushed_in (tree_of value.now) (tree_of self.old)) result }
-        ensures children { OnOk result (ArrayTouched (Pushes (origin_of value.now))
+        ensures children { OnOk result (ArrayTouched (Pushes (value_origin value.now))
             self.old self.new) }
         ensures kept_along { OnErr result (ArrayKept Same self.old self.new) }
     {
@@ -118,8 +118,8 @@ impl Value {
             self.new) }
         ensures kept { OnErr result (tree_of self.new ≡ tree_of self.old) }
         ensures refused { FailsAs (edited_once (edit_of edit.now) (tree_of self.old)) result }
-        ensures children { OnOk result (Touches (path_of edit.now) edit.now self.old self.new) }
-        ensures kept_along { OnErr result (Keeps (path_of edit.now) edit.now self.old self.new) }
+        ensures children { OnOk result (Touches (edit_path edit.now) edit.now self.old self.new) }
+        ensures kept_along { OnErr result (KeepsOnRefusal (edit_path edit.now) edit.now self.old self.new) }
     {
         apply_in(self, alloc, edit)
     }
@@ -132,9 +132,9 @@ fn apply_in<V: Places>(target: &mut V, alloc: Global, edit: &Edit) -> Result<()>
     ensures kept { OnErr result (tree_of (V.held target.new) ≡ tree_of (V.held target.old)) }
     ensures refused { FailsAs (edited_once (edit_of edit.now) (tree_of (V.held target.old)))
         result }
-    ensures children { OnOk result (Touches (path_of edit.now) edit.now (V.held target.old)
+    ensures children { OnOk result (Touches (edit_path edit.now) edit.now (V.held target.old)
         (V.held target.new)) }
-    ensures kept_along { OnErr result (Keeps (path_of edit.now) edit.now (V.held target.old)
+    ensures kept_along { OnErr result (KeepsOnRefusal (edit_path edit.now) edit.now (V.held target.old)
         (V.held target.new)) }
 {
     let place = target.place_mut(alloc, edit.path().steps())?;

@@ -5,11 +5,11 @@ ghost use Rattle.json_doc.specs.Readings.{type_of};
 ghost use Rattle.json_doc.specs.declared.json_type.JsonType.{JsonType};
 ghost use Rattle.json_value.specs.Denotes.{tree_of, list_in, pairs_in};
 ghost use Rattle.json_value.specs.Edits.{steps_of};
-ghost use Rattle.json_value.specs.Lending.{missing_as_none, Puts, PutsNothing, AddsNothing, UpsertsNothing, LendsPlace, lent, Opens, LendsPart, Appends, PutsMember};
+ghost use Rattle.json_value.specs.Lending.{missing_as_none, PutsAtPath, PutsNothing, AddsNothing, UpsertsNothing, LendsPlace, lent, Opens, LendsPart, AppendsElement, PutsMember};
 ghost use Rattle.json_value.specs.Rows.{value_row, array_row, object_row};
 ghost use Rattle.json_value.specs.Steps.{child, tree_at};
 ghost use Rattle.json_grammar.specs.Tree.{list, pairs, list_trees, list_pairs};
-ghost use Rattle.json_value.specs.Seen.{list_of, pairs_of};
+ghost use Rattle.json_value.specs.Seen.{list_of, object_pairs};
 ghost use Rattle.json_value.specs.Written.{ArrayOpened, ObjectOpened};
 ghost use Rattle.json_value.specs.declared.value.Value.{Array as ArrayValue, Object as ObjectValue};
 ghost use Rattle.json_value.specs.Failures.{OnlyNoMemory};
@@ -56,7 +56,7 @@ impl Value {
     /// refusal. Fails with `NoMemory` if memory runs out.
     pub fn reach(&mut self, alloc: Global, path: &[PointerNode]) -> Result<Option<&mut Value>>
         ensures* writes_back { sem 𝓛 (LendsPlace self.entry result
-            (λ x w n. Puts (steps_of path.now) x w self.old n)
+            (λ x w n. PutsAtPath (steps_of path.now) x w self.old n)
             (PutsNothing (steps_of path.now) self.old)) }
         ensures stands { IfOk result (λ o. option_map (λ x. tree_of x.now) o
             ≡ tree_at (steps_of path.now) (tree_of self.old)) }
@@ -70,7 +70,7 @@ impl Value {
     /// Fails with `NoMemory` if memory runs out.
     pub fn step_mut<I: Index>(&mut self, alloc: Global, index: I) -> Result<Option<&mut Value>>
         ensures* writes_back { sem 𝓛 (LendsPlace self.entry result
-            (λ x w n. Puts (I.step index ∷ []) x w self.old n)
+            (λ x w n. PutsAtPath (I.step index ∷ []) x w self.old n)
             (PutsNothing (I.step index ∷ []) self.old)) }
         ensures stands { IfOk result (λ o. option_map (λ x. tree_of x.now) o
             ≡ child (I.step index) (tree_of self.old)) }
@@ -84,7 +84,7 @@ impl Value {
     pub fn append_value(&mut self, alloc: Global, val: Value) -> Result<&mut Value>
         requires { type_of (tree_of self.old) ≡ JsonType.Array }
         ensures* writes_back { sem 𝓛 (LendsSoOk value_row value_row self.entry result
-            (λ n w. Appends w self.old n) (AddsNothing self.old)) }
+            (λ n w. AppendsElement w self.old n) (AddsNothing self.old)) }
         ensures value { IfOk result (λ v. v.now ≡ val) }
         ensures only { OnlyNoMemory result }
     {
@@ -125,7 +125,7 @@ impl Value {
         ensures* writes_back { sem 𝓛 (LendsSoOk value_row object_row self.entry result
             (λ n w. (tree_of n ≡ pairs (list_pairs (pairs_in w))) × (n ≡ ObjectValue w))
             (λ n. n ≡ self.old)) }
-        ensures opens { Opens pairs_in (pairs_of (tree_of self.old)) (ObjectOpened self.old)
+        ensures opens { Opens pairs_in (object_pairs (tree_of self.old)) (ObjectOpened self.old)
             result }
     {
         match self.object_mut() {
@@ -160,7 +160,7 @@ impl Value {
             (λ n w. (tree_of n ≡ pairs (list_pairs (pairs_in w))) × (n ≡ ObjectValue w))
             (λ n. n ≡ self.old)) }
         ensures object { IfOk result (λ o. option_map (λ a. pairs_in a.now) o
-            ≡ pairs_of (tree_of self.old)) }
+            ≡ object_pairs (tree_of self.old)) }
         ensures children { IfSome (lent result) (ObjectOpened self.old) }
         ensures only { OnlyNoMemory result }
     {

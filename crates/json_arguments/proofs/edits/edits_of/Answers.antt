@@ -1,7 +1,7 @@
 use Rattle.std.proofs.Common.{◌≡◌, ◌⊎◌, None, sym, subst, ap, ◌∙◌}
 use Rattle.json_text.specs.Errors.{no_memory}
 use Rattle.json_value.specs.Denotes.{tree_of}
-use Rattle.json_arguments.specs.Operands.{edits_in}
+use Rattle.json_value.specs.EditTrees.{edits_in}
 use Rattle.json_arguments.proofs.Lines.{if_ok_then, if_err_then}
 use Rattle.json_arguments.proofs.Spelled.{edits_given, edits_fail}
 use Rattle.json_arguments.proofs.edits.edits_of.Goals as goal

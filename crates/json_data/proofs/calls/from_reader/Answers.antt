@@ -1,11 +1,11 @@
 use Rattle.std.proofs.Common.{List, ℕ, inr, subst}
 use Rattle.std.proofs.lemmas.Result.{IfErr-weaker}
-use Rattle.json_data.specs.Calls.{ReadingFails}
+use Rattle.json_data.specs.Calls.{TypedReadingFails}
 use Rattle.json_data.proofs.calls.from_reader.Goals as goal
 
 pub returns-clause-err : goal.returns-clause-err
 returns-clause-err g c =
     let f = g.T.DeserializeFrom.from_tree in
     IfErr-weaker c.from_slice.result _ _
-    (λ e h. inr (c.fill.new.room.items, c.in_ok-fill.ensures.bytes, subst (λ (b : List ℕ). ReadingFails 254 f b e.code e.place) c.as_slice.ensures.value h))
+    (λ e h. inr (c.fill.new.room.items, c.in_ok-fill.ensures.bytes, subst (λ (b : List ℕ). TypedReadingFails 254 f b e.code e.place) c.as_slice.ensures.value h))
     c.from_slice.ensures.err

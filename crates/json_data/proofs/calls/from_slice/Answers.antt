@@ -1,6 +1,6 @@
 use Rattle.std.proofs.Common.{List, ℕ, subst}
 use Rattle.std.specs.Result.{IfErr}
-use Rattle.json_data.specs.Calls.{ReadingFails}
+use Rattle.json_data.specs.Calls.{TypedReadingFails}
 use Rattle.json_data.proofs.Complete.{complete, unread}
 use Rattle.json_data.proofs.TextCalls.{err_is}
 use Rattle.json_data.proofs.calls.from_slice.Goals as goal
@@ -14,4 +14,4 @@ returns-in_err-text-clause-complete g c =
 pub returns-clause-complete : goal.returns-clause-complete
 returns-clause-complete g c =
     let f = g.T.DeserializeFrom.from_tree in
-    complete 254 f c.args.json.now c.read_text.result (subst (λ (b : List ℕ). IfErr c.read_text.result (λ e. ReadingFails 254 f b e.code e.place)) c.in_ok-text.ensures.same c.read_text.ensures.err)
+    complete 254 f c.args.json.now c.read_text.result (subst (λ (b : List ℕ). IfErr c.read_text.result (λ e. TypedReadingFails 254 f b e.code e.place)) c.in_ok-text.ensures.same c.read_text.ensures.err)

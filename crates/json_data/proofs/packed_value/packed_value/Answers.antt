@@ -7,7 +7,7 @@ use Rattle.json_doc.specs.Docs.{doc_tree, doc_root}
 use Rattle.json_doc.specs.OneValue.{ReadsValue}
 use Rattle.json_value.specs.Spots.{read_spot}
 use Rattle.json_data.specs.Text.{TextFails}
-use Rattle.json_data.specs.TextValues.{IsPacked}
+use Rattle.json_data.specs.TextValues.{IsPackedAtRoot}
 use Rattle.json_data.proofs.TextValues.{value_fails, root_is}
 use Rattle.json_data.proofs.packed_value.packed_value.Goals as goal
 
@@ -31,5 +31,5 @@ returns-clause-ok c =
 pub returns-clause-place : goal.returns-clause-place
 returns-clause-place c =
     let d = c.in_ok-doc.doc.value in
-    IfOk-weaker c.from_place.result _ IsPacked
+    IfOk-weaker c.from_place.result _ IsPackedAtRoot
     (λ v h. (d, h ∙ ap (read_spot d) (c.root.ensures.place ∙ ap doc_root c.deref.ensures))) c.from_place.ensures.spot

@@ -2,7 +2,7 @@ use Rattle.std.proofs.Common.{◌≡◌, ◌∙◌, ◌≤◌, ℕ, false, List,
 use Rattle.json_grammar.specs.Given.{piece}
 use Rattle.json_grammar.specs.Needs.{IsGap}
 use Rattle.json_text.specs.Standing.{Stood}
-use Rattle.json_explain.specs.Explaining.{step_of}
+use Rattle.json_explain.specs.Explaining.{explained_step}
 use Rattle.json_explain.specs.Paths.{Trail, StandsAt}
 use Rattle.json_explain.proofs.Trails.{steps-none, steps-more, stood_in}
 use Rattle.json_explain.proofs.place.offset_of.Goals as goal
@@ -30,7 +30,7 @@ returns c =
     let n : c.each.parser.index ≡ c.min-end.result = omega (arith, s.within, c.min-end.ensures, c.index.ensures) in
     record {
       tokens = h.tokens;
-      trail = h.trail ∙ ap (λ (i : ℕ). map Some (map step_of (drop i c.args.steps.now))) z;
+      trail = h.trail ∙ ap (λ (i : ℕ). map Some (map explained_step (drop i c.args.steps.now))) z;
       opened = c.each.parser.open_kinds;
       expected = c.each.parser.spot;
       end = c.min-end.result;

@@ -1,5 +1,5 @@
 use Rattle.json_files.specs.Outcomes.{task_of}
-use Rattle.json_files.proofs.Handled.{Handles-none, Handles-then, Handles-as, Stops-then, documents_none, documents_more, documents_stop, documents_all}
+use Rattle.json_files.proofs.Handled.{Handles-none, Handles-then, Handles-as, StopsRunning-then, documents_none, documents_more, documents_stop, documents_all}
 use Rattle.json_files.proofs.TextWriting.{told_then}
 use Rattle.json_files.proofs.run.print_each.Goals as goal
 
@@ -13,7 +13,7 @@ loop-document-preserved g c =
 
 pub returns-in-Err-clause-err : goal.returns-in-Err-clause-err
 returns-in-Err-clause-err g c =
-    Stops-then _ _ _ _ _ _ _ _ _ _ _ _ c.in-Err.error c.loop-document.invariant c.in-Err.ensures.err
+    StopsRunning-then _ _ _ _ _ _ _ _ _ _ _ _ c.in-Err.error c.loop-document.invariant c.in-Err.ensures.err
     (documents_stop (task_of g.C.Change.changed c.args.job.now) c.args.documents.now c.loop-document.document-index _ c.loop-document-test.true c.document-item.is)
 
 pub returns-in-Err-clause-told : goal.returns-in-Err-clause-told

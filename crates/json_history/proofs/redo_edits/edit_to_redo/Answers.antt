@@ -9,7 +9,7 @@ use Rattle.json_value.specs.Seen.{seen}
 use Rattle.json_value.specs.SightParts.{sight_along}
 use Rattle.json_value.specs.Sights.{whole_value}
 use Rattle.json_history.specs.Change.{redo_edit, edit_of_last}
-use Rattle.json_history.specs.ChangeTrees.{change_of}
+use Rattle.json_history.specs.ChangeTrees.{tree_change_of}
 use Rattle.json_history.proofs.RepeatedEdits.{put_redo_found, put_redo_missing, drop_redo_found, drop_redo_missing}
 use Rattle.json_history.proofs.redo_edits.edit_to_redo.Goals as goal
 
@@ -17,7 +17,7 @@ pub returns-in-Some-clause-edit : goal.returns-in-Some-clause-edit
 returns-in-Some-clause-edit c =
     let t = tree_of c.args.value.now in
     let u = seen c.in-Some.target in
-    IfOk-weaker c.set_edit.result (λ o. option_map edit_of o ≡ Some (set_at (path_steps c.in-Put.path) u)) (λ o. option_map edit_of o ≡ result_ok (redo_edit t (change_of c.args.change.now)))
+    IfOk-weaker c.set_edit.result (λ o. option_map edit_of o ≡ Some (set_at (path_steps c.in-Put.path) u)) (λ o. option_map edit_of o ≡ result_ok (redo_edit t (tree_change_of c.args.change.now)))
     (λ o e. e ∙ put_redo_found c.args.change.now c.in-Put.path _ t c.steps.ensures c.in-Put.old u c.in-Put.is (sym c.in-Some.ensures.tree))
     c.set_edit.ensures.edit
 
@@ -28,7 +28,7 @@ pub returns-in-Some-pointer-clause-edit : goal.returns-in-Some-pointer-clause-ed
 returns-in-Some-pointer-clause-edit c =
     let t = tree_of c.args.value.now in
     let u = seen c.in-Some-pointer.target in
-    IfOk-weaker c.last_edit.result (λ o. option_map edit_of o ≡ result_ok (edit_of_last (path_steps c.in-DropLast.path) u)) (λ o. option_map edit_of o ≡ result_ok (redo_edit t (change_of c.args.change.now)))
+    IfOk-weaker c.last_edit.result (λ o. option_map edit_of o ≡ result_ok (edit_of_last (path_steps c.in-DropLast.path) u)) (λ o. option_map edit_of o ≡ result_ok (redo_edit t (tree_change_of c.args.change.now)))
     (λ o e. e ∙ drop_redo_found c.args.change.now c.in-DropLast.path _ t c.steps-in-DropLast.ensures u c.in-DropLast.is (sym c.in-Some-pointer.ensures.tree))
     c.last_edit.ensures.edit
 

@@ -1,6 +1,6 @@
 use Rattle.std.proofs.Common.{inr, refl, ap, ◌∙◌}
 use Rattle.json_value.proofs.AppliedTrees.{anyway}
-use Rattle.json_history.specs.Restores.{with_members}
+use Rattle.json_history.specs.Restores.{with_restored_members}
 use Rattle.json_history.proofs.restore.insert_into_object.Goals as goal
 
 pub returns-in_err-reserve-clause-untouched : goal.returns-in_err-reserve-clause-untouched
@@ -18,5 +18,5 @@ returns-clause-touched c =
       same = c.in_ok-pairs.ensures.pairs;
       unpacked = c.in_ok-pairs.ensures.children;
       is = refl;
-      changed = (members, c.in_ok-members.ensures.origins, c.insert_reserved_members.ensures.items ∙ ap (with_members members) c.reserve.ensures.items);
+      changed = (members, c.in_ok-members.ensures.origins, c.insert_reserved_members.ensures.items ∙ ap (with_restored_members members) c.reserve.ensures.items);
     }

@@ -6,7 +6,7 @@ use Rattle.json_value.specs.declared.pair.Keyed.{Keyed}
 use Rattle.json_value.specs.declared.value.Value.{Value}
 use Rattle.json_history.specs.Change.{insert_members}
 use Rattle.json_history.specs.ChangeTrees.{removed_member}
-use Rattle.json_history.specs.Restores.{with_members}
+use Rattle.json_history.specs.Restores.{with_restored_members}
 use Rattle.json_history.proofs.Restoring.{first_member_in_range, first_member_inserted}
 use Rattle.json_history.proofs.restore.insert_reserved_members.Goals as goal
 
@@ -27,6 +27,6 @@ loop-index-preserved c =
     let low = first_member_in_range e es ps (subst (λ ns. IsOk (insert_members (map removed_member ns) ms)) c.in-Some.ensures.steps.0 (subst IsOk (sym c.loop-index.invariant.done) c.requires.places)) in
     record {
       done = sym (first_member_inserted e es ps qs low c.insert_member.ensures.items) ∙ ap (λ ns. insert_members (map removed_member ns) ms) (sym c.in-Some.ensures.steps.0) ∙ c.loop-index.invariant.done;
-      items = ap (with_members es) c.insert_member.ensures.items ∙ ap (λ ns. with_members ns ps) (sym c.in-Some.ensures.steps.0) ∙ c.loop-index.invariant.items;
+      items = ap (with_restored_members es) c.insert_member.ensures.items ∙ ap (λ ns. with_restored_members ns ps) (sym c.in-Some.ensures.steps.0) ∙ c.loop-index.invariant.items;
       room = omega (arith, c.insert_member.ensures.len, c.insert_member.ensures.capacity, c.loop-index.invariant.room, ap length c.in-Some.ensures.steps.0);
     }

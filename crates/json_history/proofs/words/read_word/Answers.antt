@@ -6,7 +6,7 @@ use Rattle.json_value.specs.EditTrees.{each_in}
 use Rattle.json_value.specs.Seen.{elements_seen, list_of}
 use Rattle.json_history.specs.Calls.{call_of}
 use Rattle.json_history.specs.History.{TreeCall}
-use Rattle.json_history.specs.Spelling.{call_in, Spells, Unspelled}
+use Rattle.json_history.specs.Spelling.{call_in, SpellsCalls, SpellsNoCalls}
 use Rattle.json_history.proofs.CallWords.{word_spells, no_array_spells_none, bad_element_spells_none, argument_fails}
 use Rattle.json_history.proofs.words.read_word.Goals as goal
 
@@ -18,7 +18,7 @@ returns-in-Some-clause-ok c =
     let d = c.in_ok-doc.doc.value in
     let t = doc_tree d (doc_root d) in
     let ts = elements_seen c.in-Some.array in
-    IfOk-weaker c.read_calls.result (λ cs. each_in call_in ts ≡ Some (map call_of cs.items)) (λ cs. Spells c.args.word.now (map call_of cs.items))
+    IfOk-weaker c.read_calls.result (λ cs. each_in call_in ts ≡ Some (map call_of cs.items)) (λ cs. SpellsCalls c.args.word.now (map call_of cs.items))
     (λ cs h. word_spells c.args.word.now t ts (map call_of cs.items) c.in_ok-doc.ensures.ok (c.in-Some.ensures.trees ∙ ap list_of (c.packed.ensures.tree ∙ c.view.ensures.tree ∙ ap (λ e. doc_tree e (doc_root e)) c.deref.ensures)) h)
     c.read_calls.ensures.ok
 
@@ -27,8 +27,8 @@ returns-in-Some-clause-err c =
     let d = c.in_ok-doc.doc.value in
     let t = doc_tree d (doc_root d) in
     let ts = elements_seen c.in-Some.array in
-    IfErr-weaker c.read_calls.result (Unspelled (each_in call_in ts)) (λ e. (e ≡ no_memory) ⊎ ((e ≡ bad_words) × ((cs : List TreeCall) → ¬ (Spells c.args.word.now cs))))
-    (λ e h. elim h as (λ _. (e ≡ no_memory) ⊎ ((e ≡ bad_words) × ((cs : List TreeCall) → ¬ (Spells c.args.word.now cs)))) [
+    IfErr-weaker c.read_calls.result (SpellsNoCalls (each_in call_in ts)) (λ e. (e ≡ no_memory) ⊎ ((e ≡ bad_words) × ((cs : List TreeCall) → ¬ (SpellsCalls c.args.word.now cs))))
+    (λ e h. elim h as (λ _. (e ≡ no_memory) ⊎ ((e ≡ bad_words) × ((cs : List TreeCall) → ¬ (SpellsCalls c.args.word.now cs)))) [
       | inl m ↦ inl m
       | inr w ↦ inr (w.0, bad_element_spells_none c.args.word.now t ts c.in_ok-doc.ensures.ok (c.in-Some.ensures.trees ∙ ap list_of (c.packed.ensures.tree ∙ c.view.ensures.tree ∙ ap (λ e. doc_tree e (doc_root e)) c.deref.ensures)) w.1)
     ])

@@ -3,7 +3,7 @@ use Rattle.std.proofs.lemmas.List.{length-map}
 use Rattle.std.specs.List.{insert}
 use Rattle.json_grammar.specs.Tree.{list_trees}
 use Rattle.json_patch.specs.Patch.{insert_at_index}
-use Rattle.json_patch.specs.Pointer.{index_of}
+use Rattle.json_patch.specs.Pointer.{index_of_token}
 use Rattle.json_value.specs.Denotes.{tree_of, list_in}
 use Rattle.json_patch.proofs.Changes.{insert_before_within, insert_at_no_index, insert-map}
 use Rattle.json_value.specs.declared.value.Value.{Array}
@@ -26,8 +26,8 @@ pub returns-in-None-clause-refused : goal.returns-in-None-clause-refused
 returns-in-None-clause-refused c =
     let xs = list_in c.args.array.now in
     let items = c.in_ok-list.list.now.items in
-    let past : (i : ℕ) → index_of c.args.token.now ≡ Some i → length xs < i = λ i e. omega (arith, c.in-None.ensures i e, c.len.ensures, length-map items tree_of, ap length c.in_ok-list.ensures.list) in
-    rw c.from.ensures (insert_at_no_index (index_of c.args.token.now) xs (tree_of c.args.value) past)
+    let past : (i : ℕ) → index_of_token c.args.token.now ≡ Some i → length xs < i = λ i e. omega (arith, c.in-None.ensures i e, c.len.ensures, length-map items tree_of, ap length c.in_ok-list.ensures.list) in
+    rw c.from.ensures (insert_at_no_index (index_of_token c.args.token.now) xs (tree_of c.args.value) past)
 
 pub returns-in_ok-insert-in-Some-clause-children : goal.returns-in_ok-insert-in-Some-clause-children
 returns-in_ok-insert-in-Some-clause-children c =

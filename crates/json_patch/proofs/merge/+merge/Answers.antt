@@ -4,7 +4,7 @@ use Rattle.json_grammar.specs.Sizes.{nodes}
 use Rattle.json_grammar.specs.Tree.{Tree, list_pairs}
 use Rattle.json_model.specs.Edit.{inserted}
 use Rattle.json_patch.specs.KeyIndex.{HasStarts}
-use Rattle.json_patch.specs.Merge.{merged, members_of}
+use Rattle.json_patch.specs.Merge.{merge_patched, members_or_none}
 use Rattle.json_value.specs.Denotes.{tree_of, pair_of}
 use Rattle.json_value.specs.Left.{members_left}
 use Rattle.json_value.specs.Seen.{seen, members_seen}
@@ -21,7 +21,7 @@ merge_in-merge_object_in-requires t c = (omega (arith, ap nodes (object_seen (se
 
 pub merge_in-returns-in-Some-clause-ok : goal.merge_in-returns-in-Some-clause-ok
 merge_in-returns-in-Some-clause-ok t c =
-    on_ok_weaker c.merge_object_in.result (λ e. e ∙ sym (ap (merged (tree_of c.args.value.now)) (object_seen (seen c.args.patch) (members_seen c.in-Some.members) c.in-Some.ensures.trees))) c.merge_object_in.ensures.ok
+    on_ok_weaker c.merge_object_in.result (λ e. e ∙ sym (ap (merge_patched (tree_of c.args.value.now)) (object_seen (seen c.args.patch) (members_seen c.in-Some.members) c.in-Some.ensures.trees))) c.merge_object_in.ensures.ok
 
 pub merge_members-members-preserved : goal.merge_members-members-preserved
 merge_members-members-preserved t c =
@@ -35,7 +35,7 @@ merge_members-members-preserved t c =
 pub merge_object_in-returns-clause-ok : goal.merge_object_in-returns-clause-ok
 merge_object_in-returns-clause-ok t c =
     on_ok_weaker c.merge_object.result
-    (object_merged (members_of (tree_of c.args.value.now)) (list_pairs (members_seen c.args.members)) c.become_object.new.value c.in-Some.object.now c.merge_object.new.object c.become_object.ensures c.in-Some.ensures.value)
+    (object_merged (members_or_none (tree_of c.args.value.now)) (list_pairs (members_seen c.args.members)) c.become_object.new.value c.in-Some.object.now c.merge_object.new.object c.become_object.ensures c.in-Some.ensures.value)
     c.merge_object.ensures.ok
 
 pub merge_value-returns-in-Some-clause-ok : goal.merge_value-returns-in-Some-clause-ok
@@ -46,7 +46,7 @@ merge_value-returns-in-Some-clause-ok t c =
     let p = c.index_mut-member.result.now in
     let first = first_moved k k c.as_slice.result.now items c.in-Some.i refl c.as_slice.ensures.value c.in-Some.ensures.first in
     let v = seen c.args.value in
-    let was = ap (λ (x : Value). merged (tree_of x) v) c.value_mut.ensures.value ∙ ap (λ (u : Tree). merged u v) (sym (first_is k items c.in-Some.i p c.index_mut-member.ensures.value first)) in
+    let was = ap (λ (x : Value). merge_patched (tree_of x) v) c.value_mut.ensures.value ∙ ap (λ (u : Tree). merge_patched u v) (sym (first_is k items c.in-Some.i p c.index_mut-member.ensures.value first)) in
     on_ok_weaker c.merge_in.result (λ e. sym (insert_over k items c.in-Some.i p c.index_mut-member.ensures.value first c.merge_in.new.value) ∙ ap (λ (u : Tree). inserted k u ps) (e ∙ was)) c.merge_in.ensures.ok
 
 pub merge_value-returns-in-Some-clause-starts : goal.merge_value-returns-in-Some-clause-starts
@@ -64,5 +64,5 @@ merge_value-returns-in_ok-merge_in-in-None-clause-ok t c =
     let ps = list_pairs (map pair_of items) in
     let none = none_moved k k c.as_slice.result.now items refl c.as_slice.ensures.value c.in-None.ensures.none in
     let v = seen c.args.value in
-    let was = c.in_ok-merge_in-in-None.ensures.ok ∙ ap (λ (u : Tree). merged u v) (c.new_null-member.ensures ∙ sym (first_null k ps none)) in
+    let was = c.in_ok-merge_in-in-None.ensures.ok ∙ ap (λ (u : Tree). merge_patched u v) (c.new_null-member.ensures ∙ sym (first_null k ps none)) in
     on_ok_weaker c.append_member.result (λ e. e ∙ ap (λ (u : Tree). inserted k u ps) was) c.append_member.ensures.ok

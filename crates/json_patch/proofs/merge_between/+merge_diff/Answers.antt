@@ -2,13 +2,13 @@ use Rattle.std.proofs.Common.{ap, sym, ◌∙◌, map, arith, option_map}
 use Rattle.std.proofs.lemmas.Result.{IfOk-weaker}
 use Rattle.json_grammar.specs.Sizes.{nodes}
 use Rattle.json_grammar.specs.Tree.{Pairs, list_pairs}
-use Rattle.json_patch.specs.Merge.{tree_or_null}
 use Rattle.json_patch.specs.MergeDiff.{object_patch, differing_patch, changes}
 use Rattle.json_patch.specs.MergeDiffViews.{members_in}
 use Rattle.json_value.specs.Denotes.{pair_of}
 use Rattle.json_value.specs.Left.{members_left}
 use Rattle.json_value.specs.Seen.{seen, members_seen}
 use Rattle.json_value.proofs.SameViews.{object_seen}
+use Rattle.json_value.specs.Steps.{tree_or_null}
 use Rattle.json_patch.proofs.MergeDiffViews.{changes_after, fewer_nodes}
 use Rattle.json_patch.proofs.merge_between.+merge_diff.Goals as goal
 

@@ -1,7 +1,7 @@
 use Rattle.std.proofs.Common.{◌≡◌, List, Ok, sym, ap, ◌∙◌, subst, ◌∷◌, ◌++◌, ◌+◌, map, drop, string_bytes}
 use Rattle.json_model.specs.Edit.{within, Step}
 use Rattle.json_patch.specs.ValuesAt.{value_at_path}
-use Rattle.json_patch.specs.Pointer.{Token, path_of_tokens, step_of_token}
+use Rattle.json_patch.specs.Pointer.{ReferenceToken, path_of_tokens, step_of_token}
 use Rattle.json_value.specs.Edits.{step_of as node_step, path_steps}
 use Rattle.json_value.specs.Seen.{seen}
 use Rattle.json_patch.specs.Lookups.{value_at_token}
@@ -17,9 +17,9 @@ loop-token-preserved c =
     let p = map string_bytes (drop (i + 1) ks) in
     let step = node_step c.in_ok-node.node in
     let a = path_steps c.loop-token.path in
-    let named = subst (λ (b : Token). value_at_token b (seen c.loop-token.here) ≡ Ok (seen c.in_ok-next.next)) c.deref.ensures (sym c.in_ok-next.ensures) in
-    let step_named = subst (λ (b : Token). step_of_token b (seen c.loop-token.here) ≡ Ok step) c.deref-in-loop-token.ensures c.in_ok-node.ensures.ok in
-    let so_far = c.loop-token.invariant.0 ∙ ap (λ (q : List Token). within (λ r. a ++ r) (path_of_tokens q (seen c.loop-token.here))) e in (
+    let named = subst (λ (b : ReferenceToken). value_at_token b (seen c.loop-token.here) ≡ Ok (seen c.in_ok-next.next)) c.deref.ensures (sym c.in_ok-next.ensures) in
+    let step_named = subst (λ (b : ReferenceToken). step_of_token b (seen c.loop-token.here) ≡ Ok step) c.deref-in-loop-token.ensures c.in_ok-node.ensures.ok in
+    let so_far = c.loop-token.invariant.0 ∙ ap (λ (q : List ReferenceToken). within (λ r. a ++ r) (path_of_tokens q (seen c.loop-token.here))) e in (
       path_of_tokens-next k p (seen c.loop-token.here) (seen c.in_ok-next.next) step a (path_of_tokens (map string_bytes ks) (seen c.args.root)) so_far step_named named
           ∙ ap (λ (b : List Step). within (λ r. b ++ r) (path_of_tokens p (seen c.in_ok-next.next))) (sym c.in_ok-push.ensures.ok),
       ap (λ (b : List Step). value_at_path b (seen c.args.root)) c.in_ok-push.ensures.ok

@@ -2,7 +2,7 @@ use Rattle.std.proofs.Common.{◌≡◌, Bool, true, false, List, [], ◌∷◌,
 use Rattle.std.specs.Bool.{OnTrue}
 use Rattle.json_grammar.specs.declared.Kind.TheVariants.{Array as array}
 use Rattle.json_grammar.specs.Tree.{Tree, list, no_trees, tree_and, Token, begin}
-use Rattle.json_doc.specs.Awaited.{Begins}
+use Rattle.json_doc.specs.Awaited.{BeginsTree}
 use Rattle.json_doc.specs.State.{VisitorState, after_event, HoldsMore}
 use Rattle.json_doc.specs.Recorded.{visitor_state, Holds}
 use Rattle.json_doc.specs.declared.document_visitor.DocumentVisitor.{DocumentVisitor}
@@ -11,14 +11,14 @@ use Rattle.json_reading_vectors.proofs.documents.third_start_is_refused.Goals as
 nested : Tree → Tree
 nested t = list (tree_and t no_trees)
 
-one_start : Begins (begin array ∷ [])
+one_start : BeginsTree (begin array ∷ [])
 one_start = (list no_trees, _, refl)
 
-two_starts : Begins (begin array ∷ begin array ∷ [])
+two_starts : BeginsTree (begin array ∷ begin array ∷ [])
 unfolding nested
 two_starts = (nested (list no_trees), _, refl)
 
-three_starts : Begins (begin array ∷ begin array ∷ begin array ∷ [])
+three_starts : BeginsTree (begin array ∷ begin array ∷ begin array ∷ [])
 unfolding nested
 three_starts = (nested (nested (list no_trees)), _, refl)
 
@@ -27,7 +27,7 @@ still_open old new true after e = sym (ap (λ (s : VisitorState). s.full) after)
 still_open old new false after e = let both : true ≡ false = sym (ap (λ (s : VisitorState). s.full) after) ∙ e in absurd (cc)
 
 then_holds : (old new : DocumentVisitor) (r : Bool) (ts : List Token) (x : Token) → visitor_state new ≡ after_event r 1 0 (visitor_state old) → OnTrue r (HoldsMore (Holds old) (Holds new) x)
-    → Holds old ts → Begins (ts ++ x ∷ []) → new.full ≡ false → Holds new (ts ++ x ∷ [])
+    → Holds old ts → BeginsTree (ts ++ x ∷ []) → new.full ≡ false → Holds new (ts ++ x ∷ [])
 then_holds old new true ts x after more held b e = more ts held b
 then_holds old new false ts x after more held b e = let both : true ≡ false = sym (ap (λ (s : VisitorState). s.full) after) ∙ e in absurd (cc)
 

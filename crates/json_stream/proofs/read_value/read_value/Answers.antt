@@ -4,7 +4,7 @@ use Rattle.json_text.specs.declared.error.Error.{Error}
 use Rattle.json_text.specs.Positions.{place_at}
 use Rattle.json_data.specs.Reading.{gives, refuses}
 use Rattle.json_data.specs.Refusals.{is_refusal}
-use Rattle.json_stream.specs.Streams.{standing, stands_at, in_input, IsWithin, TakesValue, Fails}
+use Rattle.json_stream.specs.Streams.{standing, stands_at, in_input, PlaceIsWithin, TakesNextValue, NextValueFails}
 use Rattle.json_stream.proofs.Values.{reads_from, takes_value, boundary_behind, met, met_within, gave_up, tree_fails, comes_next, place_within, within_same}
 use Rattle.json_stream.proofs.read_value.read_value.Goals as goal
 
@@ -19,7 +19,7 @@ returns-in-Ok g c =
     let j = c.index in
     let r = c.in-Ok.ensures.ok in
     let e = reads_from b l i s.result c.deserialize.new.tokens s.ensures.text s.ensures.mode s.ensures.start r.takes.moves.input in
-    let v : TakesValue f (stands_at b l o i) (gives (g.T.DeserializeFrom.datum c.in-Ok.value)) (stands_at b l o j.result) =
+    let v : TakesNextValue f (stands_at b l o i) (gives (g.T.DeserializeFrom.datum c.in-Ok.value)) (stands_at b l o j.result) =
     takes_value f b l o i j.result s.result c.deserialize.new.tokens r.tree _ e c.utf8.text s.ensures.fresh.taken r.takes j.ensures.read j.ensures.same j.ensures.order r.answer in
     record { ok = v; place = c.in-Ok.ensures.place; err = tt; boundary = boundary_behind f b l o i j.result _ c.requires.boundary v }
 
@@ -42,7 +42,7 @@ told-requires-in-Err g c =
     let p = c.place_of-place in
     let at : p.result ≡ place_at b k = p.ensures ∙ ap (λ (y : List ℕ). place_at y k) c.as_bytes-in-Err.ensures.value in
     let w : k ≤ length b = subst (λ (y : List ℕ). k ≤ length y) c.as_bytes.ensures.value c.ws_run-begin.ensures.within.1 in
-    within_same c.args.repaired b p.result c.requires.same (subst (IsWithin b) (sym at) (place_within b k w))
+    within_same c.args.repaired b p.result c.requires.same (subst (PlaceIsWithin b) (sym at) (place_within b k w))
 
 pub returns-then-not-is_refusal-clause-err : goal.returns-then-not-is_refusal-clause-err
 returns-then-not-is_refusal-clause-err g c =
@@ -56,7 +56,7 @@ returns-then-not-is_refusal-clause-err g c =
     let x = c.in-Err.error in
     let u = c.in-Err.ensures.err.gave_up (sym c.is_refusal.ensures ∙ c.if-not-is_refusal.true) in
     let n = met b l i m x (reads_from b l i s.result m s.ensures.text s.ensures.mode s.ensures.start u.input) u.cause c.failure-failure.ensures.cause in
-    subst (λ (y : Error). Fails f (stands_at b l o i) y.code y.place (stands_at b l o i)) (sym c.told.ensures) (gave_up f b l o i x c.utf8.text n)
+    subst (λ (y : Error). NextValueFails f (stands_at b l o i) y.code y.place (stands_at b l o i)) (sym c.told.ensures) (gave_up f b l o i x c.utf8.text n)
 
 pub returns-else-not-is_refusal : goal.returns-else-not-is_refusal
 returns-else-not-is_refusal g c =
@@ -73,7 +73,7 @@ returns-else-not-is_refusal g c =
     let q : is_refusal x.code ≡ true = sym c.is_refusal.ensures ∙ c.if-not-is_refusal.false in
     let r = (c.in-Err.ensures.err.refused q).1 in
     let e = reads_from b l i s.result c.deserialize.new.tokens s.ensures.text s.ensures.mode s.ensures.start r.takes.moves.input in
-    let v : TakesValue f (stands_at b l o i) (refuses x.code) (stands_at b l o j.result) =
+    let v : TakesNextValue f (stands_at b l o i) (refuses x.code) (stands_at b l o j.result) =
     takes_value f b l o i j.result s.result c.deserialize.new.tokens r.tree _ e c.utf8.text s.ensures.fresh.taken r.takes j.ensures.read j.ensures.same j.ensures.order r.answer in
     let n = comes_next (standing (stands_at b l o i)) c.as_bytes.result.now i k.result c.as_bytes.ensures.value refl k.ensures.within k.ensures.space k.ensures.stop in
     let at : p.result ≡ place_at b k.result = p.ensures ∙ ap (λ (y : List ℕ). place_at y k.result) c.as_bytes-in-Err.ensures.value in
@@ -81,6 +81,6 @@ returns-else-not-is_refusal g c =
     record {
       ok = tt;
       place = tt;
-      err = subst (λ (y : Error). Fails f (stands_at b l o i) y.code y.place (stands_at b l o j.result)) (sym c.told-in-Err.ensures) t;
+      err = subst (λ (y : Error). NextValueFails f (stands_at b l o i) y.code y.place (stands_at b l o j.result)) (sym c.told-in-Err.ensures) t;
       boundary = boundary_behind f b l o i j.result _ c.requires.boundary v;
     }

@@ -1,7 +1,7 @@
 use Rattle.std.proofs.Common.{◌∷◌, [], IfOk, OnErr, refl, subst}
 use Rattle.json_model.specs.Edit.{Step, key_step, index_step}
 use Rattle.json_value.specs.Denotes.{tree_of}
-use Rattle.json_value.specs.Lending.{Puts, PutsNothing, LeadsTo}
+use Rattle.json_value.specs.Lending.{PutsAtPath, PutsNothing, LeadsTo}
 use Rattle.json_value.proofs.Lent.{is_key, is_index}
 use Rattle.json_value.proofs.MissingPlaces.{stands_one}
 use Rattle.json_value.proofs.container_mut.child_of.Goals as goal
@@ -14,7 +14,7 @@ returns-in-Some g c =
     let step = is_key (g.I.Index.step c.args.index.now) k c.in-Some.ensures.key in (
       (
         refl,
-        (λ w ok. subst (λ (s : Step). IfOk r (λ v. Puts (s ∷ []) v.now w old (g.S.ContainerMut.held (c.member_of.follows.lender w)))) step (c.member_of.follows.holds w ok)),
+        (λ w ok. subst (λ (s : Step). IfOk r (λ v. PutsAtPath (s ∷ []) v.now w old (g.S.ContainerMut.held (c.member_of.follows.lender w)))) step (c.member_of.follows.holds w ok)),
         subst (λ (s : Step). OnErr r (PutsNothing (s ∷ []) old (g.S.ContainerMut.held c.member_of.follows.lender-at-none))) step c.member_of.follows.holds-at-none,
       ),
       record {
@@ -31,7 +31,7 @@ returns-in-Some-as_index g c =
     let step = is_index (g.I.Index.step c.args.index.now) i c.in-Some-as_index.ensures.index in (
       (
         refl,
-        (λ w ok. subst (λ (s : Step). IfOk r (λ v. Puts (s ∷ []) v.now w old (g.S.ContainerMut.held (c.element_of.follows.lender w)))) step (c.element_of.follows.holds w ok)),
+        (λ w ok. subst (λ (s : Step). IfOk r (λ v. PutsAtPath (s ∷ []) v.now w old (g.S.ContainerMut.held (c.element_of.follows.lender w)))) step (c.element_of.follows.holds w ok)),
         subst (λ (s : Step). OnErr r (PutsNothing (s ∷ []) old (g.S.ContainerMut.held c.element_of.follows.lender-at-none))) step c.element_of.follows.holds-at-none,
       ),
       record {

@@ -6,7 +6,7 @@ use Rattle.json_grammar.specs.Sizes.{nodes}
 use Rattle.json_model.specs.Sort.{sorted, pairs_sorted, NeverFall}
 use Rattle.json_doc.specs.Docs.{doc_cells, doc_tree}
 use Rattle.json_doc.specs.declared.doc.Doc.{Doc}
-use Rattle.json_doc.specs.Left.{children_left, pairs_doc, pairs_left, pairs_places}
+use Rattle.json_doc.specs.Left.{children_left, pairs_doc, pairs_left, places_of_pairs}
 use Rattle.json_doc.specs.Seen.{view_tree}
 use Rattle.json_print.specs.Given.{given}
 use Rattle.json_value.specs.Emitting.{tree_given}
@@ -193,29 +193,29 @@ sort_by_places-returns-in_err-taken-2 g t c =
     let qs = map (member_in d) ns in let k = c.key.result.now in let u = doc_tree d n in
     let e = entry_there (member_in d) es i c.loop-entry-test.true in
     let r = object_around qs i k (sorted u) (map_there (λ p. p.0) qs i (member_in d n) e ∙ ap (λ x. Some x) (sym c.key.ensures)) (map_there (λ p. p.1) qs i (member_in d n) e) in
-    let is = subst (λ es. IsKeyOrder (place_key d) (pairs_places c.args.members) (numbers_in es)) (sym c.deref-entry-items.ensures.value) c.in-Ok.ensures.order in
-    sort_same _ _ _ _ _ _ _ _ _ (object_sorted (pairs_left c.args.members) qs (places_sorted d (pairs_doc c.args.members) (pairs_places c.args.members) ns c.requires.doc is))
+    let is = subst (λ es. IsKeyOrder (place_key d) (places_of_pairs c.args.members) (numbers_in es)) (sym c.deref-entry-items.ensures.value) c.in-Ok.ensures.order in
+    sort_same _ _ _ _ _ _ _ _ _ (object_sorted (pairs_left c.args.members) qs (places_sorted d (pairs_doc c.args.members) (places_of_pairs c.args.members) ns c.requires.doc is))
     (sort_halts _ refusal.0 (err_from_is_err_and c.from_residual-in_err-taken-2.result c.from_residual-in_err-taken-2.ensures.1) (emits_refused _ _ _ _ _ _ _ _ h.2 refusal.1.failed (stops_within _ _ _ _ _ (object_front qs i) (given (key_token k) ∷ []) (tree_given (sorted u) ++ r.0) _ _ h.0 r.1 (stops_one _ _ _ _ _ _ _ _ h.1 refusal.1))))
 
 pub sort_by_places-overflow_cast-entry : goal.sort_by_places-overflow_cast-entry
 sort_by_places-overflow_cast-entry g t c =
     let d = c.args.doc.now in let p = c.args.members in let es = c.deref-entry-items.result.now in let ns = numbers_in es in
-    let is = subst (λ es. IsKeyOrder (place_key d) (pairs_places p) (numbers_in es)) (sym c.deref-entry-items.ensures.value) c.in-Ok.ensures.order in
-    let below = place_below (doc_cells (pairs_doc p)) 1 (p.next + 1) p.left _ p.inside (entry_in d (pairs_doc p) (pairs_places p) es c.requires.doc is c.loop-entry.entry-index c.loop-entry-test.true) in
+    let is = subst (λ es. IsKeyOrder (place_key d) (places_of_pairs p) (numbers_in es)) (sym c.deref-entry-items.ensures.value) c.in-Ok.ensures.order in
+    let below = place_below (doc_cells (pairs_doc p)) 1 (p.next + 1) p.left _ p.inside (entry_in d (pairs_doc p) (places_of_pairs p) es c.requires.doc is c.loop-entry.entry-index c.loop-entry-test.true) in
     omega (arith, below, (pairs_doc p).small)
 
 pub sort_by_places-view_at-requires : goal.sort_by_places-view_at-requires
 sort_by_places-view_at-requires g t c =
     let d = c.args.doc.now in let p = c.args.members in let es = c.deref-entry-items.result.now in let ns = numbers_in es in
-    let is = subst (λ es. IsKeyOrder (place_key d) (pairs_places p) (numbers_in es)) (sym c.deref-entry-items.ensures.value) c.in-Ok.ensures.order in
+    let is = subst (λ es. IsKeyOrder (place_key d) (places_of_pairs p) (numbers_in es)) (sym c.deref-entry-items.ensures.value) c.in-Ok.ensures.order in
     subst (λ x. number_of es c.loop-entry.entry-index < length (doc_cells x)) c.requires.doc
-    (place_below (doc_cells (pairs_doc p)) 1 (p.next + 1) p.left _ p.inside (entry_in d (pairs_doc p) (pairs_places p) es c.requires.doc is c.loop-entry.entry-index c.loop-entry-test.true))
+    (place_below (doc_cells (pairs_doc p)) 1 (p.next + 1) p.left _ p.inside (entry_in d (pairs_doc p) (places_of_pairs p) es c.requires.doc is c.loop-entry.entry-index c.loop-entry-test.true))
 
 pub sort_by_places-sort_document-requires : goal.sort_by_places-sort_document-requires
 sort_by_places-sort_document-requires g t c κs within =
     let d = c.args.doc.now in let p = c.args.members in let es = c.deref-entry-items.result.now in let ns = numbers_in es in
-    let is = subst (λ es. IsKeyOrder (place_key d) (pairs_places p) (numbers_in es)) (sym c.deref-entry-items.ensures.value) c.in-Ok.ensures.order in
-    let small = entry_tree d (pairs_doc p) (pairs_places p) es c.requires.doc is c.loop-entry.entry-index c.loop-entry-test.true in
+    let is = subst (λ es. IsKeyOrder (place_key d) (places_of_pairs p) (numbers_in es)) (sym c.deref-entry-items.ensures.value) c.in-Ok.ensures.order in
+    let small = entry_tree d (pairs_doc p) (places_of_pairs p) es c.requires.doc is c.loop-entry.entry-index c.loop-entry-test.true in
     (omega (arith, small, ap nodes c.view_at.ensures.tree), (within, λ f. member_stand g.E.Events.after g.E.Events.stand g.met.E.Events.moves _ _ c.key.result.now (took _ c.key-in-loop-entry.ensures c.in_ok-taken-2.ensures).ok))
 
 pub sort_by_places-returns-in_err-sort_document : goal.sort_by_places-returns-in_err-sort_document
@@ -224,8 +224,8 @@ sort_by_places-returns-in_err-sort_document g t c =
     let qs = map (member_in d) ns in let k = c.key.result.now in let u = view_tree c.view_at.result in
     let e = entry_there (member_in d) es i c.loop-entry-test.true in
     let r = object_around qs i k (sorted u) (map_there (λ p. p.0) qs i (member_in d n) e ∙ ap (λ x. Some x) (sym c.key.ensures)) (map_there (λ p. p.1) qs i (member_in d n) e ∙ ap (λ x. Some (sorted x)) (sym c.view_at.ensures.tree)) in
-    let is = subst (λ es. IsKeyOrder (place_key d) (pairs_places c.args.members) (numbers_in es)) (sym c.deref-entry-items.ensures.value) c.in-Ok.ensures.order in
-    sort_same _ _ _ _ _ _ _ _ _ (object_sorted (pairs_left c.args.members) qs (places_sorted d (pairs_doc c.args.members) (pairs_places c.args.members) ns c.requires.doc is))
+    let is = subst (λ es. IsKeyOrder (place_key d) (places_of_pairs c.args.members) (numbers_in es)) (sym c.deref-entry-items.ensures.value) c.in-Ok.ensures.order in
+    sort_same _ _ _ _ _ _ _ _ _ (object_sorted (pairs_left c.args.members) qs (places_sorted d (pairs_doc c.args.members) (places_of_pairs c.args.members) ns c.requires.doc is))
     (sort_refused _ _ h.2 (err_from_is_err_and c.from_residual-in_err-sort_document.result c.from_residual-in_err-sort_document.ensures.1) c.in_err-sort_document.ensures.1
     (stops_within g.E.Events.after _ _ _ _ (object_front qs i ++ given (key_token k) ∷ []) (tree_given (sorted u)) r.0 _ _
     ((took _ c.key-in-loop-entry.ensures c.in_ok-taken-2.ensures).ok ∙ ap (λ z. g.E.Events.after z (given (key_token k))) h.0 ∙ sym (after_append g.E.Events.after (g.E.Events.state c.args.out.now) (object_front qs i) (given (key_token k) ∷ [])))
@@ -247,8 +247,8 @@ pub sort_by_places-returns : goal.sort_by_places-returns
 sort_by_places-returns g t c =
     let d = c.args.doc.now in let es = c.deref-entry-items.result.now in let ns = numbers_in es in let i = c.loop-entry.entry-index in let h = c.loop-entry.invariant in
     let qs = map (member_in d) ns in
-    let is = subst (λ es. IsKeyOrder (place_key d) (pairs_places c.args.members) (numbers_in es)) (sym c.deref-entry-items.ensures.value) c.in-Ok.ensures.order in
-    same_given _ _ _ _ _ _ _ _ _ (object_sorted (pairs_left c.args.members) qs (places_sorted d (pairs_doc c.args.members) (pairs_places c.args.members) ns c.requires.doc is))
+    let is = subst (λ es. IsKeyOrder (place_key d) (places_of_pairs c.args.members) (numbers_in es)) (sym c.deref-entry-items.ensures.value) c.in-Ok.ensures.order in
+    same_given _ _ _ _ _ _ _ _ _ (object_sorted (pairs_left c.args.members) qs (places_sorted d (pairs_doc c.args.members) (places_of_pairs c.args.members) ns c.requires.doc is))
     (needs_none _ _ _ _ _ _ _ _ (emits_last _ _ _ _ _ _ _ _ (object_front qs i) (given (end object)) _ _ h.2 h.0 h.1 (object_whole qs i (entries_end (member_in d) es i c.loop-entry-test.false)) (took _ c.end_object.ensures c.in_ok-taken-3.ensures)))
 
 pub sort_by_places-returns-in_err-taken-3 : goal.sort_by_places-returns-in_err-taken-3
@@ -256,6 +256,6 @@ sort_by_places-returns-in_err-taken-3 g t c =
     let refusal = not_taken _ c.end_object.ensures c.in_err-taken-3.ensures in
     let d = c.args.doc.now in let es = c.deref-entry-items.result.now in let ns = numbers_in es in let i = c.loop-entry.entry-index in let h = c.loop-entry.invariant in
     let qs = map (member_in d) ns in
-    let is = subst (λ es. IsKeyOrder (place_key d) (pairs_places c.args.members) (numbers_in es)) (sym c.deref-entry-items.ensures.value) c.in-Ok.ensures.order in
-    sort_same _ _ _ _ _ _ _ _ _ (object_sorted (pairs_left c.args.members) qs (places_sorted d (pairs_doc c.args.members) (pairs_places c.args.members) ns c.requires.doc is))
+    let is = subst (λ es. IsKeyOrder (place_key d) (places_of_pairs c.args.members) (numbers_in es)) (sym c.deref-entry-items.ensures.value) c.in-Ok.ensures.order in
+    sort_same _ _ _ _ _ _ _ _ _ (object_sorted (pairs_left c.args.members) qs (places_sorted d (pairs_doc c.args.members) (places_of_pairs c.args.members) ns c.requires.doc is))
     (sort_halts _ _ (err_from_is_err_and c.from_residual-in_err-taken-3.result c.from_residual-in_err-taken-3.ensures.1) (emits_last _ _ _ _ _ _ _ _ (object_front qs i) (given (end object)) _ _ h.2 h.0 h.1 (object_whole qs i (entries_end (member_in d) es i c.loop-entry-test.false)) refusal.1))

@@ -1,5 +1,5 @@
 use Rattle.std.proofs.Common.{[], ◌∷◌, ◌++◌, sym, ap, subst, ◌∙◌, append_assoc}
-use Rattle.json_doc.specs.Left.{pairs_places}
+use Rattle.json_doc.specs.Left.{places_of_pairs}
 use Rattle.json_value.specs.KeyOrder.{AreEntries, numbers_in, place_key}
 use Rattle.json_value.proofs.KeyFronts.{one_more_entry, one_more_number}
 use Rattle.json_value.proofs.key_order.entries_of_doc.Goals as goal
@@ -7,7 +7,7 @@ use Rattle.json_value.proofs.key_order.entries_of_doc.Goals as goal
 pub loop-value-preserved : goal.loop-value-preserved
 loop-value-preserved c =
     let es = c.loop-value.entries.items in let e = c.entry_of.result in let h = c.loop-value.invariant in
-    let rest = pairs_places c.next.new.self in (
+    let rest = places_of_pairs c.next.new.self in (
       tt,
       tt,
       ap (λ xs. numbers_in xs ++ rest) c.in_ok-push.ensures.items ∙ ap (λ ns. ns ++ rest) (one_more_number es e) ∙ append_assoc (numbers_in es) (e.number ∷ []) rest ∙ ap (λ n. numbers_in es ++ n ∷ rest) (c.entry_of.ensures.number ∙ c.place.ensures.at)

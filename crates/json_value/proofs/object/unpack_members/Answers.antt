@@ -2,7 +2,7 @@ use Rattle.std.proofs.Common.{◌≡◌, ℕ, ◌+◌, List, [], ◌∷◌, ◌+
 use Rattle.std.specs.Prelude.{slice_get}
 use Rattle.json_grammar.specs.Tree.{Tree, text}
 use Rattle.json_doc.specs.Docs.{doc_tree}
-use Rattle.json_doc.specs.Left.{pairs_doc, pairs_places, pairs_left, doc_pair}
+use Rattle.json_doc.specs.Left.{pairs_doc, places_of_pairs, pairs_left, doc_pair}
 use Rattle.json_doc.specs.Seen.{view_doc, view_place, view_tree}
 use Rattle.json_value.specs.Denotes.{tree_of, pair_of, text_bytes}
 use Rattle.json_value.specs.Readings.{text_said}
@@ -29,12 +29,12 @@ loop-key-preserved c =
     let key_spot : spot_of_text m.key ≡ Some (spot_in d (view_place key)) = c.in_ok-key.ensures.spot ∙ ap (λ (n : ℕ). Some (spot_in d n)) c.place.ensures.at in
     let spot : spot_of m.value ≡ read_spot d (view_place value) = c.in_ok-value.ensures.spot ∙ ap (read_spot d) c.place-in-Some.ensures.at in
     let made = member_read d key value m k key_doc value_doc is key_read read in
-    let stands = member_stands d (view_place value) (view_place key) m (pairs_places new) (pairs_places old) steps.1 c.in-Some.ensures.place key_spot spot in
+    let stands = member_stands d (view_place value) (view_place key) m (places_of_pairs new) (places_of_pairs old) steps.1 c.in-Some.ensures.place key_spot spot in
     let more = c.in_ok-push.ensures.items in
     let r = read_member_spots d in (
       steps.2 ∙ h.0,
       joined_more pair_of list c.push.new.self.items m (k, view_tree value) (pairs_left old) (pairs_left new) (pairs_left c.args.members) more h.1 steps.0 made,
-      joined_more member_spots list c.push.new.self.items m (r (view_place value)) (map r (pairs_places old)) (map r (pairs_places new)) (map r (pairs_places c.args.members)) more h.2 (ap (map r) steps.1) stands,
+      joined_more member_spots list c.push.new.self.items m (r (view_place value)) (map r (places_of_pairs old)) (map r (places_of_pairs new)) (map r (places_of_pairs c.args.members)) more h.2 (ap (map r) steps.1) stands,
     )
 
 pub returns-clause-pairs : goal.returns-clause-pairs
@@ -46,4 +46,4 @@ pub returns-clause-spots : goal.returns-clause-spots
 returns-clause-spots c =
     let old = c.loop-key.members in let r = read_member_spots c.args.doc.now.value in
     let none : pairs_left old ≡ [] = elim c.match-key.branch [ in-Some+in_default-next w ↦ w.in_default-next.ensures.steps.0.0 | in_default w ↦ no_first (λ (p : List ℕ × Tree). text p.0) _ w.in_default.ensures.tree ] in
-    joined_all member_spots c.loop-key.list.items (map r (pairs_places old)) _ c.loop-key.invariant.2 (ap (map r) (nothing_mapped (doc_pair (pairs_doc old)) (pairs_places old) none))
+    joined_all member_spots c.loop-key.list.items (map r (places_of_pairs old)) _ c.loop-key.invariant.2 (ap (map r) (nothing_mapped (doc_pair (pairs_doc old)) (places_of_pairs old) none))

@@ -3,7 +3,7 @@ use Rattle.json_grammar.specs.Tree.{list_pairs}
 use Rattle.json_value.specs.Denotes.{text_bytes, pair_of}
 use Rattle.json_value.proofs.AppliedTrees.{first_moved, none_moved, insert_over, insert_beside}
 use Rattle.json_value.specs.Rows.{keyed_so}
-use Rattle.json_value.specs.Places.{origin_of}
+use Rattle.json_value.specs.Places.{value_origin}
 use Rattle.json_value.proofs.EditedValues.{at_member}
 use Rattle.json_value.proofs.pair.insert_pair.Goals as goal
 
@@ -27,7 +27,7 @@ returns-in-Some-clause-children c =
     let k = text_bytes c.args.key.now in
     let items = c.args.pairs.now.items in
     let first = first_moved c.as_str.result.now k c.as_slice.result.now items c.in-Some.i c.as_str.ensures c.as_slice.ensures.value c.in-Some.ensures.first in
-    inl (at_member (λ before after. origin_of after ≡ origin_of c.args.value) k items c.in-Some.i c.index_mut.result.now c.args.value c.index_mut.ensures.value first refl)
+    inl (at_member (λ before after. value_origin after ≡ value_origin c.args.value) k items c.in-Some.i c.index_mut.result.now c.args.value c.index_mut.ensures.value first refl)
 
 pub returns-in_ok-push-in-None-clause-children : goal.returns-in_ok-push-in-None-clause-children
 returns-in_ok-push-in-None-clause-children c =

@@ -14,7 +14,7 @@ use Rattle.json_grammar.specs.Tree.{list, list_trees}
 use Rattle.json_text.specs.Errors.{no_memory}
 use Rattle.json_value.specs.Denotes.{tree_of, list_in}
 use Rattle.json_value.specs.Seen.{list_of}
-use Rattle.json_value.specs.Lending.{lent, name_of, IsLent, UnlessLent}
+use Rattle.json_value.specs.Lending.{lent, lent_name, IsReferenceLent, UnlessLent}
 use Rattle.json_value.specs.Written.{ArrayOpened}
 use Rattle.json_value.specs.declared.value.Value.{Value, Array}
 use Rattle.json_value.specs.declared.container.Container.{Container}
@@ -50,8 +50,8 @@ as_array_mut_spec 𝓤 𝓛 𝓜 𝓡 wired =
     returns ! (look_at ! 0 refl) $ free_all ! refl $
     -- [the result; the tokens; what is lent and said]
     move ! (2 ∷ []) $ pick ! (λ ws. split ! $ drop ! $
-    let m : maybe.Option GName = name_of r in
-    let Lent = λ (Kept : Value → Type 0). follows_so value array_row v.ghost_name m (λ w n. IsLent m → (tree_of n ≡ list (list_trees (list_in w))) × (n ≡ Array w)) (λ n. UnlessLent m (Kept n)) in
+    let m : maybe.Option GName = lent_name r in
+    let Lent = λ (Kept : Value → Type 0). follows_so value array_row v.ghost_name m (λ w n. IsReferenceLent m → (tree_of n ≡ list (list_trees (list_in w))) × (n ≡ Array w)) (λ n. UnlessLent m (Kept n)) in
     use1 𝓛 (‵ (Lent (λ n. n ≡ v.now)) ⊛ (raw (fact 𝓤 (IfOk r (λ o. option_map (λ (x : MutBor (Container Value)). list_in x.now) o ≡ list_of (tree_of v.now)))) ⊛ (raw (fact 𝓤 (IfSome (lent r) (ArrayOpened v.now))) ⊛ raw (fact 𝓤 (IfErr r (λ e. e ≡ no_memory)))))) (id⊢ 𝓤 _) $
     split ! $ use1 𝓛 (‵ (Lent (λ n. (tree_of n ≡ tree_of v.now) × (n ≡ v.now)))) (so_weaken 𝓛 value array_row v.ghost_name m _ _ _ _ (λ w n p. p) (λ n. same_tree m v.now n)) $ join ! $
     suffices ! _ (ends_at 𝓛 f.ended stayed c z u r (tt, (tt, tt)) (tt, (tt, tt))) $

@@ -14,8 +14,8 @@ use Rattle.std.specs.Borrow.{follows_so}
 use Rattle.json_grammar.specs.Tree.{pairs, list_pairs}
 use Rattle.json_text.specs.Errors.{no_memory}
 use Rattle.json_value.specs.Denotes.{tree_of, pairs_in}
-use Rattle.json_value.specs.Seen.{pairs_of}
-use Rattle.json_value.specs.Lending.{lent, name_of, IsLent, UnlessLent}
+use Rattle.json_value.specs.Seen.{object_pairs}
+use Rattle.json_value.specs.Lending.{lent, lent_name, IsReferenceLent, UnlessLent}
 use Rattle.json_value.specs.Written.{ObjectOpened}
 use Rattle.json_value.specs.declared.value.Value.{Value, Object}
 use Rattle.json_value.specs.declared.container.Container.{Container}
@@ -52,9 +52,9 @@ as_object_mut_spec 𝓤 𝓛 𝓜 𝓡 wired =
     returns ! (look_at ! 0 refl) $ free_all ! refl $
     -- [the result; the tokens; what is lent and said]
     move ! (2 ∷ []) $ pick ! (λ ws. split ! $ drop ! $
-    let m : maybe.Option GName = name_of r in
-    let Lent = λ (Kept : Value → Type 0). follows_so value object_row v.ghost_name m (λ w n. IsLent m → (tree_of n ≡ pairs (list_pairs (pairs_in w))) × (n ≡ Object w)) (λ n. UnlessLent m (Kept n)) in
-    use1 𝓛 (‵ (Lent (λ n. n ≡ v.now)) ⊛ (raw (fact 𝓤 (IfOk r (λ o. option_map (λ (x : MutBor (Container (Keyed Value))). pairs_in x.now) o ≡ pairs_of (tree_of v.now)))) ⊛ (raw (fact 𝓤 (IfSome (lent r) (ObjectOpened v.now))) ⊛ raw (fact 𝓤 (IfErr r (λ e. e ≡ no_memory)))))) (id⊢ 𝓤 _) $
+    let m : maybe.Option GName = lent_name r in
+    let Lent = λ (Kept : Value → Type 0). follows_so value object_row v.ghost_name m (λ w n. IsReferenceLent m → (tree_of n ≡ pairs (list_pairs (pairs_in w))) × (n ≡ Object w)) (λ n. UnlessLent m (Kept n)) in
+    use1 𝓛 (‵ (Lent (λ n. n ≡ v.now)) ⊛ (raw (fact 𝓤 (IfOk r (λ o. option_map (λ (x : MutBor (Container (Keyed Value))). pairs_in x.now) o ≡ object_pairs (tree_of v.now)))) ⊛ (raw (fact 𝓤 (IfSome (lent r) (ObjectOpened v.now))) ⊛ raw (fact 𝓤 (IfErr r (λ e. e ≡ no_memory)))))) (id⊢ 𝓤 _) $
     split ! $ use1 𝓛 (‵ (Lent (λ n. (tree_of n ≡ tree_of v.now) × (n ≡ v.now)))) (so_weaken 𝓛 value object_row v.ghost_name m _ _ _ _ (λ w n p. p) (λ n. same_tree m v.now n)) $ join ! $
     suffices ! _ (ends_at 𝓛 f.ended stayed c z u r (tt, (tt, tt)) (tt, (tt, tt))) $
     nothing ! $ nothing ! $ join ! $ nothing ! $ join ! $ move ! (3 ∷ 0 ∷ 2 ∷ 1 ∷ []) $ group ! 3 $ done !))))))

@@ -22,7 +22,7 @@ use Rattle.std.specs.Borrow.{LendsSoOk, follows_so}
 use Rattle.json_containers.specs.Changed.{ObjectChanged, ObjectStays}
 use Rattle.json_value.specs.Touched.{AtMember}
 use Rattle.json_containers.specs.Members.{found}
-use Rattle.json_value.specs.Lending.{missing_as_none, name_of, name_of_ok, IsLent, UnlessLent}
+use Rattle.json_value.specs.Lending.{missing_as_none, lent_name, name_of_ok, IsReferenceLent, UnlessLent}
 use Rattle.json_containers.specs.Found.{Finds}
 use Rattle.json_value.proofs.LentNames.{place_ok, on_no_place}
 use Rattle.json_value.proofs.MissingPlaces.{missing_name}
@@ -83,9 +83,9 @@ get_mut_spec 𝓤 𝓛 𝓜 𝓡 wired =
     -- [the result; the first token; nothing; what none_if_missing says; the second token and nothing; what was lent]
     move ! (3 ∷ []) $ pick ! (λ ws2. split ! $ drop ! $ heard ! _ (λ same.
     move ! (4 ∷ []) $ pick ! (λ ws. split ! $ drop ! $ split ! $ move ! (1 ∷ []) $ heard ! _ (λ seen. keep ! (0 ∷ 1 ∷ 2 ∷ 4 ∷ []) $
-    let Named = λ (m : maybe.Option GName). follows_so object_row value v.ghost_name m (λ w n. IsLent m → ObjectChanged (AtMember path.now (λ before after. after ≡ w)) v.now n) (λ n. UnlessLent m (ObjectStays v.now n)) in
+    let Named = λ (m : maybe.Option GName). follows_so object_row value v.ghost_name m (λ w n. IsReferenceLent m → ObjectChanged (AtMember path.now (λ before after. after ≡ w)) v.now n) (λ n. UnlessLent m (ObjectStays v.now n)) in
     use1 𝓛 (‵ (Named (name_of_ok r))) (so_weaken 𝓛 object_row value v.ghost_name (name_of_ok r) _ _ _ _ (λ w n p at. p (place_ok r at)) (λ n p. on_no_place r _ p)) $
-    rewrite ! 0 (λ (m : maybe.Option GName). ‵ (Named m)) (sym (ap name_of same ∙ missing_name r)) refl $
+    rewrite ! 0 (λ (m : maybe.Option GName). ‵ (Named m)) (sym (ap lent_name same ∙ missing_name r)) refl $
     suffices ! _ (ends_at 𝓛 f.ended stayed c z o s (tt, (tt, (tt, tt))) (tt, (tt, (tt, tt)))) $
     -- [what is lent; the result; the first token; the second token and nothing]
     move ! (2 ∷ 3 ∷ []) $ join ! $ nothing ! $ nothing ! $ join ! $ nothing ! $ join ! $ nothing ! $ join ! $ move ! (1 ∷ 0 ∷ 3 ∷ 2 ∷ []) $ group ! 3 $ frame ! $ frame ! $ use0 𝓛 (raw (fact 𝓤 (IfErr s (λ e. e ≡ no_memory)))) (fact_i 𝓤 _ (emp 𝓤) (subst (λ (s : O.Denot). IfErr s (λ e. e ≡ no_memory)) (sym same) (missing_only ((IsPlace v.now → ⊥) → ⊥) r (found path.now (pairs_in v.now)) seen))) $ use0 𝓛 (raw (fact 𝓤 ((IsPlace v.now → ⊥) → IsOk s))) (fact_i 𝓤 _ (emp 𝓤) (subst (λ (s : O.Denot). (IsPlace v.now → ⊥) → IsOk s) (sym same) (missing_free (IsPlace v.now → ⊥) r (found path.now (pairs_in v.now)) seen))) $ use0 𝓛 (raw (fact 𝓤 (IfOk s (λ o. option_map (λ (x : MutBor Value). tree_of x.now) o ≡ found path.now (pairs_in v.now))))) (fact_i 𝓤 _ (emp 𝓤) (subst (λ (s : O.Denot). IfOk s (λ o. option_map (λ (x : MutBor Value). tree_of x.now) o ≡ found path.now (pairs_in v.now))) (sym same) (missing_found ((IsPlace v.now → ⊥) → ⊥) r (found path.now (pairs_in v.now)) seen))) $ done !))))))))))))

@@ -6,8 +6,9 @@ use Rattle.json_text.specs.Events.{Means}
 use Rattle.json_number.specs.Integers.{integer_in}
 use Rattle.json_number.specs.Numbers.{value_of, text_of_number}
 use Rattle.json_number.proofs.Integers.{prints_its_literal}
-use Rattle.json_data.specs.Text.{EventIsNumber, event_integer}
+use Rattle.json_data.specs.Text.{event_integer}
 use Rattle.json_data.proofs.ahead.Ahead.token.Goals as goal
+use Rattle.json_doc.specs.Reading.{EventIsNumber}
 
 pub returns-in-Some : goal.returns-in-Some
 returns-in-Some c = λ x m.

@@ -1,12 +1,12 @@
 use Rattle.std.proofs.Common.{◌≡◌, ◌∙◌, ◌⊎◌, ap, sym, subst}
 use Rattle.json_data.specs.declared.token.TokenKind.{TokenKind}
 use Rattle.json_data.specs.declared.token.TokenKind.TheVariants as kind
-use Rattle.json_data.specs.Text.{TextState}
+use Rattle.json_data.specs.Text.{TextTokensState}
 use Rattle.json_data.proofs.Passing.{passed_none, peek_one, passed_tree, passed_one, passed_end, whole_container}
 use Rattle.json_data.proofs.text_tokens.TextTokens.+close.Goals as goal
 
 pub rest-init : goal.rest-init
-rest-init t c = passed_none c.args.self.now c.requires (ap (λ (s : TextState). s.failed) (sym c.self.view_is) ∙ c.in_default.is)
+rest-init t c = passed_none c.args.self.now c.requires (ap (λ (s : TextTokensState). s.failed) (sym c.self.view_is) ∙ c.in_default.is)
 
 pub returns-in-EndArray-clause-ok : goal.returns-in-EndArray-clause-ok
 returns-in-EndArray-clause-ok t c =

@@ -3,7 +3,7 @@ use Rattle.std.proofs.lemmas.Result.{on_ok_weaker}
 use Rattle.json_data.specs.declared.token.TokenKind.{TokenKind}
 use Rattle.json_data.specs.declared.token.TokenKind.TheVariants as kind
 use Rattle.json_data.specs.Spots.{begins_value}
-use Rattle.json_data.specs.Text.{text_stand}
+use Rattle.json_data.specs.Text.{text_tokens_state}
 use Rattle.json_data.proofs.TextSteps.{no_again}
 use Rattle.json_data.proofs.Passing.{peek_one, whole_container, whole_scalar, wants}
 use Rattle.json_data.proofs.text_tokens.TextTokens.pass.Goals as goal
@@ -18,7 +18,7 @@ pub returns-in_default : goal.returns-in_default
 returns-in_default c =
     let t = c.in_ok-take.ensures.ok in
     let h = c.in_ok-kind.ensures.ok in
-    let s = text_stand c.args.self.now in
+    let s = text_tokens_state c.args.self.now in
     let r = peek_one h c.in_ok-kind.ensures.none t.2 in
     record {
       ok = whole_scalar t.0 r.0 (λ e. c.in_default.not-BeginArray (sym r.1 ∙ e)) (λ e. c.in_default.not-BeginObject (sym r.1 ∙ e))

@@ -3,8 +3,8 @@ use Rattle.json_text.specs.declared.error.Error.{Error}
 use Rattle.json_text.specs.declared.event.Event.{Event}
 use Rattle.json_text.specs.Parsing.{ParserState, HasGiven, IsWhole, HasRead}
 use Rattle.json_data.specs.declared.ahead.Ahead.{Ahead}
-use Rattle.json_data.specs.Stand.{Takes}
-use Rattle.json_data.specs.Text.{TextState, TakenBefore, text_taken, TextFails, ReadsAhead}
+use Rattle.json_data.specs.Stand.{TakesTokens}
+use Rattle.json_data.specs.Text.{TextTokensState, TakenBefore, text_taken, TextFails, ReadsAhead}
 use Rattle.json_data.proofs.Events.{event_number}
 use Rattle.json_data.proofs.TextSteps.{takes_none, fault_kept}
 use Rattle.json_data.proofs.text_tokens.TextTokens.read.Goals as goal
@@ -13,7 +13,7 @@ pub new-requires : goal.new-requires
 new-requires c =
     let i = c.self.invariant.given in
     let p = c.self.inside.parser in
-    let n : option_map (λ (h : Ahead). h.event) c.self.inside.ahead ≡ None = ap (λ (t : TextState). t.ahead) c.self.view_is ∙ c.requires.none in
+    let n : option_map (λ (h : Ahead). h.event) c.self.inside.ahead ≡ None = ap (λ (t : TextTokensState). t.ahead) c.self.view_is ∙ c.requires.none in
     let h : HasGiven p i.0 = subst (λ (o : Option Event). TakenBefore o p i.0) n i.1 in
     let g = c.in-Ok.ensures.ok.goes i.0 h in
     event_number c.read_ahead.new.parser c.in-Ok.event i.0 g.0 g.1 g.2
@@ -24,8 +24,8 @@ invariant_of-self c =
     let p = c.self.inside.parser in
     let q = c.read_ahead.new.parser in
     let r = c.in-Ok.ensures.ok in
-    let n : option_map (λ (h : Ahead). h.event) c.self.inside.ahead ≡ None = ap (λ (t : TextState). t.ahead) c.self.view_is ∙ c.requires.none in
-    let f : c.self.inside.failed ≡ None = ap (λ (t : TextState). t.failed) c.self.view_is ∙ c.requires.unfailed in
+    let n : option_map (λ (h : Ahead). h.event) c.self.inside.ahead ≡ None = ap (λ (t : TextTokensState). t.ahead) c.self.view_is ∙ c.requires.none in
+    let f : c.self.inside.failed ≡ None = ap (λ (t : TextTokensState). t.failed) c.self.view_is ∙ c.requires.unfailed in
     let h : HasGiven p i.0 = subst (λ (o : Option Event). TakenBefore o p i.0) n i.1 in
     let from = c.self.invariant.order in let start = r.same.start in let more = r.forward in
     record {
@@ -41,7 +41,7 @@ invariant_of-self-in-Err c =
     let i = c.self.invariant.given in
     let p = c.self.inside.parser in
     let e = c.in-Err.error in
-    let n : option_map (λ (h : Ahead). h.event) c.self.inside.ahead ≡ None = ap (λ (t : TextState). t.ahead) c.self.view_is ∙ c.requires.none in
+    let n : option_map (λ (h : Ahead). h.event) c.self.inside.ahead ≡ None = ap (λ (t : TextTokensState). t.ahead) c.self.view_is ∙ c.requires.none in
     let h : HasGiven p i.0 = subst (λ (o : Option Event). TakenBefore o p i.0) n i.1 in
     record {
       given = (i.0, subst (λ (o : Option Event). TakenBefore o c.read_ahead.new.parser i.0) (sym n) (subst (λ (q : ParserState). HasGiven q i.0) (sym c.in-Err.ensures.kept) h));
@@ -57,10 +57,10 @@ returns-in-Ok-clause-none c = λ _.
     let q = c.read_ahead.new.parser in
     let f = c.self.inside.failed in
     let e = c.new.result.event in
-    let n : option_map (λ (h : Ahead). h.event) c.self.inside.ahead ≡ None = ap (λ (t : TextState). t.ahead) c.self.view_is ∙ c.requires.none in
+    let n : option_map (λ (h : Ahead). h.event) c.self.inside.ahead ≡ None = ap (λ (t : TextTokensState). t.ahead) c.self.view_is ∙ c.requires.none in
     let s : record { parser = p; ahead = None; failed = f } ≡ c.args.self.now = ap (λ (o : Option Event). record { parser = p; ahead = o; failed = f }) (sym n) ∙ c.self.view_is in
     let r : ReadsAhead p e q = subst (λ (e : Event). ReadsAhead p e q) (sym c.new.ensures) c.in-Ok.ensures.ok in
-    subst (λ (a : TextState). Takes text_taken a [] (record { parser = q; ahead = Some e; failed = f })) s (takes_none p q f f e r)
+    subst (λ (a : TextTokensState). TakesTokens text_taken a [] (record { parser = q; ahead = Some e; failed = f })) s (takes_none p q f f e r)
 
 pub returns-in-Err-clause-cause : goal.returns-in-Err-clause-cause
 returns-in-Err-clause-cause c = fault_kept c.self.inside.parser c.read_ahead.new.parser c.in-Err.error c.in-Err.ensures.kept c.in-Err.ensures.fault

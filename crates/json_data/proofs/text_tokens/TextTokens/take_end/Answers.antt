@@ -2,7 +2,7 @@ use Rattle.std.proofs.Common.{◌∙◌, ap, rules}
 use Rattle.json_grammar.specs.Tree.{end as end_token}
 use Rattle.json_text.specs.Tokens.{end_event}
 use Rattle.json_data.specs.Stand.{TakesOne}
-use Rattle.json_data.specs.Text.{TextState, text_taken, text_stand}
+use Rattle.json_data.specs.Text.{TextTokensState, text_taken, text_tokens_state}
 use Rattle.json_data.proofs.Told.{not_some}
 use Rattle.json_data.proofs.AtOnce.{clear_reading, clear_taken, end_read, end_taken}
 use Rattle.json_data.proofs.text_tokens.TextTokens.take_end.Goals as goal
@@ -18,11 +18,11 @@ pub returns-then-next_end-clause-ended : goal.returns-then-next_end-clause-ended
 returns-then-next_end-clause-ended c = λ _.
     let e = c.next_end.ensures in
     let y = c.if-next_end.true in
-    clear_taken _ _ _ _ c.self.view_is (c.is_clear.ensures.ahead (search rules)) (λ a b. TakesOne text_taken text_stand a b (end_token c.args.kind)) c.next_end.new.self c.self.invariant
+    clear_taken _ _ _ _ c.self.view_is (c.is_clear.ensures.ahead (search rules)) (λ a b. TakesOne text_taken text_tokens_state a b (end_token c.args.kind)) c.next_end.new.self c.self.invariant
     (λ ts h. end_taken _ _ _ c.args.kind ts h (end_read _ _ c.args.kind ts h e.same (e.ok y) (e.tight y) e.failure))
 
 pub returns-then-next_end-clause-unfailed : goal.returns-then-next_end-clause-unfailed
-returns-then-next_end-clause-unfailed c = λ _. ap (λ (t : TextState). t.failed) c.self.view_is ∙ c.is_clear.ensures.failed (search rules)
+returns-then-next_end-clause-unfailed c = λ _. ap (λ (t : TextTokensState). t.failed) c.self.view_is ∙ c.is_clear.ensures.failed (search rules)
 
 pub returns-then-next_end-clause-again : goal.returns-then-next_end-clause-again
 returns-then-next_end-clause-again c = λ some. absurd (not_some (c.is_clear.ensures.failed (search rules)) some)

@@ -1,7 +1,7 @@
 use Rattle.std.proofs.Common.{arith, rules, ◌∙◌, ap}
 use Rattle.json_text.specs.declared.event.Event.TheVariants as Event
 use Rattle.json_data.specs.Stand.{TakesInteger}
-use Rattle.json_data.specs.Text.{TextState, text_taken, text_stand}
+use Rattle.json_data.specs.Text.{TextTokensState, text_taken, text_tokens_state}
 use Rattle.json_data.proofs.Told.{not_some}
 use Rattle.json_data.proofs.AtOnce.{clear_inside, clear_reading, clear_taken, number_read, integer_taken}
 use Rattle.json_data.proofs.text_tokens.TextTokens.take_integer.Goals as goal
@@ -19,11 +19,11 @@ pub returns-in-Some-clause-takes : goal.returns-in-Some-clause-takes
 returns-in-Some-clause-takes c =
     let e = c.in-Some.ensures in
     let n = c.in-Some.integer in
-    clear_taken _ _ _ _ c.self.view_is (c.is_clear.ensures.ahead (search rules)) (λ a b. TakesInteger text_taken text_stand a b n.value) c.next_integer.new.self c.self.invariant
+    clear_taken _ _ _ _ c.self.view_is (c.is_clear.ensures.ahead (search rules)) (λ a b. TakesInteger text_taken text_tokens_state a b n.value) c.next_integer.new.self c.self.invariant
     (λ ts h. integer_taken _ _ _ n.literal n.value ts h (number_read _ _ n.literal ts h e.same e.ok e.tight e.failure) e.tight e.digits.0 e.value (let m = e.most in let fits = c.ranges.most.fits in omega arith))
 
 pub returns-in-Some-clause-unfailed : goal.returns-in-Some-clause-unfailed
-returns-in-Some-clause-unfailed c = λ _. ap (λ (t : TextState). t.failed) c.self.view_is ∙ c.is_clear.ensures.failed (search rules)
+returns-in-Some-clause-unfailed c = λ _. ap (λ (t : TextTokensState). t.failed) c.self.view_is ∙ c.is_clear.ensures.failed (search rules)
 
 pub returns-in-Some-clause-again : goal.returns-in-Some-clause-again
 returns-in-Some-clause-again c = λ some. absurd (not_some (c.is_clear.ensures.failed (search rules)) some)

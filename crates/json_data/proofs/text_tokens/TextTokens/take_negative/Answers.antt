@@ -1,7 +1,7 @@
 use Rattle.std.proofs.Common.{arith, rules, ◌∙◌, ap}
 use Rattle.json_text.specs.declared.event.Event.TheVariants as Event
 use Rattle.json_data.specs.Stand.{TakesNegative}
-use Rattle.json_data.specs.Text.{TextState, text_taken, text_stand}
+use Rattle.json_data.specs.Text.{TextTokensState, text_taken, text_tokens_state}
 use Rattle.json_data.proofs.Told.{not_some}
 use Rattle.json_data.proofs.AtOnce.{clear_inside, clear_reading, clear_taken, number_read, negative_taken}
 use Rattle.json_data.proofs.text_tokens.TextTokens.take_negative.Goals as goal
@@ -19,11 +19,11 @@ pub returns-in-Some-clause-takes : goal.returns-in-Some-clause-takes
 returns-in-Some-clause-takes c =
     let e = c.in-Some.ensures in
     let n = c.in-Some.integer in
-    clear_taken _ _ _ _ c.self.view_is (c.is_clear.ensures.ahead (search rules)) (λ a b. TakesNegative text_taken text_stand a b n.magnitude) c.next_negative.new.self c.self.invariant
+    clear_taken _ _ _ _ c.self.view_is (c.is_clear.ensures.ahead (search rules)) (λ a b. TakesNegative text_taken text_tokens_state a b n.magnitude) c.next_negative.new.self c.self.invariant
     (λ ts h. negative_taken _ _ _ n.literal n.magnitude ts h (number_read _ _ n.literal ts h e.same e.ok e.tight e.failure) e.minus e.digits.0 e.magnitude e.least.0 (let m = e.least.1 in let k = c.requires.fits in omega arith))
 
 pub returns-in-Some-clause-unfailed : goal.returns-in-Some-clause-unfailed
-returns-in-Some-clause-unfailed c = λ _. ap (λ (t : TextState). t.failed) c.self.view_is ∙ c.is_clear.ensures.failed (search rules)
+returns-in-Some-clause-unfailed c = λ _. ap (λ (t : TextTokensState). t.failed) c.self.view_is ∙ c.is_clear.ensures.failed (search rules)
 
 pub returns-in-Some-clause-again : goal.returns-in-Some-clause-again
 returns-in-Some-clause-again c = λ some. absurd (not_some (c.is_clear.ensures.failed (search rules)) some)

@@ -3,7 +3,7 @@ use Rattle.json_text.specs.declared.event.Event.{Event}
 use Rattle.json_text.specs.declared.event.Event.TheVariants as event
 use Rattle.json_data.specs.declared.ahead.Ahead.{Ahead}
 use Rattle.json_data.specs.Stand.{TakesText}
-use Rattle.json_data.specs.Text.{TextState, TakenBefore, text_taken, text_stand}
+use Rattle.json_data.specs.Text.{TextTokensState, TakenBefore, text_taken, text_tokens_state}
 use Rattle.json_data.specs.Pieces.{Says}
 use Rattle.json_data.proofs.Waiting.{waits, text_waiting}
 use Rattle.json_data.proofs.text_tokens.TextTokens.waiting_text.Goals as goal
@@ -17,4 +17,4 @@ returns-in-Str-clause-takes c =
     let w : waits s.parser s.failed e ≡ c.args.self.now = ap (λ (o : Option Event). record { parser = s.parser; ahead = o; failed = s.failed }) (sym h) ∙ c.self.view_is in
     let g : TakenBefore (Some e) s.parser i.0 = subst (λ (o : Option Event). TakenBefore o s.parser i.0) h i.1 in
     let says : _ = λ s. Says s c.piece.result.escaped c.piece.result.text.now in
-    subst (λ (a : TextState). TakesText text_taken text_stand says a (record { parser = s.parser; ahead = None; failed = s.failed })) w (text_waiting s.parser s.failed c.in-Str.span says (i.0, g) c.piece.ensures)
+    subst (λ (a : TextTokensState). TakesText text_taken text_tokens_state says a (record { parser = s.parser; ahead = None; failed = s.failed })) w (text_waiting s.parser s.failed c.in-Str.span says (i.0, g) c.piece.ensures)

@@ -4,7 +4,7 @@ use Rattle.json_grammar.specs.Tree.{text}
 use Rattle.json_doc.specs.Docs.{doc_cells, doc_tree}
 use Rattle.json_doc.specs.Left.{doc_pair}
 use Rattle.json_doc.specs.Shape.{is_str}
-use Rattle.json_doc.specs.Trees.{text_of}
+use Rattle.json_doc.specs.Trees.{text_of_tree}
 use Rattle.json_doc.specs.declared.cell.Cell.TheVariants as cell
 use Rattle.json_doc.proofs.Shown.{key_string, get-of_places, get-places}
 use Rattle.json_doc.proofs.pairs.DocPairs.key.Goals as goal
@@ -19,7 +19,7 @@ returns-clause-tree c =
     let some : 0 < s.left = omega arith in
     let first : s.next + 1 < length (doc_cells d) = s.inside 0 some in
     let keyed : is_str (slice_index_or (doc_cells d) s.next cell.Null) ≡ true = rw before at (s.keyed 0 some) in
-    ap Some (c.view_at.ensures.tree ∙ key_string d s.next (omega arith) keyed ∙ ap (λ (k : ℕ). text (text_of (doc_tree d k))) (sym (before s.next)))
+    ap Some (c.view_at.ensures.tree ∙ key_string d s.next (omega arith) keyed ∙ ap (λ (k : ℕ). text (text_of_tree (doc_tree d k))) (sym (before s.next)))
     ∙ sym (ap (option_map (λ p. text p.0)) (get-of_places (doc_pair d) (doc_cells d) 1 (s.next + 1) s.left 0 some))
 
 pub returns-clause-place : goal.returns-clause-place

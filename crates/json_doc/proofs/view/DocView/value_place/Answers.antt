@@ -2,7 +2,7 @@ use Rattle.std.proofs.Common.{ℕ, ◌+◌, ◌-◌, List, Some, sym, ap, ◌∙
 use Rattle.std.specs.Prelude.{slice_get}
 use Rattle.json_grammar.specs.Tree.{Tree}
 use Rattle.json_doc.specs.Docs.{doc_cells, doc_text, doc_tree}
-use Rattle.json_doc.specs.Trees.{text_of}
+use Rattle.json_doc.specs.Trees.{text_of_tree}
 use Rattle.json_doc.proofs.Trees.{place_up}
 use Rattle.json_doc.proofs.Shown.{keys_at, values_at, values_below, all_keyed, object_child, get-of_places, past-of_places, no_keys_at, no_values_at}
 use Rattle.json_doc.proofs.view.DocView.value_place.Goals as goal
@@ -24,8 +24,8 @@ returns-then-i-len c =
       place = is ∙ object_child d s.at c.cell.result s.inside c.cell.ensures c.in-Object.link c.in-Object.len c.args.i c.in-Object.is;
       value = ap (λ (k : ℕ). Some (doc_tree d k)) is
           ∙ sym (ap (λ (ts : List Tree). slice_get ts c.args.i) (values_at d s.at c.cell.result s.inside c.cell.ensures c.in-Object.link c.in-Object.len c.in-Object.is) ∙ get-of_places (doc_tree d) (doc_cells d) 1 (s.at + 2) c.in-Object.len c.args.i c.if-i-len.true);
-      key = ap (λ (k : ℕ). Some (text_of (doc_tree d (k - 1)))) is
-          ∙ sym (ap (λ (ts : List (List ℕ)). slice_get ts c.args.i) (keys_at d s.at c.cell.result s.inside c.cell.ensures c.in-Object.link c.in-Object.len c.in-Object.is) ∙ get-of_places (λ k. text_of (doc_tree d (k - 1))) (doc_cells d) 1 (s.at + 2) c.in-Object.len c.args.i c.if-i-len.true);
+      key = ap (λ (k : ℕ). Some (text_of_tree (doc_tree d (k - 1)))) is
+          ∙ sym (ap (λ (ts : List (List ℕ)). slice_get ts c.args.i) (keys_at d s.at c.cell.result s.inside c.cell.ensures c.in-Object.link c.in-Object.len c.in-Object.is) ∙ get-of_places (λ k. text_of_tree (doc_tree d (k - 1))) (doc_cells d) 1 (s.at + 2) c.in-Object.len c.args.i c.if-i-len.true);
     }
 
 pub returns-else-i-len : goal.returns-else-i-len
@@ -38,7 +38,7 @@ returns-else-i-len c =
       keyed = tt;
       place = tt;
       value = sym (ap (λ (ts : List Tree). slice_get ts c.args.i) (values_at d s.at c.cell.result s.inside c.cell.ensures c.in-Object.link c.in-Object.len c.in-Object.is) ∙ past-of_places (doc_tree d) (doc_cells d) 1 (s.at + 2) c.in-Object.len c.args.i c.if-i-len.false);
-      key = sym (ap (λ (ts : List (List ℕ)). slice_get ts c.args.i) (keys_at d s.at c.cell.result s.inside c.cell.ensures c.in-Object.link c.in-Object.len c.in-Object.is) ∙ past-of_places (λ k. text_of (doc_tree d (k - 1))) (doc_cells d) 1 (s.at + 2) c.in-Object.len c.args.i c.if-i-len.false);
+      key = sym (ap (λ (ts : List (List ℕ)). slice_get ts c.args.i) (keys_at d s.at c.cell.result s.inside c.cell.ensures c.in-Object.link c.in-Object.len c.in-Object.is) ∙ past-of_places (λ k. text_of_tree (doc_tree d (k - 1))) (doc_cells d) 1 (s.at + 2) c.in-Object.len c.args.i c.if-i-len.false);
     }
 
 pub returns-in_default : goal.returns-in_default

@@ -2,7 +2,7 @@ use Rattle.std.proofs.Common.{ap, ◌∙◌, sym, [], Some}
 use Rattle.std.specs.Prelude.{option_map}
 use Rattle.std.proofs.lemmas.Result.{on_ok_weaker, IfErr-weaker}
 use Rattle.json_files.specs.Outcomes.{task_of}
-use Rattle.json_files.specs.Parts.{part_of, whole_part}
+use Rattle.json_files.specs.Parts.{part_view, whole_part}
 use Rattle.json_files.proofs.Handled.{handles_unread, unread_stops, handles_bytes, bytes_stop}
 use Rattle.json_files.proofs.run.Tally.handle_document.Goals as goal
 
@@ -19,13 +19,13 @@ returns-in-None-clause-err g c =
 pub returns-in-Some-clause-ok : goal.returns-in-Some-clause-ok
 returns-in-Some-clause-ok g c =
     on_ok_weaker c.handle_bytes.result
-    (handles_bytes (task_of g.C.Change.changed c.args.job.now) c.args.document.now (part_of c.whole_part.result) c.deref.result.now c.args.self.now c.handle_bytes.new.self _ _ _ _ (c.whole_part.ensures ∙ ap (λ n. whole_part n c.deref.result.now) c.as_str-name.ensures.value)
+    (handles_bytes (task_of g.C.Change.changed c.args.job.now) c.args.document.now (part_view c.whole_part.result) c.deref.result.now c.args.self.now c.handle_bytes.new.self _ _ _ _ (c.whole_part.ensures ∙ ap (λ n. whole_part n c.deref.result.now) c.as_str-name.ensures.value)
     (ap (option_map (λ v. v.items)) c.in-Some.is ∙ ap Some (sym c.deref.ensures.value)))
     c.handle_bytes.ensures.ok
 
 pub returns-in-Some-clause-err : goal.returns-in-Some-clause-err
 returns-in-Some-clause-err g c =
     IfErr-weaker c.handle_bytes.result _ _
-    (bytes_stop (task_of g.C.Change.changed c.args.job.now) c.args.document.now (part_of c.whole_part.result) c.deref.result.now c.args.self.now c.handle_bytes.new.self _ _ _ _ (c.whole_part.ensures ∙ ap (λ n. whole_part n c.deref.result.now) c.as_str-name.ensures.value)
+    (bytes_stop (task_of g.C.Change.changed c.args.job.now) c.args.document.now (part_view c.whole_part.result) c.deref.result.now c.args.self.now c.handle_bytes.new.self _ _ _ _ (c.whole_part.ensures ∙ ap (λ n. whole_part n c.deref.result.now) c.as_str-name.ensures.value)
     (ap (option_map (λ v. v.items)) c.in-Some.is ∙ ap Some (sym c.deref.ensures.value)))
     c.handle_bytes.ensures.err

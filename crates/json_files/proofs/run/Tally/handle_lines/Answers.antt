@@ -3,7 +3,7 @@ use Rattle.std.proofs.lemmas.Bool.Decides.{nat_tests}
 use Rattle.std.proofs.lemmas.Grind.{common_steps}
 use Rattle.json_files.specs.Outcomes.{task_of}
 use Rattle.json_files.specs.Parts.{line_part}
-use Rattle.json_files.proofs.Handled.{Handles-none, Handles-then, Handles-as, Stops-then, handles_blank, handles_full, full_stops, lines_none, lines_more, lines_stop, lines_all}
+use Rattle.json_files.proofs.Handled.{Handles-none, Handles-then, Handles-as, StopsRunning-then, handles_blank, handles_full, full_stops, lines_none, lines_more, lines_stop, lines_all}
 use Rattle.json_files.proofs.TextWriting.{told_then}
 use Rattle.json_files.proofs.run.Tally.handle_lines.Goals as goal
 
@@ -31,7 +31,7 @@ lines-preserved g c =
 
 pub returns-in-Err-clause-err : goal.returns-in-Err-clause-err
 returns-in-Err-clause-err g c =
-    Stops-then _ _ _ _ _ _ _ _ _ _ _ _ c.in-Err.error c.lines.invariant.handled
+    StopsRunning-then _ _ _ _ _ _ _ _ _ _ _ _ c.in-Err.error c.lines.invariant.handled
     (full_stops (task_of g.C.Change.changed c.args.job.now) (line_part c.args.whole.name.now c.lines.number c.split_line.result.0.now) c.lines.self c.handle_part.new.self _ _ _ _ c.in-Err.error c.if-is_blank.ensures c.in-Err.ensures.err)
     (lines_stop (task_of g.C.Change.changed c.args.job.now) c.args.whole.name.now c.args.whole.bytes.now c.lines.number c.lines.rest.now c.split_line.result.0.now c.split_line.result.1.now c.split_line.ensures.line)
 

@@ -1,6 +1,6 @@
 use Rattle.std.proofs.Common.{arith}
 use Rattle.json_files.specs.Outcomes.{task_of}
-use Rattle.json_files.proofs.Handled.{Handles-none, Handles-then, Handles-as, Stops-then}
+use Rattle.json_files.proofs.Handled.{Handles-none, Handles-then, Handles-as, StopsRunning-then}
 use Rattle.json_files.proofs.HandledStreams.{values_none, values_more, values_fail, values_stop, values_all, space_left}
 use Rattle.json_files.proofs.run.Tally.handle_text.Goals as goal
 
@@ -31,7 +31,7 @@ returns-in-Ok-None-clause-ok g c =
 
 pub returns-in-Err-clause-err : goal.returns-in-Err-clause-err
 returns-in-Err-clause-err g c =
-    Stops-then _ _ _ _ _ _ _ _ _ _ _ _ c.in-Err.error c.values.invariant.handled c.in-Err.ensures.err
+    StopsRunning-then _ _ _ _ _ _ _ _ _ _ _ _ c.in-Err.error c.values.invariant.handled c.in-Err.ensures.err
     (values_stop (task_of g.C.Change.changed c.args.job.now) c.args.start.name.now c.args.start.text.now c.values.offset c.values.number)
 
 pub returns-clause-ok : goal.returns-clause-ok

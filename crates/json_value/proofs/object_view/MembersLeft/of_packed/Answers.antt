@@ -2,7 +2,7 @@ use Rattle.std.proofs.Common.{◌≡◌, ◌<◌, ℕ, List, length, map, sym, a
 use Rattle.std.proofs.lemmas.List.{length-map}
 use Rattle.std.specs.List.{zip}
 use Rattle.json_grammar.specs.Tree.{Tree}
-use Rattle.json_doc.specs.Left.{pairs_doc, pairs_places, pairs_left, doc_pair}
+use Rattle.json_doc.specs.Left.{pairs_doc, places_of_pairs, pairs_left, doc_pair}
 use Rattle.json_doc.specs.Seen.{view_doc, view_place, view_tree}
 use Rattle.json_value.specs.Readings.{members}
 use Rattle.json_value.specs.Sights.{place_of, doc_held}
@@ -16,8 +16,8 @@ pub returns-in-Object-clause-sights : goal.returns-in-Object-clause-sights
 returns-in-Object-clause-sights c =
     let p = c.args.packed in let e = c.in-Object.members in let o = c.in-Object.ensures.tree in
     let same = o.2 ∙ sym (ap members o.1) in
-    let all = length-map (pairs_places e) (doc_pair (pairs_doc e)) in
-    let count : length (pairs_places e) ≡ length (members (view_tree p.view)) = sym all ∙ ap length same in
-    ap (λ (ps : List (List ℕ × Tree)). zip (map (λ q. q.0) ps) (map (place_of (view_doc p.view) (doc_held p.holder)) (pairs_places e))) same
-    ∙ members_by_place (view_doc p.view) (doc_held p.holder) (view_place p.view) (pairs_places e) (members (view_tree p.view)) count
+    let all = length-map (places_of_pairs e) (doc_pair (pairs_doc e)) in
+    let count : length (places_of_pairs e) ≡ length (members (view_tree p.view)) = sym all ∙ ap length same in
+    ap (λ (ps : List (List ℕ × Tree)). zip (map (λ q. q.0) ps) (map (place_of (view_doc p.view) (doc_held p.holder)) (places_of_pairs e))) same
+    ∙ members_by_place (view_doc p.view) (doc_held p.holder) (view_place p.view) (places_of_pairs e) (members (view_tree p.view)) count
     (λ i l. c.in-Object.ensures.places i (subst (λ (n : ℕ). i < n) (sym all) l))

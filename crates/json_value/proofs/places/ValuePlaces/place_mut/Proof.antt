@@ -15,7 +15,7 @@ use Rattle.std.proofs.alloc.Global.TheLaws.{the_row_laws as global_laws, the_tol
 use Rattle.std.proofs.result.Result.TheLaws.{the_row_laws as result_laws}
 use Rattle.json_value.specs.Denotes.{tree_of}
 use Rattle.json_value.specs.Edits.{steps_of}
-use Rattle.json_value.specs.Lending.{LendsAlong, Puts, PutsNothing, LeadsTo, name_of_ok}
+use Rattle.json_value.specs.Lending.{LendsAlong, PutsAtPath, PutsNothing, LeadsTo, name_of_ok}
 use Rattle.json_value.specs.contracts.value.Value.{the_row as value}
 use Rattle.json_text.specs.contracts.error.Error.{the_row as refusal}
 use Rattle.json_value.specs.contracts.path.PointerNode.{the_row as node}
@@ -53,7 +53,7 @@ place_mut_spec 𝓤 𝓛 𝓜 𝓡 wired =
     returns ! (look_at ! 0 refl) $ free_all ! refl $
     -- [the result; the first token; the second token and nothing; what was lent]
     move ! (3 ∷ []) $ pick ! (λ ws. split ! $ drop ! $ split ! $ move ! (1 ∷ []) $ heard ! _ (λ seen.
-    use1 𝓛 (‵ (LendsSoOk value value v r (λ n w. IfOk r (λ y. Puts (steps_of path.now) y.now w v.now n)) (PutsNothing (steps_of path.now) v.now))) (so_weaken 𝓛 value value v.ghost_name (name_of_ok r) _ _ _ _ (λ w n p ok. p (ok_place r ok)) (λ n p. no_place_on r _ p)) $
+    use1 𝓛 (‵ (LendsSoOk value value v r (λ n w. IfOk r (λ y. PutsAtPath (steps_of path.now) y.now w v.now n)) (PutsNothing (steps_of path.now) v.now))) (so_weaken 𝓛 value value v.ghost_name (name_of_ok r) _ _ _ _ (λ w n p ok. p (ok_place r ok)) (λ n p. no_place_on r _ p)) $
     suffices ! _ (ends_at 𝓛 f.ended stayed c z u r (tt, (tt, (tt, tt))) (tt, (tt, (tt, tt)))) $
     -- [what is lent; the result; the tokens]
     move ! (2 ∷ 3 ∷ []) $ join ! $ nothing ! $ nothing ! $ join ! $ nothing ! $ join ! $ nothing ! $ join ! $ move ! (1 ∷ 0 ∷ 3 ∷ 2 ∷ []) $ group ! 3 $ frame ! $ says ! seen $ done !)))))))

@@ -19,7 +19,7 @@ use Rattle.std.specs.contracts.alloc.Global.{the_row as global}
 use Rattle.std.specs.contracts.result.Result as result
 use Rattle.json_value.specs.Denotes.{tree_of}
 use Rattle.json_value.specs.Lending.{AddsNothing}
-use Rattle.json_value.specs.Touched.{Adds}
+use Rattle.json_value.specs.Touched.{AppendsItem}
 use Rattle.json_model.specs.Edit.{on_list, pushed}
 use Rattle.json_doc.specs.Readings.{type_of}
 use Rattle.json_doc.specs.declared.json_type.JsonType.TheVariants as kind
@@ -81,7 +81,7 @@ append_value_spec {M} 𝓤 𝓛 𝓜 𝓡 wired =
     let F = mut_ref_field (record { mir = named 0; lft = κs.0 }) value tt in
     let ref-laws = of_field F (mut_ref_laws (record { mir = named 0; lft = κs.0 }) value tt) refl (mut_ref_shared (record { mir = named 0; lft = κs.0 }) value tt (row_shared value value_laws)) in
     let R = result.the_row F.row refusal in
-    let Lent = λ (r : R.Denot). LendsSoOk value value v r (λ n w. (on_list (λ ts. Ok (pushed (tree_of w) ts)) (tree_of v.now) ≡ Ok (tree_of n)) × Adds w v.now n) (AddsNothing v.now) in
+    let Lent = λ (r : R.Denot). LendsSoOk value value v r (λ n w. (on_list (λ ts. Ok (pushed (tree_of w) ts)) (tree_of v.now) ≡ Ok (tree_of n)) × AppendsItem w v.now n) (AddsNothing v.now) in
     use1 𝓛 (later (some (λ (r : R.Denot). ((‵ (flft κs.0 qs.0) ⊛ ‵ (flft [] full_share) ⊛ ‵ ftrue) ⊛ ‵ (R.own_val r (u ∷ []))) ⊛ some (λ (ws : Lasts (g.ended S impl.ghosts impl.dict) κs2 a). ‵ (lasts (g.ended S impl.ghosts impl.dict) κs2 a ws) ⊛ (‵ (Lent r) ⊛ (raw (fact 𝓤 (IfOk r (λ x. x.now ≡ new))) ⊛ raw (fact 𝓤 (IfErr r (λ e. e ≡ no_memory))))))))) (id⊢ 𝓤 _) $
     await ! tt $ pick ! (λ r. split ! $ split ! $ split ! $ move ! (2 ∷ []) $ peeks ! R _ (shows 𝓛 R) r (u ∷ []) (λ is.
     lands_as ! refl refl ((((result_laws F.row refusal ref-laws refusal_laws).lawful 𝓛).typed r (u ∷ []) is).0) $

@@ -18,7 +18,7 @@ use Rattle.json_text.specs.contracts.error.Error.{the_row as refusal}
 use Rattle.json_text.proofs.error.Error.TheLaws.{the_row_laws as refusal_laws}
 use Rattle.json_value.specs.Denotes.{tree_of, list_in}
 use Rattle.json_value.specs.Seen.{list_of}
-use Rattle.json_value.specs.Lending.{Opens, missing_as_none, lent, name_of, name_of_ok, IsLent, UnlessLent}
+use Rattle.json_value.specs.Lending.{Opens, missing_as_none, lent, lent_name, name_of_ok, IsReferenceLent, UnlessLent}
 use Rattle.json_value.specs.Rows.{array_row}
 use Rattle.json_value.specs.Written.{ArrayOpened}
 use Rattle.json_value.specs.declared.value.Value.{Value, Array}
@@ -75,9 +75,9 @@ as_array_mut_spec 𝓤 𝓛 𝓜 𝓡 wired =
     -- [the result; the token and nothing; what none_if_missing says; what was lent]
     move ! (2 ∷ []) $ pick ! (λ ws2. split ! $ drop ! $ heard ! _ (λ same.
     move ! (2 ∷ []) $ pick ! (λ ws. split ! $ drop ! $ split ! $ move ! (1 ∷ []) $ heard ! _ (λ seen. keep ! (0 ∷ 1 ∷ 2 ∷ []) $
-    let Named = λ (m : maybe.Option GName). follows_so value array_row v.ghost_name m (λ w n. IsLent m → (tree_of n ≡ list (list_trees (list_in w))) × (n ≡ Array w)) (λ n. UnlessLent m (n ≡ v.now)) in
+    let Named = λ (m : maybe.Option GName). follows_so value array_row v.ghost_name m (λ w n. IsReferenceLent m → (tree_of n ≡ list (list_trees (list_in w))) × (n ≡ Array w)) (λ n. UnlessLent m (n ≡ v.now)) in
     use1 𝓛 (‵ (Named (name_of_ok r))) (so_weaken 𝓛 value array_row v.ghost_name (name_of_ok r) _ _ _ _ (λ w n p at. p (place_ok r at)) (λ n p. on_no_place r _ p)) $
-    rewrite ! 0 (λ (m : maybe.Option GName). ‵ (Named m)) (sym (ap name_of same ∙ missing_name r)) refl $
+    rewrite ! 0 (λ (m : maybe.Option GName). ‵ (Named m)) (sym (ap lent_name same ∙ missing_name r)) refl $
     suffices ! _ (ends_at 𝓛 f.ended stayed c z o s (tt, (tt, tt)) (tt, (tt, tt))) $
     nothing ! $ nothing ! $ join ! $ nothing ! $ join ! $ move ! (3 ∷ 0 ∷ 2 ∷ 1 ∷ []) $ group ! 3 $ frame ! $ frame ! $
     use0 𝓛 (raw (fact 𝓤 (IfErr s (λ e. e ≡ no_memory)))) (fact_i 𝓤 _ (emp 𝓤) (subst (λ (s : O.Denot). IfErr s (λ e. e ≡ no_memory)) (sym same) (missing_opens_only list_in (list_of (tree_of v.now)) (ArrayOpened v.now) r seen))) $

@@ -17,8 +17,8 @@ use Rattle.json_text.specs.Errors.{no_memory}
 use Rattle.json_text.specs.contracts.error.Error.{the_row as refusal}
 use Rattle.json_text.proofs.error.Error.TheLaws.{the_row_laws as refusal_laws}
 use Rattle.json_value.specs.Denotes.{tree_of, pairs_in}
-use Rattle.json_value.specs.Seen.{pairs_of}
-use Rattle.json_value.specs.Lending.{Opens, missing_as_none, lent, name_of, name_of_ok, IsLent, UnlessLent}
+use Rattle.json_value.specs.Seen.{object_pairs}
+use Rattle.json_value.specs.Lending.{Opens, missing_as_none, lent, lent_name, name_of_ok, IsReferenceLent, UnlessLent}
 use Rattle.json_value.specs.Rows.{object_row, pair_row}
 use Rattle.json_value.specs.Written.{ObjectOpened}
 use Rattle.json_value.specs.declared.value.Value.{Value, Object}
@@ -60,7 +60,7 @@ as_object_mut_spec 𝓤 𝓛 𝓜 𝓡 wired =
     calls_at ! (framed 𝓤 𝓛.H 𝓜 (tables 𝓤 𝓛.H 𝓜 𝓡 𝓡.env)) G (first-met.met 𝓤 𝓛 𝓜 𝓡 (code.calls-json_value::value::Value::object_open 𝓡.env wired)) z
     (and_then ! (get ! refl) (and_then ! (get ! refl) (no_more !))) (λ u.
     let Lent = λ (r : R.Denot). LendsSoOk value object_row v r (λ n w. (tree_of n ≡ pairs (list_pairs (pairs_in w))) × (n ≡ Object w)) (λ n. n ≡ v.now) in
-    use1 𝓛 (later (some (λ (r : R.Denot). ((‵ (flft κs.0 qs.0) ⊛ ‵ ftrue) ⊛ ‵ (R.own_val r (u ∷ []))) ⊛ some (λ (ws : Lasts g.ended κs a). ‵ (lasts g.ended κs a ws) ⊛ (‵ (Lent r) ⊛ raw (fact 𝓤 (Opens pairs_in (pairs_of (tree_of v.now)) (ObjectOpened v.now) r))))))) (id⊢ 𝓤 _) $
+    use1 𝓛 (later (some (λ (r : R.Denot). ((‵ (flft κs.0 qs.0) ⊛ ‵ ftrue) ⊛ ‵ (R.own_val r (u ∷ []))) ⊛ some (λ (ws : Lasts g.ended κs a). ‵ (lasts g.ended κs a ws) ⊛ (‵ (Lent r) ⊛ raw (fact 𝓤 (Opens pairs_in (object_pairs (tree_of v.now)) (ObjectOpened v.now) r))))))) (id⊢ 𝓤 _) $
     await ! tt $ pick ! (λ r. split ! $ split ! $ move ! (1 ∷ []) $ peeks ! R _ (shows 𝓛 R) r (u ∷ []) (λ is.
     lands_as ! refl refl ((((result_laws F.row refusal ref-laws refusal_laws).lawful 𝓛).typed r (u ∷ []) is).0) $
     let G2 = triple_of 𝓛 h.signature (h.spec 𝓛 𝓜.mem 𝓡.returns) in
@@ -77,11 +77,11 @@ as_object_mut_spec 𝓤 𝓛 𝓜 𝓡 wired =
     -- [the result; the token and nothing; what none_if_missing says; what was lent]
     move ! (2 ∷ []) $ pick ! (λ ws2. split ! $ drop ! $ heard ! _ (λ same.
     move ! (2 ∷ []) $ pick ! (λ ws. split ! $ drop ! $ split ! $ move ! (1 ∷ []) $ heard ! _ (λ seen. keep ! (0 ∷ 1 ∷ 2 ∷ []) $
-    let Named = λ (m : maybe.Option GName). follows_so value object_row v.ghost_name m (λ w n. IsLent m → (tree_of n ≡ pairs (list_pairs (pairs_in w))) × (n ≡ Object w)) (λ n. UnlessLent m (n ≡ v.now)) in
+    let Named = λ (m : maybe.Option GName). follows_so value object_row v.ghost_name m (λ w n. IsReferenceLent m → (tree_of n ≡ pairs (list_pairs (pairs_in w))) × (n ≡ Object w)) (λ n. UnlessLent m (n ≡ v.now)) in
     use1 𝓛 (‵ (Named (name_of_ok r))) (so_weaken 𝓛 value object_row v.ghost_name (name_of_ok r) _ _ _ _ (λ w n p at. p (place_ok r at)) (λ n p. on_no_place r _ p)) $
-    rewrite ! 0 (λ (m : maybe.Option GName). ‵ (Named m)) (sym (ap name_of same ∙ missing_name r)) refl $
+    rewrite ! 0 (λ (m : maybe.Option GName). ‵ (Named m)) (sym (ap lent_name same ∙ missing_name r)) refl $
     suffices ! _ (ends_at 𝓛 f.ended stayed c z o s (tt, (tt, tt)) (tt, (tt, tt))) $
     nothing ! $ nothing ! $ join ! $ nothing ! $ join ! $ move ! (3 ∷ 0 ∷ 2 ∷ 1 ∷ []) $ group ! 3 $ frame ! $ frame ! $
-    use0 𝓛 (raw (fact 𝓤 (IfErr s (λ e. e ≡ no_memory)))) (fact_i 𝓤 _ (emp 𝓤) (subst (λ (s : O.Denot). IfErr s (λ e. e ≡ no_memory)) (sym same) (missing_opens_only pairs_in (pairs_of (tree_of v.now)) (ObjectOpened v.now) r seen))) $
-    use0 𝓛 (raw (fact 𝓤 (IfSome (lent s) (ObjectOpened v.now)))) (fact_i 𝓤 _ (emp 𝓤) (subst (λ (s : O.Denot). IfSome (lent s) (ObjectOpened v.now)) (sym same) (missing_opened pairs_in (pairs_of (tree_of v.now)) (ObjectOpened v.now) r seen))) $
-    use0 𝓛 (raw (fact 𝓤 (IfOk s (λ o. option_map (λ (x : MutBor (Container (Keyed Value))). pairs_in x.now) o ≡ pairs_of (tree_of v.now))))) (fact_i 𝓤 _ (emp 𝓤) (subst (λ (s : O.Denot). IfOk s (λ o. option_map (λ (x : MutBor (Container (Keyed Value))). pairs_in x.now) o ≡ pairs_of (tree_of v.now))) (sym same) (missing_opens pairs_in (pairs_of (tree_of v.now)) (ObjectOpened v.now) r seen))) $ done !))))))))))))
+    use0 𝓛 (raw (fact 𝓤 (IfErr s (λ e. e ≡ no_memory)))) (fact_i 𝓤 _ (emp 𝓤) (subst (λ (s : O.Denot). IfErr s (λ e. e ≡ no_memory)) (sym same) (missing_opens_only pairs_in (object_pairs (tree_of v.now)) (ObjectOpened v.now) r seen))) $
+    use0 𝓛 (raw (fact 𝓤 (IfSome (lent s) (ObjectOpened v.now)))) (fact_i 𝓤 _ (emp 𝓤) (subst (λ (s : O.Denot). IfSome (lent s) (ObjectOpened v.now)) (sym same) (missing_opened pairs_in (object_pairs (tree_of v.now)) (ObjectOpened v.now) r seen))) $
+    use0 𝓛 (raw (fact 𝓤 (IfOk s (λ o. option_map (λ (x : MutBor (Container (Keyed Value))). pairs_in x.now) o ≡ object_pairs (tree_of v.now))))) (fact_i 𝓤 _ (emp 𝓤) (subst (λ (s : O.Denot). IfOk s (λ o. option_map (λ (x : MutBor (Container (Keyed Value))). pairs_in x.now) o ≡ object_pairs (tree_of v.now))) (sym same) (missing_opens pairs_in (object_pairs (tree_of v.now)) (ObjectOpened v.now) r seen))) $ done !))))))))))))

@@ -4,7 +4,7 @@ use Rattle.json_grammar.specs.Tree.{list_pairs}
 use Rattle.json_model.specs.Edit.{inserted}
 use Rattle.json_value.specs.Denotes.{tree_of, text_bytes, pair_of}
 use Rattle.json_value.proofs.AppliedTrees.{object_changed, object_kept}
-use Rattle.json_value.specs.Places.{origin_of}
+use Rattle.json_value.specs.Places.{value_origin}
 use Rattle.json_value.specs.Touched.{Inserts, Same}
 use Rattle.json_value.proofs.PlacesKept.{stands_as}
 use Rattle.json_value.proofs.EditedValues.{object_touched}
@@ -32,7 +32,7 @@ returns-in_ok-pairs-in-Some-clause-children c =
     let items = lent.pairs.now.items in
     let now = c.insert_pair.new.pairs in
     on_ok_weaker c.insert_pair.result
-    (λ h. object_touched (Inserts c.args.key.now (origin_of c.args.value.now)) c.args.self.now c.in-Some.object.now lent.pairs.now now c.in-Some.ensures.value lent.ensures.pairs lent.ensures.children
+    (λ h. object_touched (Inserts c.args.key.now (value_origin c.args.value.now)) c.args.self.now c.in-Some.object.now lent.pairs.now now c.in-Some.ensures.value lent.ensures.pairs lent.ensures.children
     (subst (λ s. Inserts c.args.key.now s items now.items) (stands_as _ _ c.in_ok-value-in-Some.ensures.spot c.in_ok-value-in-Some.ensures.places) h))
     c.insert_pair.ensures.children
 

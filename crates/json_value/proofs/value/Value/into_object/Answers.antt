@@ -1,8 +1,8 @@
 use Rattle.std.proofs.Common.{Some, sym, ap, ◌∙◌}
-use Rattle.json_value.specs.Seen.{pairs_of}
+use Rattle.json_value.specs.Seen.{object_pairs}
 use Rattle.json_value.proofs.Trees.{pairs_again}
 use Rattle.json_value.proofs.WholeTrees.{object_in}
 use Rattle.json_value.proofs.value.Value.into_object.Goals as goal
 
 pub returns-in-Object-clause-pairs : goal.returns-in-Object-clause-pairs
-returns-in-Object-clause-pairs c = ap (λ ps. Some ps) (sym (pairs_again _)) ∙ ap pairs_of (sym (object_in _ c.in-Object.object c.in-Object.is))
+returns-in-Object-clause-pairs c = ap (λ ps. Some ps) (sym (pairs_again _)) ∙ ap object_pairs (sym (object_in _ c.in-Object.object c.in-Object.is))

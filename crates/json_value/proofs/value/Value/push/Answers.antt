@@ -3,7 +3,7 @@ use Rattle.json_grammar.specs.Tree.{list_trees}
 use Rattle.json_model.specs.Edit.{pushed}
 use Rattle.json_value.specs.Denotes.{tree_of}
 use Rattle.json_value.proofs.AppliedTrees.{array_changed, array_kept, element_pushed, anyway}
-use Rattle.json_value.specs.Places.{origin_of}
+use Rattle.json_value.specs.Places.{value_origin}
 use Rattle.json_value.specs.Touched.{Pushes, Same}
 use Rattle.json_value.proofs.PlacesKept.{stands_as}
 use Rattle.json_value.proofs.EditedValues.{array_touched}
@@ -24,7 +24,7 @@ returns-in_ok-push-in-Some-clause-ok c =
 pub returns-in_ok-push-in-Some-clause-children : goal.returns-in_ok-push-in-Some-clause-children
 returns-in_ok-push-in-Some-clause-children c =
     let lent = c.in_ok-list-in-Some in
-    array_touched (Pushes (origin_of c.args.value.now)) c.args.self.now c.in-Some.array.now lent.list.now c.push.new.self c.in-Some.ensures.value lent.ensures.list lent.ensures.children
+    array_touched (Pushes (value_origin c.args.value.now)) c.args.self.now c.in-Some.array.now lent.list.now c.push.new.self c.in-Some.ensures.value lent.ensures.list lent.ensures.children
     (c.in_ok-value-in-Some.value, stands_as _ _ c.in_ok-value-in-Some.ensures.spot c.in_ok-value-in-Some.ensures.places, c.in_ok-push-in-Some.ensures.items)
 
 pub returns-in_err-push-in-Some-clause-kept_along : goal.returns-in_err-push-in-Some-clause-kept_along

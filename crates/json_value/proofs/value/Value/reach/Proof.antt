@@ -18,7 +18,7 @@ use Rattle.json_value.specs.Denotes.{tree_of}
 use Rattle.json_value.specs.Edits.{steps_of}
 use Rattle.json_value.specs.Steps.{tree_at}
 use Rattle.json_text.specs.Errors.{no_memory}
-use Rattle.json_value.specs.Lending.{LendsAlong, LendsNamed, Puts, PutsNothing, LeadsTo, missing_as_none, lent, name_of, name_of_ok}
+use Rattle.json_value.specs.Lending.{LendsAlong, LendsNamed, PutsAtPath, PutsNothing, LeadsTo, missing_as_none, lent, lent_name, name_of_ok}
 use Rattle.json_value.proofs.LenderRelations.{so_weaken}
 use Rattle.json_value.proofs.MissingPlaces.{missing_name, missing_lent, missing_stands, missing_only}
 use Rattle.json_value.specs.declared.value.Value.{Value}
@@ -72,10 +72,10 @@ reach_spec 𝓤 𝓛 𝓜 𝓡 wired =
     -- [the result; the first token; nothing; what none_if_missing says; the second token and nothing; what was lent]
     move ! (3 ∷ []) $ pick ! (λ ws2. split ! $ drop ! $ heard ! _ (λ same.
     move ! (4 ∷ []) $ pick ! (λ ws. split ! $ drop ! $ split ! $ move ! (1 ∷ []) $ heard ! _ (λ seen. keep ! (0 ∷ 1 ∷ 2 ∷ 4 ∷ []) $
-    let Put : Value → Value → Type 0 = λ n w. IfSome (lent s) (λ x. Puts (steps_of path.now) x w v.now n) in
+    let Put : Value → Value → Type 0 = λ n w. IfSome (lent s) (λ x. PutsAtPath (steps_of path.now) x w v.now n) in
     use1 𝓛 (‵ (LendsNamed v (name_of_ok r) Put (PutsNothing (steps_of path.now) v.now))) (so_weaken 𝓛 value value v.ghost_name (name_of_ok r) _ _ _ _
-    (λ w n p at. subst (λ (q : O.Denot). IfSome (lent q) (λ x. Puts (steps_of path.now) x w v.now n)) (sym same) (missing_lent r (λ x. Puts (steps_of path.now) x w v.now n) (p at))) (λ n p. p)) $
-    rewrite ! 0 (λ (m : maybe.Option GName). ‵ (LendsNamed v m Put (PutsNothing (steps_of path.now) v.now))) (sym (ap name_of same ∙ missing_name r)) refl $
+    (λ w n p at. subst (λ (q : O.Denot). IfSome (lent q) (λ x. PutsAtPath (steps_of path.now) x w v.now n)) (sym same) (missing_lent r (λ x. PutsAtPath (steps_of path.now) x w v.now n) (p at))) (λ n p. p)) $
+    rewrite ! 0 (λ (m : maybe.Option GName). ‵ (LendsNamed v m Put (PutsNothing (steps_of path.now) v.now))) (sym (ap lent_name same ∙ missing_name r)) refl $
     suffices ! _ (ends_at 𝓛 f.ended stayed c z o s (tt, (tt, (tt, tt))) (tt, (tt, (tt, tt)))) $
     -- [what is lent; the result; the first token; the second token and nothing]
     move ! (2 ∷ 3 ∷ []) $ join ! $ nothing ! $ nothing ! $ join ! $ nothing ! $ join ! $ nothing ! $ join ! $ move ! (1 ∷ 0 ∷ 3 ∷ 2 ∷ []) $ group ! 3 $ frame ! $ frame ! $ use0 𝓛 (raw (fact 𝓤 (IfErr s (λ e. e ≡ no_memory)))) (fact_i 𝓤 _ (emp 𝓤) (subst (λ (s : O.Denot). IfErr s (λ e. e ≡ no_memory)) (sym same) (missing_only (steps_of path.now) (tree_of v.now) r seen))) $ use0 𝓛 (raw (fact 𝓤 (IfOk s (λ o. option_map (λ x. tree_of x.now) o ≡ tree_at (steps_of path.now) (tree_of v.now))))) (fact_i 𝓤 _ (emp 𝓤) (subst (λ (s : O.Denot). IfOk s (λ o. option_map (λ x. tree_of x.now) o ≡ tree_at (steps_of path.now) (tree_of v.now))) (sym same) (missing_stands (steps_of path.now) (tree_of v.now) r seen))) $ done !))))))))))))

@@ -20,7 +20,7 @@ use denote.Struct.Field.{mut_ref_field}
 use denote.Struct.Laws.{mut_ref_laws}
 use denote.Param.Laws.{of_field, row_shared}
 use denote.Param.Shared.{mut_ref_shared}
-use Rattle.json_value.specs.Lending.{LendsStep, LendsNamed, Puts, PutsNothing, LeadsTo, missing_as_none, lent, name_of, name_of_ok}
+use Rattle.json_value.specs.Lending.{LendsStep, LendsNamed, PutsAtPath, PutsNothing, LeadsTo, missing_as_none, lent, lent_name, name_of_ok}
 use Rattle.json_value.specs.Steps.{child}
 use Rattle.json_value.proofs.MissingPlaces.{missing_lent, one_step, missing_name, missing_stands, missing_only}
 use Rattle.json_text.specs.Errors.{no_memory}
@@ -110,10 +110,10 @@ step_mut_spec {M} 𝓤 𝓛 𝓜 𝓡 wired I L x d dd met glue =
     -- [the result; the token; nothing; what none_if_missing says; the other tokens; what was lent]
     move ! (3 ∷ []) $ pick ! (λ ws2. split ! $ drop ! $ heard ! _ (λ same.
     move ! (4 ∷ []) $ pick ! (λ ws. split ! $ drop ! $ split ! $ move ! (1 ∷ []) $ heard ! _ (λ seen. move ! (4 ∷ []) $ split ! $ keep ! (2 ∷ 3 ∷ 4 ∷ 1 ∷ []) $
-    let Put : Value → Value → Type 0 = λ n w. IfSome (lent s) (λ y. Puts (x.step i ∷ []) y w v.now n) in
+    let Put : Value → Value → Type 0 = λ n w. IfSome (lent s) (λ y. PutsAtPath (x.step i ∷ []) y w v.now n) in
     use1 𝓛 (‵ (LendsNamed v (name_of_ok r) Put (PutsNothing (x.step i ∷ []) v.now))) (so_weaken 𝓛 value value v.ghost_name (name_of_ok r) _ _ _ _
-    (λ w n p at. subst (λ (q : O.Denot). IfSome (lent q) (λ y. Puts (x.step i ∷ []) y w v.now n)) (sym same) (missing_lent r (λ y. Puts (x.step i ∷ []) y w v.now n) (p (place_ok r at)))) (λ n p. on_no_place r _ p)) $
-    rewrite ! 0 (λ (m : maybe.Option GName). ‵ (LendsNamed v m Put (PutsNothing (x.step i ∷ []) v.now))) (sym (ap name_of same ∙ missing_name r)) refl $
+    (λ w n p at. subst (λ (q : O.Denot). IfSome (lent q) (λ y. PutsAtPath (x.step i ∷ []) y w v.now n)) (sym same) (missing_lent r (λ y. PutsAtPath (x.step i ∷ []) y w v.now n) (p (place_ok r at)))) (λ n p. on_no_place r _ p)) $
+    rewrite ! 0 (λ (m : maybe.Option GName). ‵ (LendsNamed v m Put (PutsNothing (x.step i ∷ []) v.now))) (sym (ap lent_name same ∙ missing_name r)) refl $
     suffices ! _ (ends_at 𝓛 En stays c z o s (tt, (tt, (tt, tt))) (tt, (tt, (tt, tt)))) $
     -- [what is lent; the result; the first token; the second and nothing]
     move ! (2 ∷ 3 ∷ []) $ join ! $ nothing ! $ nothing ! $ join ! $ nothing ! $ join ! $ nothing ! $ join ! $ move ! (1 ∷ 0 ∷ 3 ∷ 2 ∷ []) $ group ! 3 $ frame ! $ frame ! $ use0 𝓛 (raw (fact 𝓤 (IfErr s (λ e. e ≡ no_memory)))) (fact_i 𝓤 _ (emp 𝓤) (subst (λ (s : O.Denot). IfErr s (λ e. e ≡ no_memory)) (sym same) (missing_only (x.step i ∷ []) (tree_of v.now) r seen))) $ use0 𝓛 (raw (fact 𝓤 (IfOk s (λ o. option_map (λ (y : MutBor Value). tree_of y.now) o ≡ child (x.step i) (tree_of v.now))))) (fact_i 𝓤 _ (emp 𝓤) (subst (λ (s : O.Denot). IfOk s (λ o. option_map (λ (y : MutBor Value). tree_of y.now) o ≡ child (x.step i) (tree_of v.now))) (sym same) (subst (λ (o : Option Tree). IfOk (missing_as_none r) (λ p. option_map (λ (y : MutBor Value). tree_of y.now) p ≡ o)) (one_step (x.step i) (tree_of v.now)) (missing_stands (x.step i ∷ []) (tree_of v.now) r seen)))) $ done !)))))))))))))
