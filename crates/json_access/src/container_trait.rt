@@ -30,7 +30,8 @@ pub trait JsonContainerTrait: JsonValueTrait {
 
     /// The object; none exactly for another kind.
     fn as_object(&self) -> Option<&Object>
-        ensures pairs { option_map (λ o. pairs_in o.now) result ≡ object_pairs (Self.tree self.now) }
+        ensures pairs { option_map (λ o. pairs_in o.now) result
+            ≡ object_pairs (Self.tree self.now) }
         ensures object { IfSome result (λ o. value_there self.now ≡ Some (ObjectValue o.now)) };
 }
 

@@ -140,7 +140,8 @@ impl<'a> Line<'a> {
 
     // Whether files are to be changed in place, and standard input is one of them.
     fn changes_input(&self, setting: Setting) -> bool
-        ensures { (s : Asked) → HoldsAsked self.now s → result ≡ in_place_and_input setting s.files }
+        ensures { (s : Asked) → HoldsAsked self.now s → result
+            ≡ in_place_and_input setting s.files }
     {
         match setting {
             Setting::InPlace => has_standard_input(&self.files),
@@ -201,7 +202,8 @@ impl<'a> Line<'a> {
     // Adds an operand.
     fn take_operand(&mut self, alloc: Global, kind: OperandKind, word: &str) -> Result<(), Refusal>
         ensures ok { OnOk result ((s : Asked) → HoldsAsked self.old s
-            → missing_operand s ≡ Some kind → TakesArgument self.new s word.now (Role.Operand kind)) }
+            → missing_operand s ≡ Some kind
+            → TakesArgument self.new s word.now (Role.Operand kind)) }
         ensures err { IfErr result (λ r. (r ≡ Refusal.OutOfMemory)
             ⊎ ((s : Asked) → HoldsAsked self.old s → ¬ (MayTake s word.now (Role.Operand kind)))) }
     {

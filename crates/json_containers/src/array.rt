@@ -281,7 +281,8 @@ pub trait ArrayCalls {
     /// Keeps the elements for which `f` is true, in order.
     fn retain<F: FnMut(&Value) -> bool>(&mut self, alloc: Global, f: F) -> Result<()>
         requires { F.IsAlwaysCallable f }
-        ensures ok { OnOk result (RetainsWhereTrue (list_in (held self.old)) (list_in (held self.new))) }
+        ensures ok { OnOk result
+            (RetainsWhereTrue (list_in (held self.old)) (list_in (held self.new))) }
         ensures children { OnOk result (ArrayChanged (IsFiltered (CalledAt F.FnMut) f)
             (held self.old) (held self.new)) }
         ensures kept { OnErr result (held self.new ≡ held self.old) }

@@ -42,7 +42,8 @@ fn key_between<S: Lent>(alloc: Global, key: Piece<S>, low: u128, high: u128) -> 
         → integer_key (between low high) s ≡ gives (integer_datum n)) }
     ensures within { IfOk result (λ n. between low high n ≡ true) }
     ensures err { IfErr result (λ e.
-        KeyReadingFails (λ s. Says s key.escaped (S.bytes key.text)) (integer_key (between low high)) e) }
+        KeyReadingFails (λ s. Says s key.escaped (S.bytes key.text))
+        (integer_key (between low high)) e) }
 {
     let whole = match key_whole(alloc, key) {
         Ok(whole) => whole,

@@ -54,7 +54,8 @@ impl<'a> Level<'a> {
 
     /// Takes the first member that is left.
     pub(crate) fn member(&mut self) -> Option<(&'a str, View<'a>)>
-        ensures { (c : List Left) → PullsMember (left_after_opening self.old c) (option_map member_seen result)
+        ensures { (c : List Left)
+            → PullsMember (left_after_opening self.old c) (option_map member_seen result)
             (left_after_opening self.new c) }
     {
         match self {

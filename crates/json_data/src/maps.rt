@@ -28,7 +28,8 @@ fn read_rows<S: Lent, K: FromKey<S> + Drop, V: DeserializeFrom<S> + Drop, T: Tok
 ) -> Result<BTreeMap<K, V>>
     requires { InObject (T.stand tokens.old).spot }
     ensures ok { (a : T) → TakesOne T.taken T.stand a tokens.old (begin_token object)
-        → IfOk result (λ m. ReadsNonNull T.taken T.stand (read_map K.from_text V.from_tree) a tokens.new
+        → IfOk result (λ m. ReadsNonNull T.taken T.stand
+        (read_map K.from_text V.from_tree) a tokens.new
         (gives (rows_datum (list_rows (map (row_of K.key_datum V.datum) m.entries))))) }
     ensures err { (a : T) → TakesOne T.taken T.stand a tokens.old (begin_token object)
         → IfErr result (λ e.

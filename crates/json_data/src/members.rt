@@ -60,7 +60,8 @@ pub trait Members<S: Lent>: Sized {
         ensures ok { OnOk result (ReadsTree T.taken T.stand (step (so_far self.old) name.now)
             tokens.old tokens.new (gives (so_far self.new))) }
         ensures err { IfErr result (λ e.
-            StopsReading T.taken T.stand (step (so_far self.old) name.now) tokens.old tokens.new e) };
+            StopsReading T.taken T.stand
+            (step (so_far self.old) name.now) tokens.old tokens.new e) };
 }
 
 // Takes the value of the member whose name a piece says.
@@ -92,7 +93,8 @@ fn read_rest<S: Lent, M: Members<S>, T: Tokens<S>>(
 ) -> Result<()>
     requires { InObject (T.stand tokens.old).spot }
     ensures ok { (a : T) → TakesOne T.taken T.stand a tokens.old (begin_token object)
-        → OnOk result (ReadsNonNull T.taken T.stand (spec_read_members M.step (M.so_far members.old))
+        → OnOk result (ReadsNonNull T.taken T.stand
+        (spec_read_members M.step (M.so_far members.old))
         a tokens.new (gives (M.so_far members.new))) }
     ensures err { (a : T) → TakesOne T.taken T.stand a tokens.old (begin_token object)
         → IfErr result (λ e. Misses T.taken T.stand

@@ -30,7 +30,8 @@ fn boolean_by_kind<S: Lent, T: Tokens<S>>(tokens: &mut T) -> Result<bool>
     requires { WantsValue (T.stand tokens.old) }
     ensures ok { IfOk result (λ b. ReadsTree T.taken T.stand read_boolean
         tokens.old tokens.new (gives (boolean_datum b))) }
-    ensures err { IfErr result (λ e. StopsReading T.taken T.stand read_boolean tokens.old tokens.new e) }
+    ensures err { IfErr result
+        (λ e. StopsReading T.taken T.stand read_boolean tokens.old tokens.new e) }
 {
     if tokens.peek()? != TokenKind::Bool {
         tokens.skip()?;
@@ -87,7 +88,8 @@ fn text_by_kind<S: Lent, T: Tokens<S>>(tokens: &mut T) -> Result<Piece<S>>
     requires { WantsValue (T.stand tokens.old) }
     ensures ok { IfOk result (λ p.
         TakesText T.taken T.stand (λ s. Says s p.escaped (S.bytes p.text)) tokens.old tokens.new) }
-    ensures err { IfErr result (λ e. StopsReading T.taken T.stand read_text tokens.old tokens.new e) }
+    ensures err { IfErr result
+        (λ e. StopsReading T.taken T.stand read_text tokens.old tokens.new e) }
 {
     if tokens.peek()? != TokenKind::Text {
         tokens.skip()?;
@@ -102,7 +104,8 @@ pub(crate) fn expect_text<S: Lent, T: Tokens<S>>(tokens: &mut T) -> Result<Piece
     requires { WantsValue (T.stand tokens.old) }
     ensures ok { IfOk result (λ p.
         TakesText T.taken T.stand (λ s. Says s p.escaped (S.bytes p.text)) tokens.old tokens.new) }
-    ensures err { IfErr result (λ e. StopsReading T.taken T.stand read_text tokens.old tokens.new e) }
+    ensures err { IfErr result
+        (λ e. StopsReading T.taken T.stand read_text tokens.old tokens.new e) }
 {
     if let Some(piece) = tokens.text() {
         return Ok(piece);
@@ -371,7 +374,8 @@ fn read_two<S: Lent, A: DeserializeFrom<S> + Drop, B: DeserializeFrom<S> + Drop,
 ) -> Result<(A, B)>
     requires { InArray (T.stand tokens.old).spot }
     ensures ok { (a : T) → TakesOne T.taken T.stand a tokens.old (begin_token array)
-        → IfOk result (λ p. ReadsNonNull T.taken T.stand (read_pair A.from_tree B.from_tree) a tokens.new
+        → IfOk result (λ p. ReadsNonNull T.taken T.stand
+        (read_pair A.from_tree B.from_tree) a tokens.new
         (gives (list_datum (list_data (A.datum p.0 ∷ B.datum p.1 ∷ []))))) }
     ensures err { (a : T) → TakesOne T.taken T.stand a tokens.old (begin_token array)
         → IfErr result (λ e.

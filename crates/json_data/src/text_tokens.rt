@@ -148,7 +148,8 @@ impl<'a> TextTokens<'a> {
         requires over { (text_tokens_state self).spot ≡ over }
         requires told { (text_tokens_state self).told ≡ None }
         ensures ok { OnOk result ((ts : List Tok) → text_taken self.entry ts
-            → (t : Tree) × is_text self.entry.parser.lossy t (input self.entry.parser) × (ts ≡ tokens t) × (depth t ≤ self.entry.parser.limit)) }
+            → (t : Tree) × is_text self.entry.parser.lossy t (input self.entry.parser)
+            × (ts ≡ tokens t) × (depth t ≤ self.entry.parser.limit)) }
         ensures err { IfErr result (λ e.
             FaultFrom self.entry.parser.lossy self.entry.parser.limit self.entry.parser.start
             self.entry.parser.text e.code e.place) }
@@ -176,7 +177,8 @@ impl<'a> TextTokens<'a> {
         requires none { self.old.ahead ≡ None }
         requires unfailed { self.old.failed ≡ None }
         ensures ok { IsTrue result
-            → (k : TokenKindOf) × Peeks (text_tokens_state self.old) (text_tokens_state self.new) k }
+            → (k : TokenKindOf) × Peeks (text_tokens_state self.old)
+            (text_tokens_state self.new) k }
         ensures none { IsTrue result → TakesTokens text_taken self.old [] self.new }
         ensures unfailed { IsTrue result → self.new.failed ≡ None }
         ensures failed { result ≡ false → IsSome self.new.failed }
@@ -200,10 +202,12 @@ impl<'a> TextTokens<'a> {
     #[inline(always)]
     fn look(&mut self) -> Result<TokenKind>
         requires { NotWhole (text_tokens_state self.old) }
-        ensures ok { IfOk result (λ k. Peeks (text_tokens_state self.old) (text_tokens_state self.new) k) }
+        ensures ok { IfOk result
+            (λ k. Peeks (text_tokens_state self.old) (text_tokens_state self.new) k) }
         ensures none { OnOk result (TakesTokens text_taken self.old [] self.new) }
         ensures unfailed { OnOk result (self.new.failed ≡ None) }
-        ensures err { IfErr result (λ e. TokensFail (text_tokens_state self.old) (text_tokens_state self.new) e) }
+        ensures err { IfErr result
+            (λ e. TokensFail (text_tokens_state self.old) (text_tokens_state self.new) e) }
         ensures cause { self.old.failed ≡ None → IfErr result (HasFault self.new.parser) }
         ensures again { IfSome self.old.failed (λ e. result ≡ Err e) }
     {
@@ -229,7 +233,8 @@ impl<'a> TextTokens<'a> {
         ensures ok { IfOk result (λ y. (x : Tok) × DenotesToken (λ s. s.now) y x
             × TakesOne text_taken text_tokens_state self.old self.new x) }
         ensures unfailed { OnOk result (self.new.failed ≡ None) }
-        ensures err { IfErr result (λ e. TokensFail (text_tokens_state self.old) (text_tokens_state self.new) e) }
+        ensures err { IfErr result
+            (λ e. TokensFail (text_tokens_state self.old) (text_tokens_state self.new) e) }
         ensures cause { self.old.failed ≡ None → IfErr result (HasFault self.new.parser) }
         ensures again { IfSome self.old.failed (λ e. result ≡ Err e) }
     {
@@ -250,7 +255,8 @@ impl<'a> TextTokens<'a> {
             TakesTree text_taken text_tokens_state self.old self.new (tree_of v)) }
         ensures place { IfOk result IsPackedAtRoot }
         ensures unfailed { OnOk result (self.new.failed ≡ None) }
-        ensures err { IfErr result (λ e. TokensFail (text_tokens_state self.old) (text_tokens_state self.new) e) }
+        ensures err { IfErr result
+            (λ e. TokensFail (text_tokens_state self.old) (text_tokens_state self.new) e) }
         ensures cause { self.old.failed ≡ None → IfErr result (TextFails self.new.parser) }
         ensures again { IfSome self.old.failed (λ e. result ≡ Err e) }
     {
@@ -274,7 +280,8 @@ impl<'a> TextTokens<'a> {
         requires { IsOpen (text_tokens_state self.old).spot }
         ensures ok { OnOk result (Leaves text_taken text_tokens_state self.old self.new) }
         ensures unfailed { OnOk result (self.new.failed ≡ None) }
-        ensures err { IfErr result (λ e. TokensFail (text_tokens_state self.old) (text_tokens_state self.new) e) }
+        ensures err { IfErr result
+            (λ e. TokensFail (text_tokens_state self.old) (text_tokens_state self.new) e) }
         ensures cause { self.old.failed ≡ None → IfErr result (HasFault self.new.parser) }
         ensures again { IfSome self.old.failed (λ e. result ≡ Err e) }
     {
@@ -298,7 +305,8 @@ impl<'a> TextTokens<'a> {
         ensures ok { OnOk result ((t : Tree)
             × TakesTree text_taken text_tokens_state self.old self.new t) }
         ensures unfailed { OnOk result (self.new.failed ≡ None) }
-        ensures err { IfErr result (λ e. TokensFail (text_tokens_state self.old) (text_tokens_state self.new) e) }
+        ensures err { IfErr result
+            (λ e. TokensFail (text_tokens_state self.old) (text_tokens_state self.new) e) }
         ensures cause { self.old.failed ≡ None → IfErr result (HasFault self.new.parser) }
         ensures again { IfSome self.old.failed (λ e. result ≡ Err e) }
     {

@@ -41,7 +41,8 @@ impl<'a> DocPairs<'a> {
         requires inside { AllBelow (doc_cells doc.now) 1 (next + 1) left }
         requires keyed { AllKeys (doc_cells doc.now) (next + 1) left }
         ensures doc { pairs_doc result ≡ doc.now }
-        ensures places { places_of_pairs result ≡ places_from (doc_cells doc.now) 1 (next + 1) left }
+        ensures places { places_of_pairs result
+            ≡ places_from (doc_cells doc.now) 1 (next + 1) left }
         ensures pairs { pairs_left result
             ≡ map (doc_pair doc.now) (places_from (doc_cells doc.now) 1 (next + 1) left) }
     {

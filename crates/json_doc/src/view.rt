@@ -178,7 +178,8 @@ impl<'a> DocView<'a> {
     /// The key of the pair `i`, counted from 0; none of another kind, or past the last.
     #[inline]
     pub fn key(self, i: usize) -> Option<&'a str>
-        ensures { option_map (λ s. s.now) result ≡ slice_get (object_keys (view_tree self.entry)) i }
+        ensures { option_map (λ s. s.now) result
+            ≡ slice_get (object_keys (view_tree self.entry)) i }
     {
         match self.value_place(i) {
             Some(at) => Some(key_text(self.doc, at - 1)),

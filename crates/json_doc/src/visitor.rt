@@ -89,7 +89,8 @@ pub trait JsonVisitor {
     /// A string by what is between its quotes.
     fn visit_str(&mut self, s: Span<'_>) -> bool
         requires { (state self.old).full ≡ false
-            → (t : List ℕ) × chars s.lossy t s.raw.now × MayComeAfter (holds self.old) (text_token t) }
+            → (t : List ℕ) × chars s.lossy t s.raw.now
+            × MayComeAfter (holds self.old) (text_token t) }
         ensures answer { IsTrue result ↔ Fits (state self.old) 1 (length s.entry.raw.now) }
         ensures state { (t : List ℕ) → chars s.entry.lossy t s.entry.raw.now
             → state self.new ≡ after_event result 1 (length t) (state self.old) }
@@ -100,7 +101,8 @@ pub trait JsonVisitor {
     /// A key by what is between its quotes.
     fn visit_key(&mut self, s: Span<'_>) -> bool
         requires { (state self.old).full ≡ false
-            → (t : List ℕ) × chars s.lossy t s.raw.now × MayComeAfter (holds self.old) (key_token t) }
+            → (t : List ℕ) × chars s.lossy t s.raw.now
+            × MayComeAfter (holds self.old) (key_token t) }
         ensures answer { IsTrue result ↔ Fits (state self.old) 1 (length s.entry.raw.now) }
         ensures state { (t : List ℕ) → chars s.entry.lossy t s.entry.raw.now
             → state self.new ≡ after_event result 1 (length t) (state self.old) }

@@ -69,7 +69,8 @@ fn next_key<S: Lent, T: Tokens<S>>(tokens: &mut T) -> Result<Piece<S>>
 pub(crate) fn next_name<S: Lent, T: Tokens<S>>(tokens: &mut T) -> Result<Option<Piece<S>>>
     requires { InObject (T.stand tokens.old).spot }
     ensures name { IfOk result (λ r. IfSome r (λ p.
-        TakesKeyPiece T.taken T.stand (λ s. Says s p.escaped (S.bytes p.text)) tokens.old tokens.new)) }
+        TakesKeyPiece T.taken T.stand
+        (λ s. Says s p.escaped (S.bytes p.text)) tokens.old tokens.new)) }
     ensures end { IfOk result (λ r. r ≡ None
         → TakesOne T.taken T.stand tokens.old tokens.new (end_token object)) }
     ensures err { IfErr result (λ e. TokensFail (T.stand tokens.old) (T.stand tokens.new) e) }

@@ -50,7 +50,8 @@ impl Document {
 pub(crate) fn read_bytes(alloc: Global, bytes: &[u8], rules: Rules) -> Result<Rc<Doc>>
     ensures ok { IfOk result (λ d. IsInput (rules_of rules) bytes.now
         (doc_tree d.value (doc_root d.value))) }
-    ensures err { IfErr result (λ e. ReadingDocumentFails (rules_of rules) bytes.now e.code e.place) }
+    ensures err { IfErr result
+        (λ e. ReadingDocumentFails (rules_of rules) bytes.now e.code e.place) }
 {
     if bytes.len() > MAX_BYTES {
         return Err(Error {

@@ -93,11 +93,13 @@ impl Tally {
     ) -> Result<()>
         requires few { (part_view part).before + length (part_view part).bytes + 1 < 2 ^ 64 }
         ensures ok { OnOk result (Handles
-            (PartsHave true (HasPartOutcome (task_of C.changed job.now)) (part_view part.entry ∷ []))
+            (PartsHave true (HasPartOutcome (task_of C.changed job.now))
+            (part_view part.entry ∷ []))
             self.old self.new
             (K.state sink.old) (K.state sink.new) (E.state errs.old) (E.state errs.new)) }
         ensures err { IfErr result (StopsRunning
-            (PartsHave false (HasPartOutcome (task_of C.changed job.now)) (part_view part.entry ∷ []))
+            (PartsHave false (HasPartOutcome (task_of C.changed job.now))
+            (part_view part.entry ∷ []))
             self.old self.new
             (K.state sink.old) (K.state sink.new) (E.state errs.old) (E.state errs.new)) }
         ensures told { ReturnsWriteError (K.state sink.old) (K.state sink.new) result }
@@ -189,14 +191,16 @@ impl Tally {
     ) -> Result<Option<usize>>
         requires { IsCharBoundary place.text.now place.offset }
         ensures ok { IfOk result (λ next. Handles
-            (ValueHas (task_of C.changed job.now) (stream_value_place place.entry) next) self.old self.new
+            (ValueHas (task_of C.changed job.now)
+            (stream_value_place place.entry) next) self.old self.new
             (K.state sink.old) (K.state sink.new) (E.state errs.old) (E.state errs.new)) }
         ensures next { IfOk result (λ next. IfSome next
             (IsNextPlace place.entry.text.now place.entry.offset)) }
         ensures err { IfErr result (StopsRunning
             (StreamHas (task_of C.changed job.now) (stream_value_place place.entry).name
             (stream_value_place place.entry).text false
-            (stream_value_place place.entry).offset (stream_value_place place.entry).number) self.old self.new
+            (stream_value_place place.entry).offset
+            (stream_value_place place.entry).number) self.old self.new
             (K.state sink.old) (K.state sink.new) (E.state errs.old) (E.state errs.new)) }
         ensures told { ReturnsWriteError (K.state sink.old) (K.state sink.new) result }
     {

@@ -104,7 +104,8 @@ impl History {
         ensures children { OnOk result
             (Touches (edit_path edit) edit (history_value self.old) (history_value self.new)) }
         ensures kept_along { OnErr result
-            (KeepsOnRefusal (edit_path edit) edit (history_value self.old) (history_value self.new)) }
+            (KeepsOnRefusal (edit_path edit) edit (history_value self.old)
+            (history_value self.new)) }
         ensures shares { OnOk result
             (AppendsChange (history_value self.old) (changes_in self.old) (changes_in self.new)) }
     {

@@ -208,7 +208,8 @@ fn restore_target(place: &mut Value, alloc: Global, change: &Change) -> Result<(
 // Undoes the change of what lends places.
 fn restore_in<V: Places>(target: &mut V, alloc: Global, change: &Change) -> Result<()>
     requires { IsOk (undone (tree_of (V.held target.old)) (tree_change_of change.now)) }
-    ensures ok { OnOk result (Makes (undone (tree_of (V.held target.old)) (tree_change_of change.now))
+    ensures ok { OnOk result
+        (Makes (undone (tree_of (V.held target.old)) (tree_change_of change.now))
         (V.held target.new)) }
     ensures kept { OnErr result (tree_of (V.held target.new) ≡ tree_of (V.held target.old)) }
     ensures children { OnOk result (Along (change_path change.now) (RestoresAt change.now)

@@ -78,7 +78,8 @@ fn undo_change(
 ) -> Result<Edit>
     requires undone { IsOk (undone (tree_of value.old) (tree_change_of change.now)) }
     requires again { IsOk (redo_edit (tree_of value.old) (tree_change_of change.now)) }
-    ensures ok { OnOk result (Makes (undone (tree_of value.old) (tree_change_of change.now)) value.new) }
+    ensures ok { OnOk result
+        (Makes (undone (tree_of value.old) (tree_change_of change.now)) value.new) }
     ensures again { IfOk result (λ e. redo_edit (tree_of value.old) (tree_change_of change.now)
         ≡ Ok (edit_of e)) }
     ensures shares { IfOk result (EditSharesParts (whole_value value.old)) }
@@ -145,7 +146,8 @@ fn reapply(alloc: Global, value: &mut Value, changes: &mut Vec<Change>, edit: &E
         (Makes (edited_once (edit_of edit.now) (tree_of value.old)) value.new) }
     ensures kept { OnErr result (tree_of value.new ≡ tree_of value.old) }
     ensures children { OnOk result (Touches (edit_path edit.now) edit.now value.old value.new) }
-    ensures kept_along { OnErr result (KeepsOnRefusal (edit_path edit.now) edit.now value.old value.new) }
+    ensures kept_along { OnErr result
+        (KeepsOnRefusal (edit_path edit.now) edit.now value.old value.new) }
     ensures changes { changes.new.items ≡ changes.old.items }
     ensures room { OnOk result (vec_len changes.new < vec_capacity changes.new) }
     ensures only { OnlyNoMemory result }

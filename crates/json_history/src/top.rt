@@ -79,7 +79,8 @@ pub fn run_history<S: Source, K: Sink, E: Sink>(
         → IsInvalid words.now (S.state source.old) (S.state source.new) code place
         → StatusReports 1 (record { code = code; place = place })
         (E.state errs.old) (E.state errs.new) result }
-    ensures words { ((cs : List TreeCall) → ¬ (AsksForCalls words.now cs)) → (result ≡ 2) ⊎ (result ≡ 6) }
+    ensures words { ((cs : List TreeCall) → ¬ (AsksForCalls words.now cs)) → (result ≡ 2)
+        ⊎ (result ≡ 6) }
 {
     match execute(alloc, words, source, sink) {
         Ok(()) => Status::Success.number(),

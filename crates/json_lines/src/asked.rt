@@ -203,7 +203,8 @@ fn read_table(alloc: Global, columns: &str, has: Option<&str>) -> Result<Table>
         SpellsCommand columns.now (option_map (λ s. s.now) has.entry) (table_command t)) }
     ensures err { IfErr result (λ e. (e ≡ no_memory)
         ⊎ ((e ≡ bad_words)
-        × ((k : LinesCommand) → ¬ (SpellsCommand columns.now (option_map (λ s. s.now) has.entry) k)))) }
+        × ((k : LinesCommand)
+        → ¬ (SpellsCommand columns.now (option_map (λ s. s.now) has.entry) k)))) }
 {
     let columns = limited_columns(alloc, columns)?;
     match read_has(alloc, has) {
@@ -249,7 +250,8 @@ fn split_words(words: &Words) -> Option<(&str, Option<&str>)>
 // Reads the table that the words ask for.
 pub(crate) fn asked(alloc: Global, words: &Words) -> Result<Table>
     ensures ok { IfOk result (λ t. AsksForColumns words.now (table_command t)) }
-    ensures err { IfErr result (λ e. (e ≡ no_memory) ⊎ ((e ≡ bad_words) × ¬ (IsLinesRequest words.now))) }
+    ensures err { IfErr result
+        (λ e. (e ≡ no_memory) ⊎ ((e ≡ bad_words) × ¬ (IsLinesRequest words.now))) }
 {
     match split_words(words) {
         Some((columns, has)) => read_table(alloc, columns, has),

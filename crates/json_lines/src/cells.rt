@@ -133,7 +133,8 @@ pub(crate) fn write_next_cell<W: Sink>(
 ) -> Result<()>
     ensures { WritesText
         (⟦<BufferedWriter<W> as Sink>⟧.state out.old) (⟦<BufferedWriter<W> as Sink>⟧.state out.new)
-        (cell_separator first ++ cell_where (cell_kind kind) (option_map view_tree found.entry)) result }
+        (cell_separator first ++ cell_where (cell_kind kind)
+        (option_map view_tree found.entry)) result }
 {
     match write_separator(out, first) {
         Ok(()) => write_cell(out, kind, found),

@@ -87,7 +87,8 @@ fn run_table<S: Source, K: Sink, E: Sink>(
     sink: &mut K,
     errs: &mut E,
 ) -> u8
-    ensures { (words : List (List ℕ)) → AsksForColumns words (table_command table.now) → RunResult words
+    ensures { (words : List (List ℕ)) → AsksForColumns words (table_command table.now)
+        → RunResult words
         (streams (S.state source.old) (K.state sink.old) (E.state errs.old))
         (streams (S.state source.new) (K.state sink.new) (E.state errs.new)) result }
 {

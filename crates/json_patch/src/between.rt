@@ -170,7 +170,8 @@ impl PatchWriter {
 
     // Appends `remove` of the value that the token references.
     fn push_removal_at(&mut self, token: &str) -> Result<()>
-        ensures ok { OnOk result (AppendsOperations self.old self.new (remove (token.now ∷ []) ∷ [])) }
+        ensures ok { OnOk result
+            (AppendsOperations self.old self.new (remove (token.now ∷ []) ∷ [])) }
         ensures only { OnlyNoMemory result }
     {
         let len = self.push_token(token)?;

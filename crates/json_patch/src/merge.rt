@@ -158,7 +158,8 @@ fn merge_object_in(value: &mut Value, alloc: Global, members: ObjectView<'_>) ->
 // Merges a patch into a value. An error leaves the value unspecified.
 #[cycle(merge)]
 fn merge_in(value: &mut Value, alloc: Global, patch: View<'_>) -> TextResult<()>
-    ensures ok { OnOk result (tree_of value.new ≡ merge_patched (tree_of value.old) (seen patch.entry)) }
+    ensures ok { OnOk result
+        (tree_of value.new ≡ merge_patched (tree_of value.old) (seen patch.entry)) }
     ensures only { OnlyNoMemory result }
 {
     match patch.as_object() {
@@ -186,7 +187,8 @@ fn merge_in(value: &mut Value, alloc: Global, patch: View<'_>) -> TextResult<()>
 /// assert_eq!(rt; value.to_string(alloc)?.as_str(), "{\"a\":\"z\",\"c\":{\"d\":\"e\"}}");
 /// ```
 pub fn apply_merge(alloc: Global, value: &mut Value, patch: View<'_>) -> Result<(), PatchError>
-    ensures ok { OnOk result (tree_of value.new ≡ merge_patched (tree_of value.old) (seen patch.entry)) }
+    ensures ok { OnOk result
+        (tree_of value.new ≡ merge_patched (tree_of value.old) (seen patch.entry)) }
     ensures kept { OnErr result (value.new ≡ value.old) }
     ensures only { IfErr result (λ e. e ≡ no_memory_in_patch) }
 {
@@ -203,7 +205,8 @@ pub fn apply_merge(alloc: Global, value: &mut Value, patch: View<'_>) -> Result<
 }
 
 fn merge_copy(value: &Value, alloc: Global, patch: View<'_>) -> TextResult<Value>
-    ensures ok { IfOk result (λ v. tree_of v ≡ merge_patched (tree_of value.now) (seen patch.entry)) }
+    ensures ok { IfOk result
+        (λ v. tree_of v ≡ merge_patched (tree_of value.now) (seen patch.entry)) }
     ensures only { OnlyNoMemory result }
 {
     let mut work = value.clone(alloc)?;

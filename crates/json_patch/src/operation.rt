@@ -161,7 +161,8 @@ pub fn are_tokens_same(first: &[String], second: &[String]) -> bool
 fn read_move(alloc: Global, object: ObjectView<'_>) -> Result<Option<Operation>>
     ensures ok { let ps = list_pairs (members_seen object.entry) in
         IfOk result (λ o. option_map model_operation o ≡ move_allowed (moved_from
-        (pointer_in (single_value (codes "from") ps)) (pointer_in (single_value (codes "path") ps)))) }
+        (pointer_in (single_value (codes "from") ps))
+        (pointer_in (single_value (codes "path") ps)))) }
     ensures only { OnlyNoMemory result }
 {
     match from_and_path(alloc, object)? {

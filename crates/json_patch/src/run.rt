@@ -74,7 +74,8 @@ fn carry_out<S: Source, K: Sink>(
 ) -> Result<(), CommandError>
     ensures done { OnOk result (WithRequest arguments.now (λ r. WritesOutcome r
         (S.state source.old) (S.state source.new) (K.state sink.old) (K.state sink.new))) }
-    ensures refused { IfErr result (PatchRunFails arguments.now (S.state source.old) (S.state source.new)
+    ensures refused { IfErr result
+        (PatchRunFails arguments.now (S.state source.old) (S.state source.new)
         (K.state sink.old) (K.state sink.new)) }
     ensures taken { TakesAtMost (max_bytes + 1) (S.state source.old) (S.state source.new) }
     ensures read_told { (S.state source.old).faults < (S.state source.new).faults
@@ -128,7 +129,8 @@ pub fn run_patch<S: Source, K: Sink, E: Sink>(
     sink: &mut K,
     errs: &mut E,
 ) -> u8
-    ensures done { result ≡ 0 → PatchSucceeds arguments.now (S.state source.old) (S.state source.new)
+    ensures done { result ≡ 0
+        → PatchSucceeds arguments.now (S.state source.old) (S.state source.new)
         (K.state sink.old) (K.state sink.new) (E.state errs.old) (E.state errs.new) }
     ensures refused { result ≢ 0 → ReportsPatchError result arguments.now
         (S.state source.old) (S.state source.new)

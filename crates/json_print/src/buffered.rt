@@ -149,7 +149,8 @@ impl<W: Sink> BufferedWriter<W> {
     #[inline(always)]
     pub(crate) fn put_item(&mut self, first: bool, text: &[u8]) -> bool
         ensures put { IsTrue result → Adds (⟦<BufferedWriter<W> as Sink>⟧.state self.old)
-            (⟦<BufferedWriter<W> as Sink>⟧.state self.new) (comma first ++ quoted text.now) (Ok tt) }
+            (⟦<BufferedWriter<W> as Sink>⟧.state self.new) (comma first ++ quoted text.now)
+            (Ok tt) }
         ensures kept { result ≡ false → ⟦<BufferedWriter<W> as Sink>⟧.state self.new
             ≡ ⟦<BufferedWriter<W> as Sink>⟧.state self.old }
     {
@@ -315,7 +316,8 @@ impl<W: Sink> BufferedWriter<W> {
     fn put_last(&mut self, text: &[u8]) -> Added
         requires { length text.now ≤ 16 }
         ensures { Adds (⟦<BufferedWriter<W> as Sink>⟧.state self.old)
-            (⟦<BufferedWriter<W> as Sink>⟧.state self.new) (shown_bytes text.now ++ 34 ∷ []) result }
+            (⟦<BufferedWriter<W> as Sink>⟧.state self.new)
+            (shown_bytes text.now ++ 34 ∷ []) result }
     {
         match self.make_room() {
             Ok(()) => {}

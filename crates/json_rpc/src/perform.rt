@@ -44,7 +44,8 @@ fn step_into<'a>(here: View<'a>, step: &PointerNode) -> std::result::Result<View
 // Returns the value that a path leads to, or the error that there is none.
 fn lookup<'a>(root: View<'a>, path: &[PointerNode]) -> std::result::Result<View<'a>, RpcError>
     ensures { result_map_both seen (λ f. f) result
-        ≡ result_map_both (λ u. u) rpc_error_of (tree_at_path (steps_of path.now) (seen root.entry)) }
+        ≡ result_map_both (λ u. u) rpc_error_of
+        (tree_at_path (steps_of path.now) (seen root.entry)) }
 {
     let mut here = root;
     'steps: for step in path {

@@ -50,7 +50,8 @@ fn serve_buffered<S: Source, W: Sink>(
 fn serve_all<S: Source, K: Sink>(alloc: Global, source: &mut S, sink: &mut K) -> Result<()>
     ensures ok { OnOk result (ServesAll (service_streams (S.state source.old) (K.state sink.old))
         (service_streams (S.state source.new) (K.state sink.new))) }
-    ensures err { IfErr result (λ e. StopsRun (service_streams (S.state source.old) (K.state sink.old))
+    ensures err { IfErr result
+        (λ e. StopsRun (service_streams (S.state source.old) (K.state sink.old))
         (service_streams (S.state source.new) (K.state sink.new)) e) }
 {
     let reader = LineReader::new(alloc, MAX_LINE_BYTES)?;
@@ -148,11 +149,14 @@ pub fn run_rpc<S: Source, K: Sink, E: Sink>(
     sink: &mut K,
     errs: &mut E,
 ) -> u8
-    ensures read { result ≡ 0 → ReadsWholeSource (service_streams (S.state source.old) (K.state sink.old))
+    ensures read { result ≡ 0
+        → ReadsWholeSource (service_streams (S.state source.old) (K.state sink.old))
         (service_streams (S.state source.new) (K.state sink.new)) }
-    ensures replies { result ≡ 0 → AppendsReplies (service_streams (S.state source.old) (K.state sink.old))
+    ensures replies { result ≡ 0
+        → AppendsReplies (service_streams (S.state source.old) (K.state sink.old))
         (service_streams (S.state source.new) (K.state sink.new)) }
-    ensures written { result ≡ 0 → WritesAll (service_streams (S.state source.old) (K.state sink.old))
+    ensures written { result ≡ 0
+        → WritesAll (service_streams (S.state source.old) (K.state sink.old))
         (service_streams (S.state source.new) (K.state sink.new)) }
     ensures silent { result ≡ 0 → E.state errs.new ≡ E.state errs.old }
     ensures failed { result ≢ 0 → ReportsFailure words.now
@@ -171,7 +175,8 @@ pub fn run_rpc<S: Source, K: Sink, E: Sink>(
         × (max_bytes < length bytes) }
     ensures read_told { (S.state source.old).faults < (S.state source.new).faults → result ≡ 4 }
     ensures write_told { (K.state sink.old).faults < (K.state sink.new).faults → result ≡ 5 }
-    ensures complete { NothingFailsServing words.now (service_streams (S.state source.old) (K.state sink.old))
+    ensures complete { NothingFailsServing words.now
+        (service_streams (S.state source.old) (K.state sink.old))
         (service_streams (S.state source.new) (K.state sink.new)) → (result ≡ 0) ⊎ (result ≡ 6) }
 {
     run_words(alloc, words, source, sink, errs)

@@ -297,7 +297,8 @@ impl<'a> Parser<'a> {
     pub fn next(&mut self) -> Result<Event<'a>>
         ensures same { SameInput self.old self.new }
         ensures ok { IfOk result
-            (λ e. (self.old.failure ≡ None) × (self.new.failure ≡ None) × Goes self.old e self.new) }
+            (λ e. (self.old.failure ≡ None) × (self.new.failure ≡ None)
+            × Goes self.old e self.new) }
         ensures tight { IfOk result (λ e. IsTight self.old e self.new) }
         ensures between { IfOk result (λ e. IsLent e self.new) }
         ensures err { IfErr result (λ e. Refuses self.old e self.new) }
@@ -318,7 +319,8 @@ impl<'a> Parser<'a> {
     pub fn next_by<const USE: u8>(&mut self) -> Result<Event<'a>>
         ensures same { SameInput self.old self.new }
         ensures ok { IfOk result
-            (λ e. (self.old.failure ≡ None) × (self.new.failure ≡ None) × Goes self.old e self.new) }
+            (λ e. (self.old.failure ≡ None) × (self.new.failure ≡ None)
+            × Goes self.old e self.new) }
         ensures tight { IfOk result (λ e. IsTight self.old e self.new) }
         ensures between { IfOk result (λ e. IsLent e self.new) }
         ensures err { IfErr result (λ e. Refuses self.old e self.new) }

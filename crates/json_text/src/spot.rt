@@ -39,7 +39,8 @@ fn settle(bytes: &[u8], from: usize, spot: Spot) -> Stand
     ensures space { ws (piece bytes.now from result.at) }
     ensures stop { result.at < length bytes.now → ¬ (IsWhitespace (get_or bytes.now result.at 0)) }
     ensures stood { (lossy : Bool) (limit : ℕ) (c : List Kind) (ts : List Token)
-        → Stood lossy limit bytes.now from c spot ts → Stood lossy limit bytes.now result.at c spot ts }
+        → Stood lossy limit bytes.now from c spot ts
+        → Stood lossy limit bytes.now result.at c spot ts }
 {
     Stand {
         at: ws_end(bytes, from),
@@ -65,7 +66,8 @@ pub fn ready(bytes: &[u8], index: usize, spot: Spot, kinds: &Kinds) -> Result<St
     ensures stop { IfOk result (λ r. r.at < length bytes.now
         → ¬ (IsWhitespace (get_or bytes.now r.at 0))) }
     ensures apart { IfOk result
-        (λ r. (r.spot ≢ Spot.Colon) × (r.spot ≡ Spot.Done → top kinds.now ≢ None → ¬ (ByteAt bytes.now r.at 44))) }
+        (λ r. (r.spot ≢ Spot.Colon)
+        × (r.spot ≡ Spot.Done → top kinds.now ≢ None → ¬ (ByteAt bytes.now r.at 44))) }
     ensures ok { (lossy : Bool) (limit : ℕ) (ts : List Token)
         → Stood lossy limit bytes.now index kinds.now spot ts
         → IfOk result (λ r. Stood lossy limit bytes.now r.at kinds.now r.spot ts) }
@@ -83,7 +85,8 @@ pub fn ready(bytes: &[u8], index: usize, spot: Spot, kinds: &Kinds) -> Result<St
         → IsOkAnd result (λ r. (r.at ≡ k) × (r.spot ≡ v)) }
     ensures ends { (k : Kind) → IfOk result (λ r. TakesEnd k r.spot
         → SpaceTo bytes.now index r.at × (r.spot ≡ spot)) }
-    ensures stays { (k : ℕ) → spot ≢ Spot.Colon → SpaceTo bytes.now index k → ¬ (ByteAt bytes.now k 44)
+    ensures stays { (k : ℕ) → spot ≢ Spot.Colon → SpaceTo bytes.now index k
+        → ¬ (ByteAt bytes.now k 44)
         → IsOkAnd result (λ r. (r.at ≡ k) × (r.spot ≡ spot)) }
 {
     let here = settle(bytes, index, spot);

@@ -54,7 +54,8 @@ impl<'a> ArrayView<'a> {
 
     pub(crate) fn of_value(value: &'a Value) -> Option<ArrayView<'a>>
         ensures trees { option_map elements_seen result ≡ list_of (tree_of value.now) }
-        ensures sights { option_map elements_sights result ≡ sight_elements (whole_value value.now) }
+        ensures sights { option_map elements_sights result
+            ≡ sight_elements (whole_value value.now) }
     {
         match value {
             Value::Array(array) => Some(array.view()),

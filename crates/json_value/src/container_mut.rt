@@ -63,7 +63,8 @@ pub(crate) trait ContainerMut {
     // The members, to be changed, where null is first made the object of this key with null.
     fn pairs_with(&mut self, alloc: Global, key: &str) -> Result<&mut Vec<Pair>>
         ensures* writes_back { sem 𝓛 (LendsSoOk Self.row (vec_row pair_row) self.entry result
-            (λ n w. BecomesPairsOrNull result w (held self.old) (held n)) (λ n. held n ≡ held self.old)) }
+            (λ n w. BecomesPairsOrNull result w (held self.old) (held n))
+            (λ n. held n ≡ held self.old)) }
         ensures value { IfOk result (λ v. opened_with key.now (tree_of (held self.old))
             ≡ pairs (list_pairs (map pair_of v.now.items))) }
         ensures refused { FailsOnPairs (null_as_object (tree_of (held self.old))) result };

@@ -40,7 +40,8 @@ impl<'a> ObjectView<'a> {
     ghost use Rattle.json_value.specs.Left.{members_left, members_sights_left};
 
     pub(crate) fn of_packed(packed: PackedView<'a>) -> Option<ObjectView<'a>>
-        ensures trees { option_map members_seen result ≡ object_pairs (view_tree packed.entry.view) }
+        ensures trees { option_map members_seen result
+            ≡ object_pairs (view_tree packed.entry.view) }
         ensures sights { let p = packed.entry in option_map members_sights result
             ≡ sight_members (place_of (view_doc p.view) (doc_held p.holder) (view_place p.view)) }
     {

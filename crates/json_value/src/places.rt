@@ -39,7 +39,8 @@ pub trait Places {
     /// the tree, and changes nothing but that packed containers on the way may have been copied by one level.
     fn place_mut<'v>(&'v mut self, alloc: Global, path: &[PointerNode]) -> Result<&'v mut Value>
         ensures* writes_back { sem 𝓛 (LendsSoOk Self.row value_row self.entry result
-            (λ n w. IfOk result (λ v. PutsAtPath (steps_of path.now) v.now w (held self.old) (held n)))
+            (λ n w. IfOk result (λ v. PutsAtPath (steps_of path.now) v.now w (held self.old)
+            (held n)))
             (λ n. PutsNothing (steps_of path.now) (held self.old) (held n))) }
         ensures stands { LeadsTo (steps_of path.now) (tree_of (held self.old)) result };
 }

@@ -73,7 +73,8 @@ fn show_owned_element<W: Sink, L: Layout>(
 ) -> Showed
     ensures { Shows level (⟦<BufferedWriter<W> as Sink>⟧.state out.old)
         (⟦<BufferedWriter<W> as Sink>⟧.state out.new)
-        (lead (L.indent layout) level first ++ shown (L.indent layout) level (tree_of value.now)) result }
+        (lead (L.indent layout) level first ++ shown (L.indent layout) level
+        (tree_of value.now)) result }
 {
     layout.lead(out, level, first)?;
     show_value(value, layout, level, out)

@@ -131,7 +131,8 @@ fn show_element<W: Sink, L: Layout>(
 ) -> Showed
     ensures { Shows level (⟦<BufferedWriter<W> as Sink>⟧.state out.old)
         (⟦<BufferedWriter<W> as Sink>⟧.state out.new)
-        (lead (L.indent layout) level first ++ shown (L.indent layout) level (node_tree node.entry)) result }
+        (lead (L.indent layout) level first ++ shown (L.indent layout) level
+        (node_tree node.entry)) result }
 {
     match node {
         DocNode::String(text) => layout.element(out, level, first, text),
@@ -200,7 +201,8 @@ pub(crate) fn show_elements<W: Sink, L: Layout>(
 ) -> Showed
     ensures { Shows level (⟦<BufferedWriter<W> as Sink>⟧.state out.old)
         (⟦<BufferedWriter<W> as Sink>⟧.state out.new)
-        (shown (L.indent layout) level (list (list_trees (elements (view_tree view.entry))))) result }
+        (shown (L.indent layout) level
+        (list (list_trees (elements (view_tree view.entry))))) result }
 {
     match view.node() {
         DocNode::Array(children) => show_children(children, layout, level, out),
@@ -217,7 +219,8 @@ pub(crate) fn show_members<W: Sink, L: Layout>(
 ) -> Showed
     ensures { Shows level (⟦<BufferedWriter<W> as Sink>⟧.state out.old)
         (⟦<BufferedWriter<W> as Sink>⟧.state out.new)
-        (shown (L.indent layout) level (pairs (list_pairs (members (view_tree view.entry))))) result }
+        (shown (L.indent layout) level
+        (pairs (list_pairs (members (view_tree view.entry))))) result }
 {
     match view.node() {
         DocNode::Object(members) => show_pairs(members, layout, level, out),

@@ -21,7 +21,8 @@ fn formatted<W: Sink, T: Serialize, F: Formatter + Drop>(
     writer: W,
 ) -> (W, Result<()>)
     requires fresh { F.fresh formatter }
-    ensures text { (t : Tree) (indent : Option (List ℕ)) → tree_of_datum (T.datum value.now) ≡ Some t
+    ensures text { (t : Tree) (indent : Option (List ℕ)) → tree_of_datum (T.datum value.now)
+        ≡ Some t
         → LaidOut F.form formatter indent 0 false
         → WritesText (W.state writer) (W.state result.0) (shown indent 0 t) result.1 }
 {

@@ -23,7 +23,8 @@ pub extern "C" fn mezdruk_read(
     shown: &mut Node,
 ) -> bool
     ensures known { IsTrue result ↔ IsSome (document_node_tree document.old node) }
-    ensures shown { OnTrue result (IfSome (document_node_tree document.old node) (ShowsTree shown.new)) }
+    ensures shown { OnTrue result
+        (IfSome (document_node_tree document.old node) (ShowsTree shown.new)) }
     ensures kept { owned_payload document.new.owner ≡ owned_payload document.old.owner }
 {
     let Some(payload) = document.owner.take(alloc) else {
@@ -51,7 +52,8 @@ pub extern "C" fn mezdruk_element(
 ) -> bool
     ensures found { OnTrue result (document_node_tree document.old element.new
         ≡ element_of (document_node_tree document.old node) index) }
-    ensures lacks { OnFalse result (element_of (document_node_tree document.old node) index ≡ None) }
+    ensures lacks { OnFalse result
+        (element_of (document_node_tree document.old node) index ≡ None) }
     ensures kept { owned_payload document.new.owner ≡ owned_payload document.old.owner }
 {
     let Some(payload) = document.owner.take(alloc) else {

@@ -74,7 +74,8 @@ fn print(
     node: u32,
     style: Style<'_>,
 ) -> Result<Buffer, Failure>
-    ensures done { IfOk result (λ b. IsPrintedTree style.entry (document_node_tree document.old node)
+    ensures done { IfOk result
+        (λ b. IsPrintedTree style.entry (document_node_tree document.old node)
         (buffer_bytes b)) }
     ensures failed { IfErr result (FailsToPrint (document_node_tree document.old node)) }
     ensures kept { owned_payload document.new.owner ≡ owned_payload document.old.owner }
@@ -120,7 +121,8 @@ pub extern "C" fn mezdruk_print(
     ensures done { result ≡ 0 → PrintsNode options.now (document_node_tree document.old node)
         (buffer_bytes output.new) }
     ensures failed { result ≢ 0
-        → CallFailsFor (PrintFails options.now (document_node_tree document.old node)) result fault.new }
+        → CallFailsFor (PrintFails options.now
+        (document_node_tree document.old node)) result fault.new }
     ensures kept { owned_payload document.new.owner ≡ owned_payload document.old.owner }
     ensures stays { result ≢ 0 → output.new ≡ output.old }
 {

@@ -27,7 +27,8 @@ impl<'a> TextTokens<'a> {
     fn waiting_text(&mut self) -> Option<Piece<&'a str>>
         requires { NotWhole (text_tokens_state self.old) }
         ensures takes { MatchOption result (self.new ≡ self.old) (λ p.
-            TakesText text_taken text_tokens_state (λ s. Says s p.escaped p.text.now) self.old self.new) }
+            TakesText text_taken text_tokens_state
+            (λ s. Says s p.escaped p.text.now) self.old self.new) }
         ensures unfailed { IsSome result → self.new.failed ≡ None }
         ensures again { IsSome self.old.failed → result ≡ None }
     {
@@ -152,7 +153,8 @@ impl<'a> TextTokens<'a> {
     pub(super) fn take_text(&mut self) -> Option<Piece<&'a str>>
         requires { NotWhole (text_tokens_state self.old) }
         ensures takes { MatchOption result (self.new ≡ self.old) (λ p.
-            TakesText text_taken text_tokens_state (λ s. Says s p.escaped p.text.now) self.old self.new) }
+            TakesText text_taken text_tokens_state
+            (λ s. Says s p.escaped p.text.now) self.old self.new) }
         ensures unfailed { IsSome result → self.new.failed ≡ None }
         ensures again { IsSome self.old.failed → result ≡ None }
     {
@@ -170,7 +172,8 @@ impl<'a> TextTokens<'a> {
     pub(super) fn take_key(&mut self) -> Option<Piece<&'a str>>
         requires { NotWhole (text_tokens_state self.old) }
         ensures takes { MatchOption result (self.new ≡ self.old) (λ p.
-            TakesKeyPiece text_taken text_tokens_state (λ s. Says s p.escaped p.text.now) self.old self.new) }
+            TakesKeyPiece text_taken text_tokens_state
+            (λ s. Says s p.escaped p.text.now) self.old self.new) }
         ensures unfailed { IsSome result → self.new.failed ≡ None }
         ensures again { IsSome self.old.failed → result ≡ None }
     {

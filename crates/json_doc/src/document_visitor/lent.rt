@@ -39,7 +39,8 @@ impl DocumentVisitor {
     #[inline(always)]
     pub(crate) fn take_str(&mut self, s: Span<'_>, input: &[u8], from: usize) -> bool
         requires come { (visitor_state self.old).full ≡ false
-            → (t : List ℕ) × chars s.lossy t s.raw.now × MayComeAfter (Holds self.old) (text_token t) }
+            → (t : List ℕ) × chars s.lossy t s.raw.now
+            × MayComeAfter (Holds self.old) (text_token t) }
         requires lent { IsLentBy s input.now from }
         ensures answer { IsTrue result
             ↔ Fits (visitor_state self.old) 1 (length s.entry.raw.now) }
@@ -61,7 +62,8 @@ impl DocumentVisitor {
     #[inline(always)]
     pub(crate) fn take_key(&mut self, s: Span<'_>, input: &[u8], from: usize) -> bool
         requires come { (visitor_state self.old).full ≡ false
-            → (t : List ℕ) × chars s.lossy t s.raw.now × MayComeAfter (Holds self.old) (key_token t) }
+            → (t : List ℕ) × chars s.lossy t s.raw.now
+            × MayComeAfter (Holds self.old) (key_token t) }
         requires lent { IsLentBy s input.now from }
         ensures answer { IsTrue result
             ↔ Fits (visitor_state self.old) 1 (length s.entry.raw.now) }

@@ -119,7 +119,8 @@ impl Value {
         ensures kept { OnErr result (tree_of self.new ≡ tree_of self.old) }
         ensures refused { FailsAs (edited_once (edit_of edit.now) (tree_of self.old)) result }
         ensures children { OnOk result (Touches (edit_path edit.now) edit.now self.old self.new) }
-        ensures kept_along { OnErr result (KeepsOnRefusal (edit_path edit.now) edit.now self.old self.new) }
+        ensures kept_along { OnErr result
+            (KeepsOnRefusal (edit_path edit.now) edit.now self.old self.new) }
     {
         apply_in(self, alloc, edit)
     }
@@ -134,7 +135,8 @@ fn apply_in<V: Places>(target: &mut V, alloc: Global, edit: &Edit) -> Result<()>
         result }
     ensures children { OnOk result (Touches (edit_path edit.now) edit.now (V.held target.old)
         (V.held target.new)) }
-    ensures kept_along { OnErr result (KeepsOnRefusal (edit_path edit.now) edit.now (V.held target.old)
+    ensures kept_along { OnErr result
+        (KeepsOnRefusal (edit_path edit.now) edit.now (V.held target.old)
         (V.held target.new)) }
 {
     let place = target.place_mut(alloc, edit.path().steps())?;
