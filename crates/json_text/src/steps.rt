@@ -81,39 +81,3 @@ pub fn step<'a, const USE: u8>(
     }
     take_event(text, stand.at, stand.spot, limit, lossy, kinds)
 }
-
-/// The same, by a copy for each of what may come, and behind a value for each kind of container, so that each of them
-/// leaves out what can't come there.
-#[inline(always)]
-pub fn step_by_spot<'a>(
-    text: &'a str,
-    at: usize,
-    spot: Spot,
-    limit: usize,
-    lossy: bool,
-    kinds: &mut Kinds,
-) -> Result<Read<'a>, Fault>
-    requires given { (ts : List Token) × Stood lossy limit text.now at kinds.old spot ts }
-    requires most { limit ≤ 1024 }
-    ensures ok { IfOk result (λ r.
-        Advances lossy limit text.now at kinds.old spot r.event r.end kinds.new r.spot) }
-    ensures tight { IfOk result (λ r. StandsBehindGap lossy text.now at r.event r.end) }
-    ensures whole { IfOk result (λ r. r.event ≡ Event.End → IsDone spot kinds.old) }
-    ensures err { IfErr result (λ f. IsFault lossy limit text.now f.code f.offset) }
-    ensures needs { IfErr result (λ f. NextNeeds lossy text.now at f.code f.offset) }
-    ensures inside { IfErr result (λ f. ¬ (IsDone spot kinds.old) → IsInValue f.code) }
-    ensures within { IfErr result (λ f. f.offset ≤ length text.now) }
-    ensures kept { OnErr result (kinds.new ≡ kinds.old) }
-{
-    match spot {
-        Spot::First => step::<2>(text, at, Spot::First, limit, lossy, kinds),
-        Spot::KeyOrEnd => step::<3>(text, at, Spot::KeyOrEnd, limit, lossy, kinds),
-        Spot::Colon => step::<4>(text, at, Spot::Colon, limit, lossy, kinds),
-        Spot::Done => match kinds.top() {
-            Some(Kind::Array) => step::<5>(text, at, Spot::Done, limit, lossy, kinds),
-            Some(Kind::Object) => step::<7>(text, at, Spot::Done, limit, lossy, kinds),
-            None => step::<8>(text, at, Spot::Done, limit, lossy, kinds),
-        },
-        Spot::Value | Spot::Key => step::<6>(text, at, spot, limit, lossy, kinds),
-    }
-}

@@ -4,5 +4,5 @@ use Rattle.json_text.specs.Standing.{Stood}
 use Rattle.json_text.proofs.Stands.{stood_start}
 use Rattle.json_reading_vectors.proofs.events.first_step.Goals as goal
 
-pub step_by_spot-requires-clause-given : goal.step_by_spot-requires-clause-given
-step_by_spot-requires-clause-given c = let b = c.args.text.now in ([], subst (λ k. Stood false 254 b 0 k at_value []) (sym c.new.ensures) (stood_start false 254 b))
+pub step-requires-clause-given : goal.step-requires-clause-given
+step-requires-clause-given c = let b = c.args.text.now in ([], subst (λ k. Stood false 254 b 0 k at_value []) (sym c.new.ensures) (stood_start false 254 b))
