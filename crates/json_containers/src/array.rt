@@ -118,7 +118,8 @@ pub trait ArrayCalls {
     fn capacity(&self) -> usize
         ensures { result ≡ length (list_in (held self.now)) + spare_in (held self.now) };
 
-    /// Room for at least as many more.
+    /// Room for at least as many more. Fails with `NoMemory`, and changes nothing, if memory runs
+    /// out.
     fn reserve(&mut self, alloc: Global, additional: usize) -> Result<()>
         ensures room { OnOk result (additional ≤ spare_in (held self.new)) }
         ensures same { ArrayStays (held self.old) (held self.new) }
@@ -126,7 +127,8 @@ pub trait ArrayCalls {
             → IsOk result × (held self.new ≡ held self.old) }
         ensures only { IfErr result (λ e. e ≡ no_memory) };
 
-    /// Puts the element before the one at the index.
+    /// Puts the element before the one at the index. Fails with `NoMemory`, and changes nothing, if
+    /// memory runs out.
     fn insert(&mut self, alloc: Global, index: usize, element: Value) -> Result<()>
         requires { index ≤ length (list_in (held self.old)) }
         ensures ok { OnOk result (list_in (held self.new)
@@ -136,7 +138,7 @@ pub trait ArrayCalls {
         ensures kept { OnErr result (ArrayStays (held self.old) (held self.new)) }
         ensures only { IfErr result (λ e. e ≡ no_memory) };
 
-    /// Appends the element.
+    /// Appends the element. Fails with `NoMemory`, and changes nothing, if memory runs out.
     fn push(&mut self, alloc: Global, val: Value) -> Result<()>
         ensures ok { OnOk result (list_in (held self.new)
             ≡ list_in (held self.old) ++ tree_of val ∷ []) }
@@ -147,7 +149,8 @@ pub trait ArrayCalls {
         ensures room { TakesRoomForOne (held self.old) (held self.new) }
         ensures only { IfErr result (λ e. e ≡ no_memory) };
 
-    /// Takes the element out; the others close up.
+    /// Takes the element out; the others close up. Fails with `NoMemory`, and changes nothing, if
+    /// memory runs out.
     fn remove(&mut self, alloc: Global, index: usize) -> Result<Value>
         requires { index < length (list_in (held self.old)) }
         ensures ok { OnOk result (list_in (held self.new)
@@ -159,7 +162,7 @@ pub trait ArrayCalls {
         ensures free { (IsPlace (held self.old) → ⊥) → IsOk result }
         ensures only { IfErr result (λ e. e ≡ no_memory) };
 
-    /// The array without elements, with room for so many.
+    /// The array without elements, with room for so many. Fails with `NoMemory` if memory runs out.
     fn with_capacity(alloc: Global, capacity: usize) -> Result<Array>
         ensures list { IfOk result (λ a. list_in a ≡ []) }
         ensures no_place { IfOk result (λ a. IsPlace a → ⊥) }
@@ -167,7 +170,8 @@ pub trait ArrayCalls {
         ensures free { capacity ≡ 0 → IsOk result }
         ensures only { IfErr result (λ e. e ≡ no_memory) };
 
-    /// Takes the element out; the last one takes its place.
+    /// Takes the element out; the last one takes its place. Fails with `NoMemory`, and changes
+    /// nothing, if memory runs out.
     fn swap_remove(&mut self, alloc: Global, index: usize) -> Result<Value>
         requires { index < length (list_in (held self.old)) }
         ensures ok { IfOk result (λ v. list_in (held self.new)
@@ -179,7 +183,8 @@ pub trait ArrayCalls {
         ensures free { (IsPlace (held self.old) → ⊥) → IsOk result }
         ensures only { IfErr result (λ e. e ≡ no_memory) };
 
-    /// The first so many elements, or all.
+    /// The first so many elements, or all. Fails with `NoMemory`, and changes nothing, if memory
+    /// runs out.
     fn truncate(&mut self, alloc: Global, len: usize) -> Result<()>
         ensures ok { OnOk result (list_in (held self.new) ≡ take len (list_in (held self.old))) }
         ensures children { OnOk result (ArrayBecame (take len) (held self.old) (held self.new)) }
@@ -187,7 +192,8 @@ pub trait ArrayCalls {
         ensures free { (IsPlace (held self.old) → ⊥) → IsOk result }
         ensures only { IfErr result (λ e. e ≡ no_memory) };
 
-    /// The last element, taken out; none exactly of an array without elements.
+    /// The last element, taken out; none exactly of an array without elements. Fails with
+    /// `NoMemory`, and changes nothing, if memory runs out.
     fn pop(&mut self, alloc: Global) -> Result<Option<Value>>
         ensures ok { IfOk result (λ o. list_in (held self.old)
             ≡ list_in (held self.new) ++ option_to_list (option_map tree_of o)) }
@@ -206,7 +212,8 @@ pub trait ArrayCalls {
         ensures room { KeepsRoom (length (list_in (held self.old)))
             (held self.old) (held self.new) };
 
-    /// The elements from the index on, taken out.
+    /// The elements from the index on, taken out. Fails with `NoMemory`, and changes nothing, if
+    /// memory runs out.
     fn split_off(&mut self, alloc: Global, at: usize) -> Result<Array>
         requires { at ≤ length (list_in (held self.old)) }
         ensures ok { OnOk result (list_in (held self.new) ≡ take at (list_in (held self.old))) }
@@ -218,7 +225,8 @@ pub trait ArrayCalls {
         ensures kept { OnErr result (ArrayStays (held self.old) (held self.new)) }
         ensures only { IfErr result (λ e. e ≡ no_memory) };
 
-    /// The elements of the range, taken out.
+    /// The elements of the range, taken out. Fails with `NoMemory`, and changes nothing, if memory
+    /// runs out.
     fn drain(&mut self, alloc: Global, from: usize, to: usize) -> Result<Array>
         requires order { from ≤ to }
         requires within { to ≤ length (list_in (held self.old)) }
@@ -233,7 +241,8 @@ pub trait ArrayCalls {
         ensures kept { OnErr result (ArrayStays (held self.old) (held self.new)) }
         ensures only { IfErr result (λ e. e ≡ no_memory) };
 
-    /// The other's elements, appended; the other has none then.
+    /// The other's elements, appended; the other has none then. Fails with `NoMemory`, and changes
+    /// nothing, if memory runs out.
     fn append(&mut self, alloc: Global, other: &mut Array) -> Result<()>
         ensures ok { OnOk result (list_in (held self.new)
             ≡ list_in (held self.old) ++ list_in other.old) }
@@ -246,7 +255,7 @@ pub trait ArrayCalls {
             × ArrayStays other.old other.new) }
         ensures only { IfErr result (λ e. e ≡ no_memory) };
 
-    /// Appends copies of these.
+    /// Appends copies of these. Fails with `NoMemory`, and changes nothing, if memory runs out.
     fn extend(&mut self, alloc: Global, items: &[Value]) -> Result<()>
         ensures ok { OnOk result (list_in (held self.new)
             ≡ list_in (held self.old) ++ map tree_of items.now) }
@@ -255,7 +264,8 @@ pub trait ArrayCalls {
         ensures kept { OnErr result (ArrayStays (held self.old) (held self.new)) }
         ensures only { IfErr result (λ e. e ≡ no_memory) };
 
-    /// Copies of that range, appended.
+    /// Copies of that range, appended. Fails with `NoMemory`, and changes nothing, if memory runs
+    /// out.
     fn extend_from_within(&mut self, alloc: Global, from: usize, to: usize) -> Result<()>
         requires order { from ≤ to }
         requires within { to ≤ length (list_in (held self.old)) }
@@ -267,7 +277,8 @@ pub trait ArrayCalls {
         ensures kept { OnErr result (ArrayStays (held self.old) (held self.new)) }
         ensures only { IfErr result (λ e. e ≡ no_memory) };
 
-    /// Cut to this length, or filled up with copies of the value.
+    /// Cut to this length, or filled up with copies of the value. Fails with `NoMemory`, and
+    /// changes nothing, if memory runs out.
     fn resize(&mut self, alloc: Global, new_len: usize, value: &Value) -> Result<()>
         ensures ok { OnOk result (list_in (held self.new)
             ≡ take new_len (list_in (held self.old))
@@ -278,7 +289,8 @@ pub trait ArrayCalls {
         ensures kept { OnErr result (ArrayStays (held self.old) (held self.new)) }
         ensures only { IfErr result (λ e. e ≡ no_memory) };
 
-    /// Keeps the elements for which `f` is true, in order.
+    /// Keeps the elements for which `f` is true, in order. Fails with `NoMemory`, and changes
+    /// nothing, if memory runs out.
     fn retain<F: FnMut(&Value) -> bool>(&mut self, alloc: Global, f: F) -> Result<()>
         requires { F.IsAlwaysCallable f }
         ensures ok { OnOk result
@@ -289,7 +301,8 @@ pub trait ArrayCalls {
         ensures free { (IsPlace (held self.old) → ⊥) → IsOk result }
         ensures only { IfErr result (λ e. e ≡ no_memory) };
 
-    /// The same, with what `f` writes.
+    /// The same, with what `f` writes. Fails with `NoMemory`, and changes nothing, if memory runs
+    /// out.
     fn retain_mut<F: FnMut(&mut Value) -> bool>(&mut self, alloc: Global, f: F) -> Result<()>
         requires { F.IsAlwaysCallable f }
         ensures children { OnOk result (ArrayChanged (RetainsInTurn (CalledAtMut F.FnMut) f)
@@ -298,7 +311,8 @@ pub trait ArrayCalls {
         ensures free { (IsPlace (held self.old) → ⊥) → IsOk result }
         ensures only { IfErr result (λ e. e ≡ no_memory) };
 
-    /// Truncates to this length, or appends what `f` returns up to it, in order.
+    /// Truncates to this length, or appends what `f` returns up to it, in order. Fails with
+    /// `NoMemory`, and changes nothing, if memory runs out.
     fn resize_with<F: FnMut() -> Value>(
         &mut self,
         alloc: Global,
@@ -321,7 +335,8 @@ pub trait ArrayCalls {
         ensures free { (IsPlace (held self) → ⊥) → IsOk result }
         ensures only { IfErr result (λ e. e ≡ no_memory) };
 
-    /// All elements, to be changed. What is written through the slice is what the array has.
+    /// All elements, to be changed. What is written through the slice is what the array has. Fails
+    /// with `NoMemory`, and changes nothing, if memory runs out.
     fn as_mut_slice(&mut self, alloc: Global) -> Result<&mut [Value]>
         ensures* writes_back { sem 𝓛 (LendsSoOk Self.row slice_row self.entry result
             (λ n w. ArrayBecame (λ items. written_over items w) (held self.old) (held n))

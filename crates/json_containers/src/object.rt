@@ -233,7 +233,7 @@ pub trait ObjectCalls {
         ensures sights { members_sights_left result ≡ object_sights (held self.now) };
 
     /// The value of the first member of the key, to be changed; none exactly where the key is
-    /// missing.
+    /// missing. Fails with `NoMemory`, and changes nothing, if memory runs out.
     fn get_mut(&mut self, alloc: Global, key: &str) -> Result<Option<&mut Value>>
         ensures* writes_back { sem 𝓛 (LendsPart Self.row value_row self.entry result
             (λ n w. ObjectChanged (AtMember key.now (λ before after. after ≡ w))
@@ -244,7 +244,8 @@ pub trait ObjectCalls {
         ensures free { (IsPlace (held self.old) → ⊥) → IsOk result }
         ensures only { IfErr result (λ e. e ≡ no_memory) };
 
-    /// The member at the index, to be changed.
+    /// The member at the index, to be changed. Fails with `NoMemory`, and changes nothing, if
+    /// memory runs out.
     fn pair_mut(&mut self, alloc: Global, i: usize) -> Result<&mut Pair>
         requires { i < length (pairs_in (held self.old)) }
         ensures* writes_back { sem 𝓛 (LendsSoOk Self.row pair_row self.entry result
@@ -256,7 +257,7 @@ pub trait ObjectCalls {
         ensures only { IfErr result (λ e. e ≡ no_memory) };
 
     /// Sets the value of the first member of the key, and returns the old one; or appends such a
-    /// member.
+    /// member. Fails with `NoMemory`, and changes nothing, if memory runs out.
     fn insert(&mut self, alloc: Global, key: &str, value: Value) -> Result<Option<Value>>
         ensures ok { OnOk result (list_pairs (pairs_in (held self.new))
             ≡ inserted key.now (tree_of value) (list_pairs (pairs_in (held self.old)))) }
@@ -267,7 +268,8 @@ pub trait ObjectCalls {
         ensures kept { OnErr result (ObjectStays (held self.old) (held self.new)) }
         ensures only { IfErr result (λ e. e ≡ no_memory) };
 
-    /// Keeps the members for which `f` is true, in order, with what it writes.
+    /// Keeps the members for which `f` is true, in order, with what it writes. Fails with
+    /// `NoMemory`, and changes nothing, if memory runs out.
     fn retain<F: FnMut(&str, &mut Value) -> bool>(&mut self, alloc: Global, f: F) -> Result<()>
         requires { F.IsAlwaysCallable f }
         ensures children { OnOk result (ObjectChanged (RetainsInTurn (CalledAtMember F.FnMut) f)
@@ -276,14 +278,15 @@ pub trait ObjectCalls {
         ensures free { (IsPlace (held self.old) → ⊥) → IsOk result }
         ensures only { IfErr result (λ e. e ≡ no_memory) };
 
-    /// The object without members, with room for so many.
+    /// The object without members, with room for so many. Fails with `NoMemory` if memory runs out.
     fn with_capacity(alloc: Global, capacity: usize) -> Result<Object>
         ensures pairs { IfOk result (λ o. pairs_in o ≡ []) }
         ensures no_place { IfOk result (λ o. IsPlace o → ⊥) }
         ensures room { IfOk result (λ o. capacity ≤ spare_in o) }
         ensures only { IfErr result (λ e. e ≡ no_memory) };
 
-    /// Room for at least as many more.
+    /// Room for at least as many more. Fails with `NoMemory`, and changes nothing, if memory runs
+    /// out.
     fn reserve(&mut self, alloc: Global, additional: usize) -> Result<()>
         ensures room { OnOk result (additional ≤ spare_in (held self.new)) }
         ensures same { ObjectStays (held self.old) (held self.new) }
@@ -298,7 +301,8 @@ pub trait ObjectCalls {
         ensures room { KeepsRoom (length (pairs_in (held self.old)))
             (held self.old) (held self.new) };
 
-    /// Takes out all members of the key. The key, and the value of the first.
+    /// Takes out all members of the key. The key, and the value of the first. Fails with
+    /// `NoMemory`, and changes nothing, if memory runs out.
     fn remove_entry<'k>(&mut self, alloc: Global, key: &'k str) -> Result<Option<(&'k str, Value)>>
         ensures ok { OnOk result (list_pairs (pairs_in (held self.new))
             ≡ without_key key.now (list_pairs (pairs_in (held self.old)))) }
@@ -311,7 +315,8 @@ pub trait ObjectCalls {
         ensures free { (IsPlace (held self.old) → ⊥) → IsOk result }
         ensures only { IfErr result (λ e. e ≡ no_memory) };
 
-    /// Copies of these, inserted in turn.
+    /// Copies of these, inserted in turn. Fails with `NoMemory`, and changes nothing, if memory
+    /// runs out.
     fn extend(&mut self, alloc: Global, pairs: &[Pair]) -> Result<()>
         ensures ok { OnOk result (list_pairs (pairs_in (held self.new))
             ≡ inserted_all (map pair_of pairs.now) (list_pairs (pairs_in (held self.old)))) }
@@ -321,7 +326,8 @@ pub trait ObjectCalls {
         ensures kept { OnErr result (ObjectStays (held self.old) (held self.new)) }
         ensures only { IfErr result (λ e. e ≡ no_memory) };
 
-    /// The other's members, inserted in turn; the other has none then.
+    /// The other's members, inserted in turn; the other has none then. Fails with `NoMemory`, and
+    /// changes nothing, if memory runs out.
     fn append(&mut self, alloc: Global, other: &mut Object) -> Result<()>
         ensures ok { OnOk result (list_pairs (pairs_in (held self.new))
             ≡ inserted_all (pairs_in other.old) (list_pairs (pairs_in (held self.old)))) }
@@ -334,7 +340,8 @@ pub trait ObjectCalls {
             × ObjectStays other.old other.new) }
         ensures only { IfErr result (λ e. e ≡ no_memory) };
 
-    /// Takes out all members of the key. The value of the first.
+    /// Takes out all members of the key. The value of the first. Fails with `NoMemory`, and changes
+    /// nothing, if memory runs out.
     fn remove(&mut self, alloc: Global, key: &str) -> Result<Option<Value>>
         ensures ok { OnOk result (list_pairs (pairs_in (held self.new))
             ≡ without_key key.now (list_pairs (pairs_in (held self.old)))) }
@@ -346,7 +353,7 @@ pub trait ObjectCalls {
         ensures free { (IsPlace (held self.old) → ⊥) → IsOk result }
         ensures only { IfErr result (λ e. e ≡ no_memory) };
 
-    /// The entry of the key.
+    /// The entry of the key. Fails with `NoMemory`, and changes nothing, if memory runs out.
     fn entry(&mut self, alloc: Global, key: &str) -> Result<Entry<'_>>
         ensures* rests { sem 𝓛 (RestsIfErr Self.row self.entry
             (λ e. (entry_ref e).ghost_name) result

@@ -96,8 +96,8 @@ pub fn from_str<'a, T: Deserialize<'a> + Drop>(alloc: Global, s: &'a str) -> Res
     read_text(alloc, s, LEVELS)
 }
 
-/// The value of the bytes of a JSON text, as [`from_str`]. `InvalidUTF8` comes where they are no UTF-8, before any
-/// fault of the text.
+/// The value of the bytes of a JSON text, as [`from_str`]. Fails with `InvalidUTF8` where they are
+/// no UTF-8, before any fault of the text, and otherwise as [`from_str`] does.
 pub fn from_slice<'a, T: Deserialize<'a> + Drop>(alloc: Global, json: &'a [u8]) -> Result<T>
     ensures ok { IfOk result (λ v. ReadsTypedText 254 T.from_tree json.now (gives (T.datum v))) }
     ensures place { IfOk result (T.placed IsPackedAtRoot) }
@@ -110,7 +110,8 @@ pub fn from_slice<'a, T: Deserialize<'a> + Drop>(alloc: Global, json: &'a [u8]) 
     read_text(alloc, text, LEVELS)
 }
 
-/// The value of bytes that are UTF-8, as [`from_slice`], without a test of that.
+/// The value of bytes that are UTF-8, as [`from_slice`], without a test of that. Fails as
+/// [`from_str`] does.
 pub fn from_slice_unchecked<'a, T: Deserialize<'a> + Drop>(
     alloc: Global,
     json: &'a [u8],

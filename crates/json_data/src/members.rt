@@ -132,7 +132,7 @@ pub fn read_members<S: Lent, M: Members<S>, T: Tokens<S>>(
 }
 
 /// Takes an object as `read_members` does if its beginning is found at once, and returns whether it
-/// was. Otherwise nothing is taken, and the members are as they were.
+/// was. Otherwise nothing is taken, and the members are as they were. Fails as `read_members` does.
 #[inline(always)]
 pub fn find_members<S: Lent, M: Members<S>, T: Tokens<S>>(
     alloc: Global,

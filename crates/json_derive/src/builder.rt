@@ -109,8 +109,8 @@ pub fn read_struct<S: Lent, B: Builder<S> + Drop, T: Tokens<S>>(
     }
 }
 
-/// Takes an object as `read_struct` does where its beginning is found at once. Else nothing is taken,
-/// and the result is `None`.
+/// Takes an object as `read_struct` does where its beginning is found at once. Else nothing is
+/// taken, and the result is `None`. Fails as `read_struct` does.
 pub fn find_struct<S: Lent, B: Builder<S> + Drop, T: Tokens<S>>(
     alloc: Global,
     tokens: &mut T,

@@ -60,8 +60,9 @@ impl DocumentVisitor {
     ghost use Rattle.json_doc.specs.OpenCells.{outer_place, outer_count};
     ghost use Rattle.json_doc.specs.declared.cell.Cell.TheVariants.{Null as null_cell};
 
-    /// Room for `(text_len + 1) / 2` nodes and keys and `text_len` bytes of text, as a JSON text of so
-    /// many bytes may need. `text_len` has to be at most 4,294,967,295. Memory may run out.
+    /// Room for `(text_len + 1) / 2` nodes and keys and `text_len` bytes of text, as a JSON text of
+    /// so many bytes may need. `text_len` has to be at most 4,294,967,295. Memory may run out.
+    /// Fails with `NoMemory` if memory runs out.
     pub fn new(alloc: Global, text_len: usize) -> Result<DocumentVisitor>
         requires { text_len < 2 ^ 32 }
         ensures room { IfOk result (λ v. ⟦<DocumentVisitor as JsonVisitor>⟧.state v

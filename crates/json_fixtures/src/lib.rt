@@ -26,18 +26,20 @@ pub fn read(alloc: Global, json: &str) -> Result<Rc<Doc>> {
     }
 }
 
-/// The value of a whole document: a place of it, unless it is a scalar or has no members.
+/// The value of a whole document: a place of it, unless it is a scalar or has no members. Fails
+/// with `NoMemory` if memory runs out.
 pub fn whole(alloc: Global, doc: &Rc<Doc>) -> Result<Value> {
     Value::from_place(alloc, doc, doc.root())
 }
 
-/// The value of a text, as of its document.
+/// The value of a text, as of its document. Fails with `NoMemory` if memory runs out.
 pub fn value_of(alloc: Global, json: &str) -> Result<Value> {
     let doc = read(alloc, json)?;
     whole(alloc, &doc)
 }
 
-/// Returns the value of a whole document after a change, and what the change returns.
+/// Returns the value of a whole document after a change, and what the change returns. Fails if the
+/// text is none, as the change does, or if memory runs out.
 pub fn changed<F: FnOnce(&mut Value, Global) -> Result<bool>>(
     alloc: Global,
     doc: &Rc<Doc>,
@@ -50,8 +52,8 @@ pub fn changed<F: FnOnce(&mut Value, Global) -> Result<bool>>(
     Ok((value, answer))
 }
 
-/// Returns whether the change returns that it was done, and the value of the text then has this compact
-/// text.
+/// Returns whether the change returns that it was done, and the value of the text then has this
+/// compact text. Fails if the text is none, as the change does, or if memory runs out.
 pub fn becomes<F: FnOnce(&mut Value, Global) -> Result<bool>>(
     alloc: Global,
     json: &str,
@@ -65,13 +67,13 @@ pub fn becomes<F: FnOnce(&mut Value, Global) -> Result<bool>>(
     Ok(done && shows(alloc, &value, then)?)
 }
 
-/// Whether the compact text of a value is this one.
+/// Whether the compact text of a value is this one. Fails with `NoMemory` if memory runs out.
 pub fn shows(alloc: Global, value: &Value, json: &str) -> Result<bool> {
     let shown = value.to_string(alloc)?;
     Ok(shown.as_str() == json)
 }
 
-/// A copy of a value.
+/// A copy of a value. Fails with `NoMemory` if memory runs out.
 pub fn copied(alloc: Global, value: &Value) -> Result<Value> {
     value.clone(alloc)
 }
@@ -105,7 +107,8 @@ pub fn object_in(value: &mut Value) -> Option<&mut Object> {
     }
 }
 
-/// Returns the list of the array that a value is, after its first write.
+/// Returns the list of the array that a value is, after its first write. Fails with `NoMemory` if
+/// memory runs out.
 pub fn list_in(value: &mut Value, alloc: Global) -> Result<Option<&mut Vec<Value>>> {
     match array_in(value) {
         Some(array) => Ok(Some(array.list_mut(alloc)?)),
@@ -113,7 +116,8 @@ pub fn list_in(value: &mut Value, alloc: Global) -> Result<Option<&mut Vec<Value
     }
 }
 
-/// Returns the members of the object that a value is, after its first write.
+/// Returns the members of the object that a value is, after its first write. Fails with `NoMemory`
+/// if memory runs out.
 pub fn pairs_in(value: &mut Value, alloc: Global) -> Result<Option<&mut Vec<Pair>>> {
     match object_in(value) {
         Some(object) => Ok(Some(object.pairs_mut(alloc)?)),

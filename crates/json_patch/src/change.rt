@@ -259,7 +259,8 @@ pub fn replace(root: &mut Value, alloc: Global, tokens: &[String], value: Value)
     put(root, alloc, path.steps(), value)
 }
 
-/// Returns a copy of the value that the tokens reference.
+/// Returns a copy of the value that the tokens reference. Fails if they reference none, as the
+/// lookup does, or with `NoMemory` if memory runs out.
 pub fn copied(root: &Value, alloc: Global, tokens: &[String]) -> Result<Value>
     ensures ok { IfOk result (λ v. value_at_pointer (map string_bytes tokens.now) (tree_of root.now)
         ≡ Ok (tree_of v)) }

@@ -114,7 +114,8 @@ fn compact_style() -> Style<'static>
 
 /// Reads all of the source by the usual rules, changes its value as the command asks, and writes
 /// the compact text, flushed. Nothing is written before the whole input was read and the change
-/// applied.
+/// applied. Fails at the first refusal of the input or of the change, and if the source or the sink
+/// fails.
 pub fn transfer<S: Source, K: Sink>(
     alloc: Global,
     source: &mut S,

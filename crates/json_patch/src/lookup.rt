@@ -87,7 +87,8 @@ fn find_element<'a>(token: &str, array: ArrayView<'a>) -> Result<View<'a>, Looku
     }
 }
 
-/// Returns the element, or the first member's value, that the token references.
+/// Returns the element, or the first member's value, that the token references. Fails with
+/// `NotFound` if there is none, and with `TypeUnmatched` at a scalar.
 pub fn find_child<'a>(token: &str, here: View<'a>) -> Result<View<'a>, LookupError>
     ensures { found_value result ≡ value_at_token token.now (seen here.entry) }
 {
@@ -100,7 +101,8 @@ pub fn find_child<'a>(token: &str, here: View<'a>) -> Result<View<'a>, LookupErr
     }
 }
 
-/// Returns the value that the tokens reference.
+/// Returns the value that the tokens reference. Fails with `NotFound` if there is none, and with
+/// `TypeUnmatched` at a scalar.
 pub fn find_value<'a>(tokens: &[String], root: View<'a>) -> Result<View<'a>, LookupError>
     ensures { found_value result
         ≡ value_at_pointer (map string_bytes tokens.now) (seen root.entry) }

@@ -68,33 +68,36 @@ pub trait Events {
     /// The error that was returned.
     ghost failed: { Self → Option Error };
 
-    /// Takes a null.
+    /// Takes a null. Fails if what takes the parts does, and again after any error.
     fn null(&mut self) -> Result<()>
         requires { failed self.old ≡ None → MayCome (stand (state self.old)) null_token }
         ensures { Takes after stopped (state self.old) (state self.new)
             (failed self.old) (failed self.new) (given null_token) result };
 
-    /// Takes a truth value.
+    /// Takes a truth value. Fails if what takes the parts does, and again after any error.
     fn boolean(&mut self, b: bool) -> Result<()>
         requires { failed self.old ≡ None → MayCome (stand (state self.old)) (boolean_token b) }
         ensures { Takes after stopped (state self.old) (state self.new)
             (failed self.old) (failed self.new) (given (boolean_token b)) result };
 
-    /// Takes an integer, as its decimal text.
+    /// Takes an integer, as its decimal text. Fails if what takes the parts does, and again after
+    /// any error.
     fn int(&mut self, n: i128) -> Result<()>
         requires { failed self.old ≡ None
             → MayCome (stand (state self.old)) (num_token (signed_decimal n)) }
         ensures { Takes after stopped (state self.old) (state self.new)
             (failed self.old) (failed self.new) (given_integer n) result };
 
-    /// Takes an integer from zero on, as its decimal text.
+    /// Takes an integer from zero on, as its decimal text. Fails if what takes the parts does, and
+    /// again after any error.
     fn uint(&mut self, n: u128) -> Result<()>
         requires { failed self.old ≡ None
             → MayCome (stand (state self.old)) (num_token (decimal n)) }
         ensures { Takes after stopped (state self.old) (state self.new)
             (failed self.old) (failed self.new) (given_integer (pos n)) result };
 
-    /// Takes a number by its literal (RFC 8259, section 6), which is kept as it is.
+    /// Takes a number by its literal (RFC 8259, section 6), which is kept as it is. Fails if what
+    /// takes the parts does, and again after any error.
     fn raw_number(&mut self, literal: &str) -> Result<()>
         requires number { number literal.now }
         requires come { failed self.old ≡ None
@@ -102,37 +105,43 @@ pub trait Events {
         ensures { Takes after stopped (state self.old) (state self.new)
             (failed self.old) (failed self.new) (given (num_token literal.now)) result };
 
-    /// Takes a string, by its characters.
+    /// Takes a string, by its characters. Fails if what takes the parts does, and again after any
+    /// error.
     fn text(&mut self, s: &str) -> Result<()>
         requires { failed self.old ≡ None → MayCome (stand (state self.old)) (text_token s.now) }
         ensures { Takes after stopped (state self.old) (state self.new)
             (failed self.old) (failed self.new) (given (text_token s.now)) result };
 
     /// Takes the beginning of an array. The hint is how many elements come, where that is known.
+    /// Fails if what takes the parts does, and again after any error.
     fn begin_array(&mut self, hint: Option<usize>) -> Result<()>
         requires { failed self.old ≡ None → MayCome (stand (state self.old)) (begin array) }
         ensures { Takes after stopped (state self.old) (state self.new)
             (failed self.old) (failed self.new) (given (begin array)) result };
 
-    /// Takes the end of the array that was begun last.
+    /// Takes the end of the array that was begun last. Fails if what takes the parts does, and
+    /// again after any error.
     fn end_array(&mut self) -> Result<()>
         requires { failed self.old ≡ None → MayCome (stand (state self.old)) (end array) }
         ensures { Takes after stopped (state self.old) (state self.new)
             (failed self.old) (failed self.new) (given (end array)) result };
 
     /// Takes the beginning of an object. The hint is how many members come, where that is known.
+    /// Fails if what takes the parts does, and again after any error.
     fn begin_object(&mut self, hint: Option<usize>) -> Result<()>
         requires { failed self.old ≡ None → MayCome (stand (state self.old)) (begin object) }
         ensures { Takes after stopped (state self.old) (state self.new)
             (failed self.old) (failed self.new) (given (begin object)) result };
 
-    /// Takes the key of the next member, by its characters. Its value comes next.
+    /// Takes the key of the next member, by its characters. Its value comes next. Fails if what
+    /// takes the parts does, and again after any error.
     fn key(&mut self, s: &str) -> Result<()>
         requires { failed self.old ≡ None → MayCome (stand (state self.old)) (key_token s.now) }
         ensures { Takes after stopped (state self.old) (state self.new)
             (failed self.old) (failed self.new) (given (key_token s.now)) result };
 
-    /// Takes the end of the object that was begun last.
+    /// Takes the end of the object that was begun last. Fails if what takes the parts does, and
+    /// again after any error.
     fn end_object(&mut self) -> Result<()>
         requires { failed self.old ≡ None → MayCome (stand (state self.old)) (end object) }
         ensures { Takes after stopped (state self.old) (state self.new)

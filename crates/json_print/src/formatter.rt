@@ -27,86 +27,86 @@ pub trait Formatter {
     /// The first state, in which nothing was written yet.
     ghost fresh: { Self → Type 0 };
 
-    /// Writes `null`.
+    /// Writes `null`. Fails if the writer does.
     fn write_null<W: Sink>(&mut self, writer: &mut W) -> Result<()>
         ensures puts { Puts (W.state writer.old) (W.state writer.new)
             (form.piece self.old null_call) result }
         ensures next { OnOk result (self.new ≡ form.next self.old null_call) };
 
-    /// Writes `true` or `false`.
+    /// Writes `true` or `false`. Fails if the writer does.
     fn write_bool<W: Sink>(&mut self, writer: &mut W, value: bool) -> Result<()>
         ensures puts { Puts (W.state writer.old) (W.state writer.new)
             (form.piece self.old (boolean_call value)) result }
         ensures next { OnOk result (self.new ≡ form.next self.old (boolean_call value)) };
 
-    /// Writes the integer's decimal text.
+    /// Writes the integer's decimal text. Fails if the writer does.
     fn write_i8<W: Sink>(&mut self, writer: &mut W, value: i8) -> Result<()>
         ensures puts { Puts (W.state writer.old) (W.state writer.new)
             (form.piece self.old (signed_call value)) result }
         ensures next { OnOk result (self.new ≡ form.next self.old (signed_call value)) };
 
-    /// Writes the integer's decimal text.
+    /// Writes the integer's decimal text. Fails if the writer does.
     fn write_i16<W: Sink>(&mut self, writer: &mut W, value: i16) -> Result<()>
         ensures puts { Puts (W.state writer.old) (W.state writer.new)
             (form.piece self.old (signed_call value)) result }
         ensures next { OnOk result (self.new ≡ form.next self.old (signed_call value)) };
 
-    /// Writes the integer's decimal text.
+    /// Writes the integer's decimal text. Fails if the writer does.
     fn write_i32<W: Sink>(&mut self, writer: &mut W, value: i32) -> Result<()>
         ensures puts { Puts (W.state writer.old) (W.state writer.new)
             (form.piece self.old (signed_call value)) result }
         ensures next { OnOk result (self.new ≡ form.next self.old (signed_call value)) };
 
-    /// Writes the integer's decimal text.
+    /// Writes the integer's decimal text. Fails if the writer does.
     fn write_i64<W: Sink>(&mut self, writer: &mut W, value: i64) -> Result<()>
         ensures puts { Puts (W.state writer.old) (W.state writer.new)
             (form.piece self.old (signed_call value)) result }
         ensures next { OnOk result (self.new ≡ form.next self.old (signed_call value)) };
 
-    /// Writes the integer's decimal text.
+    /// Writes the integer's decimal text. Fails if the writer does.
     fn write_i128<W: Sink>(&mut self, writer: &mut W, value: i128) -> Result<()>
         ensures puts { Puts (W.state writer.old) (W.state writer.new)
             (form.piece self.old (signed_call value)) result }
         ensures next { OnOk result (self.new ≡ form.next self.old (signed_call value)) };
 
-    /// Writes the integer's decimal text.
+    /// Writes the integer's decimal text. Fails if the writer does.
     fn write_u8<W: Sink>(&mut self, writer: &mut W, value: u8) -> Result<()>
         ensures puts { Puts (W.state writer.old) (W.state writer.new)
             (form.piece self.old (unsigned_call value)) result }
         ensures next { OnOk result (self.new ≡ form.next self.old (unsigned_call value)) };
 
-    /// Writes the integer's decimal text.
+    /// Writes the integer's decimal text. Fails if the writer does.
     fn write_u16<W: Sink>(&mut self, writer: &mut W, value: u16) -> Result<()>
         ensures puts { Puts (W.state writer.old) (W.state writer.new)
             (form.piece self.old (unsigned_call value)) result }
         ensures next { OnOk result (self.new ≡ form.next self.old (unsigned_call value)) };
 
-    /// Writes the integer's decimal text.
+    /// Writes the integer's decimal text. Fails if the writer does.
     fn write_u32<W: Sink>(&mut self, writer: &mut W, value: u32) -> Result<()>
         ensures puts { Puts (W.state writer.old) (W.state writer.new)
             (form.piece self.old (unsigned_call value)) result }
         ensures next { OnOk result (self.new ≡ form.next self.old (unsigned_call value)) };
 
-    /// Writes the integer's decimal text.
+    /// Writes the integer's decimal text. Fails if the writer does.
     fn write_u64<W: Sink>(&mut self, writer: &mut W, value: u64) -> Result<()>
         ensures puts { Puts (W.state writer.old) (W.state writer.new)
             (form.piece self.old (unsigned_call value)) result }
         ensures next { OnOk result (self.new ≡ form.next self.old (unsigned_call value)) };
 
-    /// Writes the integer's decimal text.
+    /// Writes the integer's decimal text. Fails if the writer does.
     fn write_u128<W: Sink>(&mut self, writer: &mut W, value: u128) -> Result<()>
         ensures puts { Puts (W.state writer.old) (W.state writer.new)
             (form.piece self.old (unsigned_call value)) result }
         ensures next { OnOk result (self.new ≡ form.next self.old (unsigned_call value)) };
 
-    /// Writes a number's literal as it is.
+    /// Writes a number's literal as it is. Fails if the writer does.
     fn write_number_str<W: Sink>(&mut self, writer: &mut W, value: &str) -> Result<()>
         ensures puts { Puts (W.state writer.old) (W.state writer.new)
             (form.piece self.old (number_call value.now)) result }
         ensures next { OnOk result (self.new ≡ form.next self.old (number_call value.now)) };
 
-    /// Writes a string, between quotes where they are needed: `"`, `\\` and the characters below U+0020 are escaped, and nothing else
-    /// (RFC 8259, section 7).
+    /// Writes a string, between quotes where they are needed: `"`, `\\` and the characters below
+    /// U+0020 are escaped, and nothing else (RFC 8259, section 7). Fails if the writer does.
     fn write_string_fast<W: Sink>(
         &mut self,
         writer: &mut W,
@@ -118,85 +118,87 @@ pub trait Formatter {
         ensures next { OnOk result (self.new ≡
             form.next self.old (string_call need_quote value.now)) };
 
-    /// Writes bytes as an array of numbers.
+    /// Writes bytes as an array of numbers. Fails if the writer does.
     fn write_byte_array<W: Sink>(&mut self, writer: &mut W, value: &[u8]) -> Result<()>
         ensures puts { Puts (W.state writer.old) (W.state writer.new)
             (form.piece self.old (bytes_call value.now)) result }
         ensures next { OnOk result (self.new ≡ form.next self.old (bytes_call value.now)) };
 
-    /// Writes the quote before a string.
+    /// Writes the quote before a string. Fails if the writer does.
     fn begin_string<W: Sink>(&mut self, writer: &mut W) -> Result<()>
         ensures puts { Puts (W.state writer.old) (W.state writer.new)
             (form.piece self.old begin_string) result }
         ensures next { OnOk result (self.new ≡ form.next self.old begin_string) };
 
-    /// Writes the quote after a string.
+    /// Writes the quote after a string. Fails if the writer does.
     fn end_string<W: Sink>(&mut self, writer: &mut W) -> Result<()>
         ensures puts { Puts (W.state writer.old) (W.state writer.new)
             (form.piece self.old end_string) result }
         ensures next { OnOk result (self.new ≡ form.next self.old end_string) };
 
-    /// Writes `[`.
+    /// Writes `[`. Fails if the writer does.
     fn begin_array<W: Sink>(&mut self, writer: &mut W) -> Result<()>
         ensures puts { Puts (W.state writer.old) (W.state writer.new)
             (form.piece self.old (begin_call array)) result }
         ensures next { OnOk result (self.new ≡ form.next self.old (begin_call array)) };
 
-    /// Writes what comes before the end of an array, and `]`.
+    /// Writes what comes before the end of an array, and `]`. Fails if the writer does.
     fn end_array<W: Sink>(&mut self, writer: &mut W) -> Result<()>
         ensures puts { Puts (W.state writer.old) (W.state writer.new)
             (form.piece self.old (end_call array)) result }
         ensures next { OnOk result (self.new ≡ form.next self.old (end_call array)) };
 
-    /// Writes what comes before an element: a comma unless it is the first, and the layout.
+    /// Writes what comes before an element: a comma unless it is the first, and the layout. Fails
+    /// if the writer does.
     fn begin_array_value<W: Sink>(&mut self, writer: &mut W, first: bool) -> Result<()>
         ensures puts { Puts (W.state writer.old) (W.state writer.new)
             (form.piece self.old (begin_element first)) result }
         ensures next { OnOk result (self.new ≡ form.next self.old (begin_element first)) };
 
-    /// Writes what comes after an element.
+    /// Writes what comes after an element. Fails if the writer does.
     fn end_array_value<W: Sink>(&mut self, writer: &mut W) -> Result<()>
         ensures puts { Puts (W.state writer.old) (W.state writer.new)
             (form.piece self.old end_element) result }
         ensures next { OnOk result (self.new ≡ form.next self.old end_element) };
 
-    /// Writes `{`.
+    /// Writes `{`. Fails if the writer does.
     fn begin_object<W: Sink>(&mut self, writer: &mut W) -> Result<()>
         ensures puts { Puts (W.state writer.old) (W.state writer.new)
             (form.piece self.old (begin_call object)) result }
         ensures next { OnOk result (self.new ≡ form.next self.old (begin_call object)) };
 
-    /// Writes what comes before the end of an object, and `}`.
+    /// Writes what comes before the end of an object, and `}`. Fails if the writer does.
     fn end_object<W: Sink>(&mut self, writer: &mut W) -> Result<()>
         ensures puts { Puts (W.state writer.old) (W.state writer.new)
             (form.piece self.old (end_call object)) result }
         ensures next { OnOk result (self.new ≡ form.next self.old (end_call object)) };
 
-    /// Writes what comes before a key: a comma unless it is the first, and the layout.
+    /// Writes what comes before a key: a comma unless it is the first, and the layout. Fails if the
+    /// writer does.
     fn begin_object_key<W: Sink>(&mut self, writer: &mut W, first: bool) -> Result<()>
         ensures puts { Puts (W.state writer.old) (W.state writer.new)
             (form.piece self.old (begin_key first)) result }
         ensures next { OnOk result (self.new ≡ form.next self.old (begin_key first)) };
 
-    /// Writes what comes after a key.
+    /// Writes what comes after a key. Fails if the writer does.
     fn end_object_key<W: Sink>(&mut self, writer: &mut W) -> Result<()>
         ensures puts { Puts (W.state writer.old) (W.state writer.new)
             (form.piece self.old end_key) result }
         ensures next { OnOk result (self.new ≡ form.next self.old end_key) };
 
-    /// Writes the colon between a key and its value.
+    /// Writes the colon between a key and its value. Fails if the writer does.
     fn begin_object_value<W: Sink>(&mut self, writer: &mut W) -> Result<()>
         ensures puts { Puts (W.state writer.old) (W.state writer.new)
             (form.piece self.old begin_member) result }
         ensures next { OnOk result (self.new ≡ form.next self.old begin_member) };
 
-    /// Writes what comes after a value of an object.
+    /// Writes what comes after a value of an object. Fails if the writer does.
     fn end_object_value<W: Sink>(&mut self, writer: &mut W) -> Result<()>
         ensures puts { Puts (W.state writer.old) (W.state writer.new)
             (form.piece self.old end_member) result }
         ensures next { OnOk result (self.new ≡ form.next self.old end_member) };
 
-    /// Writes a text as it is.
+    /// Writes a text as it is. Fails if the writer does.
     fn write_raw_value<W: Sink>(&mut self, writer: &mut W, raw: &str) -> Result<()>
         ensures puts { Puts (W.state writer.old) (W.state writer.new)
             (form.piece self.old (raw_call raw.now)) result }

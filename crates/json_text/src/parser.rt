@@ -313,8 +313,9 @@ impl<'a> Parser<'a> {
         self.next_by::<0>()
     }
 
-    /// The same as `next`, by a copy of its own for each use: a loop whose use no other caller names has it in line,
-    /// which `next` is only where one loop of the program calls it.
+    /// The same as `next`, by a copy of its own for each use: a loop whose use no other caller
+    /// names has it in line, which `next` is only where one loop of the program calls it. Fails as
+    /// `next` does.
     #[inline(always)]
     pub fn next_by<const USE: u8>(&mut self) -> Result<Event<'a>>
         ensures same { SameInput self.old self.new }

@@ -58,7 +58,8 @@ fn after_comma(kind: Kind) -> Spot
     }
 }
 
-/// Behind whitespace and, where one must come, a comma or a colon.
+/// Behind whitespace and, where one must come, a comma or a colon. Fails at a byte that is neither
+/// where one of them must come.
 #[inline(always)]
 pub fn ready(bytes: &[u8], index: usize, spot: Spot, kinds: &Kinds) -> Result<Stand, Fault>
     requires { index ≤ length bytes.now }

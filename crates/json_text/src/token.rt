@@ -449,6 +449,7 @@ fn behind_value<'a>(text: &'a str, at: usize, kinds: &mut Kinds) -> Result<Read<
 }
 
 /// Reads the part that begins at `at`, where there is neither whitespace nor a comma or a colon.
+/// Fails at the first fault of that part.
 #[inline(always)]
 pub fn take_event<'a>(
     text: &'a str,

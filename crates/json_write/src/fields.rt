@@ -74,6 +74,7 @@ impl<A: Fields, B: Fields> Fields for (A, B) {
 }
 
 /// Gives an object of these members: the body of [`Serialize::serialize`] of a type with fields.
+/// Fails if the events do.
 #[inline(always)]
 pub fn give_fields<F: Fields, E: Events>(fields: &F, out: &mut E) -> Result<()>
     requires { E.failed out.old ≡ None → TurnTakesValue (E.stand (E.state out.old)).turn }

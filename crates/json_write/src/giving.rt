@@ -11,7 +11,7 @@ ghost use Rattle.json_write.specs.Writing.{WritesDatumTokens};
 use json_print::Events;
 use json_text::Result;
 
-/// Gives a null.
+/// Gives a null. Fails if the events do.
 #[inline(always)]
 pub fn give_null<E: Events>(out: &mut E) -> Result<()>
     requires { E.failed out.old ≡ None → TurnTakesValue (E.stand (E.state out.old)).turn }
@@ -21,7 +21,7 @@ pub fn give_null<E: Events>(out: &mut E) -> Result<()>
     out.null()
 }
 
-/// Gives a truth value.
+/// Gives a truth value. Fails if the events do.
 #[inline(always)]
 pub fn give_boolean<E: Events>(b: bool, out: &mut E) -> Result<()>
     requires { E.failed out.old ≡ None → TurnTakesValue (E.stand (E.state out.old)).turn }
@@ -31,7 +31,7 @@ pub fn give_boolean<E: Events>(b: bool, out: &mut E) -> Result<()>
     out.boolean(b)
 }
 
-/// Gives an integer.
+/// Gives an integer. Fails if the events do.
 #[inline(always)]
 pub fn give_int<E: Events>(n: i128, out: &mut E) -> Result<()>
     requires { E.failed out.old ≡ None → TurnTakesValue (E.stand (E.state out.old)).turn }
@@ -41,7 +41,7 @@ pub fn give_int<E: Events>(n: i128, out: &mut E) -> Result<()>
     out.int(n)
 }
 
-/// Gives an integer from zero on.
+/// Gives an integer from zero on. Fails if the events do.
 #[inline(always)]
 pub fn give_uint<E: Events>(n: u128, out: &mut E) -> Result<()>
     requires { E.failed out.old ≡ None → TurnTakesValue (E.stand (E.state out.old)).turn }
@@ -51,7 +51,7 @@ pub fn give_uint<E: Events>(n: u128, out: &mut E) -> Result<()>
     out.uint(n)
 }
 
-/// Gives a number by its literal (RFC 8259, section 6).
+/// Gives a number by its literal (RFC 8259, section 6). Fails if the events do.
 #[inline(always)]
 pub fn give_literal<E: Events>(literal: &str, out: &mut E) -> Result<()>
     requires number { number literal.now }
@@ -62,7 +62,7 @@ pub fn give_literal<E: Events>(literal: &str, out: &mut E) -> Result<()>
     out.raw_number(literal)
 }
 
-/// Gives a string, by its characters.
+/// Gives a string, by its characters. Fails if the events do.
 #[inline(always)]
 pub fn give_text<E: Events>(s: &str, out: &mut E) -> Result<()>
     requires { E.failed out.old ≡ None → TurnTakesValue (E.stand (E.state out.old)).turn }
@@ -72,7 +72,8 @@ pub fn give_text<E: Events>(s: &str, out: &mut E) -> Result<()>
     out.text(s)
 }
 
-/// Begins an array. The hint is how many elements come, where that is known; it changes nothing that is given.
+/// Begins an array. The hint is how many elements come, where that is known; it changes nothing
+/// that is given. Fails if the events do.
 #[inline(always)]
 pub fn begin_list<E: Events>(hint: Option<usize>, out: &mut E) -> Result<()>
     requires { E.failed out.old ≡ None → TurnTakesValue (E.stand (E.state out.old)).turn }
@@ -82,7 +83,7 @@ pub fn begin_list<E: Events>(hint: Option<usize>, out: &mut E) -> Result<()>
     out.begin_array(hint)
 }
 
-/// Ends the array that was begun last.
+/// Ends the array that was begun last. Fails if the events do.
 #[inline(always)]
 pub fn end_list<E: Events>(out: &mut E) -> Result<()>
     requires { E.failed out.old ≡ None → TurnTakesEnd (E.stand (E.state out.old)).turn array }
@@ -92,7 +93,8 @@ pub fn end_list<E: Events>(out: &mut E) -> Result<()>
     out.end_array()
 }
 
-/// Begins an object. The hint is how many members come, where that is known; it changes nothing that is given.
+/// Begins an object. The hint is how many members come, where that is known; it changes nothing
+/// that is given. Fails if the events do.
 #[inline(always)]
 pub fn begin_rows<E: Events>(hint: Option<usize>, out: &mut E) -> Result<()>
     requires { E.failed out.old ≡ None → TurnTakesValue (E.stand (E.state out.old)).turn }
@@ -102,7 +104,7 @@ pub fn begin_rows<E: Events>(hint: Option<usize>, out: &mut E) -> Result<()>
     out.begin_object(hint)
 }
 
-/// Gives the key of the next member, by its characters.
+/// Gives the key of the next member, by its characters. Fails if the events do.
 #[inline(always)]
 pub fn give_key<E: Events>(s: &str, out: &mut E) -> Result<()>
     requires { E.failed out.old ≡ None → TurnTakesKey (E.stand (E.state out.old)).turn }
@@ -112,7 +114,7 @@ pub fn give_key<E: Events>(s: &str, out: &mut E) -> Result<()>
     out.key(s)
 }
 
-/// Ends the object that was begun last.
+/// Ends the object that was begun last. Fails if the events do.
 #[inline(always)]
 pub fn end_rows<E: Events>(out: &mut E) -> Result<()>
     requires { E.failed out.old ≡ None → TurnTakesEnd (E.stand (E.state out.old)).turn object }

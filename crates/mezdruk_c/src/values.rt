@@ -20,7 +20,8 @@ use json_value::Value;
 use std::alloc::Global;
 use std::rc::Rc;
 
-/// Returns the document of a patch, by the usual rules.
+/// Returns the document of a patch, by the usual rules. Fails with `Failure::Argument` if the bytes
+/// are no JSON text, or if memory runs out.
 pub fn read_patch(alloc: Global, patch: &[u8]) -> Result<Rc<Doc>, Failure>
     ensures ok { IfOk result (λ d. IsInput usual_rules patch.now
         (doc_tree d.value (doc_root d.value))) }
@@ -32,7 +33,8 @@ pub fn read_patch(alloc: Global, patch: &[u8]) -> Result<Rc<Doc>, Failure>
     }
 }
 
-/// Returns the value of a text.
+/// Returns the value of a text. Fails with `Failure::Text` if the bytes are no JSON text, or if
+/// memory runs out.
 pub fn read_value(alloc: Global, text: &[u8], rules: Rules) -> Result<Value, Failure>
     ensures ok { IfOk result (λ v. IsInput (rules_of rules) text.now (tree_of v)) }
     ensures failed { IfErr result (IsTextFailure (rules_of rules) text.now) }
@@ -46,7 +48,7 @@ pub fn read_value(alloc: Global, text: &[u8], rules: Rules) -> Result<Value, Fai
     }
 }
 
-/// Returns the text of a value.
+/// Returns the text of a value. Fails with `Failure::Text` of `NoMemory` if memory runs out.
 pub fn write_value(alloc: Global, value: &Value, style: Style<'_>) -> Result<Buffer, Failure>
     ensures ok { IfOk result (λ b. buffer_bytes b ≡ printed style.entry (tree_of value.now)) }
     ensures failed { IfErr result (λ f. f ≡ Failure.Text no_memory) }

@@ -81,7 +81,8 @@ pub fn reshape_with<S: Source, K: Sink>(
     pass(alloc, source, sink, edits, style, rules)
 }
 
-/// `reshape_with` by the usual rules: input of 254 levels at most, in which the keys of an object may repeat.
+/// `reshape_with` by the usual rules: input of 254 levels at most, in which the keys of an object
+/// may repeat. Fails as `reshape_with` does.
 pub fn reshape<S: Source, K: Sink>(
     alloc: Global,
     source: &mut S,
