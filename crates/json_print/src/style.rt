@@ -19,7 +19,7 @@ use json_text::ws_run;
 pub struct Style<'a> {
     indent: Option<&'a str>,
     sorted: bool,
-    ghost whitespace: { IsIndent (option_map (λ s. s.now) indent) } by { IsIndent-prop (option_map (λ s. s.now) indent) },
+    ghost whitespace: { IsIndent (option_map (λ s. s.now) indent) } by { indent_is_prop (option_map (λ s. s.now) indent) },
 }
 
 impl<'a> Style<'a> {
