@@ -1,6 +1,6 @@
 //! Tests alone: structs whose impls `tools/derive` wrote, to copy from.
 #![tactic(auto)]
 
-pub mod person;
+pub mod account;
 #[cfg(test)]
 mod rows;

@@ -1,21 +1,21 @@
 // Structs that are read, refused and written.
-use crate::person::{Account, Person};
+use crate::account::{Account, Customer};
 use json_data::from_str;
 use json_text::ErrorCode;
 use json_write::to_string;
 use std::alloc::Global;
 
-// Whether a person of this name and age, with so many phones, is read.
-fn is_person(alloc: Global, text: &str, name: &str, age: u8, phones: usize) -> bool {
-    match from_str::<Person>(alloc, text) {
+// Whether a customer of this name and age, with so many phones, is read.
+fn is_customer(alloc: Global, text: &str, name: &str, age: u8, phones: usize) -> bool {
+    match from_str::<Customer>(alloc, text) {
         Ok(it) => it.name.as_str() == name && it.age == age && it.phones.len() == phones,
         Err(_) => false,
     }
 }
 
-// The code with which a person is refused.
-fn person_refused(alloc: Global, text: &str) -> Option<ErrorCode> {
-    match from_str::<Person>(alloc, text) {
+// The code with which a customer is refused.
+fn customer_refused(alloc: Global, text: &str) -> Option<ErrorCode> {
+    match from_str::<Customer>(alloc, text) {
         Ok(_) => None,
         Err(error) => Some(error.code),
     }
@@ -45,9 +45,9 @@ const REFUSED: Option<ErrorCode> = Some(ErrorCode::TypeUnmatched);
 #[test]
 fn members_in_any_order(rt: HostRuntime) {
     let alloc = rt.alloc();
-    assert!(rt; is_person(alloc, "{\"name\":\"Ada\",\"age\":36}", "Ada", 36, 0));
+    assert!(rt; is_customer(alloc, "{\"name\":\"Ada\",\"age\":36}", "Ada", 36, 0));
     assert!(rt;
-        is_person(
+        is_customer(
             alloc,
             "{\"phones\":[\"1\",\"2\"],\"age\":7,\"name\":\"B\"}",
             "B",
@@ -56,7 +56,7 @@ fn members_in_any_order(rt: HostRuntime) {
         )
     );
     assert!(rt;
-        is_person(
+        is_customer(
             alloc,
             "{\"age\":1,\"age\":2,\"n\":[{}],\"name\":\"C\"}",
             "C",
@@ -64,17 +64,17 @@ fn members_in_any_order(rt: HostRuntime) {
             0
         )
     );
-    assert!(rt; is_person(alloc, "{\"\\u0061ge\":3,\"name\":\"\"}", "", 3, 0));
+    assert!(rt; is_customer(alloc, "{\"\\u0061ge\":3,\"name\":\"\"}", "", 3, 0));
 }
 
 #[test]
-fn persons_refused(rt: HostRuntime) {
+fn customers_refused(rt: HostRuntime) {
     let alloc = rt.alloc();
-    assert_eq!(rt; person_refused(alloc, "{\"name\":\"Ada\"}"), REFUSED);
-    assert_eq!(rt; person_refused(alloc, "{\"age\":1}"), REFUSED);
-    assert_eq!(rt; person_refused(alloc, "[]"), REFUSED);
-    assert_eq!(rt; person_refused(alloc, "{\"name\":1,\"age\":1}"), REFUSED);
-    let out_of_range = person_refused(alloc, "{\"name\":\"Ada\",\"age\":256}");
+    assert_eq!(rt; customer_refused(alloc, "{\"name\":\"Ada\"}"), REFUSED);
+    assert_eq!(rt; customer_refused(alloc, "{\"age\":1}"), REFUSED);
+    assert_eq!(rt; customer_refused(alloc, "[]"), REFUSED);
+    assert_eq!(rt; customer_refused(alloc, "{\"name\":1,\"age\":1}"), REFUSED);
+    let out_of_range = customer_refused(alloc, "{\"name\":\"Ada\",\"age\":256}");
     assert_eq!(rt; out_of_range, Some(ErrorCode::NumberOutOfRange));
 }
 

@@ -7,7 +7,7 @@ pub mod hinted;
 mod keys;
 #[cfg(test)]
 mod looks;
-pub mod person;
+pub mod tagged;
 #[cfg(test)]
 mod texts;
 #[cfg(test)]

@@ -1,7 +1,7 @@
 // What the types of Rust are written as.
 use crate::hinted::{Overstated, Understated};
 use crate::looks::{code_of, is_value, is_written};
-use crate::person::Person;
+use crate::tagged::Tagged;
 use json_number::{Number, RawNumber};
 use json_print::BufferedWriter;
 use json_text::{ErrorCode, Sink, VecSink};
@@ -102,9 +102,9 @@ fn a_struct_with_a_list(rt: HostRuntime) -> Result<(), Fail> {
     let mut tags = Vec::new(alloc);
     tags.push("a")?;
     tags.push("b")?;
-    let person = Person { name: "Ada", tags };
-    assert!(rt; is_written(alloc, &person, "{\"name\":\"Ada\",\"tags\":[\"a\",\"b\"]}")?);
-    assert!(rt; is_value(alloc, &person, "{\"name\":\"Ada\",\"tags\":[\"a\",\"b\"]}")?);
+    let ada = Tagged { name: "Ada", tags };
+    assert!(rt; is_written(alloc, &ada, "{\"name\":\"Ada\",\"tags\":[\"a\",\"b\"]}")?);
+    assert!(rt; is_value(alloc, &ada, "{\"name\":\"Ada\",\"tags\":[\"a\",\"b\"]}")?);
     Ok(())
 }
 

@@ -1,7 +1,12 @@
-//! Tests alone: what no row of `json_vectors` says of the calls of `reshape`. Sources and sinks that fail, what words ask for, edits
-//! that no words spell, and the examples of README.md. They stand here and not in `reshape`, since a library with tests is proved
-//! twice.
+//! Worked examples of `run`, which `vectors` runs; and, as tests alone, what no row says of the calls of `reshape`: sources and sinks
+//! that fail, what arguments ask for, edits that no arguments spell, and the examples of README.md. They stand here and not in
+//! `reshape`, since a library with tests is proved twice.
 #![tactic(auto)]
+
+mod rows;
+mod run;
+
+pub use run::vectors;
 
 #[cfg(test)]
 mod asked;

@@ -2,24 +2,24 @@
 mod json;
 
 // json: derive
-/// A person: an object with the members `name` and `age`, and `phones` where there are any.
+/// A customer: an object with the members `name` and `age`, and `phones` where there are any.
 #[derive(Drop)]
-pub struct Person {
-    /// What the person is called.
+pub struct Customer {
+    /// What the customer is called.
     pub name: String,
     /// In years.
     pub age: u8,
-    /// Where the person is called.
+    /// Where the customer is called.
     // json: default
     pub phones: Vec<String>,
 }
 
 // json: derive strict
-/// An account of a person.
+/// An account of a customer.
 #[derive(Drop)]
 pub struct Account {
     /// Who owns it.
-    pub owner: Person,
+    pub owner: Customer,
     /// How many cents it has.
     // json: name "balance-cents", default
     pub balance: i64,

@@ -6,25 +6,25 @@ use json_print::Events;
 use json_text::Result;
 use json_write::{Field, KeyRoom, Serialize, give_fields};
 
-/// A person: an object with the members `name` and `tags`, in this order.
+/// A name with its tags: an object of the members `name` and `tags`, in this order.
 ///
 /// ```
 /// use json_write::to_string;
-/// use json_write_vectors::person::Person;
+/// use json_write_vectors::tagged::Tagged;
 /// let mut tags = Vec::new(alloc);
 /// tags.push("poet's daughter")?;
-/// let ada = Person { name: "Ada", tags };
+/// let ada = Tagged { name: "Ada", tags };
 /// assert_eq!(rt; to_string(alloc, &ada)?.as_str(), "{\"name\":\"Ada\",\"tags\":[\"poet's daughter\"]}");
 /// ```
 #[derive(Drop)]
-pub struct Person<'a> {
-    /// What the person is called.
+pub struct Tagged<'a> {
+    /// The name.
     pub name: &'a str,
-    /// What is said of the person.
+    /// What is said of it.
     pub tags: Vec<&'a str>,
 }
 
-impl Serialize for Person<'_> {
+impl Serialize for Tagged<'_> {
     ghost datum = { λ p. rows_datum (row_and (text_datum (codes "name")) (text_datum p.name.now)
         (row_and (text_datum (codes "tags")) (list_datum (list_data (map (λ s. text_datum s.now) p.tags.items)))
         no_rows)) };

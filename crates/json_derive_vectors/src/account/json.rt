@@ -3,23 +3,23 @@ ghost use Rattle.std.specs.Prelude.{[], ◌∷◌, codes, false, pos, true};
 ghost use Rattle.json_derive.specs.Datum.{boolean_datum, integer_datum, list_data, list_datum, no_data, null_datum, text_datum};
 ghost use Rattle.json_derive.specs.Fields.{field_datum, or_default, read_struct as spec_read_struct, required as needed, struct_datum};
 
-use super::{Account, Person};
+use super::{Account, Customer};
 use json_derive::{
     Builder, DeserializeFrom, ErrorCode, Events, Field, KeyRoom, Lent, Result, Serialize, Tokens,
     find_struct, give_fields, read_struct, refusal, required,
 };
 use std::alloc::Global;
 
-// What was read of the members of `Person` so far.
+// What was read of the members of `Customer` so far.
 #[derive(Drop)]
-struct PersonBuilder {
+struct CustomerBuilder {
     name: Option<String>,
     age: Option<u8>,
     phones: Option<Vec<String>>,
 }
 
-impl<S: Lent> Builder<S> for PersonBuilder {
-    type Built = Person;
+impl<S: Lent> Builder<S> for CustomerBuilder {
+    type Built = Customer;
 
     ghost shape = { record {
       fields = needed (codes "name") ⟦<String as DeserializeFrom<S>>⟧.from_tree
@@ -40,7 +40,7 @@ impl<S: Lent> Builder<S> for PersonBuilder {
         ∷ [] };
 
     fn new() -> Self {
-        PersonBuilder {
+        CustomerBuilder {
             name: None,
             age: None,
             phones: None,
@@ -66,9 +66,9 @@ impl<S: Lent> Builder<S> for PersonBuilder {
         Ok(())
     }
 
-    fn build(self, alloc: Global) -> Result<Person> {
-        let PersonBuilder { name, age, phones } = self;
-        Ok(Person {
+    fn build(self, alloc: Global) -> Result<Customer> {
+        let CustomerBuilder { name, age, phones } = self;
+        Ok(Customer {
             name: required(name)?,
             age: required(age)?,
             phones: match phones {
@@ -79,22 +79,22 @@ impl<S: Lent> Builder<S> for PersonBuilder {
     }
 }
 
-impl<S: Lent> DeserializeFrom<S> for Person {
-    ghost datum = { λ v. struct_datum ⟦<PersonBuilder as Builder<S>>⟧.shape (⟦<PersonBuilder as Builder<S>>⟧.values v) };
+impl<S: Lent> DeserializeFrom<S> for Customer {
+    ghost datum = { λ v. struct_datum ⟦<CustomerBuilder as Builder<S>>⟧.shape (⟦<CustomerBuilder as Builder<S>>⟧.values v) };
 
-    ghost from_tree = { spec_read_struct ⟦<PersonBuilder as Builder<S>>⟧.shape };
+    ghost from_tree = { spec_read_struct ⟦<CustomerBuilder as Builder<S>>⟧.shape };
 
-    fn deserialize<T: Tokens<S>>(alloc: Global, tokens: &mut T) -> Result<Person> {
-        read_struct::<S, PersonBuilder, T>(alloc, tokens)
+    fn deserialize<T: Tokens<S>>(alloc: Global, tokens: &mut T) -> Result<Customer> {
+        read_struct::<S, CustomerBuilder, T>(alloc, tokens)
     }
 
-    fn found<T: Tokens<S>>(alloc: Global, tokens: &mut T) -> Result<Option<Person>> {
-        find_struct::<S, PersonBuilder, T>(alloc, tokens)
+    fn found<T: Tokens<S>>(alloc: Global, tokens: &mut T) -> Result<Option<Customer>> {
+        find_struct::<S, CustomerBuilder, T>(alloc, tokens)
     }
 }
 
-impl Serialize for Person {
-    ghost datum = { ⟦<Person as DeserializeFrom<&'static str>>⟧.datum };
+impl Serialize for Customer {
+    ghost datum = { ⟦<Customer as DeserializeFrom<&'static str>>⟧.datum };
 
     fn serialize<E: Events>(&self, out: &mut E) -> Result<()> {
         let fields = (
@@ -125,7 +125,7 @@ impl Serialize for Person {
 // What was read of the members of `Account` so far.
 #[derive(Drop)]
 struct AccountBuilder {
-    owner: Option<Person>,
+    owner: Option<Customer>,
     balance: Option<i64>,
     style: Option<String>,
     active: Option<bool>,
@@ -136,7 +136,7 @@ impl<S: Lent> Builder<S> for AccountBuilder {
     type Built = Account;
 
     ghost shape = { record {
-      fields = needed (codes "owner") ⟦<Person as DeserializeFrom<S>>⟧.from_tree
+      fields = needed (codes "owner") ⟦<Customer as DeserializeFrom<S>>⟧.from_tree
           ∷ or_default (codes "balance-cents") ⟦<i64 as DeserializeFrom<S>>⟧.from_tree (integer_datum (pos 0))
           ∷ or_default (codes "style") ⟦<String as DeserializeFrom<S>>⟧.from_tree (text_datum (codes "plain"))
           ∷ or_default (codes "active") ⟦<bool as DeserializeFrom<S>>⟧.from_tree (boolean_datum true)
@@ -145,14 +145,14 @@ impl<S: Lent> Builder<S> for AccountBuilder {
       strict = true;
     } };
 
-    ghost so_far = { λ b. list_data (field_datum ⟦<Person as DeserializeFrom<S>>⟧.datum b.owner
+    ghost so_far = { λ b. list_data (field_datum ⟦<Customer as DeserializeFrom<S>>⟧.datum b.owner
         ∷ field_datum ⟦<i64 as DeserializeFrom<S>>⟧.datum b.balance
         ∷ field_datum ⟦<String as DeserializeFrom<S>>⟧.datum b.style
         ∷ field_datum ⟦<bool as DeserializeFrom<S>>⟧.datum b.active
         ∷ field_datum ⟦<Option<String> as DeserializeFrom<S>>⟧.datum b.note
         ∷ []) };
 
-    ghost values = { λ v. ⟦<Person as DeserializeFrom<S>>⟧.datum v.owner
+    ghost values = { λ v. ⟦<Customer as DeserializeFrom<S>>⟧.datum v.owner
         ∷ ⟦<i64 as DeserializeFrom<S>>⟧.datum v.balance
         ∷ ⟦<String as DeserializeFrom<S>>⟧.datum v.style
         ∷ ⟦<bool as DeserializeFrom<S>>⟧.datum v.active
@@ -172,7 +172,7 @@ impl<S: Lent> Builder<S> for AccountBuilder {
     fn member<T: Tokens<S>>(&mut self, alloc: Global, name: &str, tokens: &mut T) -> Result<()> {
         match name {
             "owner" => {
-                let value = <Person as DeserializeFrom<S>>::deserialize(alloc, tokens)?;
+                let value = <Customer as DeserializeFrom<S>>::deserialize(alloc, tokens)?;
                 self.owner = Some(value);
             }
             "balance-cents" => {
