@@ -1,12 +1,13 @@
 -- Keys that are integers.
 use Rattle.std.proofs.Common.{◌≡◌, ◌∙◌, ◌⊎◌, inl, inr, ℕ, ℤ, List, Bool, true, false, refl, sym, subst}
+use Rattle.json_number.specs.Integers.{whole_in}
 use Rattle.json_number.specs.Tests.{is_number}
 use Rattle.json_text.specs.declared.error.Error.{Error}
 use Rattle.json_text.specs.declared.error.ErrorCode.TheVariants.{ExpectedNumericKey}
 use Rattle.json_text.specs.Errors.{no_memory}
 use Rattle.json_data.specs.Keys.{integer_key}
 use Rattle.json_data.specs.Reader.{KeyReadingFails}
-use Rattle.json_data.specs.Reading.{Reading, refuses, whole_in, in_range}
+use Rattle.json_data.specs.Reading.{Reading, refuses, in_range}
 use Rattle.json_data.specs.Refusals.{refusal, is_refusal}
 
 pub key_in : (fits : ℤ → Bool) (r : Reading) (s : List ℕ) → is_number s ≡ true → in_range fits (whole_in s) ≡ r → integer_key fits s ≡ r

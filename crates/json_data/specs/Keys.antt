@@ -9,9 +9,10 @@ use Rattle.std.specs.Ordering.{nat_cmp, int_cmp, MatchOrdering}
 use Rattle.std.specs.declared.cmp.Ordering.{Ordering}
 use Rattle.std.specs.declared.cmp.Ordering.TheVariants.{Less, Equal, Greater}
 use Rattle.json_model.specs.Datum.{Datum, null_datum, boolean_datum, text_datum, option_datum}
+use Rattle.json_number.specs.Integers.{whole_in}
 use Rattle.json_number.specs.Tests.{is_number}
 use Rattle.json_text.specs.declared.error.ErrorCode.TheVariants.{TypeUnmatched, ExpectedNumericKey}
-use Rattle.json_data.specs.Reading.{Reading, gives, refuses, whole_in, in_range, key_cmp}
+use Rattle.json_data.specs.Reading.{Reading, gives, refuses, in_range, key_cmp}
 
 abbrev pub text_key : List ℕ → Reading
 text_key s = gives (text_datum s)

@@ -10,7 +10,6 @@ pub mod Stand
 pub mod Reader
 pub mod Text
 pub mod Calls
-pub mod Wholes
 pub mod Values
 pub mod ValueCalls
 pub mod TextValues

@@ -1,14 +1,13 @@
 -- What a reader of each type answers of a tree: a datum, or the leftmost refusal.
-use Rattle.std.specs.Prelude.{ℕ, zero, suc, ℤ, pos, negsuc, List, [], ◌∷◌, length, Bool, ◌==◌, nat_lt, if◌then◌else◌, Option, Some, None}
-use Rattle.std.specs.Str.{all_ascii_digits, chars}
-use Rattle.std.specs.Str.Parse.{digits_value}
+use Rattle.std.specs.Prelude.{ℕ, ℤ, pos, negsuc, List, [], ◌∷◌, length, Bool, ◌==◌, nat_lt, if◌then◌else◌, Option, Some, None}
+use Rattle.std.specs.Str.{chars}
 use Rattle.std.specs.Cmp.Lexicographic.{slice_cmp}
 use Rattle.std.specs.Ordering.{nat_cmp, int_cmp, bool_cmp, match_ordering}
 use Rattle.std.specs.declared.cmp.Ordering.{Ordering}
 use Rattle.std.specs.declared.cmp.Ordering.TheVariants.{Equal}
 use Rattle.json_grammar.specs.Tree.{Tree, null, boolean, num, text, list, pairs, Trees, no_trees, tree_and, Pairs, no_pairs, pair_and}
 use Rattle.json_model.specs.Datum.{Datum, null_datum, boolean_datum, integer_datum, text_datum, literal_datum, list_datum, rows_datum, Rows, no_rows, row_and, list_data}
-use Rattle.json_number.specs.Integers.{integer_in}
+use Rattle.json_number.specs.Integers.{integer_in, whole_in}
 use Rattle.json_number.specs.Tests.{is_number}
 use Rattle.json_text.specs.declared.error.ErrorCode.{ErrorCode}
 use Rattle.json_text.specs.declared.error.ErrorCode.TheVariants.{TypeUnmatched, NumberOutOfRange}
@@ -81,16 +80,6 @@ read_pair f g (list ts) = as_list (two f g ts)
 read_pair f g _ = refuses TypeUnmatched
 
 -- ---- numbers
-
--- the integer below 0, if any
-abbrev pub minus : ℕ → Option ℤ
-minus zero = None
-minus (suc n) = Some (negsuc n)
-
--- the integer of a number's literal that is an optional minus and digits, other than `-0`
-unfoldable pub whole_in : List ℕ → Option ℤ
-whole_in [] = None
-whole_in (x ∷ b) = if x == 45 then (if all_ascii_digits b then minus (digits_value 10 b) else None) else (if all_ascii_digits (x ∷ b) then Some (pos (digits_value 10 (x ∷ b))) else None)
 
 -- an integer of a type, by whether it lies in it
 abbrev pub in_range : (ℤ → Bool) → Option ℤ → Reading

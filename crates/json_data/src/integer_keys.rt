@@ -7,22 +7,24 @@ ghost use Rattle.json_text.specs.declared.error.ErrorCode.TheVariants.{ExpectedN
 ghost use Rattle.json_data.specs.Keys.{integer_key, integer_named, unsigned_orders};
 ghost use Rattle.json_data.specs.Pieces.{Says};
 ghost use Rattle.json_data.specs.Reader.{KeyReadingFails};
-ghost use Rattle.json_data.specs.Reading.{gives, whole_in, between};
+ghost use Rattle.json_data.specs.Reading.{gives, between};
 ghost use Rattle.json_data.specs.Refusals.{refusal as spec_refusal};
-ghost use Rattle.json_data.specs.Wholes.{IntegerIsWhole};
+ghost use Rattle.json_number.specs.IntegerLiterals.{IsIntegerLiteral};
+ghost use Rattle.json_number.specs.Integers.{whole_in};
 
 use crate::keys::FromKey;
 use crate::lent::Lent;
 use crate::piece::Piece;
 use crate::refusals::refusal;
-use crate::whole::{Whole, fit, fit_unsigned, whole_of};
+use crate::whole::{fit, fit_unsigned};
+use json_number::{IntegerLiteral, integer_literal};
 use json_text::{ErrorCode, Result, is_number};
 use std::alloc::Global;
 
 // The integer of a key that is a number.
-fn key_whole<S: Lent>(alloc: Global, key: Piece<S>) -> Result<Whole>
+fn key_whole<S: Lent>(alloc: Global, key: Piece<S>) -> Result<IntegerLiteral>
     ensures ok { IfOk result (λ w. (s : List ℕ) → Says s key.escaped (S.bytes key.text)
-        → (spec_is_number s ≡ true) × IntegerIsWhole (whole_in s) w) }
+        → (spec_is_number s ≡ true) × IsIntegerLiteral (whole_in s) w) }
     ensures err { IfErr result (λ e. (e ≡ no_memory) ⊎ ((e ≡ spec_refusal ExpectedNumericKey)
         × ((s : List ℕ) → Says s key.escaped (S.bytes key.text) → spec_is_number s ≡ false))) }
 {
@@ -31,7 +33,7 @@ fn key_whole<S: Lent>(alloc: Global, key: Piece<S>) -> Result<Whole>
     if !is_number(literal) {
         return Err(refusal(ErrorCode::ExpectedNumericKey));
     }
-    Ok(whole_of(literal))
+    Ok(integer_literal(literal))
 }
 
 // The integer of a key, from -low on and below high.

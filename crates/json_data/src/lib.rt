@@ -3,7 +3,6 @@
 
 mod ahead;
 mod brackets;
-mod by_value;
 mod calls;
 mod characters;
 mod deserialize;

@@ -1,103 +1,32 @@
-// Integers of literals.
-ghost use Rattle.std.specs.Prelude.{◌≡◌, ◌<◌, ℕ, ◌^◌, ◌≤◌, ℤ, pos, neg_ℤ, List, Option, Some, None, true, length, drop, IfOk, IfErr, IfSome, MatchOption};
-ghost use Rattle.std.specs.Str.{all_ascii_digits};
+// Integers of any width.
+ghost use Rattle.std.specs.Prelude.{◌≡◌, ◌<◌, ℕ, ◌^◌, ◌≤◌, ℤ, pos, neg_ℤ, Option, Some, None, true, IfOk, IfErr, IfSome, MatchOption};
 ghost use Rattle.json_grammar.specs.Tree.{Tree, num};
 ghost use Rattle.json_grammar.specs.Grammar.{number};
 ghost use Rattle.json_model.specs.Datum.{integer_datum};
+ghost use Rattle.json_number.specs.IntegerLiterals.{IsIntegerLiteral};
 ghost use Rattle.json_number.specs.Integers.{integer_in};
 ghost use Rattle.json_number.specs.Numbers.{value_of, text_of_number};
 ghost use Rattle.json_data.specs.declared.token.TokenKind.TheVariants as TokenKind;
-ghost use Rattle.json_data.specs.Reading.{gives, whole_in, tree_integer, between, in_range, refuses, read_integer};
+ghost use Rattle.json_data.specs.Reading.{gives, tree_integer, between, in_range, refuses, read_integer};
 ghost use Rattle.json_data.specs.Refusals.{is_refusal as spec_is_refusal, refusal as spec_refusal};
 ghost use Rattle.json_data.specs.Reader.{ReadsTree, ReadsNonNull, StopsReading};
 ghost use Rattle.json_data.specs.Stand.{NotWhole, WantsValue, TakesTree, TokensFail};
-ghost use Rattle.json_data.specs.Wholes.{IntegerIsWhole, below_of, plain_of};
 
 use crate::lent::Lent;
 use crate::refusals::refusal;
 use crate::token::{Token, TokenKind};
 use crate::tokens::Tokens;
-use json_number::{JsonNumberTrait, Number};
+use json_number::{Integer, IntegerLiteral, Number, integer_literal};
 use json_text::{ErrorCode, Result};
-
-/// The integer of a literal.
-#[derive(Clone, Copy)]
-pub enum Whole {
-    /// It is none, or `-0`.
-    Nothing,
-    /// So many below 0.
-    Below(u128),
-    /// From 0 on.
-    From(u128),
-    /// It has more than 128 bits.
-    Beyond,
-}
-
-fn is_digits(text: &str) -> bool
-    ensures { result ≡ all_ascii_digits text.now }
-{
-    let bytes = text.as_bytes();
-    let mut at = 0;
-    'digits: while at < bytes.len() {
-        if !bytes[at].is_ascii_digit() {
-            return false;
-        }
-        at += 1;
-    }
-    true
-}
-
-fn below_zero(digits: &str) -> Whole
-    ensures { IntegerIsWhole (below_of digits.now) result }
-{
-    if digits.is_empty() || !is_digits(digits) {
-        return Whole::Nothing;
-    }
-    match digits.parse::<u128>() {
-        Ok(0) => Whole::Nothing,
-        Ok(n) => Whole::Below(n),
-        Err(_) => Whole::Beyond,
-    }
-}
-
-fn from_zero(digits: &str) -> Whole
-    requires { 0 < length digits.now }
-    ensures { IntegerIsWhole (plain_of digits.now) result }
-{
-    if !is_digits(digits) {
-        return Whole::Nothing;
-    }
-    match digits.parse::<u128>() {
-        Ok(n) => Whole::From(n),
-        Err(_) => Whole::Beyond,
-    }
-}
-
-/// The integer of a number's literal.
-pub(crate) fn whole_of(literal: &str) -> Whole
-    ensures { IntegerIsWhole (whole_in literal.now) result }
-{
-    if literal.is_empty() {
-        return Whole::Nothing;
-    }
-    if literal.as_bytes()[0] == b'-' {
-        below_zero(&literal[1..])
-    } else {
-        from_zero(literal)
-    }
-}
 
 /// A number by value.
 #[inline(always)]
-pub(crate) fn whole_of_number(n: Number) -> Whole
-    ensures { (o : Option ℤ) → o ≡ Some (value_of n) → IntegerIsWhole o result }
+pub(crate) fn whole_of_number(n: Number) -> IntegerLiteral
+    ensures { (o : Option ℤ) → o ≡ Some (value_of n) → IsIntegerLiteral o result }
 {
-    match n.as_u64() {
-        Some(n) => Whole::From(n as u128),
-        None => match n.as_i64() {
-            Some(n) => Whole::Below(n.unsigned_abs() as u128),
-            None => unreachable!(),
-        },
+    match n.integer() {
+        Integer::Unsigned(n) => IntegerLiteral::NonNegative(n as u128),
+        Integer::Negative(n) => IntegerLiteral::Negative(n.unsigned_abs() as u128),
     }
 }
 
@@ -136,10 +65,10 @@ pub(crate) fn next_raw<S: Lent, T: Tokens<S>>(tokens: &mut T) -> Result<S>
 
 /// The integer of the tree that comes next.
 #[inline(always)]
-pub(crate) fn read_whole<S: Lent, T: Tokens<S>>(tokens: &mut T) -> Result<Whole>
+pub(crate) fn read_whole<S: Lent, T: Tokens<S>>(tokens: &mut T) -> Result<IntegerLiteral>
     requires { WantsValue (T.stand tokens.old) }
     ensures ok { IfOk result (λ w. (t : Tree) × TakesTree T.taken T.stand tokens.old tokens.new t
-        × IntegerIsWhole (tree_integer t) w) }
+        × IsIntegerLiteral (tree_integer t) w) }
     ensures err { IfErr result (λ e. TokensFail (T.stand tokens.old) (T.stand tokens.new) e) }
 {
     let kind = tokens.peek()?;
@@ -149,29 +78,29 @@ pub(crate) fn read_whole<S: Lent, T: Tokens<S>>(tokens: &mut T) -> Result<Whole>
     }
     if kind == TokenKind::Raw {
         let literal = next_raw(tokens)?;
-        return Ok(whole_of(literal.as_text()));
+        return Ok(integer_literal(literal.as_text()));
     }
     tokens.skip()?;
-    Ok(Whole::Nothing)
+    Ok(IntegerLiteral::NotInteger)
 }
 
 /// An integer from -low on and below high, of at most 127 bits and a sign.
 #[inline(always)]
-pub(crate) fn fit(whole: Whole, low: u128, high: u128) -> Result<i128>
+pub(crate) fn fit(whole: IntegerLiteral, low: u128, high: u128) -> Result<i128>
     requires low { low ≤ 2 ^ 127 }
     requires high { high ≤ 2 ^ 127 }
-    ensures ok { (o : Option ℤ) → IntegerIsWhole o whole → IfOk result (λ n. o ≡ Some n) }
+    ensures ok { (o : Option ℤ) → IsIntegerLiteral o whole → IfOk result (λ n. o ≡ Some n) }
     ensures within { IfOk result (λ n. between low high n ≡ true) }
-    ensures err { (o : Option ℤ) → IntegerIsWhole o whole
+    ensures err { (o : Option ℤ) → IsIntegerLiteral o whole
         → IfErr result (λ e. (in_range (between low high) o ≡ refuses e.code)
         × (e ≡ spec_refusal e.code) × (spec_is_refusal e.code ≡ true)) }
     ensures refusal { IfErr result (λ e. (e ≡ spec_refusal e.code)
         × (spec_is_refusal e.code ≡ true)) }
 {
     match whole {
-        Whole::Nothing => Err(refusal(ErrorCode::TypeUnmatched)),
-        Whole::Below(n) if n <= low && n > 0 => Ok(-((n - 1) as i128) - 1),
-        Whole::From(n) if n < high => Ok(n as i128),
+        IntegerLiteral::NotInteger => Err(refusal(ErrorCode::TypeUnmatched)),
+        IntegerLiteral::Negative(n) if n <= low && n > 0 => Ok(-((n - 1) as i128) - 1),
+        IntegerLiteral::NonNegative(n) if n < high => Ok(n as i128),
         _ => Err(refusal(ErrorCode::NumberOutOfRange)),
     }
 }
@@ -323,18 +252,18 @@ pub(crate) fn read_between<S: Lent, T: Tokens<S>>(
 }
 
 /// An integer from 0 on, of at most 128 bits.
-pub(crate) fn fit_unsigned(whole: Whole) -> Result<u128>
-    ensures ok { (o : Option ℤ) → IntegerIsWhole o whole → IfOk result (λ n. o ≡ Some (pos n)) }
+pub(crate) fn fit_unsigned(whole: IntegerLiteral) -> Result<u128>
+    ensures ok { (o : Option ℤ) → IsIntegerLiteral o whole → IfOk result (λ n. o ≡ Some (pos n)) }
     ensures within { IfOk result (λ n. n < 2 ^ 128) }
-    ensures err { (o : Option ℤ) → IntegerIsWhole o whole
+    ensures err { (o : Option ℤ) → IsIntegerLiteral o whole
         → IfErr result (λ e. (in_range (between 0 (2 ^ 128)) o ≡ refuses e.code)
         × (e ≡ spec_refusal e.code) × (spec_is_refusal e.code ≡ true)) }
     ensures refusal { IfErr result (λ e. (e ≡ spec_refusal e.code)
         × (spec_is_refusal e.code ≡ true)) }
 {
     match whole {
-        Whole::Nothing => Err(refusal(ErrorCode::TypeUnmatched)),
-        Whole::From(n) => Ok(n),
-        Whole::Below(_) | Whole::Beyond => Err(refusal(ErrorCode::NumberOutOfRange)),
+        IntegerLiteral::NotInteger => Err(refusal(ErrorCode::TypeUnmatched)),
+        IntegerLiteral::NonNegative(n) => Ok(n),
+        IntegerLiteral::Negative(_) | IntegerLiteral::TooBig => Err(refusal(ErrorCode::NumberOutOfRange)),
     }
 }

@@ -24,7 +24,7 @@ use crate::open_keys::OpenKeys;
 use crate::value_reader::record_value;
 use crate::visitor::JsonVisitor;
 use json_grammar::Spot;
-use json_number::{JsonNumberTrait, integer_of_in};
+use json_number::{Integer, integer_of_in};
 use json_text::{Error, ErrorCode, Event, Kinds, Parser, Result, Rules, Span, place_of};
 use std::alloc::Global;
 use std::rc::Rc;
@@ -44,12 +44,9 @@ fn record_number(visitor: &mut DocumentVisitor, literal: &str, input: &[u8], fro
     ensures room { SameRoom visitor.old visitor.new }
 {
     match integer_of_in(literal, input, from) {
-        Some(number) => match number.as_u64() {
-            Some(n) => visitor.visit_u64(n),
-            None => match number.as_i64() {
-                Some(n) => visitor.visit_i64(n),
-                None => unreachable!(),
-            },
+        Some(number) => match number.integer() {
+            Integer::Unsigned(n) => visitor.visit_u64(n),
+            Integer::Negative(n) => visitor.visit_i64(n),
         },
         None => visitor.take_raw_number(literal, input, from),
     }

@@ -10,7 +10,7 @@ ghost use Rattle.json_lines.specs.Tables.{cell_kind, cell_separator, string_cell
 
 use crate::table::Kind;
 use json_doc::DocView;
-use json_number::{JsonNumberTrait, Number};
+use json_number::{Integer, Number};
 use json_print::{
     BufferedWriter, OneLine, answered, show_piece, show_signed, show_text, show_unsigned,
 };
@@ -35,12 +35,9 @@ fn show_integer<W: Sink>(out: &mut BufferedWriter<W>, number: Number) -> Shown
         (⟦<BufferedWriter<W> as Sink>⟧.state out.old) (⟦<BufferedWriter<W> as Sink>⟧.state out.new)
         (text_of_number number) result }
 {
-    match number.as_u64() {
-        Some(n) => show_unsigned(out, n),
-        None => match number.as_i64() {
-            Some(n) => show_signed(out, n),
-            None => unreachable!(),
-        },
+    match number.integer() {
+        Integer::Unsigned(n) => show_unsigned(out, n),
+        Integer::Negative(n) => show_signed(out, n),
     }
 }
 

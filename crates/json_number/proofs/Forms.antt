@@ -9,13 +9,13 @@ use Rattle.json_number.specs.Integers.{integer_in}
 use Rattle.json_number.proofs.Integers.{own, decimal_number, decimal_reads, negative_number, negative_reads}
 use mathlib.Core.Bool.{Bool-set}
 use mathlib.Core.HLevel.{is_prop→PathP}
-use Rattle.json_number.specs.Form.{form_value, is_formed}
+use Rattle.json_number.specs.BySign.{integer_value, is_formed}
 use Rattle.json_number.specs.Numbers.{value_of, text_of_number}
-use Rattle.json_number.specs.declared.number.Form.{Form}
-use Rattle.json_number.specs.declared.number.Form.TheVariants.{Unsigned, Negative}
+use Rattle.json_number.specs.declared.number.Integer.{Integer}
+use Rattle.json_number.specs.declared.number.Integer.TheVariants.{Unsigned, Negative}
 use Rattle.json_number.specs.declared.number.Number.{Number}
 
-same_form : (f g : Form) → is_formed f ≡ true → is_formed g ≡ true → form_value f ≡ form_value g → f ≡ g
+same_form : (f g : Integer) → is_formed f ≡ true → is_formed g ≡ true → integer_value f ≡ integer_value g → f ≡ g
 same_form (Unsigned m) (Unsigned n) p q e = cc
 same_form (Unsigned m) (Negative (pos n)) p q e = cc
 same_form (Unsigned m) (Negative (negsuc n)) p q e = cc
@@ -35,7 +35,7 @@ same_value x y e = by_form x y (same_form x.form y.form x.formed y.formed e)
 no_minus : (m : ℕ) (b : List ℕ) → m < 2 ^ 64 → decimal m ≡ 45 ∷ b → ⊥
 no_minus m b h e = let d : all_ascii_digits (45 ∷ b) ≡ true = ap all_ascii_digits (sym e) ∙ digits_decimal own m h in cc
 
-same_text : (f g : Form) → is_formed f ≡ true → is_formed g ≡ true → signed_decimal (form_value f) ≡ signed_decimal (form_value g) → form_value f ≡ form_value g
+same_text : (f g : Integer) → is_formed f ≡ true → is_formed g ≡ true → signed_decimal (integer_value f) ≡ signed_decimal (integer_value g) → integer_value f ≡ integer_value g
 same_text (Unsigned m) (Unsigned n) p q e = ap pos (decimal_injective m n (ltb-true _ _ p) (ltb-true _ _ q) e)
 same_text (Unsigned m) (Negative (pos n)) p q e = cc
 same_text (Unsigned m) (Negative (negsuc n)) p q e = absurd (no_minus m _ (ltb-true _ _ p) e)
@@ -56,7 +56,7 @@ texts x y = (λ e. ap signed_decimal e, same_text x.form y.form x.formed y.forme
 pub reads : (x : Number) → number (text_of_number x) × (integer_in (text_of_number x) ≡ Some (value_of x))
 reads x = by x.form x.formed
   where
-    by : (f : Form) → is_formed f ≡ true → number (signed_decimal (form_value f)) × (integer_in (signed_decimal (form_value f)) ≡ Some (form_value f))
+    by : (f : Integer) → is_formed f ≡ true → number (signed_decimal (integer_value f)) × (integer_in (signed_decimal (integer_value f)) ≡ Some (integer_value f))
     by (Unsigned n) p = let h = ltb-true _ _ p in (decimal_number n h, decimal_reads n h)
     by (Negative (pos n)) p = cc
     by (Negative (negsuc n)) p = let h = ltb-true _ _ p in (negative_number n (omega arith), negative_reads n h)

@@ -1,11 +1,11 @@
 -- The integer of a literal: what `parse` answers for it, and that its decimal text is the literal.
-use Rattle.std.proofs.Common.{◌≡◌, ◌≢◌, ◌⊎◌, inl, inr, Bool, ℕ, zero, suc, ◌<◌, ◌≤◌, ◌^◌, ℤ, pos, negsuc, neg_ℤ, List, [], ◌∷◌, length, get_or, true, false, if◌then◌else◌, Option, Some, None, Result, Ok, Err, int_lt, w64, refl, sym, ap, ◌∙◌, subst, arith, append-nil}
+use Rattle.std.proofs.Common.{◌≡◌, ◌≢◌, ◌⊎◌, inl, inr, Bool, ℕ, zero, suc, ◌<◌, ◌≤◌, ◌^◌, ℤ, pos, negsuc, neg_ℤ, List, [], ◌∷◌, length, get_or, true, false, if◌then◌else◌, Option, Some, None, Result, Ok, Err, refl, sym, ap, ◌∙◌, subst, arith, append-nil}
 use Rattle.std.proofs.lemmas.Bool.{cases_Bool, cases_lt, cases_eq, lt-ltb, le-ltb, le-leb, lt-leb, and_parts, ne_eqb}
 use Rattle.std.proofs.lemmas.Fmt.{decimal-digits_value, length-decimal-le, decimal_digit, first_decimal, digits_decimal, digits_value-decimal, decimal_nonempty}
-use Rattle.std.proofs.lemmas.Str.Parse.{IsNumeralModel, numerals_by_value, tells_all_ascii_digits, parse_plain, parse_signed_minus}
+use Rattle.std.proofs.lemmas.Str.Parse.{IsNumeralModel, numerals_by_value, tells_all_ascii_digits, parse_plain}
 use Rattle.std.specs.Result.{OkIff}
 use Rattle.std.specs.Str.{all_ascii_digits}
-use Rattle.std.specs.Str.Parse.{digits_value, ParsesUnsigned, ParsesSigned}
+use Rattle.std.specs.Str.Parse.{digits_value, ParsesUnsigned}
 use Rattle.std.specs.Fmt.{decimal, signed_decimal}
 use Rattle.json_grammar.specs.Grammar.{digits, integer_part, number}
 use Rattle.json_number.specs.Integers.{below_zero, from_zero, integer_in}
@@ -30,42 +30,13 @@ empty_is = refl
 
 -- ---- what `parse` answers
 
--- the answer of `parse` where it is below 0
-abbrev pub negative_of : {E : Type 0} → Result ℤ E → Option ℤ
-negative_of (Ok n) = if int_lt n (pos 0) then Some n else None
-negative_of (Err e) = None
-
 -- the answer of `parse` at an unsigned type
 abbrev pub unsigned_of : {E : Type 0} → Result ℕ E → Option ℤ
 unsigned_of (Ok n) = Some (pos n)
 unsigned_of (Err e) = None
 
-pub below_zero_fits : (v : ℕ) → v ≤ 2 ^ 63 → below_zero v ≡ (if int_lt (neg_ℤ (pos v)) (pos 0) then Some (neg_ℤ (pos v)) else None)
-below_zero_fits zero h = refl
-below_zero_fits (suc v) h = rw (lt-ltb 0 (suc v) (omega arith), le-leb (suc v) (2 ^ 63) h) refl
-
 pub below_zero_large : (v : ℕ) → 2 ^ 63 < v → below_zero v ≡ None
 below_zero_large v h = rw (lt-ltb 0 v (omega arith), lt-leb v (2 ^ 63) h) refl
-
-abbrev Minus : {E : Type 0} → List ℕ → Result ℤ E → Type 0
-Minus b r = OkIff r ((all_ascii_digits b ≡ true) × (0 < length b) × (digits_value 10 b ≤ 2 ^ 63)) (neg_ℤ (pos (digits_value 10 b)))
-
-minus_digits : {E : Type 0} (b : List ℕ) (r : Result ℤ E) → Minus b r → (if all_ascii_digits b then below_zero (digits_value 10 b) else None) ≡ negative_of r
-minus_digits b (Ok n) (p, e) = rw (p.0, e) (below_zero_fits (digits_value 10 b) p.2)
-minus_digits [] (Err x) h = refl
-minus_digits (y ∷ b) (Err x) h = by (cases_Bool (all_ascii_digits (y ∷ b)))
-  where
-    by : (all_ascii_digits (y ∷ b) ≡ true) ⊎ (all_ascii_digits (y ∷ b) ≡ false) → (if all_ascii_digits (y ∷ b) then below_zero (digits_value 10 (y ∷ b)) else None) ≡ None
-    by (inl e) = rw e (below_zero_large _ (large (cases_lt (2 ^ 63) (digits_value 10 (y ∷ b)))))
-      where
-        large : (2 ^ 63 < digits_value 10 (y ∷ b)) ⊎ (digits_value 10 (y ∷ b) ≤ 2 ^ 63) → 2 ^ 63 < digits_value 10 (y ∷ b)
-        large (inl k) = k
-        large (inr k) = absurd (h (e, omega arith, k))
-    by (inr e) = rw e refl
-
-pub read_minus : {E : Type 0} (l : List ℕ) (r : Result ℤ E) → get_or l 0 0 ≡ 45 → ParsesSigned w64 10 l r → integer_in l ≡ negative_of r
-read_minus [] r e h = cc
-read_minus (x ∷ b) r e h = ap (λ y. integer_in (y ∷ b)) e ∙ minus_is b ∙ minus_digits b r (parse_signed_minus own w64 (x ∷ b) r h e)
 
 plain_digits : {E : Type 0} (x : ℕ) (b : List ℕ) (r : Result ℕ E) → OkIff r ((all_ascii_digits (x ∷ b) ≡ true) × (0 < length (x ∷ b)) × (digits_value 10 (x ∷ b) < 2 ^ 64)) (digits_value 10 (x ∷ b))
     → (if all_ascii_digits (x ∷ b) then from_zero (digits_value 10 (x ∷ b)) else None) ≡ unsigned_of r

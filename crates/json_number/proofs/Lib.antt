@@ -2,3 +2,5 @@ pub mod Forms
 pub mod Literals
 pub mod Integers
 pub mod LiteralDigits
+pub mod ShortDigits
+pub mod Widths

@@ -1,5 +1,5 @@
 -- The integer that a number's literal stands for by value. Bytes are written as numbers: 45 is `-`.
-use Rattle.std.specs.Prelude.{ℕ, ◌^◌, ℤ, pos, negsuc, neg_ℤ, List, [], ◌∷◌, ◌&&◌, ◌==◌, nat_lt, nat_le, if◌then◌else◌, Some, None, Option}
+use Rattle.std.specs.Prelude.{ℕ, zero, suc, ◌^◌, ℤ, pos, negsuc, neg_ℤ, List, [], ◌∷◌, ◌&&◌, ◌==◌, nat_lt, nat_le, if◌then◌else◌, Some, None, Option}
 use Rattle.std.specs.Str.{all_ascii_digits}
 use Rattle.std.specs.Str.Parse.{digits_value}
 
@@ -28,3 +28,15 @@ in_i64 (negsuc n) = if nat_lt n (2 ^ 63) then Some (negsuc n) else None
 abbrev pub in_u64 : ℤ → Option ℕ
 in_u64 (pos n) = if nat_lt n (2 ^ 64) then Some n else None
 in_u64 (negsuc n) = None
+
+-- ---- of any width
+
+-- -n, where that is below 0
+abbrev pub minus : ℕ → Option ℤ
+minus zero = None
+minus (suc n) = Some (negsuc n)
+
+-- the integer of a number's literal that is an optional minus and digits, other than `-0`
+unfoldable pub whole_in : List ℕ → Option ℤ
+whole_in [] = None
+whole_in (x ∷ b) = if x == 45 then (if all_ascii_digits b then minus (digits_value 10 b) else None) else (if all_ascii_digits (x ∷ b) then Some (pos (digits_value 10 (x ∷ b))) else None)

@@ -1,6 +1,7 @@
-pub mod Form
+pub mod BySign
 pub mod Numbers
 pub mod Integers
+pub mod IntegerLiterals
 pub mod Tests
 pub mod Literals
 pub mod Errors

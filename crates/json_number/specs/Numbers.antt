@@ -1,12 +1,12 @@
 -- What a number by value stands for.
 use Rattle.std.specs.Prelude.{ℕ, ℤ, List}
 use Rattle.std.specs.Fmt.{signed_decimal}
-use Rattle.json_number.specs.Form.{form_value}
+use Rattle.json_number.specs.BySign.{integer_value}
 use Rattle.json_number.specs.declared.number.Number.{Number}
 
 -- its integer
 abbrev pub value_of : Number → ℤ
-value_of x = form_value x.form
+value_of x = integer_value x.form
 
 -- its text, the decimal one
 abbrev pub text_of_number : Number → List ℕ

@@ -1,10 +1,12 @@
-// The integer of a literal.
-ghost use Rattle.std.specs.Prelude.{◌≡◌, ◌≢◌, ◌+◌, ◌<◌, ◌≤◌, ◌==◌, length, slice_index, option_map, IsTrue};
+// The integer of a literal, of 64 bits.
+ghost use Rattle.std.specs.Prelude.{◌≡◌, ◌+◌, ◌≤◌, length, option_map};
 ghost use Rattle.json_grammar.specs.Given.{piece};
 ghost use Rattle.json_grammar.specs.Grammar.{number};
-ghost use Rattle.json_number.specs.Integers.{below_zero as spec_below_zero, integer_in};
+ghost use Rattle.json_number.specs.Integers.{below_zero, from_zero, integer_in};
+ghost use Rattle.json_number.specs.IntegerLiterals.{in_64_bits};
 ghost use Rattle.json_number.specs.Numbers.{value_of};
 
+use crate::any_width::{IntegerLiteral, has_minus, integer_literal};
 use crate::number::Number;
 use json_text::{DigitsRead, read_digits};
 
@@ -12,70 +14,74 @@ use json_text::{DigitsRead, read_digits};
 const LONGEST: usize = 20;
 
 /// The magnitude of the least integer of `i64`.
-const LEAST: u64 = 9_223_372_036_854_775_808;
+const LEAST: u128 = 9_223_372_036_854_775_808;
 
-fn has_minus(literal: &str) -> bool
-    ensures { result ≡ (slice_index literal.now 0 == 45) }
-{
-    let bytes = literal.as_bytes();
-    !bytes.is_empty() && bytes[0] == b'-'
-}
-
-fn below_zero<const USE: u8>(literal: &str) -> Option<Number>
-    requires { slice_index literal.now 0 ≡ 45 }
-    ensures { option_map value_of result ≡ integer_in literal.now }
-{
-    match literal.parse::<i64>() {
-        Ok(n) if n < 0 => Some(Number::signed(n)),
-        _ => None,
-    }
-}
-
-fn from_zero<const USE: u8>(literal: &str) -> Option<Number>
-    requires minus { slice_index literal.now 0 ≢ 45 }
-    requires plus { slice_index literal.now 0 ≢ 43 }
-    ensures { option_map value_of result ≡ integer_in literal.now }
-{
-    match literal.parse::<u64>() {
-        Ok(n) => Some(Number::unsigned(n)),
-        Err(_) => None,
-    }
-}
-
-/// Returns the integer that a number's literal denotes: `None` for `-0`, for a fraction or an exponent,
-/// and for what lies neither in `i64` nor in `u64`.
-pub fn integer_of(literal: &str) -> Option<Number>
-    requires { number literal.now }
-    ensures { option_map value_of result ≡ integer_in literal.now }
-{
-    integer_of_by::<0>(literal)
-}
-
-/// The same as `integer_of`, by a copy of its own for each use: a caller whose use no other names has it in line.
-pub fn integer_of_by<const USE: u8>(literal: &str) -> Option<Number>
-    requires { number literal.now }
-    ensures { option_map value_of result ≡ integer_in literal.now }
-{
-    if literal.len() > LONGEST {
-        return None;
-    }
-    if has_minus(literal) {
-        below_zero::<USE>(literal)
-    } else {
-        from_zero::<USE>(literal)
-    }
-}
+/// The greatest integer of `u64`.
+const GREATEST: u128 = 18_446_744_073_709_551_615;
 
 /// Returns the integer below 0 of the magnitude: none for 0, and for what lies below `i64`.
 #[inline(always)]
-fn negative(magnitude: u64) -> Option<Number>
-    ensures { option_map value_of result ≡ spec_below_zero magnitude }
+fn negative(magnitude: u128) -> Option<Number>
+    ensures { option_map value_of result ≡ below_zero magnitude }
 {
     if magnitude == 0 || magnitude > LEAST {
         None
     } else {
         Some(Number::signed(-((magnitude - 1) as i64) - 1))
     }
+}
+
+/// Returns the integer from 0 on: none for what lies above `u64`.
+#[inline(always)]
+fn non_negative(n: u128) -> Option<Number>
+    ensures { option_map value_of result ≡ from_zero n }
+{
+    if n > GREATEST {
+        None
+    } else {
+        Some(Number::unsigned(n as u64))
+    }
+}
+
+/// Returns the integer of a literal, if it lies in `i64` or in `u64`.
+#[inline(always)]
+fn narrowed(integer: IntegerLiteral) -> Option<Number>
+    ensures { option_map value_of result ≡ in_64_bits integer }
+{
+    match integer {
+        IntegerLiteral::NonNegative(n) => non_negative(n),
+        IntegerLiteral::Negative(n) => negative(n),
+        IntegerLiteral::NotInteger | IntegerLiteral::TooBig => None,
+    }
+}
+
+/// Returns the integer that a number's literal denotes: `None` for `-0`, for a fraction or an exponent,
+/// and for what lies neither in `i64` nor in `u64`.
+///
+/// ```
+/// use json_number::{JsonNumberTrait, integer_of};
+/// let least = integer_of("-9223372036854775808").ok_or("it lies in i64")?;
+/// assert_eq!(rt; least.as_i64(), Some(i64::MIN));
+/// assert!(rt; integer_of("-0").is_none());
+/// ```
+#[inline(always)]
+pub fn integer_of(literal: &str) -> Option<Number>
+    requires { number literal.now }
+    ensures { option_map value_of result ≡ integer_in literal.now }
+{
+    if literal.len() > LONGEST {
+        return None;
+    }
+    narrowed(integer_literal(literal))
+}
+
+/// Returns what `integer_of` returns, by a call.
+#[inline(never)]
+pub(crate) fn integer_by_call(literal: &str) -> Option<Number>
+    requires { number literal.now }
+    ensures { option_map value_of result ≡ integer_in literal.now }
+{
+    integer_of(literal)
 }
 
 /// Returns what `integer_of` returns, for a literal whose bytes are those of the input from `from` on.
@@ -97,14 +103,14 @@ pub fn integer_of_in(literal: &str, input: &[u8], from: usize) -> Option<Number>
     let end = from + literal.len();
     if has_minus(literal) {
         return match read_digits(input, from + 1, end) {
-            DigitsRead::Value(value) => negative(value),
+            DigitsRead::Value(value) => negative(value as u128),
             DigitsRead::NotDigits => None,
-            DigitsRead::NotRead => integer_of(literal),
+            DigitsRead::NotRead => integer_by_call(literal),
         };
     }
     match read_digits(input, from, end) {
         DigitsRead::Value(value) => Some(Number::unsigned(value)),
         DigitsRead::NotDigits => None,
-        DigitsRead::NotRead => integer_of(literal),
+        DigitsRead::NotRead => integer_by_call(literal),
     }
 }

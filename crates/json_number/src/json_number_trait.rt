@@ -4,7 +4,7 @@ ghost use Rattle.json_number.specs.Integers.{in_i64, in_u64, integer_in};
 ghost use Rattle.json_number.specs.Numbers.{value_of};
 ghost use Rattle.json_number.specs.Literals.{raw_literal};
 
-use crate::number::{Form, Number};
+use crate::number::{Integer, Number};
 use crate::raw_number::RawNumber;
 
 /// What denotes a number, which may be an integer by value.
@@ -48,16 +48,16 @@ impl JsonNumberTrait for Number {
 
     fn as_i64(&self) -> Option<i64> {
         match self.form {
-            Form::Unsigned(n) if n <= i64::MAX as u64 => Some(n as i64),
-            Form::Unsigned(_) => None,
-            Form::Negative(n) => Some(n),
+            Integer::Unsigned(n) if n <= i64::MAX as u64 => Some(n as i64),
+            Integer::Unsigned(_) => None,
+            Integer::Negative(n) => Some(n),
         }
     }
 
     fn as_u64(&self) -> Option<u64> {
         match self.form {
-            Form::Unsigned(n) => Some(n),
-            Form::Negative(_) => None,
+            Integer::Unsigned(n) => Some(n),
+            Integer::Negative(_) => None,
         }
     }
 }

@@ -10,6 +10,7 @@
 //! ```
 #![tactic(auto)]
 
+mod any_width;
 mod integer;
 mod json_number_trait;
 pub mod laws;
@@ -17,7 +18,8 @@ mod number;
 mod number_from;
 mod raw_number;
 
-pub use integer::{integer_of, integer_of_by, integer_of_in};
+pub use any_width::{IntegerLiteral, integer_literal};
+pub use integer::{integer_of, integer_of_in};
 pub use json_number_trait::JsonNumberTrait;
-pub use number::Number;
+pub use number::{Integer, Number};
 pub use raw_number::RawNumber;

@@ -4,18 +4,24 @@ ghost use Rattle.std.specs.Ordering.{on, int_eq};
 ghost use Rattle.std.specs.Cmp.Rules.{comparing, hashing};
 ghost use Rattle.std.specs.Hash as fed;
 ghost use Rattle.std.proofs.Common.{rules};
-ghost use Rattle.json_number.specs.Form.{is_formed};
+ghost use Rattle.json_number.specs.BySign.{is_formed};
 
 use itoa::Buffer;
 use std::fmt;
 use std::hash::{Hash, Hasher};
 
-/// How an integer is stored.
-#[derive(Clone, Copy, Debug)]
-pub(crate) enum Form {
-    /// An integer from 0 on.
+/// An integer of 64 bits by its sign.
+///
+/// ```
+/// use json_number::{Integer, Number};
+/// assert_eq!(rt; Number::from(7_i8).integer(), Integer::Unsigned(7));
+/// assert_eq!(rt; Number::from(-7_i8).integer(), Integer::Negative(-7));
+/// ```
+#[derive(Clone, Copy, Debug, PartialEq, Eq)]
+pub enum Integer {
+    /// An integer from 0 to 2^64 - 1.
     Unsigned(u64),
-    /// An integer below 0.
+    /// An integer from -2^63 to -1.
     Negative(i64),
 }
 
@@ -29,18 +35,34 @@ pub(crate) enum Form {
 /// ```
 #[derive(Clone, Copy, Debug)]
 pub struct Number {
-    pub(crate) form: Form,
+    pub(crate) form: Integer,
     ghost formed: { is_formed form ≡ true },
 }
 
 impl Number {
     ghost use Rattle.json_number.specs.Numbers.{value_of};
+    ghost use Rattle.json_number.specs.BySign.{integer_value, NegativeIsBelowZero};
+
+    /// Returns the integer by its sign.
+    ///
+    /// ```
+    /// use json_number::{Integer, Number};
+    /// assert_eq!(rt; Number::from(u64::MAX).integer(), Integer::Unsigned(u64::MAX));
+    /// assert_eq!(rt; Number::from(i64::MIN).integer(), Integer::Negative(i64::MIN));
+    /// ```
+    #[inline(always)]
+    pub fn integer(&self) -> Integer
+        ensures value { integer_value result ≡ value_of self.now }
+        ensures negative { NegativeIsBelowZero result }
+    {
+        self.form
+    }
 
     pub(crate) fn unsigned(n: u64) -> Number
         ensures { value_of result ≡ pos n }
     {
         Number {
-            form: Form::Unsigned(n),
+            form: Integer::Unsigned(n),
         }
     }
 
@@ -49,7 +71,7 @@ impl Number {
     {
         if n < 0 {
             Number {
-                form: Form::Negative(n),
+                form: Integer::Negative(n),
             }
         } else {
             Number::unsigned(n as u64)
@@ -61,8 +83,8 @@ impl Number {
         ensures { result ≡ value_of self.now }
     {
         match self.form {
-            Form::Unsigned(n) => n as i128,
-            Form::Negative(n) => n as i128,
+            Integer::Unsigned(n) => n as i128,
+            Integer::Negative(n) => n as i128,
         }
     }
 }
@@ -102,8 +124,8 @@ impl fmt::Display for Number {
 
     fn fmt<W: fmt::Write>(&self, f: &mut fmt::Formatter<W>) -> fmt::Result {
         match self.form {
-            Form::Unsigned(n) => f.write_str(Buffer::new().format(n)),
-            Form::Negative(n) => f.write_str(Buffer::new().format(n)),
+            Integer::Unsigned(n) => f.write_str(Buffer::new().format(n)),
+            Integer::Negative(n) => f.write_str(Buffer::new().format(n)),
         }
     }
 }

@@ -10,7 +10,7 @@ ghost use Rattle.json_number.specs.Errors.{invalid_number};
 ghost use Rattle.json_number.specs.Integers.{integer_in};
 ghost use Rattle.json_number.specs.Tests.{is_number};
 
-use crate::integer::integer_of;
+use crate::integer::integer_by_call;
 use crate::number::Number;
 use json_text::{Error, ErrorCode, Place, Result, is_number};
 use std::alloc::Global;
@@ -50,6 +50,21 @@ impl RawNumber {
                 place: Place::None,
             });
         }
+        RawNumber::from_literal(alloc, literal)
+    }
+
+    /// Returns the number of a literal that is known to be one. `NoMemory` comes where memory runs out.
+    ///
+    /// ```
+    /// use json_number::RawNumber;
+    /// let price = RawNumber::from_literal(alloc, "1.50")?;
+    /// assert_eq!(rt; price.as_str(), "1.50");
+    /// ```
+    pub fn from_literal(alloc: Global, literal: &str) -> Result<RawNumber>
+        requires { number literal.now }
+        ensures ok { IfOk result (λ r. raw_literal r ≡ literal.now) }
+        ensures err { IfErr result (λ e. e ≡ no_memory) }
+    {
         Ok(RawNumber {
             literal: String::from_str(alloc, literal)?,
         })
@@ -75,7 +90,7 @@ impl RawNumber {
     pub fn to_number(&self) -> Option<Number>
         ensures { option_map value_of result ≡ integer_in (raw_literal self.now) }
     {
-        integer_of(self.as_str())
+        integer_by_call(self.as_str())
     }
 
     /// Another number of the same literal. `NoMemory` comes where memory runs out.
@@ -83,9 +98,27 @@ impl RawNumber {
         ensures ok { IfOk result (λ r. raw_literal r ≡ raw_literal self.now) }
         ensures err { IfErr result (λ e. e ≡ no_memory) }
     {
-        Ok(RawNumber {
-            literal: String::from_str(alloc, self.as_str())?,
-        })
+        RawNumber::from_literal(alloc, self.as_str())
+    }
+}
+
+impl Number {
+    ghost use Rattle.json_number.specs.Literals.{raw_literal};
+    ghost use Rattle.json_number.specs.Numbers.{text_of_number};
+
+    /// Returns the integer as its decimal literal. `NoMemory` comes where memory runs out.
+    ///
+    /// ```
+    /// use json_number::Number;
+    /// let least = Number::from(i64::MIN).to_raw(alloc)?;
+    /// assert_eq!(rt; least.as_str(), "-9223372036854775808");
+    /// ```
+    pub fn to_raw(&self, alloc: Global) -> Result<RawNumber>
+        ensures ok { IfOk result (λ r. raw_literal r ≡ text_of_number self.now) }
+        ensures err { IfErr result (λ e. e ≡ no_memory) }
+    {
+        let text = format!(in alloc; "{self}")?;
+        RawNumber::from_literal(alloc, text.as_str())
     }
 }
 

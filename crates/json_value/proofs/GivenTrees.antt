@@ -4,7 +4,7 @@ use Rattle.json_grammar.specs.declared.Kind.TheVariants.{Array as array, Object 
 use Rattle.json_grammar.specs.Grammar.{number}
 use Rattle.json_grammar.specs.Proper.{IsProper, AreProper, ArePairsProper}
 use Rattle.json_grammar.specs.Tree.{Tree, null, boolean, num, text, list, pairs, Trees, no_trees, tree_and, Pairs, no_pairs, pair_and, num_token, begin, end, key_token, tokens, trees_tokens, pairs_tokens}
-use Rattle.json_number.specs.Integers.{integer_in, in_i64, in_u64}
+use Rattle.json_number.specs.Integers.{integer_in}
 use Rattle.json_number.specs.Numbers.{value_of, text_of_number}
 use Rattle.json_number.specs.declared.number.Number.{Number}
 use Rattle.json_number.proofs.Forms.{reads}
@@ -27,28 +27,6 @@ use Rattle.json_value.proofs.WholeTrees.{literal_in}
 
 pub number_is : (x : Number) → tree_given (num (text_of_number x)) ≡ given_integer (value_of x) ∷ []
 number_is x = ap (λ o. number_given o (text_of_number x) ∷ []) (reads x).1
-
-unsigned_in : (b : Bool) (n m : ℕ) → Some n ≡ (if b then Some m else None) → pos m ≡ pos n
-unsigned_in true n m e = cc
-unsigned_in false n m e = absurd (cc)
-
-from_u64 : (z : ℤ) (n : ℕ) → Some n ≡ in_u64 z → z ≡ pos n
-from_u64 (pos m) n e = unsigned_in (nat_lt m (2 ^ 64)) n m e
-from_u64 (negsuc m) n e = absurd (cc)
-
-signed_in : (b : Bool) (z y : ℤ) → Some z ≡ (if b then Some y else None) → y ≡ z
-signed_in true z y e = cc
-signed_in false z y e = absurd (cc)
-
-from_i64 : (y z : ℤ) → Some z ≡ in_i64 y → y ≡ z
-from_i64 (pos m) z e = signed_in (nat_lt m (2 ^ 63)) z (pos m) e
-from_i64 (negsuc m) z e = signed_in (nat_lt m (2 ^ 63)) z (negsuc m) e
-
-pub unsigned_is : (x : Number) (n : ℕ) → Some n ≡ in_u64 (value_of x) → value_of x ≡ pos n
-unsigned_is x n e = from_u64 (value_of x) n e
-
-pub signed_is : (x : Number) (z : ℤ) → Some z ≡ in_i64 (value_of x) → value_of x ≡ z
-signed_is x z e = from_i64 (value_of x) z e
 
 -- a literal is no integer by value
 pub literal_given : (v : Value) (l : Literal) → v ≡ Raw l → tree_given (tree_of v) ≡ given (num_token (literal_bytes l)) ∷ []

@@ -11,7 +11,7 @@ ghost use Rattle.json_value.specs.Readings.{members};
 
 use crate::walk::{Walked, taken};
 use json_doc::{DocChildren, DocNode, DocPairs, DocView};
-use json_number::{JsonNumberTrait, Number};
+use json_number::{Integer, Number};
 use json_print::Events;
 
 // Gives the tokens of the tree that is seen to `out`, up to the first that meets an error.
@@ -38,12 +38,9 @@ pub(crate) fn emit_number<E: Events>(number: Number, out: &mut E) -> Walked
     ensures { Walks E.after E.stopped (E.state out.old) (E.state out.new)
         (E.failed out.old) (E.failed out.new) (tree_given (num (text_of_number number))) result }
 {
-    match number.as_u64() {
-        Some(n) => taken(out.uint(n as u128)),
-        None => match number.as_i64() {
-            Some(n) => taken(out.int(n as i128)),
-            None => unreachable!(),
-        },
+    match number.integer() {
+        Integer::Unsigned(n) => taken(out.uint(n as u128)),
+        Integer::Negative(n) => taken(out.int(n as i128)),
     }
 }
 

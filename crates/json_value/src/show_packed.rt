@@ -13,7 +13,7 @@ ghost use Rattle.json_print.specs.Showing.{Shows, lead};
 ghost use Rattle.json_value.specs.ShownNodes.{node_tree};
 
 use json_doc::{DocChildren, DocNode, DocPairs, DocView};
-use json_number::{JsonNumberTrait, Number};
+use json_number::{Integer, Number};
 use json_print::{BufferedWriter, Layout, show_piece, show_signed, show_text, show_unsigned};
 use json_text::{Sink, SinkError};
 
@@ -38,12 +38,9 @@ pub(crate) fn show_number<W: Sink>(number: Number, out: &mut BufferedWriter<W>) 
     ensures { Adds (⟦<BufferedWriter<W> as Sink>⟧.state out.old)
         (⟦<BufferedWriter<W> as Sink>⟧.state out.new) (text_of_number number) result }
 {
-    match number.as_u64() {
-        Some(n) => show_unsigned(out, n),
-        None => match number.as_i64() {
-            Some(n) => show_signed(out, n),
-            None => unreachable!(),
-        },
+    match number.integer() {
+        Integer::Unsigned(n) => show_unsigned(out, n),
+        Integer::Negative(n) => show_signed(out, n),
     }
 }
 

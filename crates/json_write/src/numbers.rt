@@ -7,7 +7,7 @@ ghost use Rattle.json_model.specs.Datum.{integer_datum, literal_datum};
 
 use crate::giving::{give_int, give_literal, give_uint};
 use crate::{KeyRoom, Serialize};
-use json_number::{JsonNumberTrait, Number, RawNumber};
+use json_number::{Integer, Number, RawNumber};
 use json_print::Events;
 use json_text::Result;
 
@@ -15,23 +15,14 @@ impl Serialize for Number {
     ghost datum = { λ n. integer_datum (value_of n) };
 
     fn serialize<E: Events>(&self, out: &mut E) -> Result<()> {
-        match self.as_u64() {
-            Some(n) => give_uint(n as u128, out),
-            None => match self.as_i64() {
-                Some(n) => give_int(n as i128, out),
-                None => unreachable!(),
-            },
+        match self.integer() {
+            Integer::Unsigned(n) => give_uint(n as u128, out),
+            Integer::Negative(n) => give_int(n as i128, out),
         }
     }
 
     fn key<'k>(&'k self, room: &'k mut KeyRoom) -> Option<&'k str> {
-        match self.as_u64() {
-            Some(n) => Some(room.integer(n)),
-            None => match self.as_i64() {
-                Some(n) => Some(room.integer(n)),
-                None => unreachable!(),
-            },
-        }
+        Some(room.number(*self))
     }
 }
 

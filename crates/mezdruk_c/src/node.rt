@@ -6,7 +6,7 @@ ghost use Rattle.mezdruk_c.specs.Trees.{boolean_number, integer_shown, text_or_l
 ghost use Rattle.mezdruk_c.specs.Nodes.{ShowsTree};
 
 use json_doc::DocView;
-use json_number::JsonNumberTrait;
+use json_number::Integer;
 
 /// What a node of a document is, as C reads it.
 #[repr(C)]
@@ -41,12 +41,9 @@ fn integer_as(view: DocView<'_>) -> (u8, u64, i64)
     ensures { integer_shown result.0 result.1 result.2 ≡ integer_of (view_tree view.entry) }
 {
     match view.as_number() {
-        Some(number) => match number.as_u64() {
-            Some(natural) => (1, natural, 0),
-            None => match number.as_i64() {
-                Some(negative) => (2, 0, negative),
-                None => unreachable!(),
-            },
+        Some(number) => match number.integer() {
+            Integer::Unsigned(natural) => (1, natural, 0),
+            Integer::Negative(negative) => (2, 0, negative),
         },
         None => (0, 0, 0),
     }

@@ -90,7 +90,7 @@ pub use json_doc::{Doc, DocView, DocumentRoom, JsonType, read_document, read_doc
 pub use json_explain as explain;
 pub use json_history as history;
 pub use json_lines as lines;
-pub use json_number::{JsonNumberTrait, Number, RawNumber};
+pub use json_number::{Integer, JsonNumberTrait, Number, RawNumber};
 pub use json_patch as patch;
 pub use json_print::{
     BufferedWriter, CompactFormatter, Events, Formatter, Layout, PrettyFormatter, Serializer, Style,

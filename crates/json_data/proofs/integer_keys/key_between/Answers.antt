@@ -2,7 +2,8 @@ use Rattle.std.proofs.Common.{◌∙◌, ℕ, ℤ, List, ap, sym, SFits, to_z-of
 use Rattle.std.specs.Int.{w128}
 use Rattle.json_model.specs.Datum.{integer_datum}
 use Rattle.json_data.specs.Pieces.{Says}
-use Rattle.json_data.specs.Reading.{gives, between, whole_in}
+use Rattle.json_number.specs.Integers.{whole_in}
+use Rattle.json_data.specs.Reading.{gives, between}
 use Rattle.json_data.proofs.Digits.{fits_in}
 use Rattle.json_data.proofs.NumberKeys.{key_in, key_absent, key_out}
 use Rattle.json_data.proofs.integer_keys.key_between.Goals as goal

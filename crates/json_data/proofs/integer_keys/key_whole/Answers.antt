@@ -1,7 +1,7 @@
 use Rattle.std.proofs.Common.{◌≡◌, ◌∙◌, ℕ, List, true, false, inr, sym, subst}
 use Rattle.json_grammar.specs.Grammar.{number}
-use Rattle.json_data.specs.Reading.{whole_in}
-use Rattle.json_data.specs.Wholes.{IntegerIsWhole}
+use Rattle.json_number.specs.IntegerLiterals.{IsIntegerLiteral}
+use Rattle.json_number.specs.Integers.{whole_in}
 use Rattle.json_data.proofs.Digits.{is_a_number, no_number}
 use Rattle.json_data.proofs.integer_keys.key_whole.Goals as goal
 
@@ -16,4 +16,4 @@ returns-then-not-is_number-clause-err g c = inr (
 pub returns-clause-ok : goal.returns-clause-ok
 returns-clause-ok g c = λ s h.
     let e : c.as_str-literal.result.now ≡ s = c.as_str-literal.ensures.value ∙ sym (c.in_ok-text.ensures.ok s h) in
-    (is_a_number s (subst number e (c.is_number.ensures.0 c.if-not-is_number.false)), subst (λ (b : List ℕ). IntegerIsWhole (whole_in b) c.whole_of.result) e c.whole_of.ensures)
+    (is_a_number s (subst number e (c.is_number.ensures.0 c.if-not-is_number.false)), subst (λ (b : List ℕ). IsIntegerLiteral (whole_in b) c.integer_literal.result) e c.integer_literal.ensures)

@@ -1,7 +1,8 @@
 use Rattle.std.proofs.Common.{pos, arith}
 use Rattle.json_grammar.specs.Tree.{num}
-use Rattle.json_data.specs.Reading.{whole_in}
-use Rattle.json_data.proofs.Digits.{fits_in, low_enough, whole_by_value}
+use Rattle.json_number.specs.Integers.{whole_in}
+use Rattle.json_number.proofs.Widths.{whole_by_value}
+use Rattle.json_data.proofs.Digits.{fits_in, low_enough}
 use Rattle.json_data.proofs.whole.integer_at_once.Goals as goal
 
 pub returns-in-Some-clause-takes : goal.returns-in-Some-clause-takes

@@ -2,8 +2,10 @@ use Rattle.std.proofs.Common.{◌≡◌, ◌∙◌, ℤ, pos, neg_ℤ, ap, sym, 
 use Rattle.std.specs.Int.{w128}
 use Rattle.json_grammar.specs.Tree.{num}
 use Rattle.json_model.specs.Datum.{integer_datum}
-use Rattle.json_data.specs.Reading.{gives, whole_in, between}
-use Rattle.json_data.proofs.Digits.{fits_in, negative_enough, whole_by_value}
+use Rattle.json_number.specs.Integers.{whole_in}
+use Rattle.json_number.proofs.Widths.{whole_by_value}
+use Rattle.json_data.specs.Reading.{gives, between}
+use Rattle.json_data.proofs.Digits.{fits_in, negative_enough}
 use Rattle.json_data.proofs.whole.negative_at_once.Goals as goal
 
 pub returns-in-Some-clause-within : goal.returns-in-Some-clause-within

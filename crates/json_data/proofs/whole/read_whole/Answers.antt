@@ -1,9 +1,9 @@
 use Rattle.std.proofs.Common.{ℕ, List, subst}
 use Rattle.json_grammar.specs.Tree.{num}
 use Rattle.json_number.specs.Numbers.{value_of, text_of_number}
-use Rattle.json_data.specs.Reading.{whole_in}
-use Rattle.json_data.specs.Wholes.{IntegerIsWhole}
-use Rattle.json_data.proofs.Digits.{whole_by_value}
+use Rattle.json_number.specs.IntegerLiterals.{IsIntegerLiteral}
+use Rattle.json_number.specs.Integers.{whole_in}
+use Rattle.json_number.proofs.Widths.{whole_by_value}
 use Rattle.json_data.proofs.Steps.{peek_tree}
 use Rattle.json_data.proofs.whole.read_whole.Goals as goal
 
@@ -16,4 +16,4 @@ returns-then-eq-clause-ok g c =
 pub returns-then-eq-2-clause-ok : goal.returns-then-eq-2-clause-ok
 returns-then-eq-2-clause-ok g c =
     let l = g.S.Lent.bytes c.in_ok-literal.literal in
-    (num l, peek_tree c.in_ok-kind.ensures.ok c.in_ok-kind.ensures.none c.in_ok-literal.ensures.ok, subst (λ (b : List ℕ). IntegerIsWhole (whole_in b) c.whole_of.result) c.as_text.ensures c.whole_of.ensures)
+    (num l, peek_tree c.in_ok-kind.ensures.ok c.in_ok-kind.ensures.none c.in_ok-literal.ensures.ok, subst (λ (b : List ℕ). IsIntegerLiteral (whole_in b) c.integer_literal.result) c.as_text.ensures c.integer_literal.ensures)

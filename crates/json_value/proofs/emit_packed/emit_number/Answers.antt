@@ -2,16 +2,16 @@ use Rattle.std.proofs.Common.{[], ◌∷◌, SFits, w64, to_z, of_z, to_z-of_z, 
 use Rattle.std.specs.Int.{w128}
 use Rattle.json_print.specs.Given.{given_integer}
 use Rattle.json_value.proofs.Walking.{walks_one}
-use Rattle.json_value.proofs.GivenTrees.{number_is, unsigned_is, signed_is}
+use Rattle.json_value.proofs.GivenTrees.{number_is}
 use Rattle.json_value.proofs.Integers.{widened}
 use Rattle.json_value.proofs.emit_packed.emit_number.Goals as goal
 
-pub returns-in-Some : goal.returns-in-Some
-returns-in-Some g c = walks_one _ _ (number_is c.args.number ∙ ap (λ z. given_integer z ∷ []) (unsigned_is c.args.number c.in-Some.n c.in-Some.ensures)) c.taken.ensures c.uint.ensures
+pub returns-in-Unsigned : goal.returns-in-Unsigned
+returns-in-Unsigned g c = walks_one _ _ (number_is c.args.number ∙ ap (λ z. given_integer z ∷ []) (sym c.in-Unsigned.ensures.value)) c.taken.ensures c.uint.ensures
 
-pub returns-in-Some-as_i64 : goal.returns-in-Some-as_i64
-returns-in-Some-as_i64 g c =
-    let z = c.in-Some-as_i64.n in
+pub returns-in-Negative : goal.returns-in-Negative
+returns-in-Negative g c =
+    let z = c.in-Negative.n in
     let fits : SFits w64 z = search rules in
     let same = ap (λ y. to_z w128 (of_z w128 y)) (to_z-of_z fits) ∙ to_z-of_z (widened z fits) in
-    walks_one _ _ (number_is c.args.number ∙ ap (λ z. given_integer z ∷ []) (signed_is c.args.number z c.in-Some-as_i64.ensures ∙ sym same)) c.taken-in-Some-as_i64.ensures c.int.ensures
+    walks_one _ _ (number_is c.args.number ∙ ap (λ z. given_integer z ∷ []) (sym c.in-Negative.ensures.value ∙ sym same)) c.taken-in-Negative.ensures c.int.ensures

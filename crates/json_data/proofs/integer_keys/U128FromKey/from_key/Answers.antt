@@ -1,6 +1,7 @@
 use Rattle.std.proofs.Common.{◌^◌, ℕ, List, pos}
 use Rattle.json_data.specs.Pieces.{Says}
-use Rattle.json_data.specs.Reading.{between, whole_in}
+use Rattle.json_number.specs.Integers.{whole_in}
+use Rattle.json_data.specs.Reading.{between}
 use Rattle.json_data.proofs.Digits.{fits_in, low_enough}
 use Rattle.json_data.proofs.NumberKeys.{key_in, key_absent, key_out}
 use Rattle.json_data.proofs.integer_keys.U128FromKey.from_key.Goals as goal

@@ -1,9 +1,9 @@
 use Rattle.std.proofs.Common.{◌≡◌, ℕ, List, None, subst}
 use Rattle.json_grammar.specs.Tree.{num}
 use Rattle.json_number.specs.Numbers.{text_of_number}
-use Rattle.json_data.specs.Reading.{whole_in}
-use Rattle.json_data.specs.Wholes.{IntegerIsWhole}
-use Rattle.json_data.specs.declared.whole.Whole.{Whole}
+use Rattle.json_number.specs.IntegerLiterals.{IsIntegerLiteral}
+use Rattle.json_number.specs.Integers.{whole_in}
+use Rattle.json_number.specs.declared.any_width.IntegerLiteral.{IntegerLiteral}
 use Rattle.json_data.proofs.Steps.{peek_tree}
 use Rattle.json_data.proofs.Exits.{mismatch, out_of_range}
 use Rattle.json_data.proofs.Digits.{beyond, no_integer}
@@ -14,15 +14,15 @@ returns-then-eq-clause-ok g c =
     let n = c.in_ok-n.n in
     record { tree = num (text_of_number n); takes = peek_tree c.in_ok-kind.ensures.ok c.in_ok-kind.ensures.none c.in_ok-n.ensures.ok; answer = rw c.in_ok-n.ensures.value.0 }
 
-pub returns-in-Nothing-clause-err : goal.returns-in-Nothing-clause-err
-returns-in-Nothing-clause-err g c =
+pub returns-in-NotInteger-clause-err : goal.returns-in-NotInteger-clause-err
+returns-in-NotInteger-clause-err g c =
     let l = g.S.Lent.bytes c.in_ok-literal.literal in
-    let w : IntegerIsWhole (whole_in l) c.whole_of.result = subst (λ (b : List ℕ). IntegerIsWhole (whole_in b) c.whole_of.result) c.as_text.ensures c.whole_of.ensures in
-    let e : whole_in l ≡ None = subst (λ (x : Whole). IntegerIsWhole (whole_in l) x) c.in-Nothing.is w in
-    mismatch c.refusal-in-Nothing.ensures (peek_tree c.in_ok-kind.ensures.ok c.in_ok-kind.ensures.none c.in_ok-literal.ensures.ok) (no_integer l c.in_ok-literal.ensures.value.0 e)
+    let w : IsIntegerLiteral (whole_in l) c.integer_literal.result = subst (λ (b : List ℕ). IsIntegerLiteral (whole_in b) c.integer_literal.result) c.as_text.ensures c.integer_literal.ensures in
+    let e : whole_in l ≡ None = subst (λ (x : IntegerLiteral). IsIntegerLiteral (whole_in l) x) c.in-NotInteger.is w in
+    mismatch c.refusal-in-NotInteger.ensures (peek_tree c.in_ok-kind.ensures.ok c.in_ok-kind.ensures.none c.in_ok-literal.ensures.ok) (no_integer l c.in_ok-literal.ensures.value.0 e)
 
 pub returns-in_default-clause-err : goal.returns-in_default-clause-err
 returns-in_default-clause-err g c =
     let l = g.S.Lent.bytes c.in_ok-literal.literal in
-    let w : IntegerIsWhole (whole_in l) c.whole_of.result = subst (λ (b : List ℕ). IntegerIsWhole (whole_in b) c.whole_of.result) c.as_text.ensures c.whole_of.ensures in
-    out_of_range c.refusal-in_default.ensures (peek_tree c.in_ok-kind.ensures.ok c.in_ok-kind.ensures.none c.in_ok-literal.ensures.ok) (beyond l c.whole_of.result c.in_ok-literal.ensures.value.0 w c.in_default.not-Nothing)
+    let w : IsIntegerLiteral (whole_in l) c.integer_literal.result = subst (λ (b : List ℕ). IsIntegerLiteral (whole_in b) c.integer_literal.result) c.as_text.ensures c.integer_literal.ensures in
+    out_of_range c.refusal-in_default.ensures (peek_tree c.in_ok-kind.ensures.ok c.in_ok-kind.ensures.none c.in_ok-literal.ensures.ok) (beyond l c.integer_literal.result c.in_ok-literal.ensures.value.0 w c.in_default.not-NotInteger)

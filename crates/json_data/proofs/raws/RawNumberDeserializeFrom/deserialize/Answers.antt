@@ -28,12 +28,12 @@ text_refused s n = by (is_number s) refl
 pub returns-then-eq-clause-ok : goal.returns-then-eq-clause-ok
 returns-then-eq-clause-ok g c =
     let n = c.in_ok-n.n in
-    record { tree = num (text_of_number n); takes = peek_tree c.in_ok-kind.ensures.ok c.in_ok-kind.ensures.none c.in_ok-n.ensures.ok; answer = ap (λ (s : List ℕ). gives (literal_datum s)) (sym c.in_ok-raw.ensures.literal) }
+    record { tree = num (text_of_number n); takes = peek_tree c.in_ok-kind.ensures.ok c.in_ok-kind.ensures.none c.in_ok-n.ensures.ok; answer = ap (λ (s : List ℕ). gives (literal_datum s)) (sym c.in_ok-raw.ensures.ok) }
 
 pub returns-then-eq-2-clause-ok : goal.returns-then-eq-2-clause-ok
 returns-then-eq-2-clause-ok g c =
     let l = g.S.Lent.bytes c.in_ok-literal.literal in
-    record { tree = num l; takes = peek_tree c.in_ok-kind.ensures.ok c.in_ok-kind.ensures.none c.in_ok-literal.ensures.ok; answer = ap (λ (s : List ℕ). gives (literal_datum s)) (sym (c.in_ok-raw-2.ensures.literal ∙ c.as_text.ensures)) }
+    record { tree = num l; takes = peek_tree c.in_ok-kind.ensures.ok c.in_ok-kind.ensures.none c.in_ok-literal.ensures.ok; answer = ap (λ (s : List ℕ). gives (literal_datum s)) (sym (c.in_ok-raw-2.ensures.ok ∙ c.as_text.ensures)) }
 
 pub returns-in-Ok-clause-ok : goal.returns-in-Ok-clause-ok
 returns-in-Ok-clause-ok g c =

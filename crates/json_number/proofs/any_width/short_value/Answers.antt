@@ -3,8 +3,8 @@ use Rattle.std.proofs.Math.Nat.{pow-suc}
 use Rattle.std.proofs.lemmas.Grind.{common_steps}
 use Rattle.std.specs.Char.{is_ascii_digit}
 use Rattle.std.specs.Str.Parse.{digits_value}
-use Rattle.json_data.proofs.Digits.{room_for_digit, one_digit_more, digits_step}
-use Rattle.json_data.proofs.by_value.digits_value.Goals as goal
+use Rattle.json_number.proofs.ShortDigits.{room_for_digit, one_digit_more, digits_step}
+use Rattle.json_number.proofs.any_width.short_value.Goals as goal
 
 pub overflow_mul-value : goal.overflow_mul-value
 overflow_mul-value c =

@@ -1,7 +1,7 @@
 use Rattle.std.proofs.Common.{◌≡◌, ◌≤◌, ◌<◌, ◌-◌, ◌^◌, length, drop, take}
 use Rattle.std.specs.Str.{all_ascii_digits}
 use Rattle.std.specs.Str.Parse.{digits_value}
-use Rattle.json_data.proofs.by_value.digits_value.Given as goal
+use Rattle.json_number.proofs.any_width.short_value.Given as goal
 
 -- the digits so far
 abbrev pub invariant-digits : goal.invariant-digits
