@@ -1,7 +1,7 @@
 -- A text printed through a buffered writer over a borrowed sink.
-use Rattle.std.proofs.Common.{◌≡◌, ◌⊎◌, ℕ, ◌-◌, ◌^◌, ◌<◌, ◌≤◌, List, [], ◌∷◌, ◌++◌, length, refl, sym, ap, subst, ◌∙◌, arith, Bool, false, ◌||◌, Option, None, Result, Ok, Err, IfErr, IsErrOf, inl, inr}
+use Rattle.std.proofs.Common.{◌≡◌, ◌⊎◌, ℕ, ◌-◌, ◌^◌, ◌<◌, ◌≤◌, List, [], ◌∷◌, length, refl, sym, ap, subst, ◌∙◌, arith, Bool, false, ◌||◌, Option, Result, Ok, Err, IfErr, IsErrOf, inl, inr}
 use Rattle.std.specs.Borrow.{GName}
-use Rattle.json_grammar.specs.Tree.{Tree, tokens}
+use Rattle.json_grammar.specs.Tree.{Tree}
 use Rattle.json_text.specs.declared.error.Error.{Error}
 use Rattle.json_text.specs.declared.error.ErrorCode.{ErrorCode}
 use Rattle.json_text.specs.declared.error.ErrorCode.TheVariants.{NoMemory, Io}
@@ -15,54 +15,21 @@ use Rattle.json_text.specs.Outside.{SinkState, Rose}
 use Rattle.json_text.specs.Transfer.{AppendsFront, FlushesAll, WritingCause}
 use Rattle.json_print.specs.Buffered.{held_behind}
 use Rattle.json_print.specs.Calls.{holds_any}
-use Rattle.json_print.specs.Layouts.{Form, LaidOut}
-use Rattle.json_print.specs.Given.{TokenOrInteger, given_tokens}
-use Rattle.json_print.specs.Printer.{Out, StopCause, StopsTaking, after, took, start}
+use Rattle.json_print.specs.Printer.{StopCause}
 use Rattle.json_print.specs.Shown.{shown_as}
 use Rattle.json_print.specs.TextWriting.{WritesText}
-use Rattle.json_print.specs.Taking.{after_all, StopsAmong}
-use Rattle.json_print.specs.Written.{Written}
-use Rattle.json_print.proofs.Taking.{took_all, tokens_append}
-use Rattle.json_value.specs.EmittingSorted.{EmitsOrLacks, StopsOrLacks}
-use Rattle.json_print.proofs.TextWriting.{all_written, stopped_written, front_gained, same_name, grown, sent_back}
+use Rattle.json_print.proofs.TextWriting.{front_gained, same_name, grown, sent_back}
 use Rattle.json_command.specs.Printing.{HasRunOut, PrintingFails, Prints, RunsOutOnlyWith, WritesFlushed}
 
--- ---- the tokens of a tree, given to a serializer
+-- ---- the layout of a style
 
-module _ {F : Type 0} (m : Form F) (f : F) (w new : SinkState) (first now : Out F) (failed : Option Error) (t : Tree) (gs : List TokenOrInteger) (i : Option (List ℕ)) (laid : LaidOut m f i 0 false) (s : first ≡ start f false w) (z : given_tokens gs ≡ tokens t)
-    (k : Written m now new) where
-  -- memory was lacking behind the first of them
-  lacked : (front back : List TokenOrInteger) (x : TokenOrInteger) (e : Error) → gs ≡ front ++ x ∷ back → e ≡ no_memory → now ≡ after_all (took m) first front → WritesText w new (shown_as i false t) (Err e)
-  lacked front back x e g n h =
-      let here = h ∙ took_all m first front ∙ ap (λ o. after_all (after m) o (given_tokens front)) s in
-      let c = k.calm f false w (given_tokens front) here in
-      record {
-        ok = tt;
-        calm = tt;
-        prefix = k.prefix f false w i t (given_tokens front) (given_tokens (x ∷ back)) laid (sym z ∙ ap given_tokens g ∙ tokens_append front (x ∷ back)) here;
-        cause = subst (λ (y : Error). StopCause w.faults new.faults y.code y.place) (sym n) tt;
-        told = λ l. absurd (omega (arith, l, c.0));
-        same_loan = c.1;
-      }
-
-  stopped : (e : Error) → StopsAmong (took m) (StopsOrLacks (StopsTaking m) failed) first now gs e → WritesText w new (shown_as i false t) (Err e)
-  stopped e h =
-      elim h.left [
-        | inl met ↦ stopped_written t laid s z (record { front = h.front; at = h.at; back = h.back; whole = h.whole; left = met.0 }) k
-        | inr lack ↦ lacked h.front h.back h.at e h.whole lack.0 lack.1
-      ]
-
-  pub text_written : (err : Option Error) (r : Result (Unit {0}) Error) → err ≡ None → EmitsOrLacks (took m) (StopsTaking m) first now err failed gs r → WritesText w new (shown_as i false t) r
-  text_written err (Ok v) n h = all_written t gs v laid s z h.all k
-  text_written err (Err e) n h = stopped e (h.stops n)
-
--- ... with the indent and the order that the style has
+-- with the indent and the order that the style has
 pub in_style : (old new : SinkState) (r : Result (Unit {0}) Error) (i j : Option (List ℕ)) (s z : Bool) (t : Tree) → i ≡ j → s ≡ z → WritesText old new (shown_as i s t) r → WritesText old new (shown_as j z t) r
 in_style old new r i j s z t e f h = subst (λ x. WritesText old new (shown_as j x t) r) f (subst (λ x. WritesText old new (shown_as x s t) r) e h)
 
 -- ... of an equal tree
-pub of_tree : (old new : SinkState) (r : Result (Unit {0}) Error) (i : Option (List ℕ)) (t u : Tree) → t ≡ u → WritesText old new (shown_as i false t) r → WritesText old new (shown_as i false u) r
-of_tree old new r i t u e h = subst (λ x. WritesText old new (shown_as i false x) r) e h
+pub of_tree : (old new : SinkState) (r : Result (Unit {0}) Error) (i : Option (List ℕ)) (s : Bool) (t u : Tree) → t ≡ u → WritesText old new (shown_as i s t) r → WritesText old new (shown_as i s u) r
+of_tree old new r i s t u e h = subst (λ x. WritesText old new (shown_as i s x) r) e h
 
 -- ---- why memory ran out
 

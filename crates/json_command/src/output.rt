@@ -1,6 +1,5 @@
 // The text of a value's tree, written to a sink.
-ghost use Rattle.std.specs.Prelude.{◌≡◌, ℕ, List, Option, length, true, false, IsErrOf};
-ghost use Rattle.json_print.specs.Layouts.{LaidOut};
+ghost use Rattle.std.specs.Prelude.{◌≡◌, ℕ, List, length, false, IsErrOf};
 ghost use Rattle.json_print.specs.Shown.{shown_as};
 ghost use Rattle.json_print.specs.Styles.{is_sorted, printed};
 ghost use Rattle.json_print.specs.TextWriting.{WritesText};
@@ -9,87 +8,31 @@ ghost use Rattle.json_text.specs.Outside.{SinkState, Rose};
 ghost use Rattle.json_value.specs.Denotes.{tree_of};
 ghost use Rattle.json_command.specs.Printing.{HasRunOut, Prints, RunsOutOnlyWith, WritesFlushed};
 
-use json_print::{
-    Buffer, BufferedWriter, CompactFormatter, Formatter, Layout, ManyLines, OneLine,
-    PrettyFormatter, Serializer, Style,
-};
+use json_print::{Buffer, BufferedWriter, Layout, ManyLines, OneLine, Style};
 use json_text::{LentSink, Result, Sink, flush_all, put_all};
 use json_value::Value;
 use std::alloc::Global;
 
-// The text with the members of each object in the order of their keys, by the calls of a formatter
-// that has written nothing. Gives the writer back.
-fn in_order<W: Sink, F: Formatter + Drop>(
+// The text in a layout, sorted or not.
+fn laid_out<W: Sink, L: Layout>(
     alloc: Global,
     value: &Value,
-    formatter: F,
-    writer: W,
-) -> (W, Result<()>)
-    requires fresh { F.fresh formatter }
-    ensures text { (indent : Option (List ℕ)) → LaidOut F.form formatter indent 0 false
-        → WritesText (W.state writer) (W.state result.0)
-        (shown_as indent true (tree_of value.now)) result.1 }
-{
-    let mut out = Serializer::with_formatter(alloc, writer, formatter);
-    let went = value.view().emit_sorted(alloc, &mut out);
-    (out.into_inner(), went)
-}
-
-// The same in the order in which the members stand.
-fn as_it_stands<W: Sink, L: Layout>(
-    value: &Value,
+    sorts: bool,
     layout: L,
-    writer: BufferedWriter<W>,
-) -> (BufferedWriter<W>, Result<()>)
-    ensures text { WritesText (⟦<BufferedWriter<W> as Sink>⟧.state writer)
-        (⟦<BufferedWriter<W> as Sink>⟧.state result.0)
-        (shown_as (L.indent layout) false (tree_of value.now)) result.1 }
-    ensures ran_out { IsErrOf result.1 no_memory
-        → HasRunOut (⟦<BufferedWriter<W> as Sink>⟧.state result.0)
-        (length (shown_as (L.indent layout) false (tree_of value.now))) }
+    out: &mut BufferedWriter<W>,
+) -> Result<()>
+    ensures text { WritesText (⟦<BufferedWriter<W> as Sink>⟧.state out.old)
+        (⟦<BufferedWriter<W> as Sink>⟧.state out.new)
+        (shown_as (L.indent layout) sorts (tree_of value.now)) result }
+    ensures ran_out { sorts ≡ false → IsErrOf result no_memory
+        → HasRunOut (⟦<BufferedWriter<W> as Sink>⟧.state out.new)
+        (length (shown_as (L.indent layout) sorts (tree_of value.now))) }
 {
-    let mut out = writer;
-    let went = value.view().print(layout, &mut out);
-    (out, went)
-}
-
-// The text in the style, sorted.
-fn styled_in_order<W: Sink>(
-    alloc: Global,
-    value: &Value,
-    style: Style<'_>,
-    writer: W,
-) -> (W, Result<()>)
-    requires { is_sorted style ≡ true }
-    ensures text { WritesText (W.state writer) (W.state result.0)
-        (printed style.entry (tree_of value.now)) result.1 }
-{
-    match style.indent() {
-        None => in_order(alloc, value, CompactFormatter, writer),
-        Some(indent) => {
-            let formatter = PrettyFormatter::with_indent(indent.as_bytes());
-            in_order(alloc, value, formatter, writer)
-        }
-    }
-}
-
-// The text in the style, not sorted.
-fn styled_as_it_stands<W: Sink>(
-    value: &Value,
-    style: Style<'_>,
-    writer: BufferedWriter<W>,
-) -> (BufferedWriter<W>, Result<()>)
-    requires { is_sorted style ≡ false }
-    ensures text { WritesText (⟦<BufferedWriter<W> as Sink>⟧.state writer)
-        (⟦<BufferedWriter<W> as Sink>⟧.state result.0)
-        (printed style.entry (tree_of value.now)) result.1 }
-    ensures ran_out { IsErrOf result.1 no_memory
-        → HasRunOut (⟦<BufferedWriter<W> as Sink>⟧.state result.0)
-        (length (printed style.entry (tree_of value.now))) }
-{
-    match style.indent() {
-        None => as_it_stands(value, OneLine, writer),
-        Some(indent) => as_it_stands(value, ManyLines::new(indent.as_bytes()), writer),
+    let view = value.view();
+    if sorts {
+        view.print_sorted(alloc, layout, out)
+    } else {
+        view.print(layout, out)
     }
 }
 
@@ -98,19 +41,19 @@ fn styled<W: Sink>(
     alloc: Global,
     value: &Value,
     style: Style<'_>,
-    writer: BufferedWriter<W>,
-) -> (BufferedWriter<W>, Result<()>)
-    ensures text { WritesText (⟦<BufferedWriter<W> as Sink>⟧.state writer)
-        (⟦<BufferedWriter<W> as Sink>⟧.state result.0)
-        (printed style.entry (tree_of value.now)) result.1 }
-    ensures ran_out { is_sorted style.entry ≡ false → IsErrOf result.1 no_memory
-        → HasRunOut (⟦<BufferedWriter<W> as Sink>⟧.state result.0)
+    out: &mut BufferedWriter<W>,
+) -> Result<()>
+    ensures text { WritesText (⟦<BufferedWriter<W> as Sink>⟧.state out.old)
+        (⟦<BufferedWriter<W> as Sink>⟧.state out.new)
+        (printed style.entry (tree_of value.now)) result }
+    ensures ran_out { is_sorted style.entry ≡ false → IsErrOf result no_memory
+        → HasRunOut (⟦<BufferedWriter<W> as Sink>⟧.state out.new)
         (length (printed style.entry (tree_of value.now))) }
 {
-    if style.sorted() {
-        styled_in_order(alloc, value, style, writer)
-    } else {
-        styled_as_it_stands(value, style, writer)
+    let sorts = style.sorted();
+    match style.indent() {
+        None => laid_out(alloc, value, sorts, OneLine, out),
+        Some(indent) => laid_out(alloc, value, sorts, ManyLines::new(indent.as_bytes()), out),
     }
 }
 
@@ -145,8 +88,9 @@ fn sent<W: Sink>(
         → HasRunOut (⟦<BufferedWriter<W> as Sink>⟧.state result.0)
         (length (printed style.entry (tree_of value.now))) }
 {
-    let (writer, written) = styled(alloc, value, style, writer);
-    flushed(writer, written)
+    let mut out = writer;
+    let written = styled(alloc, value, style, &mut out);
+    flushed(out, written)
 }
 
 /// Writes the text of the value's tree in the style by pieces of at most 8,192 bytes, and flushes

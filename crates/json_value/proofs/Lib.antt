@@ -40,7 +40,7 @@ pub mod RefusedCalls
 pub mod EditsAlong
 pub mod KeyOrders
 pub mod KeyFronts
-pub mod SortedGiven
 pub mod Walking
 pub mod ShownTrees
+pub mod SortedTrees
 pub mod PrintedTexts

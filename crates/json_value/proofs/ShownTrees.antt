@@ -87,43 +87,47 @@ abbrev pub held : {W : Type 0} → (W → SinkState) → BufferedWriter W → Si
 held state b = held_behind (state b.inner) (drop b.sent (take b.end b.buffer.items))
 
 -- what is left of it, with e containers around it, brings all that was to be shown, which has d around it
-pub Goes : ℕ → ℕ → SinkState → SinkState → List ℕ → List ℕ → Type 0
-Goes d e old now left all = (new : SinkState) (r : Result (Unit {0}) SinkError) → Shows e now new left r → Shows d old new all r
+pub record Goes (d e : ℕ) (old now : SinkState) (left all : List ℕ) : Type 0 where
+  pub brings : (new : SinkState) (r : Result (Unit {0}) SinkError) → Shows e now new left r → Shows d old new all r
 
 -- behind the bracket that opens it
+goes_opened : (d e : ℕ) (old now : SinkState) (x : ℕ) (left all : List ℕ) (u : Unit {0}) → e ≤ d + 1 → Adds old now (x ∷ []) (Ok u) → x ∷ left ≡ all → Goes d e old now left all
+goes_opened d e old now x left all u l h is =
+    record { brings = λ new r k. Shows-same old new (x ∷ left) all r is (Shows-within d e old now new (x ∷ []) left u r (omega (arith, l)) (added_shows old now (x ∷ []) (Ok u) h) k) }
+
 pub goes_first : (d : ℕ) (old now : SinkState) (x : ℕ) (left all : List ℕ) (u : Unit {0}) → Adds old now (x ∷ []) (Ok u) → x ∷ left ≡ all → Goes d (d + 1) old now left all
-unfolding Goes
-goes_first d old now x left all u h is new r k = Shows-same old new (x ∷ left) all r is (Shows-within d (d + 1) old now new (x ∷ []) left u r (omega arith) (added_shows old now (x ∷ []) (Ok u) h) k)
+goes_first d old now x left all u h is = goes_opened d (d + 1) old now x left all u (omega arith) h is
+
+-- ... which counts for no level
+pub goes_from : (d : ℕ) (old now : SinkState) (x : ℕ) (left all : List ℕ) (u : Unit {0}) → Adds old now (x ∷ []) (Ok u) → x ∷ left ≡ all → Goes d d old now left all
+goes_from d old now x left all u h is = goes_opened d d old now x left all u (omega arith) h is
 
 -- behind one more
 pub goes_on : (d e : ℕ) (old now next : SinkState) (p rest left all : List ℕ) (u : Unit {0}) → Goes d e old now left all → left ≡ p ++ rest → Shows e now next p (Ok u) → Goes d e old next rest all
-unfolding Goes
-goes_on d e old now next p rest left all u g is h new r k = g new r (Shows-same now new (p ++ rest) left r (sym is) (Shows-then now next new p rest u r h k))
+goes_on d e old now next p rest left all u g is h = record { brings = λ new r k. g.brings new r (Shows-same now new (p ++ rest) left r (sym is) (Shows-then now next new p rest u r h k)) }
 
 -- one failed
 pub goes_failed : (d e : ℕ) (old now next : SinkState) (p rest left all : List ℕ) (x : SinkError) → Goes d e old now left all → left ≡ p ++ rest → Shows e now next p (Err x) → Shows d old next all (Err x)
-unfolding Goes
-goes_failed d e old now next p rest left all x g is h = g next (Err x) (Shows-same now next (p ++ rest) left (Err x) (sym is) (Shows-first now next p rest x h))
+goes_failed d e old now next p rest left all x g is h = g.brings next (Err x) (Shows-same now next (p ++ rest) left (Err x) (sym is) (Shows-first now next p rest x h))
 
 -- the bracket that closes it is all that is left
 pub goes_last : (d e : ℕ) (old now new : SinkState) (p left all : List ℕ) (r : Result (Unit {0}) SinkError) → Goes d e old now left all → p ≡ left → Adds now new p r → Shows d old new all r
-unfolding Goes
-goes_last d e old now new p left all r g is h = g new r (Shows-same now new p left r is (added_shows now new p r h))
+goes_last d e old now new p left all r g is h = g.brings new r (Shows-same now new p left r is (added_shows now new p r h))
 
 -- ---- an array
 
 element_eq : (i : Option (List ℕ)) (d e : ℕ) (first : Bool) (n u : Tree) (left rest : List Tree) → left ≡ u ∷ rest → n ≡ u → elements_left i d e first left ≡ (lead i e first ++ shown i e n) ++ elements_left i d e false rest
 element_eq i d e first n u left rest h k = ap (elements_left i d e first) h ∙ ap (λ t. (lead i e first ++ shown i e t) ++ elements_left i d e false rest) (sym k)
 
-pub element_on : (old now next : SinkState) (i : Option (List ℕ)) (d e : ℕ) (first : Bool) (n u : Tree) (left rest : List Tree) (all : List ℕ) (o : Unit {0}) → Goes d e old now (elements_left i d e first left) all → left ≡ u ∷ rest → n ≡ u → Shows e now next (lead i e first ++ shown i e n) (Ok o)
-    → Goes d e old next (elements_left i d e false rest) all
-element_on old now next i d e first n u left rest all o g h k s =
-    goes_on d e old now next (lead i e first ++ shown i e n) (elements_left i d e false rest) (elements_left i d e first left) all o g (element_eq i d e first n u left rest h k) s
+pub element_on : {v w : ℕ} (old now next : SinkState) (i : Option (List ℕ)) (d e : ℕ) (first : Bool) (n u : Tree) (left rest : List Tree) (all : List ℕ) (o : Unit {0}) → Goes v w old now (elements_left i d e first left) all → left ≡ u ∷ rest → n ≡ u → Shows w now next (lead i e first ++ shown i e n) (Ok o)
+    → Goes v w old next (elements_left i d e false rest) all
+element_on {v} {w} old now next i d e first n u left rest all o g h k s =
+    goes_on v w old now next (lead i e first ++ shown i e n) (elements_left i d e false rest) (elements_left i d e first left) all o g (element_eq i d e first n u left rest h k) s
 
-pub element_failed : (old now next : SinkState) (i : Option (List ℕ)) (d e : ℕ) (first : Bool) (n u : Tree) (left rest : List Tree) (all : List ℕ) (x : SinkError) → Goes d e old now (elements_left i d e first left) all → left ≡ u ∷ rest → n ≡ u → Shows e now next (lead i e first ++ shown i e n) (Err x)
-    → Shows d old next all (Err x)
-element_failed old now next i d e first n u left rest all x g h k s =
-    goes_failed d e old now next (lead i e first ++ shown i e n) (elements_left i d e false rest) (elements_left i d e first left) all x g (element_eq i d e first n u left rest h k) s
+pub element_failed : {v w : ℕ} (old now next : SinkState) (i : Option (List ℕ)) (d e : ℕ) (first : Bool) (n u : Tree) (left rest : List Tree) (all : List ℕ) (x : SinkError) → Goes v w old now (elements_left i d e first left) all → left ≡ u ∷ rest → n ≡ u → Shows w now next (lead i e first ++ shown i e n) (Err x)
+    → Shows v old next all (Err x)
+element_failed {v} {w} old now next i d e first n u left rest all x g h k s =
+    goes_failed v w old now next (lead i e first ++ shown i e n) (elements_left i d e false rest) (elements_left i d e first left) all x g (element_eq i d e first n u left rest h k) s
 
 -- an element and those behind it have no more nodes than all
 pub element_bound : (n u : Tree) (left rest : List Tree) → left ≡ u ∷ rest → n ≡ u → nodes n + trees_nodes (list_trees rest) ≡ trees_nodes (list_trees left)
@@ -134,20 +138,20 @@ element_bound n u left rest h k = ap (λ t. nodes t + trees_nodes (list_trees re
 member_eq : (i : Option (List ℕ)) (d e : ℕ) (first : Bool) (k : List ℕ) (n u : Tree) (left rest : List (List ℕ × Tree)) → left ≡ (k, u) ∷ rest → n ≡ u → members_left i d e first left ≡ (key_shown i e first k ++ shown i e n) ++ members_left i d e false rest
 member_eq i d e first k n u left rest h s = ap (members_left i d e first) h ∙ ap (λ t. (key_shown i e first k ++ shown i e t) ++ members_left i d e false rest) (sym s)
 
-pub member_on : (old now mid next : SinkState) (i : Option (List ℕ)) (d e : ℕ) (first : Bool) (k : List ℕ) (n u : Tree) (left rest : List (List ℕ × Tree)) (all : List ℕ) (o p : Unit {0}) → Goes d e old now (members_left i d e first left) all → left ≡ (k, u) ∷ rest → n ≡ u → Adds now mid (key_shown i e first k) (Ok o)
-    → Shows e mid next (shown i e n) (Ok p) → Goes d e old next (members_left i d e false rest) all
-member_on old now mid next i d e first k n u left rest all o p g h s a b =
-    goes_on d e old now next (key_shown i e first k ++ shown i e n) (members_left i d e false rest) (members_left i d e first left) all p g (member_eq i d e first k n u left rest h s) (Shows-then now mid next (key_shown i e first k) (shown i e n) o (Ok p) (added_shows now mid (key_shown i e first k) (Ok o) a) b)
+pub member_on : {v w : ℕ} (old now mid next : SinkState) (i : Option (List ℕ)) (d e : ℕ) (first : Bool) (k : List ℕ) (n u : Tree) (left rest : List (List ℕ × Tree)) (all : List ℕ) (o p : Unit {0}) → Goes v w old now (members_left i d e first left) all → left ≡ (k, u) ∷ rest → n ≡ u → Adds now mid (key_shown i e first k) (Ok o)
+    → Shows w mid next (shown i e n) (Ok p) → Goes v w old next (members_left i d e false rest) all
+member_on {v} {w} old now mid next i d e first k n u left rest all o p g h s a b =
+    goes_on v w old now next (key_shown i e first k ++ shown i e n) (members_left i d e false rest) (members_left i d e first left) all p g (member_eq i d e first k n u left rest h s) (Shows-then now mid next (key_shown i e first k) (shown i e n) o (Ok p) (added_shows now mid (key_shown i e first k) (Ok o) a) b)
 
-pub key_failed : (old now next : SinkState) (i : Option (List ℕ)) (d e : ℕ) (first : Bool) (k : List ℕ) (u : Tree) (left rest : List (List ℕ × Tree)) (all : List ℕ) (x : SinkError) → Goes d e old now (members_left i d e first left) all → left ≡ (k, u) ∷ rest → Adds now next (key_shown i e first k) (Err x)
-    → Shows d old next all (Err x)
-key_failed old now next i d e first k u left rest all x g h a =
-    goes_failed d e old now next (key_shown i e first k ++ shown i e u) (members_left i d e false rest) (members_left i d e first left) all x g (member_eq i d e first k u u left rest h refl) (Shows-first now next (key_shown i e first k) (shown i e u) x (added_shows now next (key_shown i e first k) (Err x) a))
+pub key_failed : {v w : ℕ} (old now next : SinkState) (i : Option (List ℕ)) (d e : ℕ) (first : Bool) (k : List ℕ) (u : Tree) (left rest : List (List ℕ × Tree)) (all : List ℕ) (x : SinkError) → Goes v w old now (members_left i d e first left) all → left ≡ (k, u) ∷ rest → Adds now next (key_shown i e first k) (Err x)
+    → Shows v old next all (Err x)
+key_failed {v} {w} old now next i d e first k u left rest all x g h a =
+    goes_failed v w old now next (key_shown i e first k ++ shown i e u) (members_left i d e false rest) (members_left i d e first left) all x g (member_eq i d e first k u u left rest h refl) (Shows-first now next (key_shown i e first k) (shown i e u) x (added_shows now next (key_shown i e first k) (Err x) a))
 
-pub value_failed : (old now mid next : SinkState) (i : Option (List ℕ)) (d e : ℕ) (first : Bool) (k : List ℕ) (n u : Tree) (left rest : List (List ℕ × Tree)) (all : List ℕ) (o : Unit {0}) (x : SinkError) → Goes d e old now (members_left i d e first left) all → left ≡ (k, u) ∷ rest → n ≡ u → Adds now mid (key_shown i e first k) (Ok o)
-    → Shows e mid next (shown i e n) (Err x) → Shows d old next all (Err x)
-value_failed old now mid next i d e first k n u left rest all o x g h s a b =
-    goes_failed d e old now next (key_shown i e first k ++ shown i e n) (members_left i d e false rest) (members_left i d e first left) all x g (member_eq i d e first k n u left rest h s) (Shows-then now mid next (key_shown i e first k) (shown i e n) o (Err x) (added_shows now mid (key_shown i e first k) (Ok o) a) b)
+pub value_failed : {v w : ℕ} (old now mid next : SinkState) (i : Option (List ℕ)) (d e : ℕ) (first : Bool) (k : List ℕ) (n u : Tree) (left rest : List (List ℕ × Tree)) (all : List ℕ) (o : Unit {0}) (x : SinkError) → Goes v w old now (members_left i d e first left) all → left ≡ (k, u) ∷ rest → n ≡ u → Adds now mid (key_shown i e first k) (Ok o)
+    → Shows w mid next (shown i e n) (Err x) → Shows v old next all (Err x)
+value_failed {v} {w} old now mid next i d e first k n u left rest all o x g h s a b =
+    goes_failed v w old now next (key_shown i e first k ++ shown i e n) (members_left i d e false rest) (members_left i d e first left) all x g (member_eq i d e first k n u left rest h s) (Shows-then now mid next (key_shown i e first k) (shown i e n) o (Err x) (added_shows now mid (key_shown i e first k) (Ok o) a) b)
 
 pub member_bound : (k : List ℕ) (n u : Tree) (left rest : List (List ℕ × Tree)) → left ≡ (k, u) ∷ rest → n ≡ u → suc (nodes n + pairs_nodes (list_pairs rest)) ≡ pairs_nodes (list_pairs left)
 member_bound k n u left rest h s = ap (λ t. suc (nodes t + pairs_nodes (list_pairs rest))) s ∙ sym (ap (λ ps. pairs_nodes (list_pairs ps)) h)

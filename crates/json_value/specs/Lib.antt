@@ -9,7 +9,6 @@ pub mod Room
 pub mod OwnLists
 pub mod Written
 pub mod Emitting
-pub mod EmittingSorted
 pub mod KeyOrder
 pub mod Seen
 pub mod Sights
@@ -28,3 +27,4 @@ pub mod Laws
 pub mod Failures
 pub mod EditTrees
 pub mod ShownNodes
+pub mod ShowingSorted

@@ -46,7 +46,7 @@ pub(crate) fn show_value<W: Sink, L: Layout>(
 }
 
 // A key, and what is written before it and after it.
-fn show_key<W: Sink, L: Layout>(
+pub(crate) fn show_key<W: Sink, L: Layout>(
     key: &Text,
     layout: L,
     level: usize,

@@ -103,7 +103,7 @@ fn show_node<W: Sink, L: Layout>(
 // The value of a member.
 #[cycle(shown)]
 #[inline(always)]
-fn show_member<W: Sink, L: Layout>(
+pub(crate) fn show_member<W: Sink, L: Layout>(
     node: DocNode<'_>,
     layout: L,
     level: usize,
@@ -119,7 +119,7 @@ fn show_member<W: Sink, L: Layout>(
 // An element, and what is written before it.
 #[cycle(shown)]
 #[inline(always)]
-fn show_element<W: Sink, L: Layout>(
+pub(crate) fn show_element<W: Sink, L: Layout>(
     node: DocNode<'_>,
     layout: L,
     level: usize,

@@ -23,26 +23,26 @@ ghost use Rattle.json_print.specs.Standing.{TurnTakesValue};
 ghost use Rattle.json_print.specs.TextWriting.{WritesText};
 ghost use Rattle.json_print.specs.Given.{given_tokens};
 ghost use Rattle.json_value.specs.Emitting.{Emits, Walks, tree_given};
-ghost use Rattle.json_value.specs.EmittingSorted.{EmitsOrLacks, SortWalks};
+ghost use Rattle.json_value.specs.ShowingSorted.{ShowsOrRunsOut};
 ghost use Rattle.json_value.specs.Failures.{OnlyNoMemory};
 
 use crate::array_view::ArrayView;
 use crate::emit::emit_value;
 use crate::emit_packed::emit_document;
-use crate::emit_sorted::sort_value;
-use crate::emit_sorted_packed::sort_document;
 use crate::index::Index;
 use crate::object_view::ObjectView;
 use crate::packed_view::PackedView;
 use crate::path::PointerNode;
 use crate::show_owned::show_value;
 use crate::show_packed::{Showed, show_document};
+use crate::show_sorted::show_sorted_value;
+use crate::show_sorted_packed::show_sorted_document;
 use crate::value::Value;
-use crate::walk::{SortStopped, SortWalked, Stopped, Walked, taken};
+use crate::walk::{Stopped, Walked, taken};
 use json_doc::{Doc, DocView, JsonType};
 use json_number::Number;
 use json_print::{BufferedWriter, Events, Layout, answered, show_piece};
-use json_text::{Error, ErrorCode, Place, Result, Sink};
+use json_text::{Result, Sink};
 use std::alloc::Global;
 
 #[derive(Clone, Copy)]
@@ -306,27 +306,21 @@ impl<'a> View<'a> {
         answered(show(self, layout, out))
     }
 
-    /// Gives the tokens of the tree that is seen, with the members of each object in the order of their
-    /// keys and those of one key in the order of the text, to `out`, as `emit` does. Allocates for an
-    /// object whose keys are not in order: 16 bytes a member, until its end was given. Fails with
-    /// `NoMemory` where memory runs out; then the events have taken the first of these tokens, and no
-    /// error.
-    pub fn emit_sorted<E: Events>(self, alloc: Global, out: &mut E) -> Result<()>
-        requires { E.failed out.old ≡ None → TurnTakesValue (E.stand (E.state out.old)).turn }
-        ensures given { EmitsOrLacks E.after E.stopped (E.state out.old) (E.state out.new)
-            (E.failed out.old) (E.failed out.new) (tree_given (sorted (seen self.entry))) result }
-        ensures tokens { given_tokens (tree_given (sorted (seen self.entry)))
-            ≡ tokens (sorted (seen self.entry)) }
+    /// Writes the text of the tree that is seen, with the members of each object in the order of their
+    /// keys and those of one key in the order of the text, in the layout. Allocates for an object whose
+    /// keys are not in order: 16 bytes a member, until its end was written. Fails as `print` does, and
+    /// with `NoMemory` where memory runs out; a prefix of the text was written then.
+    pub fn print_sorted<W: Sink, L: Layout>(
+        self,
+        alloc: Global,
+        layout: L,
+        out: &mut BufferedWriter<W>,
+    ) -> Result<()>
+        ensures text { WritesText (⟦<BufferedWriter<W> as Sink>⟧.state out.old)
+            (⟦<BufferedWriter<W> as Sink>⟧.state out.new)
+            (shown (L.indent layout) 0 (sorted (seen self.entry))) result }
     {
-        match walk_sorted(self, alloc, out) {
-            Ok(()) => Ok(()),
-            // as above
-            Err(SortStopped::Failed) => out.null(),
-            Err(SortStopped::NoMemory) => Err(Error {
-                code: ErrorCode::NoMemory,
-                place: Place::None,
-            }),
-        }
+        answered(show_sorted(self, alloc, layout, out))
     }
 }
 
@@ -342,6 +336,23 @@ fn show<W: Sink, L: Layout>(view: View<'_>, layout: L, out: &mut BufferedWriter<
     }
 }
 
+fn show_sorted<W: Sink, L: Layout>(
+    view: View<'_>,
+    alloc: Global,
+    layout: L,
+    out: &mut BufferedWriter<W>,
+) -> Showed
+    ensures { ShowsOrRunsOut (⟦<BufferedWriter<W> as Sink>⟧.state out.old)
+        (⟦<BufferedWriter<W> as Sink>⟧.state out.new)
+        (shown (L.indent layout) 0 (sorted (seen view.entry))) result }
+{
+    match view.form {
+        ViewForm::Packed(packed) => show_sorted_document(packed.view, alloc, layout, 0, out),
+        ViewForm::Whole(value) => show_sorted_value(value, alloc, layout, 0, out),
+        ViewForm::Absent => show_piece(out, b"null"),
+    }
+}
+
 fn walk<E: Events>(view: View<'_>, out: &mut E) -> Walked
     requires { E.failed out.old ≡ None → TurnTakesValue (E.stand (E.state out.old)).turn }
     ensures { Walks E.after E.stopped (E.state out.old) (E.state out.new)
@@ -351,18 +362,6 @@ fn walk<E: Events>(view: View<'_>, out: &mut E) -> Walked
         ViewForm::Packed(packed) => emit_document(packed.view, out),
         ViewForm::Whole(value) => emit_value(value, out),
         ViewForm::Absent => taken(out.null()),
-    }
-}
-
-fn walk_sorted<E: Events>(view: View<'_>, alloc: Global, out: &mut E) -> SortWalked
-    requires { E.failed out.old ≡ None → TurnTakesValue (E.stand (E.state out.old)).turn }
-    ensures { SortWalks E.after E.stopped (E.state out.old) (E.state out.new)
-        (E.failed out.old) (E.failed out.new) (tree_given (sorted (seen view.entry))) result }
-{
-    match view.form {
-        ViewForm::Packed(packed) => sort_document(packed.view, alloc, out),
-        ViewForm::Whole(value) => sort_value(value, alloc, out),
-        ViewForm::Absent => Ok(taken(out.null())?),
     }
 }
 

@@ -1,7 +1,6 @@
 // How a walk over a value ends. The events keep the error that they meet, and answer it to each later call. A walk passes
 // on no more than that there is one: an error as a whole is copied from level to level at each token, met or not.
 ghost use Rattle.std.specs.Prelude.{◌≡◌, is_ok};
-ghost use Rattle.json_value.specs.declared.walk.SortStopped.TheVariants.{Failed};
 
 use json_text::Result;
 
@@ -10,26 +9,6 @@ use json_text::Result;
 pub(crate) struct Stopped;
 
 pub(crate) type Walked = std::result::Result<(), Stopped>;
-
-// Why a walk in the order of the keys stopped.
-#[derive(Clone, Copy)]
-pub(crate) enum SortStopped {
-    // The events met an error.
-    Failed,
-    // Memory for an index was lacking. The events met no error.
-    NoMemory,
-}
-
-pub(crate) type SortWalked = std::result::Result<(), SortStopped>;
-
-impl From<Stopped> for SortStopped {
-    ghost from_gives = { λ _ s. s ≡ Failed };
-
-    #[inline(always)]
-    fn from(_: Stopped) -> SortStopped {
-        SortStopped::Failed
-    }
-}
 
 // Whether the events took what they were given.
 #[inline(always)]

@@ -2,8 +2,8 @@
 use json_doc::Doc;
 use json_fixtures::{array_in, pairs_in, read, value_of, whole};
 use json_number::{Number, RawNumber};
-use json_print::Serializer;
-use json_text::{Result, VecSink};
+use json_print::{BufferedWriter, OneLine, Serializer};
+use json_text::{Result, VecSink, flush_all};
 use json_value::{Object, Pair, Text, Value, View};
 use std::alloc::Global;
 use std::rc::Rc;
@@ -77,8 +77,9 @@ fn values_made_by_hand_are_printed(rt: HostRuntime) {
 
 // Whether this is the compact text of what is seen with the members of each object in the order of their keys.
 fn prints_sorted(alloc: Global, view: View<'_>, json: &[u8]) -> Result<bool> {
-    let mut out = Serializer::new(alloc, VecSink::new(alloc));
-    view.emit_sorted(alloc, &mut out)?;
+    let mut out = BufferedWriter::new(alloc, VecSink::new(alloc))?;
+    view.print_sorted(alloc, OneLine, &mut out)?;
+    flush_all(&mut out)?;
     Ok(out.into_inner().as_slice() == json)
 }
 

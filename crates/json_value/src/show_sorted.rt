@@ -1,0 +1,176 @@
+// The text of a value's tree with the members of each object in the order of their keys, written from left to right.
+ghost use Rattle.std.specs.Prelude.{map, ◌++◌};
+ghost use Rattle.json_grammar.specs.Tree.{list, list_trees, pairs, list_pairs};
+ghost use Rattle.json_model.specs.Print.{shown};
+ghost use Rattle.json_model.specs.Sort.{sorted, NeverFall};
+ghost use Rattle.json_print.specs.Showing.{lead};
+ghost use Rattle.json_value.specs.Denotes.{tree_of, pair_of};
+ghost use Rattle.json_value.specs.ShowingSorted.{ShowsOrRunsOut};
+
+use crate::container::Form;
+use crate::key_order::{owned_in_order, owned_never_fall};
+use crate::pair::Pair;
+use crate::show_owned::show_key;
+use crate::show_packed::{Showed, show_bool, show_number};
+use crate::show_sorted_packed::{show_sorted_elements, show_sorted_members};
+use crate::value::Value;
+use json_print::{BufferedWriter, Layout, show_piece, show_text};
+use json_text::{Sink, SinkError};
+use std::alloc::Global;
+
+/// Writes the text of the value's tree, sorted, with `level` containers around it.
+#[cycle(shown_sorted_value)]
+pub(crate) fn show_sorted_value<W: Sink, L: Layout>(
+    value: &Value,
+    alloc: Global,
+    layout: L,
+    level: usize,
+    out: &mut BufferedWriter<W>,
+) -> Showed
+    ensures { ShowsOrRunsOut (⟦<BufferedWriter<W> as Sink>⟧.state out.old)
+        (⟦<BufferedWriter<W> as Sink>⟧.state out.new)
+        (shown (L.indent layout) level (sorted (tree_of value.now))) result }
+{
+    match value {
+        Value::Null => show_piece(out, b"null"),
+        Value::Bool(boolean) => show_bool(*boolean, out),
+        Value::Number(number) => show_number(*number, out),
+        Value::Raw(literal) => show_piece(out, literal.as_str().as_bytes()),
+        Value::Text(text) => show_text(out, text.as_str()),
+        Value::Array(array) => match &array.form {
+            Form::Empty => show_piece(out, b"[]"),
+            Form::Owned(values) => show_sorted_values(values, alloc, layout, level, out),
+            Form::Packed(place) => show_sorted_elements(place.view(), alloc, layout, level, out),
+        },
+        Value::Object(object) => match &object.form {
+            Form::Empty => show_piece(out, b"{}"),
+            Form::Owned(values) => show_sorted_pairs(values, alloc, layout, level, out),
+            Form::Packed(place) => show_sorted_members(place.view(), alloc, layout, level, out),
+        },
+    }
+}
+
+// An element, and what is written before it.
+#[cycle(shown_sorted_value)]
+fn show_sorted_item<W: Sink, L: Layout>(
+    value: &Value,
+    alloc: Global,
+    layout: L,
+    level: usize,
+    first: bool,
+    out: &mut BufferedWriter<W>,
+) -> Showed
+    ensures { ShowsOrRunsOut (⟦<BufferedWriter<W> as Sink>⟧.state out.old)
+        (⟦<BufferedWriter<W> as Sink>⟧.state out.new)
+        (lead (L.indent layout) level first ++ shown (L.indent layout) level
+        (sorted (tree_of value.now))) result }
+{
+    layout.lead(out, level, first)?;
+    show_sorted_value(value, alloc, layout, level, out)
+}
+
+// An array of these elements.
+#[cycle(shown_sorted_value)]
+fn show_sorted_values<W: Sink, L: Layout>(
+    values: &Vec<Value>,
+    alloc: Global,
+    layout: L,
+    level: usize,
+    out: &mut BufferedWriter<W>,
+) -> Showed
+    ensures { ShowsOrRunsOut (⟦<BufferedWriter<W> as Sink>⟧.state out.old)
+        (⟦<BufferedWriter<W> as Sink>⟧.state out.new)
+        (shown (L.indent layout) level
+        (sorted (list (list_trees (map tree_of values.now.items))))) result }
+{
+    if level == usize::MAX {
+        return Err(SinkError::NoMemory);
+    }
+    show_piece(out, b"[")?;
+    let mut first = true;
+    for value in values {
+        show_sorted_item(value, alloc, layout, level + 1, first, out)?;
+        first = false;
+    }
+    layout.close(out, level, first, b']')
+}
+
+// An object of these members.
+#[cycle(shown_sorted_value)]
+fn show_sorted_pairs<W: Sink, L: Layout>(
+    values: &Vec<Pair>,
+    alloc: Global,
+    layout: L,
+    level: usize,
+    out: &mut BufferedWriter<W>,
+) -> Showed
+    ensures { ShowsOrRunsOut (⟦<BufferedWriter<W> as Sink>⟧.state out.old)
+        (⟦<BufferedWriter<W> as Sink>⟧.state out.new)
+        (shown (L.indent layout) level
+        (sorted (pairs (list_pairs (map pair_of values.now.items))))) result }
+{
+    if owned_never_fall(values) {
+        show_in_place(values, alloc, layout, level, out)
+    } else {
+        show_by_numbers(values, alloc, layout, level, out)
+    }
+}
+
+// An object whose keys stand in order.
+#[cycle(shown_sorted_value)]
+fn show_in_place<W: Sink, L: Layout>(
+    values: &Vec<Pair>,
+    alloc: Global,
+    layout: L,
+    level: usize,
+    out: &mut BufferedWriter<W>,
+) -> Showed
+    requires { NeverFall (list_pairs (map pair_of values.now.items)) }
+    ensures { ShowsOrRunsOut (⟦<BufferedWriter<W> as Sink>⟧.state out.old)
+        (⟦<BufferedWriter<W> as Sink>⟧.state out.new)
+        (shown (L.indent layout) level
+        (sorted (pairs (list_pairs (map pair_of values.now.items))))) result }
+{
+    if level == usize::MAX {
+        return Err(SinkError::NoMemory);
+    }
+    show_piece(out, b"{")?;
+    let mut first = true;
+    for pair in values {
+        show_key(&pair.key, layout, level + 1, first, out)?;
+        show_sorted_value(&pair.value, alloc, layout, level + 1, out)?;
+        first = false;
+    }
+    layout.close(out, level, first, b'}')
+}
+
+// An object, by an index of its members.
+#[cycle(shown_sorted_value)]
+fn show_by_numbers<W: Sink, L: Layout>(
+    values: &Vec<Pair>,
+    alloc: Global,
+    layout: L,
+    level: usize,
+    out: &mut BufferedWriter<W>,
+) -> Showed
+    ensures { ShowsOrRunsOut (⟦<BufferedWriter<W> as Sink>⟧.state out.old)
+        (⟦<BufferedWriter<W> as Sink>⟧.state out.new)
+        (shown (L.indent layout) level
+        (sorted (pairs (list_pairs (map pair_of values.now.items))))) result }
+{
+    if level == usize::MAX {
+        return Err(SinkError::NoMemory);
+    }
+    let Ok(order) = owned_in_order(alloc, values) else {
+        return Err(SinkError::NoMemory);
+    };
+    show_piece(out, b"{")?;
+    let mut first = true;
+    for entry in &order {
+        let pair = &values[entry.number];
+        show_key(&pair.key, layout, level + 1, first, out)?;
+        show_sorted_value(&pair.value, alloc, layout, level + 1, out)?;
+        first = false;
+    }
+    layout.close(out, level, first, b'}')
+}
