@@ -13,8 +13,8 @@ use Rattle.std.specs.contracts.option.Option as option
 use Rattle.std.specs.contracts.result.Result as result
 use Rattle.std.proofs.option.Option.TheLaws.{the_row_laws as option_laws}
 use Rattle.std.proofs.result.Result.TheLaws.{the_row_laws as result_laws}
-use Rattle.json_text.specs.contracts.error.Error.{the_row as refusal}
-use Rattle.json_text.proofs.error.Error.TheLaws.{the_row_laws as refusal_laws}
+use Rattle.json_io.specs.contracts.error.Error.{the_row as refusal}
+use Rattle.json_io.proofs.error.Error.TheLaws.{the_row_laws as refusal_laws}
 use Rattle.json_value.specs.Denotes.{tree_of}
 use Rattle.json_value.specs.Lending.{UnlessLent}
 use Rattle.json_value.specs.declared.value.Value.{Value}

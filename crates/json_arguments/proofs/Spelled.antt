@@ -1,12 +1,12 @@
 -- What the readers of paths and edits return of a tree, and whether it has their form.
 use Rattle.std.proofs.Common.{◌≡◌, ◌⊎◌, inl, inr, ◌∙◌, true, false, List, [], ◌∷◌, map, Option, Some, None, is_some, refl, sym, ap}
 use Rattle.json_grammar.specs.Tree.{Tree, null, boolean, num, text, list, pairs}
-use Rattle.json_text.specs.Errors.{no_memory}
-use Rattle.json_text.specs.declared.error.Error.{Error}
-use Rattle.json_text.specs.declared.error.ErrorCode.{ErrorCode}
-use Rattle.json_text.specs.declared.error.ErrorCode.TheVariants.{NoMemory, TypeUnmatched, NumberOutOfRange, ExpectedNumericKey}
-use Rattle.json_text.specs.declared.error.Place.{Place}
-use Rattle.json_text.specs.declared.error.Place.TheVariants.{None as nowhere}
+use Rattle.json_io.specs.Errors.{no_memory}
+use Rattle.json_io.specs.declared.error.Error.{Error}
+use Rattle.json_io.specs.declared.error.ErrorCode.{ErrorCode}
+use Rattle.json_io.specs.declared.error.ErrorCode.TheVariants.{NoMemory, TypeUnmatched, NumberOutOfRange, ExpectedNumericKey}
+use Rattle.json_io.specs.declared.error.Place.{Place}
+use Rattle.json_io.specs.declared.error.Place.TheVariants.{None as nowhere}
 use Rattle.json_model.specs.Datum.{Datum, list_datum, list_data}
 use Rattle.json_model.specs.Edit.{Step, Edit}
 use Rattle.json_value.specs.declared.path.Edit.{Edit as ValueEdit}

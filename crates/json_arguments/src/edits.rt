@@ -1,7 +1,7 @@
 // The edits that a command asks for.
 ghost use Rattle.std.specs.Prelude.{◌≡◌, ◌⊎◌, Some, None, map, IfOk, IfErr};
 ghost use Rattle.json_arguments.specs.Edits.{edits_tree, edit_tree};
-ghost use Rattle.json_text.specs.Errors.{no_memory};
+ghost use Rattle.json_io.specs.Errors.{no_memory};
 ghost use Rattle.json_value.specs.Denotes.{tree_of};
 ghost use Rattle.json_value.specs.Edits.{edit_of};
 ghost use Rattle.json_value.specs.EditTrees.{edits_in};

@@ -1,6 +1,6 @@
 // The operands of a command.
 ghost use Rattle.std.specs.Prelude.{◌≡◌, ◌≢◌, ◌⊎◌, IfOk, IfErr};
-ghost use Rattle.json_text.specs.declared.error.ErrorCode.TheVariants.{NoMemory};
+ghost use Rattle.json_io.specs.declared.error.ErrorCode.TheVariants.{NoMemory};
 ghost use Rattle.json_arguments.specs.Operands.{SpellsOperand, IsOperand, SpellsTree, has_form as formed, is_array_text as spelled_as_array, is_pointer as pointer_text};
 ghost use Rattle.json_doc.specs.Docs.{doc_root, doc_tree};
 ghost use Rattle.json_arguments.specs.declared.problem.Refusal.TheVariants as Refusal;

@@ -8,15 +8,15 @@ use Rattle.json_grammar.specs.Tree.{Tree}
 use Rattle.json_grammar.specs.Grammar.{is_text}
 use Rattle.json_grammar.specs.Rules.{Rules, fits}
 use Rattle.json_grammar.proofs.TextUtf8.{text_utf8}
-use Rattle.json_text.specs.declared.error.ErrorCode.{ErrorCode}
-use Rattle.json_text.specs.declared.error.ErrorCode.TheVariants as code
-use Rattle.json_text.specs.declared.error.Place.{Place}
-use Rattle.json_text.specs.declared.error.Place.TheVariants.{None as nowhere}
-use Rattle.json_text.specs.Positions.{place_at}
-use Rattle.json_text.specs.Utf8.{IsUtf8Fault, Utf8Cause}
+use Rattle.json_io.specs.declared.error.ErrorCode.{ErrorCode}
+use Rattle.json_io.specs.declared.error.ErrorCode.TheVariants as code
+use Rattle.json_io.specs.declared.error.Place.{Place}
+use Rattle.json_io.specs.declared.error.Place.TheVariants.{None as nowhere}
+use Rattle.json_io.specs.Positions.{place_at}
+use Rattle.json_io.specs.Utf8.{IsUtf8Fault, Utf8Cause}
 use Rattle.json_text.specs.Faults.{FaultWithAt}
 use Rattle.json_text.proofs.OneFaultAt.{one_fault_with_at, some_fault_with_at, fault_with_is_no_text}
-use Rattle.json_text.proofs.Utf8Faults.{some_fault}
+use Rattle.json_io.proofs.Utf8Faults.{some_fault}
 use Rattle.json_command.specs.Input.{max_bytes, IsValid, InputFault, too_large, not_utf8, no_text}
 
 abbrev Same : ErrorCode → ErrorCode → Place → Place → Type 0

@@ -3,15 +3,15 @@ use Rattle.std.proofs.Common.{◌≡◌, ◌⊎◌, inl, inr, ℕ, ◌<◌, List
 use Rattle.json_grammar.specs.Tree.{Tree}
 use Rattle.json_grammar.specs.Rules.{Rules}
 use Rattle.json_grammar.proofs.Values.{one_tree}
-use Rattle.json_text.specs.declared.error.Error.{Error}
-use Rattle.json_text.specs.declared.error.ErrorCode.{ErrorCode}
-use Rattle.json_text.specs.declared.error.ErrorCode.TheVariants.{NoMemory, Io, TooLarge}
-use Rattle.json_text.specs.declared.error.Place.{Place}
-use Rattle.json_text.specs.declared.error.Place.TheVariants.{None as nowhere, Reading}
-use Rattle.json_text.specs.Errors.{no_memory}
-use Rattle.json_text.specs.Known.{Drains}
-use Rattle.json_text.specs.Outside.{SourceState}
-use Rattle.json_text.specs.Transfer.{ReadsWithin}
+use Rattle.json_io.specs.declared.error.Error.{Error}
+use Rattle.json_io.specs.declared.error.ErrorCode.{ErrorCode}
+use Rattle.json_io.specs.declared.error.ErrorCode.TheVariants.{NoMemory, Io, TooLarge}
+use Rattle.json_io.specs.declared.error.Place.{Place}
+use Rattle.json_io.specs.declared.error.Place.TheVariants.{None as nowhere, Reading}
+use Rattle.json_io.specs.Errors.{no_memory}
+use Rattle.json_io.specs.Known.{Drains}
+use Rattle.json_io.specs.Outside.{SourceState}
+use Rattle.json_io.specs.Transfer.{ReadsWithin}
 use Rattle.json_command.specs.Input.{max_bytes, IsInput, InputFault, too_large}
 use Rattle.json_command.specs.Reading.{ReadsInput, ReadsFault, InputFails, KnownInput, KnownFault}
 use Rattle.json_command.proofs.Inputs.{one_input_fault, valid_no_fault}

@@ -2,17 +2,17 @@
 use Rattle.std.proofs.Common.{◌≡◌, ◌⊎◌, ℕ, ◌-◌, ◌^◌, ◌<◌, ◌≤◌, List, [], ◌∷◌, length, refl, sym, ap, subst, ◌∙◌, arith, Bool, false, ◌||◌, Option, Result, Ok, Err, IfErr, IsErrOf, inl, inr}
 use Rattle.std.specs.Borrow.{GName}
 use Rattle.json_grammar.specs.Tree.{Tree}
-use Rattle.json_text.specs.declared.error.Error.{Error}
-use Rattle.json_text.specs.declared.error.ErrorCode.{ErrorCode}
-use Rattle.json_text.specs.declared.error.ErrorCode.TheVariants.{NoMemory, Io}
-use Rattle.json_text.specs.declared.error.Place.{Place}
-use Rattle.json_text.specs.declared.error.Place.TheVariants.{None as nowhere, Writing}
-use Rattle.json_text.specs.Errors.{no_memory}
-use Rattle.json_text.specs.Known.{Grows, append_known}
-use Rattle.json_text.proofs.Known.{known-append, known-nil}
-use Rattle.json_text.specs.Lending.{lent_as, ComesBack}
-use Rattle.json_text.specs.Outside.{SinkState, Rose}
-use Rattle.json_text.specs.Transfer.{AppendsFront, FlushesAll, WritingCause}
+use Rattle.json_io.specs.declared.error.Error.{Error}
+use Rattle.json_io.specs.declared.error.ErrorCode.{ErrorCode}
+use Rattle.json_io.specs.declared.error.ErrorCode.TheVariants.{NoMemory, Io}
+use Rattle.json_io.specs.declared.error.Place.{Place}
+use Rattle.json_io.specs.declared.error.Place.TheVariants.{None as nowhere, Writing}
+use Rattle.json_io.specs.Errors.{no_memory}
+use Rattle.json_io.specs.Known.{Grows, append_known}
+use Rattle.json_io.proofs.Known.{known-append, known-nil}
+use Rattle.json_io.specs.Lending.{lent_as, ComesBack}
+use Rattle.json_io.specs.Outside.{SinkState, Rose}
+use Rattle.json_io.specs.Transfer.{AppendsFront, FlushesAll, WritingCause}
 use Rattle.json_print.specs.Buffered.{held_behind}
 use Rattle.json_print.specs.Calls.{holds_any}
 use Rattle.json_print.specs.Printer.{StopCause}

@@ -1,8 +1,8 @@
 -- What a program says of itself: its help and its version, each asked for by an argument that stands alone.
 use Rattle.std.specs.Prelude.{◌≡◌, ◌⊎◌, ℕ, cond, false, List, [], ◌∷◌, Option, Some, None, bytes_eq, codes}
-use Rattle.json_text.specs.Known.{Appends}
-use Rattle.json_text.specs.Outside.{SinkState, Rose}
-use Rattle.json_text.specs.Transfer.{AppendsFront}
+use Rattle.json_io.specs.Known.{Appends}
+use Rattle.json_io.specs.Outside.{SinkState, Rose}
+use Rattle.json_io.specs.Transfer.{AppendsFront}
 use Rattle.json_command.specs.declared.status.Status.{Status}
 use Rattle.json_command.specs.declared.status.Status.TheVariants.{Success, WriteFailed, OutOfMemory}
 

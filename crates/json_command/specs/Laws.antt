@@ -1,8 +1,8 @@
 -- Laws of inputs.
 use Rattle.std.specs.Prelude.{◌≡◌, ◌⊎◌, ℕ, List}
 use Rattle.json_grammar.specs.Rules.{Rules}
-use Rattle.json_text.specs.declared.error.ErrorCode.{ErrorCode}
-use Rattle.json_text.specs.declared.error.Place.{Place}
+use Rattle.json_io.specs.declared.error.ErrorCode.{ErrorCode}
+use Rattle.json_io.specs.declared.error.Place.{Place}
 use Rattle.json_command.specs.Input.{IsValid, InputFault}
 
 -- an input has at most one fault, at one place

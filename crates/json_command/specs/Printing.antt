@@ -1,14 +1,14 @@
 -- What becomes of a sink to which a text is written and which is then flushed.
 use Rattle.std.specs.Prelude.{◌≡◌, ◌⊎◌, ℕ, ◌-◌, ◌^◌, ◌<◌, ◌≤◌, List, false, Result, OnOk, OnErr, IfErr, IsErrOf}
-use Rattle.json_text.specs.declared.error.Error.{Error}
-use Rattle.json_text.specs.declared.error.ErrorCode.{ErrorCode}
-use Rattle.json_text.specs.declared.error.ErrorCode.TheVariants.{NoMemory, Io}
-use Rattle.json_text.specs.declared.error.Place.{Place}
-use Rattle.json_text.specs.declared.error.Place.TheVariants.{None as nowhere, Writing}
-use Rattle.json_text.specs.Errors.{no_memory, writing_failed}
-use Rattle.json_text.specs.Known.{Appends, append_known}
-use Rattle.json_text.specs.Outside.{SinkState, Rose}
-use Rattle.json_text.specs.Transfer.{AppendsFront}
+use Rattle.json_io.specs.declared.error.Error.{Error}
+use Rattle.json_io.specs.declared.error.ErrorCode.{ErrorCode}
+use Rattle.json_io.specs.declared.error.ErrorCode.TheVariants.{NoMemory, Io}
+use Rattle.json_io.specs.declared.error.Place.{Place}
+use Rattle.json_io.specs.declared.error.Place.TheVariants.{None as nowhere, Writing}
+use Rattle.json_io.specs.Errors.{no_memory, writing_failed}
+use Rattle.json_io.specs.Known.{Appends, append_known}
+use Rattle.json_io.specs.Outside.{SinkState, Rose}
+use Rattle.json_io.specs.Transfer.{AppendsFront}
 use Rattle.json_print.specs.Printer.{Begins, StopCause}
 
 -- the text was written and flushed, or what was gained is a prefix of the old bytes and the text

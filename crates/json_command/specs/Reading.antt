@@ -2,14 +2,14 @@
 use Rattle.std.specs.Prelude.{◌≡◌, ◌⊎◌, ◌<◌, ℕ, ◌+◌, List, length, ⊤, Some, IfSome, Result, IsErrOf}
 use Rattle.json_grammar.specs.Tree.{Tree}
 use Rattle.json_grammar.specs.Rules.{Rules}
-use Rattle.json_text.specs.declared.error.Error.{Error}
-use Rattle.json_text.specs.declared.error.ErrorCode.{ErrorCode}
-use Rattle.json_text.specs.declared.error.ErrorCode.TheVariants.{NoMemory, Io, TooLarge}
-use Rattle.json_text.specs.declared.error.Place.{Place}
-use Rattle.json_text.specs.declared.error.Place.TheVariants.{None as nowhere, Reading}
-use Rattle.json_text.specs.Errors.{no_memory, reading_failed}
-use Rattle.json_text.specs.Outside.{SourceState, Rose, RoseBy}
-use Rattle.json_text.specs.Transfer.{ReadsWithin}
+use Rattle.json_io.specs.declared.error.Error.{Error}
+use Rattle.json_io.specs.declared.error.ErrorCode.{ErrorCode}
+use Rattle.json_io.specs.declared.error.ErrorCode.TheVariants.{NoMemory, Io, TooLarge}
+use Rattle.json_io.specs.declared.error.Place.{Place}
+use Rattle.json_io.specs.declared.error.Place.TheVariants.{None as nowhere, Reading}
+use Rattle.json_io.specs.Errors.{no_memory, reading_failed}
+use Rattle.json_io.specs.Outside.{SourceState, Rose, RoseBy}
+use Rattle.json_io.specs.Transfer.{ReadsWithin}
 use Rattle.json_command.specs.Input.{max_bytes, IsInput, InputFault}
 
 -- ---- what was read

@@ -1,10 +1,10 @@
 -- What a program reports of an error.
 use Rattle.std.specs.Prelude.{◌≡◌, ◌⊎◌, ℕ, List, Bool, true, false, Ok, Err}
-use Rattle.json_text.specs.declared.error.Error.{Error}
-use Rattle.json_text.specs.FaultText.{text_of}
-use Rattle.json_text.specs.Known.{Appends}
-use Rattle.json_text.specs.Outside.{SinkState, Rose}
-use Rattle.json_text.specs.Transfer.{AppendsFront, Puts}
+use Rattle.json_io.specs.declared.error.Error.{Error}
+use Rattle.json_io.specs.FaultText.{text_of}
+use Rattle.json_io.specs.Known.{Appends}
+use Rattle.json_io.specs.Outside.{SinkState, Rose}
+use Rattle.json_io.specs.Transfer.{AppendsFront, Puts}
 
 -- the sink gained the text, or a prefix of it where a write failed or found no memory
 abbrev pub Reports : List ℕ → SinkState → SinkState → Type 0

@@ -1,9 +1,9 @@
 -- The status that a program ends with, and its number.
 use Rattle.std.specs.Prelude.{ℕ}
-use Rattle.json_text.specs.declared.error.ErrorCode.{ErrorCode}
-use Rattle.json_text.specs.declared.error.ErrorCode.TheVariants.{NoMemory, Io, NotFound, TypeUnmatched, BadWords}
-use Rattle.json_text.specs.declared.error.Place.{Place}
-use Rattle.json_text.specs.declared.error.Place.TheVariants.{Writing}
+use Rattle.json_io.specs.declared.error.ErrorCode.{ErrorCode}
+use Rattle.json_io.specs.declared.error.ErrorCode.TheVariants.{NoMemory, Io, NotFound, TypeUnmatched, BadWords}
+use Rattle.json_io.specs.declared.error.Place.{Place}
+use Rattle.json_io.specs.declared.error.Place.TheVariants.{Writing}
 use Rattle.json_command.specs.declared.status.Status.{Status}
 use Rattle.json_command.specs.declared.status.Status.TheVariants.{Success, InvalidInput, InvalidArguments, EditFailed, ReadFailed, WriteFailed, OutOfMemory, TooMuchInput, NoArguments}
 use Rattle.json_model.specs.Edit.{Refusal, not_found, type_unmatched}

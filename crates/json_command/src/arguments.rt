@@ -1,9 +1,9 @@
 // The arguments of the command line, and the streams of a program.
 ghost use Rattle.std.specs.Prelude.{◌≡◌, ◌≢◌, ◌⊎◌, IfOk, IfErr};
 ghost use Rattle.json_doc.specs.Docs.{doc_root, doc_tree};
-ghost use Rattle.json_text.specs.Errors.{no_memory, bad_words};
+ghost use Rattle.json_io.specs.Errors.{no_memory, bad_words};
 ghost use Rattle.json_text.specs.Ruled.{usual_rules};
-ghost use Rattle.json_text.specs.declared.error.ErrorCode.TheVariants.{NoMemory};
+ghost use Rattle.json_io.specs.declared.error.ErrorCode.TheVariants.{NoMemory};
 ghost use Rattle.json_command.specs.Input.{IsInput, IsValid};
 
 use crate::about::About;

@@ -1,7 +1,7 @@
 // The document of a source's text.
 ghost use Rattle.std.specs.Prelude.{◌+◌, IfOk, IfErr};
 ghost use Rattle.json_text.specs.Ruled.{rules_of};
-ghost use Rattle.json_text.specs.Transfer.{TakesAtMost};
+ghost use Rattle.json_io.specs.Transfer.{TakesAtMost};
 ghost use Rattle.json_doc.specs.Docs.{doc_root, doc_tree};
 ghost use Rattle.json_command.specs.Input.{max_bytes};
 ghost use Rattle.json_command.specs.Reading.{ReadsInput, InputFails, ReturnsReadError};

@@ -3,8 +3,8 @@ ghost use Rattle.std.specs.Prelude.{◌≡◌, ℕ, List, length, false, IsErrOf
 ghost use Rattle.json_print.specs.Shown.{shown_as};
 ghost use Rattle.json_print.specs.Styles.{is_sorted, printed};
 ghost use Rattle.json_print.specs.TextWriting.{WritesText};
-ghost use Rattle.json_text.specs.Errors.{no_memory};
-ghost use Rattle.json_text.specs.Outside.{SinkState, Rose};
+ghost use Rattle.json_io.specs.Errors.{no_memory};
+ghost use Rattle.json_io.specs.Outside.{SinkState, Rose};
 ghost use Rattle.json_value.specs.Denotes.{tree_of};
 ghost use Rattle.json_command.specs.Printing.{HasRunOut, Prints, RunsOutOnlyWith, WritesFlushed};
 

@@ -1,5 +1,5 @@
 // Errors, reported to a sink.
-ghost use Rattle.json_text.specs.FaultText.{text_of};
+ghost use Rattle.json_io.specs.FaultText.{text_of};
 ghost use Rattle.json_command.specs.Reporting.{Reports};
 
 use json_text::{Error, Sink, fault_text, put_all};

@@ -17,7 +17,7 @@
 //! assert_eq!(rt; differing, 1);
 //! ```
 ghost use Rattle.std.specs.Prelude.{◌≡◌, ◌≤◌, IfErr};
-ghost use Rattle.json_text.specs.Errors.{no_memory};
+ghost use Rattle.json_io.specs.Errors.{no_memory};
 
 use crate::status::Status;
 use json_text::{FakeSource, Result, VecSink, Words};

@@ -2,8 +2,8 @@
 use Rattle.std.proofs.Common.{◌≡◌, Ok, Err, Result, MutBor, Option, inl, inr, refl, subst, sym}
 use Rattle.std.specs.Prelude.{IsOk, IfOk, IfErr, option_map}
 use Rattle.json_grammar.specs.Tree.{Tree}
-use Rattle.json_text.specs.Errors.{no_memory}
-use Rattle.json_text.specs.declared.error.Error.{Error}
+use Rattle.json_io.specs.Errors.{no_memory}
+use Rattle.json_io.specs.declared.error.Error.{Error}
 use Rattle.json_value.specs.Denotes.{tree_of}
 use Rattle.json_value.specs.Lending.{missing_as_none}
 use Rattle.json_value.specs.declared.value.Value.{Value}

@@ -2,8 +2,8 @@
 use Rattle.std.specs.Prelude.{◌≡◌, ◌⊎◌, Option, Some, None, Result, Ok, Err}
 use Rattle.std.specs.Borrow.{MutBor}
 use Rattle.json_grammar.specs.Tree.{Tree}
-use Rattle.json_text.specs.Errors.{no_memory, not_found}
-use Rattle.json_text.specs.declared.error.Error.{Error}
+use Rattle.json_io.specs.Errors.{no_memory, not_found}
+use Rattle.json_io.specs.declared.error.Error.{Error}
 use Rattle.json_value.specs.Denotes.{tree_of}
 use Rattle.json_value.specs.declared.value.Value.{Value}
 

@@ -8,7 +8,7 @@ ghost use Rattle.std.specs.Borrow.{LendsSoOk, sem};
 ghost use Rattle.std.specs.Fn.{CalledAt, CalledAtMut};
 ghost use Rattle.std.specs.List.{insert, remove, remove_range, swap_remove, AppendsResults};
 ghost use Rattle.std.specs.List.Retain.{IsFiltered, RetainsInTurn};
-ghost use Rattle.json_text.specs.Errors.{no_memory};
+ghost use Rattle.json_io.specs.Errors.{no_memory};
 ghost use Rattle.json_value.specs.Denotes.{tree_of, list_in};
 ghost use Rattle.json_value.specs.Places.{value_origin};
 ghost use Rattle.json_value.specs.Room.{spare_in};

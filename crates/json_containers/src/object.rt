@@ -8,7 +8,7 @@ ghost use Rattle.std.specs.List.Retain.{RetainsInTurn};
 ghost use Rattle.json_grammar.specs.Tree.{list_pairs};
 ghost use Rattle.json_model.specs.Edit.{has_key, inserted, without_key};
 ghost use Rattle.json_model.specs.Merged.{inserted_all};
-ghost use Rattle.json_text.specs.Errors.{no_memory};
+ghost use Rattle.json_io.specs.Errors.{no_memory};
 ghost use Rattle.json_value.specs.Denotes.{tree_of, pair_of, pairs_in};
 ghost use Rattle.json_value.specs.FirstMember.{IsFirstOf};
 ghost use Rattle.json_value.specs.Left.{members_left, members_sights_left};

@@ -7,8 +7,8 @@ use Rattle.std.specs.List.{slice_get}
 use Rattle.std.specs.Str.{chars}
 use Rattle.json_grammar.specs.Tree.{text}
 use Rattle.json_model.specs.Datum.{text_datum}
-use Rattle.json_text.specs.declared.error.Error.{Error}
-use Rattle.json_text.specs.declared.error.ErrorCode.TheVariants.{TypeUnmatched}
+use Rattle.json_io.specs.declared.error.Error.{Error}
+use Rattle.json_io.specs.declared.error.ErrorCode.TheVariants.{TypeUnmatched}
 use Rattle.json_data.specs.Reader.{KeyReadingFails}
 use Rattle.json_data.specs.Refusals.{refusal}
 use Rattle.json_data.specs.Reading.{Reading, gives, refuses, one_character, read_character}

@@ -5,14 +5,14 @@ use Rattle.std.specs.Result.{IfErr, IsOkUnless}
 use Rattle.json_grammar.specs.Tree.{Tree}
 use Rattle.json_grammar.proofs.TextUtf8.{text_utf8}
 use Rattle.json_grammar.proofs.Values.{one_tree}
-use Rattle.json_text.specs.declared.error.Error.{Error}
-use Rattle.json_text.specs.declared.error.ErrorCode.{ErrorCode}
-use Rattle.json_text.specs.declared.error.ErrorCode.TheVariants as code
-use Rattle.json_text.specs.declared.error.Place.{Place}
-use Rattle.json_text.specs.declared.error.Place.TheVariants as place
-use Rattle.json_text.specs.Errors.{no_memory}
+use Rattle.json_io.specs.declared.error.Error.{Error}
+use Rattle.json_io.specs.declared.error.ErrorCode.{ErrorCode}
+use Rattle.json_io.specs.declared.error.ErrorCode.TheVariants as code
+use Rattle.json_io.specs.declared.error.Place.{Place}
+use Rattle.json_io.specs.declared.error.Place.TheVariants as place
+use Rattle.json_io.specs.Errors.{no_memory}
 use Rattle.json_text.specs.Faults.{FaultAt}
-use Rattle.json_text.specs.Utf8.{IsUtf8Fault}
+use Rattle.json_io.specs.Utf8.{IsUtf8Fault}
 use Rattle.json_text.proofs.NoText.{no_text}
 use Rattle.json_data.specs.Reading.{Reading, gives, refuses}
 use Rattle.json_data.specs.Calls.{TypedReadingFails, BytesRefused, TreeRefused, HasDatum}

@@ -9,7 +9,7 @@ use Rattle.json_number.proofs.Literals.{number_from_test}
 use Rattle.json_number.specs.Tests.{is_number}
 use Rattle.json_data.specs.Reading.{in_range, between, gives, refuses, read_number}
 use Rattle.json_grammar.specs.Tree.{num}
-use Rattle.json_text.specs.declared.error.ErrorCode.TheVariants.{TypeUnmatched, NumberOutOfRange}
+use Rattle.json_io.specs.declared.error.ErrorCode.TheVariants.{TypeUnmatched, NumberOutOfRange}
 use Rattle.json_number.specs.declared.any_width.IntegerLiteral.{IntegerLiteral}
 use Rattle.json_number.specs.declared.any_width.IntegerLiteral.TheVariants.{NotInteger, Negative, NonNegative, TooBig}
 use Rattle.json_model.specs.Datum.{integer_datum}

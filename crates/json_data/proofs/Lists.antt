@@ -3,7 +3,7 @@ use Rattle.std.proofs.Common.{◌≡◌, ◌<◌, List, [], ◌∷◌, ◌++◌,
 use Rattle.std.proofs.lemmas.List.{append-nil}
 use Rattle.json_data.specs.declared.token.TokenKind.{TokenKind}
 use Rattle.json_data.specs.declared.token.TokenKind.TheVariants.{BeginArray, EndArray}
-use Rattle.json_text.specs.declared.error.ErrorCode.{ErrorCode}
+use Rattle.json_io.specs.declared.error.ErrorCode.{ErrorCode}
 use Rattle.json_grammar.specs.Tree.{Tree, Trees, Token as Tok, list, no_trees, tree_and, tokens, trees_tokens, begin, end}
 use Rattle.json_grammar.specs.declared.Kind.TheVariants.{Array as array}
 use Rattle.json_model.specs.Datum.{Datum}

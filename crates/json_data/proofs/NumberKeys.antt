@@ -2,9 +2,9 @@
 use Rattle.std.proofs.Common.{◌≡◌, ◌∙◌, ◌⊎◌, inl, inr, ℕ, ℤ, List, Bool, true, false, refl, sym, subst}
 use Rattle.json_number.specs.Integers.{whole_in}
 use Rattle.json_number.specs.Tests.{is_number}
-use Rattle.json_text.specs.declared.error.Error.{Error}
-use Rattle.json_text.specs.declared.error.ErrorCode.TheVariants.{ExpectedNumericKey}
-use Rattle.json_text.specs.Errors.{no_memory}
+use Rattle.json_io.specs.declared.error.Error.{Error}
+use Rattle.json_io.specs.declared.error.ErrorCode.TheVariants.{ExpectedNumericKey}
+use Rattle.json_io.specs.Errors.{no_memory}
 use Rattle.json_data.specs.Keys.{integer_key}
 use Rattle.json_data.specs.Reader.{KeyReadingFails}
 use Rattle.json_data.specs.Reading.{Reading, refuses, in_range}

@@ -2,8 +2,8 @@
 use Rattle.std.proofs.Common.{◌≡◌, ◌∙◌, ℕ, List, ap}
 use Rattle.json_grammar.specs.Tree.{Tree, Token as Tok, Pairs, no_pairs, pair_and}
 use Rattle.json_model.specs.Datum.{Datum}
-use Rattle.json_text.specs.declared.error.Error.{Error}
-use Rattle.json_text.specs.declared.error.ErrorCode.{ErrorCode}
+use Rattle.json_io.specs.declared.error.Error.{Error}
+use Rattle.json_io.specs.declared.error.ErrorCode.{ErrorCode}
 use Rattle.json_data.specs.Members.{reading_then, members_from}
 use Rattle.json_data.specs.Reader.{ReadsTree, ReadsNonNull, StopsReading, Misses}
 use Rattle.json_data.specs.Reading.{Reading, gives, refuses}

@@ -4,8 +4,8 @@ use Rattle.std.proofs.lemmas.List.{append-nil}
 use Rattle.json_grammar.specs.declared.Kind.TheVariants.{Array as array, Object as object}
 use Rattle.json_grammar.specs.Tree.{Tree, Pairs, pairs, no_pairs, pair_and, tokens, pairs_tokens, Token as Tok, null_token, boolean_token, num_token, text_token, begin, end, key_token}
 use Rattle.json_number.specs.Integers.{integer_in}
-use Rattle.json_text.specs.declared.error.Error.{Error}
-use Rattle.json_text.specs.declared.error.ErrorCode.{ErrorCode}
+use Rattle.json_io.specs.declared.error.Error.{Error}
+use Rattle.json_io.specs.declared.error.ErrorCode.{ErrorCode}
 use Rattle.json_data.specs.declared.token.TokenKind.{TokenKind}
 use Rattle.json_data.specs.declared.token.TokenKind.TheVariants.{BeginObject, EndObject}
 use Rattle.json_data.specs.Kinds.{kind_of, number_kind}

@@ -6,7 +6,7 @@ use Rattle.std.specs.Ordering.{match_ordering}
 use Rattle.std.specs.BTreeMap.{insert_entry}
 use Rattle.json_grammar.specs.Tree.{Tree, Pairs, no_pairs, pair_and}
 use Rattle.json_model.specs.Datum.{Datum, rows_datum, Rows, no_rows, row_and, list_rows, row_of}
-use Rattle.json_text.specs.declared.error.ErrorCode.{ErrorCode}
+use Rattle.json_io.specs.declared.error.ErrorCode.{ErrorCode}
 use Rattle.json_data.specs.Reading.{Reading, gives, refuses, key_cmp, insert_row, row_step, rows_from}
 use Rattle.json_data.proofs.Pairs.{join_pairs}
 

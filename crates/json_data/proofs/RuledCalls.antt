@@ -4,10 +4,10 @@ use Rattle.json_grammar.specs.Grammar.{is_text}
 use Rattle.json_grammar.specs.Rules.{Rules, fits}
 use Rattle.json_grammar.specs.Tree.{Tree}
 use Rattle.json_grammar.proofs.Values.{one_tree}
-use Rattle.json_text.specs.declared.error.ErrorCode.{ErrorCode}
-use Rattle.json_text.specs.declared.error.ErrorCode.TheVariants as code
-use Rattle.json_text.specs.declared.error.Place.{Place}
-use Rattle.json_text.specs.declared.error.Place.TheVariants as place
+use Rattle.json_io.specs.declared.error.ErrorCode.{ErrorCode}
+use Rattle.json_io.specs.declared.error.ErrorCode.TheVariants as code
+use Rattle.json_io.specs.declared.error.Place.{Place}
+use Rattle.json_io.specs.declared.error.Place.TheVariants as place
 use Rattle.json_text.specs.Faults.{FaultAt, FaultWithAt}
 use Rattle.json_text.proofs.NoText.{no_text}
 use Rattle.json_text.proofs.OneFaultAt.{fault_with_limit_at}

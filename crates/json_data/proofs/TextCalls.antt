@@ -3,14 +3,14 @@ use Rattle.std.proofs.Common.{IsUtf8, ◌≡◌, ◌∙◌, ◌<◌, length, get
 use Rattle.std.specs.Result.{IsErrAnd, IfErr}
 use Rattle.json_grammar.specs.Grammar.{IsWhitespace, ws, is_text}
 use Rattle.json_grammar.specs.Given.{piece}
-use Rattle.json_text.specs.Positions.{place_at}
+use Rattle.json_io.specs.Positions.{place_at}
 use Rattle.json_grammar.specs.Tree.{Tree, Token as Tok, tokens, depth}
 use Rattle.json_grammar.proofs.TokensUnique.{tokens_injective}
-use Rattle.json_text.specs.declared.error.Error.{Error}
-use Rattle.json_text.specs.declared.error.ErrorCode.{ErrorCode}
-use Rattle.json_text.specs.declared.error.ErrorCode.TheVariants as code
-use Rattle.json_text.specs.declared.error.Place.{Place}
-use Rattle.json_text.specs.Errors.{no_memory}
+use Rattle.json_io.specs.declared.error.Error.{Error}
+use Rattle.json_io.specs.declared.error.ErrorCode.{ErrorCode}
+use Rattle.json_io.specs.declared.error.ErrorCode.TheVariants as code
+use Rattle.json_io.specs.declared.error.Place.{Place}
+use Rattle.json_io.specs.Errors.{no_memory}
 use Rattle.json_data.specs.Refusals.{is_refusal}
 use Rattle.json_text.specs.Faults.{FaultFrom}
 use Rattle.json_text.specs.Parsing.{input}

@@ -7,12 +7,12 @@ use Rattle.json_grammar.specs.declared.Spot.TheVariants.{Done as done}
 use Rattle.json_grammar.specs.Grammar.{IsWhitespace, ws, is_text}
 use Rattle.json_grammar.specs.Given.{piece}
 use Rattle.json_grammar.specs.Tree.{Tree, Token as Tok, tokens, depth}
-use Rattle.json_text.specs.declared.error.Error.{Error}
+use Rattle.json_io.specs.declared.error.Error.{Error}
 use Rattle.json_text.specs.declared.event.Event.{Event}
 use Rattle.json_text.specs.Events.{Means}
 use Rattle.json_text.specs.Ends.{ComesNext, NothingLeft, TrailsAt}
 use Rattle.json_text.specs.Faults.{FaultFrom}
-use Rattle.json_text.specs.Positions.{place_at}
+use Rattle.json_io.specs.Positions.{place_at}
 use Rattle.json_text.specs.Standing.{Stood}
 use Rattle.json_text.proofs.Stands.{stood_spaced, stood_whole, misplaced_fault}
 use Rattle.json_text.specs.Parsing.{ParserState, input, taken, HasGiven, IsWhole, HasRead}

@@ -8,9 +8,9 @@ use Rattle.json_doc.specs.Docs.{IsDocOf, doc_tree, doc_root, doc_cells, doc_text
 use Rattle.json_doc.proofs.Trees.{spelled}
 use Rattle.json_doc.specs.OneValue.{TokenBeginsValue, HandedOut, ReadsValue, RefusesValue}
 use Rattle.json_doc.proofs.ValueRecording.{means_one}
-use Rattle.json_text.specs.declared.error.Error.{Error}
+use Rattle.json_io.specs.declared.error.Error.{Error}
 use Rattle.json_text.specs.declared.event.Event.{Event}
-use Rattle.json_text.specs.Errors.{no_memory}
+use Rattle.json_io.specs.Errors.{no_memory}
 use Rattle.json_text.specs.Parsing.{ParserState, HasGiven, SameInput}
 use Rattle.json_data.specs.declared.token.TokenKind.{TokenKind}
 use Rattle.json_data.specs.Kinds.{kind_of, first_kind}

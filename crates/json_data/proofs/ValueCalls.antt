@@ -1,12 +1,12 @@
 -- What was read of a value.
 use Rattle.std.proofs.Common.{◌≡◌, ◌∙◌, ◌⊎◌, inl, inr, [], Bool, true, false, if◌then◌else◌, Some, None, refl, sym, ap, subst, append-nil}
 use Rattle.json_grammar.specs.Tree.{Tree, tokens}
-use Rattle.json_text.specs.Errors.{no_memory}
-use Rattle.json_text.specs.declared.error.Error.{Error}
-use Rattle.json_text.specs.declared.error.ErrorCode.{ErrorCode}
-use Rattle.json_text.specs.declared.error.ErrorCode.TheVariants as code
-use Rattle.json_text.specs.declared.error.Place.{Place}
-use Rattle.json_text.specs.declared.error.Place.TheVariants as place
+use Rattle.json_io.specs.Errors.{no_memory}
+use Rattle.json_io.specs.declared.error.Error.{Error}
+use Rattle.json_io.specs.declared.error.ErrorCode.{ErrorCode}
+use Rattle.json_io.specs.declared.error.ErrorCode.TheVariants as code
+use Rattle.json_io.specs.declared.error.Place.{Place}
+use Rattle.json_io.specs.declared.error.Place.TheVariants as place
 use Rattle.json_data.specs.declared.value_tokens.ValueTokens.{ValueTokens}
 use Rattle.json_data.specs.Reading.{Reading, refuses}
 use Rattle.json_data.specs.Reader.{ReadsTree, StopsReading}

@@ -5,7 +5,7 @@ use Rattle.std.proofs.lemmas.Slice.Eq.{bytes_eq-Decides}
 use Rattle.json_grammar.specs.Tree.{Tree, null, boolean, num, text, list, pairs, Trees, no_trees, tree_and, Pairs, no_pairs, pair_and, trees_list, list_trees, pairs_list, list_pairs}
 use Rattle.json_model.specs.Datum.{Datum, text_datum, list_datum, Data, datum_and, list_data, tree_of_datum, trees_of, pairs_of as rows_pairs, element_before, member_before}
 use Rattle.json_model.specs.Edit.{Step, key_step, index_step, Edit, set_at, insert_at, push_at, remove_at}
-use Rattle.json_text.specs.declared.error.ErrorCode.{ErrorCode}
+use Rattle.json_io.specs.declared.error.ErrorCode.{ErrorCode}
 use Rattle.json_doc.proofs.Trees.{list_back, pairs_back}
 use Rattle.json_value.specs.Seen.{list_of, object_pairs}
 use Rattle.json_value.specs.EditTrees.{both, each_in, edit_in}

@@ -1,8 +1,8 @@
 -- A refusal of a parser that had not read a whole value.
 use Rattle.std.proofs.Common.{◌≡◌, ℕ, List, Bool, false, refl}
-use Rattle.json_text.specs.declared.error.ErrorCode.{ErrorCode}
-use Rattle.json_text.specs.declared.error.ErrorCode.TheVariants as code
-use Rattle.json_text.specs.declared.error.Error.{Error}
+use Rattle.json_io.specs.declared.error.ErrorCode.{ErrorCode}
+use Rattle.json_io.specs.declared.error.ErrorCode.TheVariants as code
+use Rattle.json_io.specs.declared.error.Error.{Error}
 use Rattle.json_text.specs.Faults.{IsFault, IsInValue}
 use Rattle.json_text.specs.Parsing.{ParserState, input, IsDue}
 use Rattle.json_text.proofs.ValueFaults.{value_fault_of}

@@ -9,8 +9,8 @@ use Rattle.json_number.specs.Integers.{integer_in}
 use Rattle.json_doc.proofs.Trees.{list_back, pairs_back}
 use Rattle.json_doc.specs.Readings.{type_of}
 use Rattle.json_doc.specs.declared.json_type.JsonType.TheVariants as json
-use Rattle.json_text.specs.Errors.{no_memory}
-use Rattle.json_text.specs.declared.error.Error.{Error}
+use Rattle.json_io.specs.Errors.{no_memory}
+use Rattle.json_io.specs.declared.error.Error.{Error}
 use Rattle.json_data.specs.declared.level.Level.{Level}
 use Rattle.json_data.specs.declared.level.Level.TheVariants as level
 use Rattle.json_data.specs.declared.token.TokenKind.{TokenKind}

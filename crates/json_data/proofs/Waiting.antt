@@ -5,7 +5,7 @@ use Rattle.json_grammar.specs.declared.Kind.{Kind}
 use Rattle.json_grammar.specs.declared.Kind.TheVariants.{Array as array, Object as object}
 use Rattle.json_grammar.specs.Grammar.{chars}
 use Rattle.json_grammar.specs.Tree.{Token as Tok, begin, text, text_token}
-use Rattle.json_text.specs.declared.error.Error.{Error}
+use Rattle.json_io.specs.declared.error.Error.{Error}
 use Rattle.json_text.specs.declared.event.Event.{Event}
 use Rattle.json_text.specs.Events.{Means}
 use Rattle.json_text.specs.Parsing.{ParserState}

@@ -4,15 +4,15 @@ use Rattle.json_grammar.specs.Grammar.{IsWhitespace, ws, is_text}
 use Rattle.json_grammar.specs.Given.{piece}
 use Rattle.json_grammar.specs.Rules.{Rules, fits}
 use Rattle.json_grammar.specs.Tree.{Tree, depth}
-use Rattle.json_text.specs.declared.error.ErrorCode.{ErrorCode}
-use Rattle.json_text.specs.declared.error.ErrorCode.TheVariants as code
-use Rattle.json_text.specs.declared.error.Place.{Place}
-use Rattle.json_text.specs.declared.error.Place.TheVariants as place
+use Rattle.json_io.specs.declared.error.ErrorCode.{ErrorCode}
+use Rattle.json_io.specs.declared.error.ErrorCode.TheVariants as code
+use Rattle.json_io.specs.declared.error.Place.{Place}
+use Rattle.json_io.specs.declared.error.Place.TheVariants as place
 use Rattle.json_text.specs.Faults.{FaultAt, FaultWithAt}
-use Rattle.json_text.specs.Outside.{SourceState}
-use Rattle.json_text.specs.Positions.{place_at}
-use Rattle.json_text.specs.Transfer.{ReadsWithin, ReadingCause}
-use Rattle.json_text.specs.Utf8.{IsUtf8Fault}
+use Rattle.json_io.specs.Outside.{SourceState}
+use Rattle.json_io.specs.Positions.{place_at}
+use Rattle.json_io.specs.Transfer.{ReadsWithin, ReadingCause}
+use Rattle.json_io.specs.Utf8.{IsUtf8Fault}
 use Rattle.json_model.specs.Datum.{Datum}
 use Rattle.json_data.specs.Reading.{Reading, gives, refuses}
 

@@ -12,7 +12,7 @@ use Rattle.std.specs.declared.cmp.Ordering.TheVariants.{Less, Equal, Greater}
 use lib.Dec.{ltb}
 use lib.Utf8.{next}
 use Rattle.json_model.specs.Datum.{text_datum}
-use Rattle.json_text.specs.declared.error.ErrorCode.TheVariants.{TypeUnmatched}
+use Rattle.json_io.specs.declared.error.ErrorCode.TheVariants.{TypeUnmatched}
 use Rattle.json_data.specs.Keys.{IsNamed}
 use Rattle.json_data.specs.Reading.{gives, refuses, one_character}
 

@@ -11,7 +11,7 @@ use Rattle.std.specs.declared.cmp.Ordering.TheVariants.{Less, Equal, Greater}
 use Rattle.json_model.specs.Datum.{Datum, null_datum, boolean_datum, text_datum, option_datum}
 use Rattle.json_number.specs.Integers.{whole_in}
 use Rattle.json_number.specs.Tests.{is_number}
-use Rattle.json_text.specs.declared.error.ErrorCode.TheVariants.{TypeUnmatched, ExpectedNumericKey}
+use Rattle.json_io.specs.declared.error.ErrorCode.TheVariants.{TypeUnmatched, ExpectedNumericKey}
 use Rattle.json_data.specs.Reading.{Reading, gives, refuses, in_range, key_cmp}
 
 abbrev pub text_key : List ℕ → Reading

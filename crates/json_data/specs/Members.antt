@@ -2,7 +2,7 @@
 use Rattle.std.specs.Prelude.{ℕ, List}
 use Rattle.json_grammar.specs.Tree.{Tree, pairs, Pairs, no_pairs, pair_and}
 use Rattle.json_model.specs.Datum.{Datum}
-use Rattle.json_text.specs.declared.error.ErrorCode.TheVariants.{TypeUnmatched}
+use Rattle.json_io.specs.declared.error.ErrorCode.TheVariants.{TypeUnmatched}
 use Rattle.json_data.specs.Reading.{Reading, gives, refuses}
 
 -- what follows a datum, if it is given

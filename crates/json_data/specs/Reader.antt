@@ -2,9 +2,9 @@
 use Rattle.std.specs.Prelude.{◌≡◌, ◌≢◌, ℕ, List, Some, true, false, ◌⊎◌}
 use Rattle.json_grammar.specs.declared.Kind.{Kind}
 use Rattle.json_grammar.specs.Tree.{Tree, Token as Tok, null, begin}
-use Rattle.json_text.specs.declared.error.Error.{Error}
-use Rattle.json_text.specs.declared.error.ErrorCode.TheVariants.{TypeUnmatched}
-use Rattle.json_text.specs.Errors.{no_memory}
+use Rattle.json_io.specs.declared.error.Error.{Error}
+use Rattle.json_io.specs.declared.error.ErrorCode.TheVariants.{TypeUnmatched}
+use Rattle.json_io.specs.Errors.{no_memory}
 use Rattle.json_data.specs.Kinds.{kind_of, first_kind}
 use Rattle.json_data.specs.Refusals.{is_refusal, refusal}
 use Rattle.json_data.specs.Reading.{Reading, refuses}

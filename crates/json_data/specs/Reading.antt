@@ -9,8 +9,8 @@ use Rattle.json_grammar.specs.Tree.{Tree, null, boolean, num, text, list, pairs,
 use Rattle.json_model.specs.Datum.{Datum, null_datum, boolean_datum, integer_datum, text_datum, literal_datum, list_datum, rows_datum, Rows, no_rows, row_and, list_data}
 use Rattle.json_number.specs.Integers.{integer_in, whole_in}
 use Rattle.json_number.specs.Tests.{is_number}
-use Rattle.json_text.specs.declared.error.ErrorCode.{ErrorCode}
-use Rattle.json_text.specs.declared.error.ErrorCode.TheVariants.{TypeUnmatched, NumberOutOfRange}
+use Rattle.json_io.specs.declared.error.ErrorCode.{ErrorCode}
+use Rattle.json_io.specs.declared.error.ErrorCode.TheVariants.{TypeUnmatched, NumberOutOfRange}
 
 pub data Reading : Type 0 where
   gives : Datum → Reading

@@ -1,8 +1,8 @@
 -- Why no step, path or edit is read of a value.
 use Rattle.std.specs.Prelude.{◌≡◌, ◌⊎◌, Option, None}
-use Rattle.json_text.specs.declared.error.Error.{Error}
-use Rattle.json_text.specs.declared.error.ErrorCode.TheVariants.{TypeUnmatched}
-use Rattle.json_text.specs.Errors.{no_memory}
+use Rattle.json_io.specs.declared.error.Error.{Error}
+use Rattle.json_io.specs.declared.error.ErrorCode.TheVariants.{TypeUnmatched}
+use Rattle.json_io.specs.Errors.{no_memory}
 use Rattle.json_data.specs.Refusals.{refusal}
 
 -- memory ran out, or the tree spells none

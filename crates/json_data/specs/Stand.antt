@@ -3,7 +3,7 @@ use Rattle.std.specs.Prelude.{◌≡◌, ◌<◌, ◌≤◌, ℕ, pos, neg_ℤ, 
 use Rattle.json_grammar.specs.declared.Kind.TheVariants.{Array as array, Object as object}
 use Rattle.json_grammar.specs.Tree.{Tree, num, text as text_tree, Trees, Pairs, tokens, trees_tokens, pairs_tokens, Token as Tok, key_token, end}
 use Rattle.json_number.specs.Integers.{integer_in}
-use Rattle.json_text.specs.declared.error.Error.{Error}
+use Rattle.json_io.specs.declared.error.Error.{Error}
 use Rattle.json_data.specs.declared.token.TokenKind.{TokenKind}
 use Rattle.json_data.specs.Kinds.{kind_of, first_kind}
 use Rattle.json_data.specs.Refusals.{is_refusal}

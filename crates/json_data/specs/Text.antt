@@ -8,14 +8,14 @@ use Rattle.json_grammar.specs.Fault.{reads}
 use Rattle.json_grammar.specs.Tree.{Tree, Token as Tok, tokens, depth}
 use Rattle.json_grammar.specs.Place.{outside}
 use Rattle.json_number.specs.Integers.{integer_in}
-use Rattle.json_text.specs.declared.error.Error.{Error}
+use Rattle.json_io.specs.declared.error.Error.{Error}
 use Rattle.json_text.specs.declared.event.Event.{Event}
 use Rattle.json_text.specs.declared.event.Event.TheVariants as event
-use Rattle.json_text.specs.Errors.{no_memory}
+use Rattle.json_io.specs.Errors.{no_memory}
 use Rattle.json_text.specs.Events.{Means}
 use Rattle.json_text.specs.Due.{NextNeeds}
 use Rattle.json_text.specs.Faults.{IsFault, IsValueFault}
-use Rattle.json_text.specs.Positions.{place_at}
+use Rattle.json_io.specs.Positions.{place_at}
 use Rattle.json_text.specs.Parsing.{ParserState, input, taken, HasGiven, SameInput, IsWhole, HasRead}
 use Rattle.json_data.specs.declared.token.TokenKind.{TokenKind}
 use Rattle.json_data.specs.declared.token.TokenKind.TheVariants as kind

@@ -3,7 +3,7 @@ use Rattle.std.specs.Prelude.{◌≡◌, ℕ, List, [], ◌∷◌, ◌++◌, len
 use Rattle.json_grammar.specs.declared.Kind.{Kind}
 use Rattle.json_grammar.specs.declared.Kind.TheVariants.{Array as array, Object as object}
 use Rattle.json_grammar.specs.Tree.{Tree, Token as Tok, tokens, trees_tokens, pairs_tokens, list_trees, list_pairs, end}
-use Rattle.json_text.specs.Errors.{no_memory}
+use Rattle.json_io.specs.Errors.{no_memory}
 use Rattle.json_value.specs.Seen.{seen}
 use Rattle.json_value.specs.Left.{elements_left, members_left, elements_sights_left}
 use Rattle.json_value.specs.Places.{places_in}

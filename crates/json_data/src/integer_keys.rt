@@ -2,8 +2,8 @@
 ghost use Rattle.std.specs.Prelude.{◌≡◌, ◌⊎◌, ◌^◌, ◌≤◌, ℕ, List, pos, true, false, refl, IfOk, IfErr};
 ghost use Rattle.json_model.specs.Datum.{integer_datum};
 ghost use Rattle.json_number.specs.Tests.{is_number as spec_is_number};
-ghost use Rattle.json_text.specs.Errors.{no_memory};
-ghost use Rattle.json_text.specs.declared.error.ErrorCode.TheVariants.{ExpectedNumericKey};
+ghost use Rattle.json_io.specs.Errors.{no_memory};
+ghost use Rattle.json_io.specs.declared.error.ErrorCode.TheVariants.{ExpectedNumericKey};
 ghost use Rattle.json_data.specs.Keys.{integer_key, integer_named, unsigned_orders};
 ghost use Rattle.json_data.specs.Pieces.{Says};
 ghost use Rattle.json_data.specs.Reader.{KeyReadingFails};

@@ -1,7 +1,7 @@
 // Steps and paths, as values spell them.
 ghost use Rattle.std.specs.Prelude.{◌≡◌, IfOk, IfErr, Some};
 ghost use Rattle.json_number.specs.Numbers.{value_of};
-ghost use Rattle.json_text.specs.declared.error.ErrorCode.TheVariants as ErrorCode;
+ghost use Rattle.json_io.specs.declared.error.ErrorCode.TheVariants as ErrorCode;
 ghost use Rattle.json_value.specs.Edits.{step_of, path_steps};
 ghost use Rattle.json_value.specs.EditTrees.{each_in, index_of, step_in, path_in};
 ghost use Rattle.json_value.specs.Seen.{seen, elements_seen};

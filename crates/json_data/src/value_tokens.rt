@@ -1,7 +1,7 @@
 // The tokens of a value.
 ghost use Rattle.std.specs.Prelude.{◌≡◌, List, [], ◌∷◌, false, true, Some, None, OnOk, IfOk, IfErr, option_map};
 ghost use Rattle.json_grammar.specs.Tree.{Token as Tok};
-ghost use Rattle.json_text.specs.Errors.{no_memory};
+ghost use Rattle.json_io.specs.Errors.{no_memory};
 ghost use Rattle.json_value.specs.Seen.{seen};
 ghost use Rattle.json_value.specs.Sights.{sight_of};
 ghost use Rattle.json_data.specs.Kinds.{DenotesToken};

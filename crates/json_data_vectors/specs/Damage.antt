@@ -2,7 +2,7 @@
 use Rattle.std.specs.Prelude.{ℕ, ◌^◌, pos, List, map, false, None}
 use Rattle.json_model.specs.Datum.{Datum, integer_datum}
 use Rattle.json_grammar.specs.Tree.{Tree}
-use Rattle.json_text.specs.declared.error.Error.{Error}
+use Rattle.json_io.specs.declared.error.Error.{Error}
 use Rattle.json_data.specs.Reading.{Reading, read_integer, between}
 use Rattle.json_stream.specs.Streams.{InputState, TakesValues, NextValueFails}
 

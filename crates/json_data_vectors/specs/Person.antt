@@ -2,7 +2,7 @@
 use Rattle.std.specs.Prelude.{ℕ, ◌^◌, List, codes, bytes_eq, if◌then◌else◌}
 use Rattle.json_grammar.specs.Tree.{Tree}
 use Rattle.json_model.specs.Datum.{Datum, text_datum, integer_datum, list_datum, no_data, datum_and, rows_datum, row_and, no_rows}
-use Rattle.json_text.specs.declared.error.ErrorCode.TheVariants.{TypeUnmatched}
+use Rattle.json_io.specs.declared.error.ErrorCode.TheVariants.{TypeUnmatched}
 use Rattle.json_data.specs.Members.{reading_then}
 use Rattle.json_data.specs.Reading.{Reading, gives, refuses, read_text, read_integer, read_list, between}
 

@@ -2,9 +2,9 @@
 use Rattle.std.specs.Prelude.{◌≡◌, ℕ, List, [], ◌∷◌, Bool, true, false, bytes_eq, if◌then◌else◌, Option, Some, None}
 use Rattle.json_grammar.specs.Tree.{Tree}
 use Rattle.json_model.specs.Datum.{Datum, null_datum, text_datum, list_datum, rows_datum, Data, no_data, datum_and, list_data, Rows, no_rows, row_and}
-use Rattle.json_text.specs.Errors.{no_memory}
-use Rattle.json_text.specs.declared.error.Error.{Error}
-use Rattle.json_text.specs.declared.error.ErrorCode.TheVariants.{TypeUnmatched}
+use Rattle.json_io.specs.Errors.{no_memory}
+use Rattle.json_io.specs.declared.error.Error.{Error}
+use Rattle.json_io.specs.declared.error.ErrorCode.TheVariants.{TypeUnmatched}
 use Rattle.json_data.specs.Members.{read_object, reading_then}
 use Rattle.json_data.specs.Reading.{Reading, gives, refuses, Series, gives_all, stops, prepend_reading, as_list}
 use Rattle.json_data.specs.Refusals.{is_refusal, refusal}

@@ -1,7 +1,7 @@
 // A struct that is read member by member.
 ghost use Rattle.std.specs.Prelude.{◌≡◌, ℕ, List, None, Some, OnOk, IfOk, IfErr, IfSome};
 ghost use Rattle.json_model.specs.Datum.{Datum, Data, list_datum};
-ghost use Rattle.json_text.specs.declared.error.ErrorCode.TheVariants as ErrorCode;
+ghost use Rattle.json_io.specs.declared.error.ErrorCode.TheVariants as ErrorCode;
 ghost use Rattle.json_data.specs.Reader.{ReadsTree, ReadsNonNull, Misses, StopsReading};
 ghost use Rattle.json_data.specs.Reading.{gives};
 ghost use Rattle.json_data.specs.Refusals.{refusal as spec_refusal};

@@ -6,14 +6,14 @@ use Rattle.json_grammar.specs.Place.{reading}
 use Rattle.json_grammar.specs.declared.Spot.TheVariants.{Done as done}
 use Rattle.json_grammar.specs.Fault.{reads}
 use Rattle.json_grammar.proofs.Closing.{whole_text}
-use Rattle.json_text.specs.declared.error.Error.{Error}
-use Rattle.json_text.specs.declared.error.ErrorCode.{ErrorCode}
-use Rattle.json_text.specs.declared.error.ErrorCode.TheVariants as code
-use Rattle.json_text.specs.declared.error.Place.{Place}
-use Rattle.json_text.specs.declared.error.Place.TheVariants as place
+use Rattle.json_io.specs.declared.error.Error.{Error}
+use Rattle.json_io.specs.declared.error.ErrorCode.{ErrorCode}
+use Rattle.json_io.specs.declared.error.ErrorCode.TheVariants as code
+use Rattle.json_io.specs.declared.error.Place.{Place}
+use Rattle.json_io.specs.declared.error.Place.TheVariants as place
 use Rattle.json_text.specs.declared.event.Event.{Event}
 use Rattle.json_text.specs.declared.event.Event.TheVariants as event
-use Rattle.json_text.specs.Errors.{no_memory}
+use Rattle.json_io.specs.Errors.{no_memory}
 use Rattle.json_text.specs.Faults.{ValueFaultFrom}
 use Rattle.json_text.specs.Parsing.{ParserState, input, taken, HasGiven, IsWhole, HasRead, SameInput, Goes}
 use Rattle.json_text.proofs.ValueFaults.{value_fault_of}

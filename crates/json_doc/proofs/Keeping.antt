@@ -22,14 +22,14 @@ use Rattle.json_text.proofs.OneFaultAt.{stands, stood, fault_with_limit_at}
 use Rattle.json_text.proofs.Stands.{stood_at}
 use Rattle.json_text.specs.Standing.{Stood}
 use Rattle.json_text.specs.Ruled.{usual_rules}
-use Rattle.json_text.specs.declared.error.Error.{Error}
-use Rattle.json_text.specs.declared.error.ErrorCode.{ErrorCode}
-use Rattle.json_text.specs.declared.error.ErrorCode.TheVariants as code
-use Rattle.json_text.specs.declared.error.Place.{Place}
-use Rattle.json_text.specs.declared.error.Place.TheVariants as place
+use Rattle.json_io.specs.declared.error.Error.{Error}
+use Rattle.json_io.specs.declared.error.ErrorCode.{ErrorCode}
+use Rattle.json_io.specs.declared.error.ErrorCode.TheVariants as code
+use Rattle.json_io.specs.declared.error.Place.{Place}
+use Rattle.json_io.specs.declared.error.Place.TheVariants as place
 use Rattle.json_text.specs.declared.event.Event.{Event}
 use Rattle.json_text.specs.declared.event.Event.TheVariants as event
-use Rattle.json_text.specs.Positions.{place_at}
+use Rattle.json_io.specs.Positions.{place_at}
 use Rattle.json_text.specs.Events.{Means, raw_size, event_bytes}
 use Rattle.json_text.specs.Faults.{IsFault, IsFaultWith, FaultWithAt}
 use Rattle.json_text.specs.Parsing.{ParserState, input, HasGiven, SameInput, Goes, TakesToken, IsTight, IsDue}

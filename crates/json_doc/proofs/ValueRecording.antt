@@ -4,7 +4,7 @@ use Rattle.json_grammar.specs.Tree.{Tree, Token, null_token, boolean_token, num_
 use Rattle.json_grammar.specs.Sizes.{token_nodes, nodes_of}
 use Rattle.json_grammar.proofs.Sizes.{nodes_append}
 use Rattle.json_grammar.proofs.StringsUnique.{chars_same}
-use Rattle.json_text.specs.declared.error.Error.{Error}
+use Rattle.json_io.specs.declared.error.Error.{Error}
 use Rattle.json_text.specs.declared.event.Event.{Event}
 use Rattle.json_text.specs.declared.event.Event.TheVariants as event
 use Rattle.json_text.specs.Events.{Means, raw_size}

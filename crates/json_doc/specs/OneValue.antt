@@ -1,7 +1,7 @@
 -- What the reader of one value among others keeps.
 use Rattle.std.specs.Prelude.{◌≡◌, ℕ, ◌+◌, ◌-◌, List, [], ◌∷◌, ◌++◌, Some, None}
 use Rattle.json_grammar.specs.Tree.{Tree, tokens, Token, begin, end, key_token}
-use Rattle.json_text.specs.declared.error.Error.{Error}
+use Rattle.json_io.specs.declared.error.Error.{Error}
 use Rattle.json_text.specs.declared.event.Event.{Event}
 use Rattle.json_text.specs.Events.{Means}
 use Rattle.json_text.specs.Faults.{IsInValue}

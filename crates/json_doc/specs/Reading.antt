@@ -5,17 +5,17 @@ use Rattle.json_grammar.specs.Grammar.{chars, number}
 use Rattle.json_grammar.specs.Sizes.{nodes_of}
 use Rattle.json_grammar.specs.Repeated.{Keys, RepeatsAt}
 use Rattle.json_grammar.specs.Rules.{Rules}
-use Rattle.json_text.specs.declared.error.Error.{Error}
-use Rattle.json_text.specs.declared.error.ErrorCode.{ErrorCode}
-use Rattle.json_text.specs.declared.error.ErrorCode.TheVariants as code
-use Rattle.json_text.specs.declared.error.Place.{Place}
-use Rattle.json_text.specs.declared.error.Place.TheVariants as place
+use Rattle.json_io.specs.declared.error.Error.{Error}
+use Rattle.json_io.specs.declared.error.ErrorCode.{ErrorCode}
+use Rattle.json_io.specs.declared.error.ErrorCode.TheVariants as code
+use Rattle.json_io.specs.declared.error.Place.{Place}
+use Rattle.json_io.specs.declared.error.Place.TheVariants as place
 use Rattle.json_text.specs.declared.event.Event.{Event}
 use Rattle.json_text.specs.declared.event.Event.TheVariants as event
 use Rattle.json_text.specs.Faults.{FaultAt, FaultWithAt, ValueFaultFrom}
 use Rattle.json_text.specs.Parsing.{ParserState}
-use Rattle.json_text.specs.Positions.{place_at}
-use Rattle.json_text.specs.Errors.{no_memory}
+use Rattle.json_io.specs.Positions.{place_at}
+use Rattle.json_io.specs.Errors.{no_memory}
 use Rattle.json_text.specs.declared.span.Span.{Span}
 use Rattle.json_doc.specs.OpenNames.{HasNames}
 use Rattle.json_doc.specs.declared.open_keys.OpenKeys.{OpenKeys}

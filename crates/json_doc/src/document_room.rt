@@ -3,7 +3,7 @@ ghost use Rattle.std.specs.Prelude.{◌≡◌, ◌+◌, ◌/◌, ◌<◌, ◌^�
 ghost use Rattle.json_grammar.specs.Tree.{Tree};
 ghost use Rattle.json_grammar.specs.Grammar.{is_text};
 ghost use Rattle.json_grammar.specs.Rules.{fits};
-ghost use Rattle.json_text.specs.Errors.{no_memory};
+ghost use Rattle.json_io.specs.Errors.{no_memory};
 ghost use Rattle.json_text.specs.Ruled.{rules_of};
 ghost use Rattle.json_doc.specs.Docs.{IsDocOf};
 ghost use Rattle.json_doc.specs.Reading.{ReadingFailsWith};

@@ -52,7 +52,7 @@ impl DocumentVisitor {
     ghost use Rattle.std.specs.List.{Contains};
     ghost use Rattle.json_grammar.specs.Tree.{Tree, Pairs, Token, key_token, tokens};
     ghost use Rattle.json_grammar.specs.Repeated.{names, open_keys};
-    ghost use Rattle.json_text.specs.Errors.{no_memory};
+    ghost use Rattle.json_io.specs.Errors.{no_memory};
     ghost use Rattle.json_doc.specs.Docs.{IsDocOf};
     ghost use Rattle.json_doc.specs.OpenObject.{NamesText, KeyStands};
     ghost use Rattle.json_doc.specs.State.{VisitorState, Fits};

@@ -4,7 +4,7 @@ ghost use Rattle.std.specs.Cow.{cow_str_bytes};
 ghost use Rattle.json_grammar.specs.Tree.{key_token};
 ghost use Rattle.json_grammar.specs.Grammar.{chars};
 ghost use Rattle.json_grammar.specs.Repeated.{Keys, outer_keys};
-ghost use Rattle.json_text.specs.Errors.{no_memory};
+ghost use Rattle.json_io.specs.Errors.{no_memory};
 ghost use Rattle.json_doc.specs.OpenNames.{front_of, row_has, names_have, HasNames, HasSomeNames, TakesIn};
 
 use json_text::{Result, Span};

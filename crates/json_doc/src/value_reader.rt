@@ -1,7 +1,7 @@
 // Reads one value among others into a document.
 ghost use Rattle.std.specs.Prelude.{◌≡◌, ◌⊎◌, ◌<◌, ◌≤◌, ◌^◌, List, [], ◌∷◌, OnOk, IfOk, IfErr, false};
 ghost use Rattle.json_grammar.specs.Tree.{Tree, Token, tokens};
-ghost use Rattle.json_text.specs.Errors.{no_memory};
+ghost use Rattle.json_io.specs.Errors.{no_memory};
 ghost use Rattle.json_text.specs.Events.{Means, raw_size};
 ghost use Rattle.json_text.specs.Parsing.{HasGiven, HasRead, IsWhole, SameInput};
 ghost use Rattle.json_doc.specs.Docs.{IsDocOf};

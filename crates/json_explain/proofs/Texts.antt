@@ -5,17 +5,17 @@ use Rattle.json_grammar.specs.Tree.{Tree, tokens, depth}
 use Rattle.json_grammar.specs.Fault.{reads}
 use Rattle.json_grammar.proofs.OneValue.{text_reads, one_reads}
 use Rattle.json_grammar.proofs.TokensUnique.{tokens_injective}
-use Rattle.json_text.specs.declared.error.ErrorCode.{ErrorCode}
-use Rattle.json_text.specs.declared.error.ErrorCode.TheVariants as code
-use Rattle.json_text.specs.declared.error.Place.{Place}
+use Rattle.json_io.specs.declared.error.ErrorCode.{ErrorCode}
+use Rattle.json_io.specs.declared.error.ErrorCode.TheVariants as code
+use Rattle.json_io.specs.declared.error.Place.{Place}
 use Rattle.json_text.specs.Parsing.{input, taken}
 use Rattle.json_data.specs.Calls.{TypedReadingFails}
 use Rattle.json_data.specs.Reading.{Reading}
 use Rattle.json_data.specs.Refusals.{is_refusal}
 use Rattle.json_data.specs.Stand.{over_text, TakesTree}
 use Rattle.json_data.specs.Text.{TextTokensState, text_taken, text_tokens_state, HasReadValue}
-use Rattle.json_text.specs.Errors.{no_memory}
-use Rattle.json_text.specs.declared.error.Error.{Error}
+use Rattle.json_io.specs.Errors.{no_memory}
+use Rattle.json_io.specs.declared.error.Error.{Error}
 use Rattle.json_explain.specs.Refused.{Refused}
 use Rattle.json_explain.specs.Explaining.{TextRefused}
 

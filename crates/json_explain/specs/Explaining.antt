@@ -4,8 +4,8 @@ use Rattle.json_grammar.specs.Grammar.{is_text}
 use Rattle.json_grammar.specs.Tree.{Tree, Token as Tok, depth}
 use Rattle.json_grammar.specs.Fault.{reads}
 use Rattle.json_model.specs.Edit.{Step as StepOf, key_step, index_step}
-use Rattle.json_text.specs.declared.error.Place.{Place}
-use Rattle.json_text.specs.Positions.{place_at}
+use Rattle.json_io.specs.declared.error.Place.{Place}
+use Rattle.json_io.specs.Positions.{place_at}
 use Rattle.json_doc.specs.declared.json_type.JsonType.{JsonType}
 use Rattle.json_doc.specs.Readings.{type_of}
 use Rattle.json_data.specs.Stand.{TokensState, TakesTree}

@@ -2,8 +2,8 @@
 use Rattle.std.specs.Prelude.{ℕ, suc, List, [], ◌∷◌, Bool, true, false, bytes_eq, if◌then◌else◌, Option, Some, None, option_map}
 use Rattle.json_grammar.specs.Tree.{Tree, null, list, pairs, Trees, no_trees, tree_and, Pairs, no_pairs, pair_and}
 use Rattle.json_model.specs.Edit.{Step, key_step, index_step}
-use Rattle.json_text.specs.declared.error.ErrorCode.{ErrorCode}
-use Rattle.json_text.specs.declared.error.ErrorCode.TheVariants.{TypeUnmatched}
+use Rattle.json_io.specs.declared.error.ErrorCode.{ErrorCode}
+use Rattle.json_io.specs.declared.error.ErrorCode.TheVariants.{TypeUnmatched}
 use Rattle.json_data.specs.Reading.{Reading, gives, refuses}
 
 -- the path from the whole value to the innermost one that is refused, why, and the name of the member that is missing there, if one is

@@ -3,7 +3,7 @@ ghost use Rattle.std.specs.Prelude.{◌≡◌, ◌≤◌, ◌⊎◌, ℕ, false,
 ghost use Rattle.json_doc.specs.Readings.{type_of as spec_type_of};
 ghost use Rattle.json_grammar.specs.Fault.{reads};
 ghost use Rattle.json_grammar.specs.Tree.{Tree};
-ghost use Rattle.json_text.specs.Errors.{no_memory, line_of, column_of};
+ghost use Rattle.json_io.specs.Errors.{no_memory, line_of, column_of};
 ghost use Rattle.json_data.specs.Calls.{ReadsTypedText, TypedReadingFails};
 ghost use Rattle.json_data.specs.Kinds.{first_kind};
 ghost use Rattle.json_data.specs.Reading.{gives};

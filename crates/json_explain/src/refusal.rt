@@ -1,6 +1,6 @@
 // Where a value is refused.
 ghost use Rattle.std.specs.Prelude.{◌≡◌, Some, None, IfOk, IfErr, option_map};
-ghost use Rattle.json_text.specs.Errors.{no_memory};
+ghost use Rattle.json_io.specs.Errors.{no_memory};
 ghost use Rattle.json_explain.specs.Refused.{here as spec_here, lacks_member, refused_within as spec_within};
 ghost use Rattle.json_explain.specs.Explaining.{explained_step, refused_of};
 

@@ -4,10 +4,10 @@ use Rattle.std.specs.Prelude.{max, slice_index_or, string_bytes, option_map}
 use Rattle.std.proofs.lemmas.List.{drop_more, drop_all, nil_from_length}
 use Rattle.std.proofs.lemmas.List.Concat.{flat_map-append}
 use Rattle.json_grammar.specs.Grammar.{ws}
-use Rattle.json_text.specs.Errors.{no_memory, reading_failed}
-use Rattle.json_text.specs.FaultText.{text_of}
-use Rattle.json_text.specs.Outside.{SinkState}
-use Rattle.json_text.specs.declared.error.Error.{Error}
+use Rattle.json_io.specs.Errors.{no_memory, reading_failed}
+use Rattle.json_io.specs.FaultText.{text_of}
+use Rattle.json_io.specs.Outside.{SinkState}
+use Rattle.json_io.specs.declared.error.Error.{Error}
 use Rattle.json_command.specs.Reporting.{Reports, ReportsUnlessMuted}
 use Rattle.json_command.specs.Statuses.{status_of}
 use Rattle.json_files.specs.declared.document.Document.{Document}

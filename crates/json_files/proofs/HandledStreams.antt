@@ -4,10 +4,10 @@ use Rattle.std.proofs.lemmas.List.{take_rest}
 use Rattle.json_grammar.specs.Given.{piece}
 use Rattle.json_grammar.specs.Grammar.{ws}
 use Rattle.json_grammar.specs.Tree.{Tree}
-use Rattle.json_text.specs.Errors.{no_memory}
+use Rattle.json_io.specs.Errors.{no_memory}
 use Rattle.json_text.specs.Faults.{ValueFaultFrom}
-use Rattle.json_text.specs.Outside.{SinkState}
-use Rattle.json_text.specs.declared.error.Error.{Error}
+use Rattle.json_io.specs.Outside.{SinkState}
+use Rattle.json_io.specs.declared.error.Error.{Error}
 use Rattle.json_command.specs.Input.{max_bytes}
 use Rattle.json_files.specs.declared.change_error.ChangeError.{ChangeError}
 use Rattle.json_files.specs.declared.document_error.DocumentError.TheVariants.{Input, Change}

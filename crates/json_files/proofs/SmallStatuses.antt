@@ -3,13 +3,13 @@ use Rattle.std.proofs.Common.{◌≡◌, ◌⊎◌, inl, inr, ℕ, ◌+◌, ◌<
 use Rattle.std.specs.Prelude.{max, string_bytes}
 use Rattle.json_grammar.specs.Rules.{Rules}
 use Rattle.json_grammar.specs.Tree.{Tree}
-use Rattle.json_text.specs.Outside.{SinkState}
-use Rattle.json_text.specs.Errors.{writing_failed, reading_failed}
-use Rattle.json_text.specs.declared.error.Error.{Error}
-use Rattle.json_text.specs.declared.error.ErrorCode.{ErrorCode}
-use Rattle.json_text.specs.declared.error.ErrorCode.TheVariants.{NoMemory, Io, BadWords, NotFound, TypeUnmatched}
-use Rattle.json_text.specs.declared.error.Place.{Place}
-use Rattle.json_text.specs.declared.error.Place.TheVariants.{None as nowhere, Reading, Writing}
+use Rattle.json_io.specs.Outside.{SinkState}
+use Rattle.json_io.specs.Errors.{writing_failed, reading_failed}
+use Rattle.json_io.specs.declared.error.Error.{Error}
+use Rattle.json_io.specs.declared.error.ErrorCode.{ErrorCode}
+use Rattle.json_io.specs.declared.error.ErrorCode.TheVariants.{NoMemory, Io, BadWords, NotFound, TypeUnmatched}
+use Rattle.json_io.specs.declared.error.Place.{Place}
+use Rattle.json_io.specs.declared.error.Place.TheVariants.{None as nowhere, Reading, Writing}
 use Rattle.json_command.specs.Input.{InputFault}
 use Rattle.json_command.specs.Statuses.{status_of}
 use Rattle.json_command.proofs.Inputs.{no_want, no_io, no_words}

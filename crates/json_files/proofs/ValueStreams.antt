@@ -8,10 +8,10 @@ use Rattle.json_grammar.specs.Tree.{Tree, depth}
 use Rattle.json_grammar.proofs.OneValue.{value_text}
 use Rattle.json_grammar.proofs.Sizes.{nodes_some, text_fits}
 use Rattle.json_grammar.proofs.TextUtf8.{text_utf8}
-use Rattle.json_text.specs.declared.error.ErrorCode.{ErrorCode}
-use Rattle.json_text.specs.declared.error.ErrorCode.TheVariants.{NoMemory}
-use Rattle.json_text.specs.declared.error.Place.{Place}
-use Rattle.json_text.specs.declared.error.Place.TheVariants.{None as nowhere}
+use Rattle.json_io.specs.declared.error.ErrorCode.{ErrorCode}
+use Rattle.json_io.specs.declared.error.ErrorCode.TheVariants.{NoMemory}
+use Rattle.json_io.specs.declared.error.Place.{Place}
+use Rattle.json_io.specs.declared.error.Place.TheVariants.{None as nowhere}
 use Rattle.json_text.specs.Faults.{ValueFaultFrom}
 use Rattle.json_text.specs.Parsing.{ParserState, input, taken}
 use Rattle.json_doc.specs.declared.doc.Doc.{Doc}

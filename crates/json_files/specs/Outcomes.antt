@@ -5,12 +5,12 @@ use Rattle.std.specs.List.{flat_map}
 use Rattle.json_grammar.specs.Grammar.{ws}
 use Rattle.json_grammar.specs.Rules.{Rules}
 use Rattle.json_grammar.specs.Tree.{Tree}
-use Rattle.json_text.specs.declared.error.Error.{Error}
-use Rattle.json_text.specs.declared.error.ErrorCode.{ErrorCode}
-use Rattle.json_text.specs.declared.error.ErrorCode.TheVariants.{NoMemory}
-use Rattle.json_text.specs.declared.error.Place.{Place}
-use Rattle.json_text.specs.declared.error.Place.TheVariants.{None as nowhere}
-use Rattle.json_text.specs.Errors.{reading_failed}
+use Rattle.json_io.specs.declared.error.Error.{Error}
+use Rattle.json_io.specs.declared.error.ErrorCode.{ErrorCode}
+use Rattle.json_io.specs.declared.error.ErrorCode.TheVariants.{NoMemory}
+use Rattle.json_io.specs.declared.error.Place.{Place}
+use Rattle.json_io.specs.declared.error.Place.TheVariants.{None as nowhere}
+use Rattle.json_io.specs.Errors.{reading_failed}
 use Rattle.json_text.specs.Ruled.{rules_of}
 use Rattle.json_doc.specs.Readings.{string_of}
 use Rattle.json_print.specs.Styles.{printed}

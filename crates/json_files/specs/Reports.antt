@@ -1,11 +1,11 @@
 -- The report of the error of a document.
 use Rattle.std.specs.Prelude.{◌≡◌, ℕ, ◌+◌, cond, nat_le, List, [], ◌++◌, length, None, Some, codes, decimal}
 use Rattle.std.specs.declared.option.Option.{Option}
-use Rattle.json_text.specs.declared.error.Error.{Error}
-use Rattle.json_text.specs.declared.error.Place.{Place}
-use Rattle.json_text.specs.declared.error.Place.TheVariants.{None as nowhere, At}
-use Rattle.json_text.specs.Errors.{name_of}
-use Rattle.json_text.specs.Positions.{line_at, column_at}
+use Rattle.json_io.specs.declared.error.Error.{Error}
+use Rattle.json_io.specs.declared.error.Place.{Place}
+use Rattle.json_io.specs.declared.error.Place.TheVariants.{None as nowhere, At}
+use Rattle.json_io.specs.Errors.{name_of}
+use Rattle.json_io.specs.Positions.{line_at, column_at}
 use Rattle.json_files.specs.declared.change_error.ChangeCode.{ChangeCode}
 use Rattle.json_files.specs.declared.change_error.ChangeCode.TheVariants.{NoMemory, NotFound, TypeUnmatched, BadPatch, TestFailed}
 use Rattle.json_files.specs.declared.document_error.DocumentError.{DocumentError}

@@ -3,15 +3,15 @@ use Rattle.std.specs.Prelude.{◌≡◌, ◌⊎◌, ℕ, max, Bool, true, false,
 use Rattle.std.specs.declared.option.Option.{Option}
 use Rattle.json_grammar.specs.Rules.{Rules}
 use Rattle.json_grammar.specs.Tree.{Tree}
-use Rattle.json_text.specs.declared.error.Error.{Error}
-use Rattle.json_text.specs.declared.error.ErrorCode.{ErrorCode}
-use Rattle.json_text.specs.declared.error.ErrorCode.TheVariants.{NoMemory}
-use Rattle.json_text.specs.declared.error.Place.{Place}
-use Rattle.json_text.specs.declared.error.Place.TheVariants.{None as nowhere}
-use Rattle.json_text.specs.Errors.{no_memory}
-use Rattle.json_text.specs.FaultText.{text_of}
-use Rattle.json_text.specs.Known.{Appends}
-use Rattle.json_text.specs.Outside.{SinkState}
+use Rattle.json_io.specs.declared.error.Error.{Error}
+use Rattle.json_io.specs.declared.error.ErrorCode.{ErrorCode}
+use Rattle.json_io.specs.declared.error.ErrorCode.TheVariants.{NoMemory}
+use Rattle.json_io.specs.declared.error.Place.{Place}
+use Rattle.json_io.specs.declared.error.Place.TheVariants.{None as nowhere}
+use Rattle.json_io.specs.Errors.{no_memory}
+use Rattle.json_io.specs.FaultText.{text_of}
+use Rattle.json_io.specs.Known.{Appends}
+use Rattle.json_io.specs.Outside.{SinkState}
 use Rattle.json_command.specs.Input.{IsInput, InputFault}
 use Rattle.json_command.specs.Reporting.{Reports, ReportsUnlessMuted}
 use Rattle.json_command.specs.Statuses.{status_of}

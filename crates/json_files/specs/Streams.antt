@@ -5,13 +5,13 @@ use Rattle.std.specs.Str.{IsCharBoundary}
 use Rattle.json_grammar.specs.Fault.{reads}
 use Rattle.json_grammar.specs.Grammar.{ws}
 use Rattle.json_grammar.specs.Tree.{Tree, depth}
-use Rattle.json_text.specs.declared.error.Error.{Error}
-use Rattle.json_text.specs.declared.error.ErrorCode.{ErrorCode}
-use Rattle.json_text.specs.declared.error.ErrorCode.TheVariants.{NoMemory, TooLarge}
-use Rattle.json_text.specs.declared.error.Place.{Place}
-use Rattle.json_text.specs.declared.error.Place.TheVariants.{None as nowhere}
+use Rattle.json_io.specs.declared.error.Error.{Error}
+use Rattle.json_io.specs.declared.error.ErrorCode.{ErrorCode}
+use Rattle.json_io.specs.declared.error.ErrorCode.TheVariants.{NoMemory, TooLarge}
+use Rattle.json_io.specs.declared.error.Place.{Place}
+use Rattle.json_io.specs.declared.error.Place.TheVariants.{None as nowhere}
 use Rattle.json_text.specs.Faults.{ValueFaultFrom}
-use Rattle.json_text.specs.Utf8.{Utf8Cause}
+use Rattle.json_io.specs.Utf8.{Utf8Cause}
 use Rattle.json_command.specs.Input.{max_bytes}
 use Rattle.json_files.specs.declared.document_error.DocumentError.TheVariants.{Input, Change}
 use Rattle.json_files.specs.Outcomes.{Task, PartOutcome, Printed, Refused, TreeOutcome, PartsHave}

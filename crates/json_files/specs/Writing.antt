@@ -1,14 +1,14 @@
 -- What becomes of a sink to which a text is written, and of a sink for errors that is given up once a write fails.
 use Rattle.std.specs.Prelude.{◌≡◌, ℕ, ◌<◌, false, List, Result, OnOk, IfErr, IsErrOf}
-use Rattle.json_text.specs.declared.error.Error.{Error}
-use Rattle.json_text.specs.declared.error.ErrorCode.{ErrorCode}
-use Rattle.json_text.specs.declared.error.ErrorCode.TheVariants.{NoMemory, Io}
-use Rattle.json_text.specs.declared.error.Place.{Place}
-use Rattle.json_text.specs.declared.error.Place.TheVariants.{None as nowhere, Writing}
-use Rattle.json_text.specs.Errors.{writing_failed}
-use Rattle.json_text.specs.Known.{Appends}
-use Rattle.json_text.specs.Outside.{SinkState, Rose}
-use Rattle.json_text.specs.Transfer.{AppendsFront}
+use Rattle.json_io.specs.declared.error.Error.{Error}
+use Rattle.json_io.specs.declared.error.ErrorCode.{ErrorCode}
+use Rattle.json_io.specs.declared.error.ErrorCode.TheVariants.{NoMemory, Io}
+use Rattle.json_io.specs.declared.error.Place.{Place}
+use Rattle.json_io.specs.declared.error.Place.TheVariants.{None as nowhere, Writing}
+use Rattle.json_io.specs.Errors.{writing_failed}
+use Rattle.json_io.specs.Known.{Appends}
+use Rattle.json_io.specs.Outside.{SinkState, Rose}
+use Rattle.json_io.specs.Transfer.{AppendsFront}
 
 -- a call of the sink failed, when the sink had gained a prefix of the text
 pub record CallFails (old new : SinkState) (text : List ℕ) : Type 0 where

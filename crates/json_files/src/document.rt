@@ -4,7 +4,7 @@ ghost use Rattle.json_doc.specs.Docs.{doc_root, doc_tree};
 ghost use Rattle.json_command.specs.Input.{IsInput};
 ghost use Rattle.json_files.specs.Documents.{document_bytes};
 ghost use Rattle.json_files.specs.Running.{ReadingDocumentFails};
-ghost use Rattle.json_text.specs.Errors.{no_memory};
+ghost use Rattle.json_io.specs.Errors.{no_memory};
 ghost use Rattle.json_text.specs.Ruled.{rules_of};
 
 use json_doc::{Doc, read_document_with};

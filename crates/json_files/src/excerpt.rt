@@ -2,7 +2,7 @@
 ghost use Rattle.std.specs.Prelude.{◌≡◌, ◌≤◌, ◌==◌, ◌+◌, ◌&&◌, ◌++◌, List, ℕ, [], length, map, codes, nat_le, nat_lt, OnOk, IfErr};
 ghost use Rattle.std.specs.List.{after_last, before_first, flat_map};
 ghost use Rattle.json_files.specs.Excerpts.{IsExcerpt, IsFront, IsBack, excerpt_byte, space_under};
-ghost use Rattle.json_text.specs.Errors.{no_memory};
+ghost use Rattle.json_io.specs.Errors.{no_memory};
 
 use json_text::Result;
 

@@ -3,7 +3,7 @@ ghost use Rattle.std.specs.Prelude.{◌≡◌, false, IfOk, IfErr};
 ghost use Rattle.json_command.specs.Printing.{Prints, ReturnsWriteError};
 ghost use Rattle.json_doc.specs.Docs.{doc_root, doc_tree};
 ghost use Rattle.json_files.specs.Outcomes.{task_of, line_in, text_in};
-ghost use Rattle.json_text.specs.Errors.{no_memory};
+ghost use Rattle.json_io.specs.Errors.{no_memory};
 ghost use Rattle.json_files.specs.Running.{IsMade, PrintsTree, PrintingStops, PrintsBytes, BytesStop};
 ghost use Rattle.json_files.specs.Writing.{WritesOutput};
 ghost use Rattle.json_files.specs.declared.job.InputForm.TheVariants.{One};

@@ -3,7 +3,7 @@ ghost use Rattle.std.specs.Prelude.{◌≡◌, ◌≤◌, ◌<◌, ◌+◌, ◌^
 ghost use Rattle.json_files.specs.Excerpts.{IsExcerpt};
 ghost use Rattle.json_files.specs.Parts.{part_view, whole_part as spec_whole_part};
 ghost use Rattle.json_files.specs.Reports.{IsReport, IsHeadline, IsExcerptAt, location, place_position, error_place, document_error_name, change_name, report_offset, position_of};
-ghost use Rattle.json_text.specs.Errors.{no_memory, name_of};
+ghost use Rattle.json_io.specs.Errors.{no_memory, name_of};
 
 use crate::change_error::ChangeError;
 use crate::document_error::DocumentError;
@@ -190,7 +190,7 @@ fn find_offset(bytes: &[u8], place: Place) -> Option<usize>
 }
 
 // Returns the line and the column of an offset.
-#[tactic(auto, unfolding(json_text::specs::Positions::place_at))]
+#[tactic(auto, unfolding(json_io::specs::Positions::place_at))]
 fn find_position(part: Part<'_>, offset: Option<usize>) -> Option<Position>
     requires few { (part_view part).before + length (part_view part).bytes + 1 < 2 ^ 64 }
     requires within { IfSome offset (λ offset. offset ≤ length (part_view part).bytes) }

@@ -5,7 +5,7 @@ ghost use Rattle.json_command.specs.Reporting.{Reports, ReportsUnlessMuted};
 ghost use Rattle.json_files.specs.Documents.{DocumentsHave};
 ghost use Rattle.json_files.specs.Outcomes.{task_of};
 ghost use Rattle.json_files.specs.Running.{Handles, StopsRunning, PrintsAll, PrintsSome};
-ghost use Rattle.json_text.specs.FaultText.{text_of};
+ghost use Rattle.json_io.specs.FaultText.{text_of};
 
 use crate::change::Change;
 use crate::document::Document;

@@ -5,9 +5,9 @@ use Rattle.json_grammar.specs.Tree.{Tree, null, boolean, num, text, list, pairs,
 use Rattle.json_grammar.specs.Sizes.{nodes, trees_nodes}
 use Rattle.json_grammar.proofs.Sizes.{text_fits, nodes_some}
 use Rattle.json_grammar.proofs.Values.{one_tree}
-use Rattle.json_text.specs.Errors.{no_memory, bad_words}
+use Rattle.json_io.specs.Errors.{no_memory, bad_words}
 use Rattle.json_text.specs.Ruled.{usual_rules}
-use Rattle.json_text.specs.declared.error.Error.{Error}
+use Rattle.json_io.specs.declared.error.Error.{Error}
 use Rattle.json_model.specs.Edit.{Edit}
 use Rattle.json_value.specs.EditTrees.{both, each_in, edit_in}
 use Rattle.json_value.specs.Seen.{list_of}

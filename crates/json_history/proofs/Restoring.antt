@@ -4,12 +4,12 @@ use Rattle.std.specs.Prelude.{insert}
 use Rattle.std.proofs.lemmas.List.{take-map, length-map}
 use Rattle.json_grammar.specs.Tree.{Tree, list, pairs, tree_and, pair_and, list_trees, list_pairs}
 use Rattle.json_model.specs.Edit.{Step, set_at, edited_once, at_path, Changed, Refusal, not_found, type_unmatched, within, on_list, on_pairs, and_then}
-use Rattle.json_text.specs.Errors.{no_memory}
-use Rattle.json_text.specs.declared.error.Error.{Error}
-use Rattle.json_text.specs.declared.error.ErrorCode.{ErrorCode}
-use Rattle.json_text.specs.declared.error.ErrorCode.TheVariants.{NoMemory, NotFound, TypeUnmatched}
-use Rattle.json_text.specs.declared.error.Place.{Place}
-use Rattle.json_text.specs.declared.error.Place.TheVariants.{None as nowhere}
+use Rattle.json_io.specs.Errors.{no_memory}
+use Rattle.json_io.specs.declared.error.Error.{Error}
+use Rattle.json_io.specs.declared.error.ErrorCode.{ErrorCode}
+use Rattle.json_io.specs.declared.error.ErrorCode.TheVariants.{NoMemory, NotFound, TypeUnmatched}
+use Rattle.json_io.specs.declared.error.Place.{Place}
+use Rattle.json_io.specs.declared.error.Place.TheVariants.{None as nowhere}
 use Rattle.json_value.specs.Edits.{RefusesChange}
 use Rattle.json_value.specs.Steps.{tree_at}
 use Rattle.json_value.specs.Denotes.{tree_of, list_in, pairs_in, pair_of}

@@ -3,15 +3,15 @@ use Rattle.std.proofs.Common.{◌≡◌, ◌⊎◌, inl, inr, ℕ, List, [], ◌
 use Rattle.json_grammar.specs.Tree.{Tree}
 use Rattle.json_grammar.proofs.Values.{one_tree}
 use Rattle.json_model.specs.Edit.{Refusal, not_found, type_unmatched}
-use Rattle.json_text.specs.Errors.{no_memory}
-use Rattle.json_text.specs.FaultText.{text_of}
+use Rattle.json_io.specs.Errors.{no_memory}
+use Rattle.json_io.specs.FaultText.{text_of}
 use Rattle.json_text.specs.Ruled.{usual_rules}
-use Rattle.json_text.specs.declared.error.Error.{Error}
-use Rattle.json_text.specs.declared.error.ErrorCode.{ErrorCode}
-use Rattle.json_text.specs.declared.error.ErrorCode.TheVariants.{NoMemory, Io, TooLarge, NotFound, TypeUnmatched, BadWords}
-use Rattle.json_text.specs.declared.error.Place.{Place}
-use Rattle.json_text.specs.declared.error.Place.TheVariants.{None as nowhere, Reading, Writing, Edit as in_edit}
-use Rattle.json_text.specs.Outside.{SourceState, SinkState}
+use Rattle.json_io.specs.declared.error.Error.{Error}
+use Rattle.json_io.specs.declared.error.ErrorCode.{ErrorCode}
+use Rattle.json_io.specs.declared.error.ErrorCode.TheVariants.{NoMemory, Io, TooLarge, NotFound, TypeUnmatched, BadWords}
+use Rattle.json_io.specs.declared.error.Place.{Place}
+use Rattle.json_io.specs.declared.error.Place.TheVariants.{None as nowhere, Reading, Writing, Edit as in_edit}
+use Rattle.json_io.specs.Outside.{SourceState, SinkState}
 use Rattle.json_command.specs.Input.{InputFault}
 use Rattle.json_command.specs.Reading.{ReadsInput, KnownInput, KnownFault}
 use Rattle.json_command.specs.Reporting.{Reports}

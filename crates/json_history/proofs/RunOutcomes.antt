@@ -1,13 +1,13 @@
 -- What the words and the replay come to.
 use Rattle.std.proofs.Common.{◌≡◌, ◌⊎◌, inl, inr, List, ℕ, Result, Ok, Err, OnOk, IfErr, refl, sym, subst}
-use Rattle.json_text.specs.Errors.{no_memory, bad_words}
+use Rattle.json_io.specs.Errors.{no_memory, bad_words}
 use Rattle.json_text.specs.Ruled.{usual_rules}
-use Rattle.json_text.specs.declared.error.Error.{Error}
-use Rattle.json_text.specs.declared.error.ErrorCode.{ErrorCode}
-use Rattle.json_text.specs.declared.error.ErrorCode.TheVariants.{NoMemory, BadWords}
-use Rattle.json_text.specs.declared.error.Place.{Place}
-use Rattle.json_text.specs.declared.error.Place.TheVariants.{None as nowhere}
-use Rattle.json_text.specs.Outside.{SourceState, SinkState}
+use Rattle.json_io.specs.declared.error.Error.{Error}
+use Rattle.json_io.specs.declared.error.ErrorCode.{ErrorCode}
+use Rattle.json_io.specs.declared.error.ErrorCode.TheVariants.{NoMemory, BadWords}
+use Rattle.json_io.specs.declared.error.Place.{Place}
+use Rattle.json_io.specs.declared.error.Place.TheVariants.{None as nowhere}
+use Rattle.json_io.specs.Outside.{SourceState, SinkState}
 use Rattle.json_command.proofs.Inputs.{no_words}
 use Rattle.json_history.specs.History.{TreeCall}
 use Rattle.json_history.specs.Spelling.{AsksForCalls}

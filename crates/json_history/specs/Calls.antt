@@ -1,11 +1,11 @@
 -- Calls of a history as the code has them, and why they fail.
 use Rattle.std.specs.Prelude.{◌≡◌, ℕ, List, Err, ⊤}
 use Rattle.json_model.specs.Edit.{Refusal, not_found, type_unmatched}
-use Rattle.json_text.specs.declared.error.Error.{Error}
-use Rattle.json_text.specs.declared.error.ErrorCode.{ErrorCode}
-use Rattle.json_text.specs.declared.error.ErrorCode.TheVariants.{NoMemory, NotFound, TypeUnmatched}
-use Rattle.json_text.specs.declared.error.Place.{Place}
-use Rattle.json_text.specs.declared.error.Place.TheVariants.{None as nowhere, Edit as in_edit}
+use Rattle.json_io.specs.declared.error.Error.{Error}
+use Rattle.json_io.specs.declared.error.ErrorCode.{ErrorCode}
+use Rattle.json_io.specs.declared.error.ErrorCode.TheVariants.{NoMemory, NotFound, TypeUnmatched}
+use Rattle.json_io.specs.declared.error.Place.{Place}
+use Rattle.json_io.specs.declared.error.Place.TheVariants.{None as nowhere, Edit as in_edit}
 use Rattle.json_value.specs.Edits.{edit_of}
 use Rattle.json_history.specs.History.{TreeHistory, TreeCall, edit, undo, redo, run_calls_from}
 use Rattle.json_history.specs.declared.call.Call.{Call}

@@ -5,14 +5,14 @@ use Rattle.json_grammar.specs.Tree.{Tree}
 use Rattle.json_grammar.specs.Grammar.{is_text}
 use Rattle.json_model.specs.Edit.{Refusal, not_found, type_unmatched}
 use Rattle.json_print.specs.Shown.{shown_as}
-use Rattle.json_text.specs.Known.{Appends}
-use Rattle.json_text.specs.Outside.{SourceState, SinkState, Rose, RoseBy}
+use Rattle.json_io.specs.Known.{Appends}
+use Rattle.json_io.specs.Outside.{SourceState, SinkState, Rose, RoseBy}
 use Rattle.json_text.specs.Ruled.{usual_rules}
-use Rattle.json_text.specs.Transfer.{AppendsFront}
-use Rattle.json_text.specs.declared.error.ErrorCode.{ErrorCode}
-use Rattle.json_text.specs.declared.error.ErrorCode.TheVariants.{NoMemory, Io, TooLarge, NotFound, TypeUnmatched}
-use Rattle.json_text.specs.declared.error.Place.{Place}
-use Rattle.json_text.specs.declared.error.Place.TheVariants.{None as nowhere, Reading, Writing, Edit as in_edit}
+use Rattle.json_io.specs.Transfer.{AppendsFront}
+use Rattle.json_io.specs.declared.error.ErrorCode.{ErrorCode}
+use Rattle.json_io.specs.declared.error.ErrorCode.TheVariants.{NoMemory, Io, TooLarge, NotFound, TypeUnmatched}
+use Rattle.json_io.specs.declared.error.Place.{Place}
+use Rattle.json_io.specs.declared.error.Place.TheVariants.{None as nowhere, Reading, Writing, Edit as in_edit}
 use Rattle.json_command.specs.Input.{max_bytes}
 use Rattle.json_command.specs.Reading.{ReadsInput, ReadsFault}
 use Rattle.json_history.specs.History.{TreeHistory, TreeCall, run_calls}

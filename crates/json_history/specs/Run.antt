@@ -1,12 +1,12 @@
 -- What each status of the top call means, and which status comes when.
 use Rattle.std.specs.Prelude.{◌≡◌, ◌⊎◌, ℕ, List, Ok, Err}
-use Rattle.json_text.specs.declared.error.Error.{Error}
-use Rattle.json_text.specs.declared.error.ErrorCode.{ErrorCode}
-use Rattle.json_text.specs.declared.error.ErrorCode.TheVariants.{NoMemory, BadWords}
-use Rattle.json_text.specs.declared.error.Place.{Place}
-use Rattle.json_text.specs.declared.error.Place.TheVariants.{None as nowhere}
-use Rattle.json_text.specs.FaultText.{text_of}
-use Rattle.json_text.specs.Outside.{SourceState, SinkState, Rose}
+use Rattle.json_io.specs.declared.error.Error.{Error}
+use Rattle.json_io.specs.declared.error.ErrorCode.{ErrorCode}
+use Rattle.json_io.specs.declared.error.ErrorCode.TheVariants.{NoMemory, BadWords}
+use Rattle.json_io.specs.declared.error.Place.{Place}
+use Rattle.json_io.specs.declared.error.Place.TheVariants.{None as nowhere}
+use Rattle.json_io.specs.FaultText.{text_of}
+use Rattle.json_io.specs.Outside.{SourceState, SinkState, Rose}
 use Rattle.json_text.specs.Ruled.{usual_rules}
 use Rattle.json_grammar.specs.Tree.{Tree}
 use Rattle.json_model.specs.Edit.{Refusal}

@@ -2,7 +2,7 @@
 -- nothing packed is copied.
 use Rattle.std.specs.Prelude.{◌≡◌, ◌⊎◌, ◌-◌, ℕ, List, [], ◌∷◌, ◌++◌, Option, Some, Result, IfOk, IfSome, length, slice_get, ⊤}
 use Rattle.std.specs.List.{All}
-use Rattle.json_text.specs.declared.error.Error.{Error}
+use Rattle.json_io.specs.declared.error.Error.{Error}
 use Rattle.json_model.specs.Edit.{Step, index_step}
 use Rattle.json_value.specs.Edits.{path_steps}
 use Rattle.json_value.specs.Places.{places_in}

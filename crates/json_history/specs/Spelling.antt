@@ -2,9 +2,9 @@
 use Rattle.std.specs.Prelude.{◌≡◌, ◌⊎◌, ℕ, List, [], ◌∷◌, Option, Some, None, cond, bytes_eq, codes, option_map, option_and_then}
 use Rattle.json_grammar.specs.Tree.{Tree}
 use Rattle.json_doc.specs.Readings.{string_of}
-use Rattle.json_text.specs.Errors.{no_memory, bad_words}
+use Rattle.json_io.specs.Errors.{no_memory, bad_words}
 use Rattle.json_text.specs.Ruled.{usual_rules}
-use Rattle.json_text.specs.declared.error.Error.{Error}
+use Rattle.json_io.specs.declared.error.Error.{Error}
 use Rattle.json_value.specs.EditTrees.{each_in, edit_in}
 use Rattle.json_value.specs.Seen.{list_of}
 use Rattle.json_command.specs.Input.{IsInput}

@@ -1,8 +1,8 @@
 // The top call.
 ghost use Rattle.std.specs.Prelude.{ℕ, List, ◌+◌, ◌≡◌, ◌≢◌, ◌⊎◌, ◌<◌, OnOk, IfErr};
-ghost use Rattle.json_text.specs.Transfer.{TakesAtMost};
-ghost use Rattle.json_text.specs.declared.error.ErrorCode.{ErrorCode};
-ghost use Rattle.json_text.specs.declared.error.Place.{Place};
+ghost use Rattle.json_io.specs.Transfer.{TakesAtMost};
+ghost use Rattle.json_io.specs.declared.error.ErrorCode.{ErrorCode};
+ghost use Rattle.json_io.specs.declared.error.Place.{Place};
 ghost use Rattle.json_model.specs.Edit.{Refusal};
 ghost use Rattle.json_command.specs.Input.{max_bytes};
 ghost use Rattle.json_command.specs.Printing.{ReturnsWriteError};

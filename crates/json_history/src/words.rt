@@ -1,6 +1,6 @@
 // The calls that the words of the command line ask for.
 ghost use Rattle.std.specs.Prelude.{◌≡◌, ◌⊎◌, ◌<◌, ◌^◌, List, length, map, option_map, IfOk, IfErr, Some};
-ghost use Rattle.json_text.specs.Errors.{no_memory, bad_words};
+ghost use Rattle.json_io.specs.Errors.{no_memory, bad_words};
 ghost use Rattle.json_value.specs.EditTrees.{each_in, edit_in};
 ghost use Rattle.json_value.specs.Seen.{seen, elements_seen};
 ghost use Rattle.json_history.specs.Calls.{call_of};

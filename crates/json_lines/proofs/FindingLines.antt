@@ -3,8 +3,8 @@ use Rattle.std.proofs.Common.{◌≡◌, ℕ, ◌+◌, ◌-◌, ◌<◌, ◌≤�
 use Rattle.std.proofs.Math.Seq.{take-append-add, drop-append-add}
 use Rattle.std.proofs.lemmas.List.{length-append, length-take, length-drop, take-take, drop-drop, append-nil}
 use Rattle.std.proofs.lemmas.Slice.{between_is, between_from_start}
-use Rattle.json_text.specs.Known.{Consumes, told_as}
-use Rattle.json_text.specs.Outside.{SourceState}
+use Rattle.json_io.specs.Known.{Consumes, told_as}
+use Rattle.json_io.specs.Outside.{SourceState}
 use Rattle.json_lines.specs.declared.line_reader.LineReader.{LineReader}
 use Rattle.json_lines.specs.declared.line_reader.LineRange.{LineRange}
 use Rattle.json_lines.specs.declared.line_reader.LineRange.TheVariants.{End, Bytes, TooLong}

@@ -1,16 +1,16 @@
 -- What the loop over the lines keeps.
 use Rattle.std.proofs.Common.{◌≡◌, ℕ, ◌+◌, ◌-◌, ◌<◌, ◌≤◌, inl, inr, false, ◌||◌, List, [], ◌∷◌, ◌++◌, length, Option, None, Some, Ok, Err, Result, IfSome, refl, sym, ap, ◌∙◌, subst, arith, append_assoc, append-nil}
 use Rattle.std.proofs.lemmas.List.{length-append}
-use Rattle.json_text.specs.Outside.{SinkState}
+use Rattle.json_io.specs.Outside.{SinkState}
 use Rattle.json_print.specs.Printer.{StopCause}
 use Rattle.json_print.specs.TextWriting.{WritesText}
-use Rattle.json_text.specs.declared.error.Error.{Error}
-use Rattle.json_text.specs.declared.error.ErrorCode.{ErrorCode}
-use Rattle.json_text.specs.declared.error.ErrorCode.TheVariants.{NoMemory, Io}
-use Rattle.json_text.specs.declared.error.Place.{Place}
-use Rattle.json_text.specs.declared.error.Place.TheVariants.{None as nowhere, Writing}
-use Rattle.json_text.specs.Errors.{writing_failed}
-use Rattle.json_text.proofs.Putting.{Puts-nil}
+use Rattle.json_io.specs.declared.error.Error.{Error}
+use Rattle.json_io.specs.declared.error.ErrorCode.{ErrorCode}
+use Rattle.json_io.specs.declared.error.ErrorCode.TheVariants.{NoMemory, Io}
+use Rattle.json_io.specs.declared.error.Place.{Place}
+use Rattle.json_io.specs.declared.error.Place.TheVariants.{None as nowhere, Writing}
+use Rattle.json_io.specs.Errors.{writing_failed}
+use Rattle.json_io.proofs.Putting.{Puts-nil}
 use Rattle.json_lines.specs.declared.line_reader.Line.{Line}
 use Rattle.json_lines.specs.declared.line_reader.Line.TheVariants.{Whole, TooLong}
 use Rattle.json_lines.specs.declared.run.Tally.{Tally}

@@ -1,13 +1,13 @@
 -- What a sink gained that was lent to a writer.
 use Rattle.std.proofs.Common.{◌≡◌, ℕ, List, [], ◌++◌, refl, sym, ap, subst, ◌∙◌, Bool, false, ◌||◌, Option, Some, None, Result, Ok, Err, OnOk, IfErr, IfSome, arith}
 use Rattle.std.specs.Borrow.{GName}
-use Rattle.json_text.specs.Known.{Grows, append_known}
-use Rattle.json_text.specs.Lending.{lent_as, ComesBack}
-use Rattle.json_text.specs.Outside.{SinkState, SourceState}
-use Rattle.json_text.specs.declared.error.Error.{Error}
-use Rattle.json_text.specs.Errors.{no_memory}
-use Rattle.json_text.proofs.Known.{known-append, known-nil, Consumes-nil}
-use Rattle.json_text.proofs.Putting.{Puts-nil}
+use Rattle.json_io.specs.Known.{Grows, append_known}
+use Rattle.json_io.specs.Lending.{lent_as, ComesBack}
+use Rattle.json_io.specs.Outside.{SinkState, SourceState}
+use Rattle.json_io.specs.declared.error.Error.{Error}
+use Rattle.json_io.specs.Errors.{no_memory}
+use Rattle.json_io.proofs.Known.{known-append, known-nil, Consumes-nil}
+use Rattle.json_io.proofs.Putting.{Puts-nil}
 use Rattle.json_print.specs.Buffered.{held_behind}
 use Rattle.json_print.specs.Calls.{holds_any}
 use Rattle.json_print.proofs.TextWriting.{front_gained}

@@ -7,15 +7,15 @@ use Rattle.json_grammar.specs.Grammar.{IsWhitespace, ws, is_text}
 use Rattle.json_grammar.specs.Given.{piece}
 use Rattle.json_grammar.specs.Rules.{Rules, fits}
 use Rattle.json_grammar.specs.Tree.{Tree}
-use Rattle.json_text.specs.Errors.{no_memory}
-use Rattle.json_text.specs.FaultText.{text_of}
-use Rattle.json_text.specs.Outside.{SinkState, SourceState}
+use Rattle.json_io.specs.Errors.{no_memory}
+use Rattle.json_io.specs.FaultText.{text_of}
+use Rattle.json_io.specs.Outside.{SinkState, SourceState}
 use Rattle.json_text.specs.Ruled.{usual_rules}
-use Rattle.json_text.specs.Utf8.{Utf8Cause}
-use Rattle.json_text.specs.declared.error.Error.{Error}
-use Rattle.json_text.specs.declared.error.ErrorCode.{ErrorCode}
-use Rattle.json_text.specs.declared.error.ErrorCode.TheVariants.{NoMemory}
-use Rattle.json_text.specs.declared.error.Place.{Place}
+use Rattle.json_io.specs.Utf8.{Utf8Cause}
+use Rattle.json_io.specs.declared.error.Error.{Error}
+use Rattle.json_io.specs.declared.error.ErrorCode.{ErrorCode}
+use Rattle.json_io.specs.declared.error.ErrorCode.TheVariants.{NoMemory}
+use Rattle.json_io.specs.declared.error.Place.{Place}
 use Rattle.json_doc.specs.Docs.{IsDocOf, doc_root, doc_tree}
 use Rattle.json_doc.specs.Reading.{ReadingFailsWith}
 use Rattle.json_doc.specs.declared.doc.Doc.{Doc}

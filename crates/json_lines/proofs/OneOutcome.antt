@@ -4,10 +4,10 @@ use Rattle.std.proofs.lemmas.Bool.{cases_lt, eqb-true, false≢true}
 use Rattle.json_grammar.specs.Grammar.{IsWhitespace, ws, is_text}
 use Rattle.json_grammar.specs.Tree.{Tree, depth}
 use Rattle.json_grammar.proofs.Values.{one_tree}
-use Rattle.json_text.specs.FaultText.{text_of}
+use Rattle.json_io.specs.FaultText.{text_of}
 use Rattle.json_text.specs.Ruled.{usual_rules}
-use Rattle.json_text.specs.declared.error.ErrorCode.{ErrorCode}
-use Rattle.json_text.specs.declared.error.Place.{Place}
+use Rattle.json_io.specs.declared.error.ErrorCode.{ErrorCode}
+use Rattle.json_io.specs.declared.error.Place.{Place}
 use Rattle.json_command.specs.Input.{IsValid, InputFault}
 use Rattle.json_command.proofs.Inputs.{one_input_fault, some_input_fault, valid_no_fault}
 use Rattle.json_lines.specs.Cells.{LinesCommand, table_row}

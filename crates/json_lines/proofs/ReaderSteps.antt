@@ -3,13 +3,13 @@ use Rattle.std.proofs.Common.{◌≡◌, ℕ, ◌+◌, ◌-◌, false, List, [],
 use Rattle.std.proofs.Math.Seq.{take-add}
 use Rattle.std.proofs.lemmas.List.{length-append, length-take, drop-append-le, append-nil}
 use Rattle.std.proofs.lemmas.Slice.{between_is}
-use Rattle.json_text.specs.Outside.{SourceState, counted, Rose}
-use Rattle.json_text.specs.declared.error.Error.{Error}
-use Rattle.json_text.specs.declared.error.ErrorCode.{ErrorCode}
-use Rattle.json_text.specs.declared.error.ErrorCode.TheVariants.{Io, TooLarge}
-use Rattle.json_text.specs.declared.error.Place.{Place}
-use Rattle.json_text.specs.declared.error.Place.TheVariants.{None as nowhere, Reading}
-use Rattle.json_text.proofs.Known.{Consumes-nil, Consumes-trans}
+use Rattle.json_io.specs.Outside.{SourceState, counted, Rose}
+use Rattle.json_io.specs.declared.error.Error.{Error}
+use Rattle.json_io.specs.declared.error.ErrorCode.{ErrorCode}
+use Rattle.json_io.specs.declared.error.ErrorCode.TheVariants.{Io, TooLarge}
+use Rattle.json_io.specs.declared.error.Place.{Place}
+use Rattle.json_io.specs.declared.error.Place.TheVariants.{None as nowhere, Reading}
+use Rattle.json_io.proofs.Known.{Consumes-nil, Consumes-trans}
 use Rattle.json_lines.specs.declared.line_reader.LineReader.{LineReader}
 use Rattle.json_lines.specs.Lines.{has_newline}
 use Rattle.json_lines.specs.Reading.{ReaderState, line_reader_state, held_bytes, ReadsBytes, NextLineCause}

@@ -1,18 +1,18 @@
 -- What the top call does, for each status.
 use Rattle.std.proofs.Common.{◌≡◌, ◌≢◌, ◌⊎◌, inl, inr, ◌<◌, ◌≤◌, ℕ, List, [], ◌++◌, length, refl, sym, ap, subst, ◌∙◌, Bool, true, false, Option, IfSome, arith, append_assoc}
 use Rattle.std.specs.Prelude.{if◌then◌else◌}
-use Rattle.json_text.specs.Errors.{no_memory, bad_words}
-use Rattle.json_text.specs.FaultText.{text_of}
-use Rattle.json_text.specs.Known.{Consumes, Appends}
-use Rattle.json_text.specs.Outside.{SinkState, SourceState, Rose}
-use Rattle.json_text.specs.Transfer.{AppendsFront}
-use Rattle.json_text.specs.declared.error.Error.{Error}
-use Rattle.json_text.specs.declared.error.ErrorCode.{ErrorCode}
-use Rattle.json_text.specs.declared.error.ErrorCode.TheVariants.{NoMemory, Io, TooLarge}
-use Rattle.json_text.specs.declared.error.Place.{Place}
-use Rattle.json_text.specs.declared.error.Place.TheVariants.{None as nowhere, Reading, Writing}
-use Rattle.json_text.proofs.Known.{Consumes-nil}
-use Rattle.json_text.proofs.Putting.{AppendsFront-first}
+use Rattle.json_io.specs.Errors.{no_memory, bad_words}
+use Rattle.json_io.specs.FaultText.{text_of}
+use Rattle.json_io.specs.Known.{Consumes, Appends}
+use Rattle.json_io.specs.Outside.{SinkState, SourceState, Rose}
+use Rattle.json_io.specs.Transfer.{AppendsFront}
+use Rattle.json_io.specs.declared.error.Error.{Error}
+use Rattle.json_io.specs.declared.error.ErrorCode.{ErrorCode}
+use Rattle.json_io.specs.declared.error.ErrorCode.TheVariants.{NoMemory, Io, TooLarge}
+use Rattle.json_io.specs.declared.error.Place.{Place}
+use Rattle.json_io.specs.declared.error.Place.TheVariants.{None as nowhere, Reading, Writing}
+use Rattle.json_io.proofs.Known.{Consumes-nil}
+use Rattle.json_io.proofs.Putting.{AppendsFront-first}
 use Rattle.json_command.specs.Reporting.{Reports}
 use Rattle.json_lines.specs.Cells.{LinesCommand}
 use Rattle.json_lines.specs.Lines.{lines}

@@ -1,16 +1,16 @@
 -- From the loop over the lines to the call that writes all rows.
 use Rattle.std.proofs.Common.{◌≡◌, ℕ, ◌⊎◌, inl, inr, Bool, true, false, List, [], ◌++◌, length, Option, None, Some, Ok, Err, IfSome, refl, sym, ◌∙◌, subst, arith, append-nil}
-use Rattle.json_text.specs.Known.{Keeps}
-use Rattle.json_text.specs.Outside.{SinkState, Rose}
-use Rattle.json_text.specs.Transfer.{FlushesAll, Puts, WritingCause}
-use Rattle.json_text.specs.declared.error.Error.{Error}
-use Rattle.json_text.specs.declared.error.ErrorCode.{ErrorCode}
-use Rattle.json_text.specs.declared.error.ErrorCode.TheVariants.{NoMemory, Io}
-use Rattle.json_text.specs.declared.error.Place.{Place}
-use Rattle.json_text.specs.declared.error.Place.TheVariants.{None as nowhere, Writing}
-use Rattle.json_text.specs.Errors.{no_memory, writing_failed}
-use Rattle.json_text.proofs.Known.{Consumes-nil, Appends-nil, Appends-kept, Appends-trans}
-use Rattle.json_text.proofs.Putting.{AppendsFront-first, AppendsFront-then, Puts-nil}
+use Rattle.json_io.specs.Known.{Keeps}
+use Rattle.json_io.specs.Outside.{SinkState, Rose}
+use Rattle.json_io.specs.Transfer.{FlushesAll, Puts, WritingCause}
+use Rattle.json_io.specs.declared.error.Error.{Error}
+use Rattle.json_io.specs.declared.error.ErrorCode.{ErrorCode}
+use Rattle.json_io.specs.declared.error.ErrorCode.TheVariants.{NoMemory, Io}
+use Rattle.json_io.specs.declared.error.Place.{Place}
+use Rattle.json_io.specs.declared.error.Place.TheVariants.{None as nowhere, Writing}
+use Rattle.json_io.specs.Errors.{no_memory, writing_failed}
+use Rattle.json_io.proofs.Known.{Consumes-nil, Appends-nil, Appends-kept, Appends-trans}
+use Rattle.json_io.proofs.Putting.{AppendsFront-first, AppendsFront-then, Puts-nil}
 use Rattle.json_command.specs.Reporting.{Reports, ReportsUnlessMuted}
 use Rattle.json_lines.specs.declared.run.Tally.{Tally}
 use Rattle.json_lines.specs.Lines.{lines}

@@ -2,10 +2,10 @@
 use Rattle.std.proofs.Common.{◌≡◌, ◌∙◌, inl, inr, ℕ, ◌<◌, ◌≤◌, List, Result, Ok, Err, sym, ap, arith}
 use Rattle.std.specs.Borrow.{GName}
 use Rattle.std.proofs.lemmas.Bool.{cases_lt}
-use Rattle.json_text.specs.declared.error.Error.{Error}
-use Rattle.json_text.specs.Known.{Grows}
-use Rattle.json_text.specs.Lending.{lent_as, ComesBack}
-use Rattle.json_text.specs.Outside.{SinkState}
+use Rattle.json_io.specs.declared.error.Error.{Error}
+use Rattle.json_io.specs.Known.{Grows}
+use Rattle.json_io.specs.Lending.{lent_as, ComesBack}
+use Rattle.json_io.specs.Outside.{SinkState}
 use Rattle.json_print.specs.Buffered.{held_behind}
 use Rattle.json_print.proofs.TextWriting.{same_name, grown, sent_back}
 

@@ -1,13 +1,13 @@
 -- What the status of a failed run over a source and a sink says of its cause.
 use Rattle.std.proofs.Common.{◌≡◌, ◌∙◌, ℕ, ◌<◌, ◌≤◌, List, ◌++◌, length, Option, Some, None, refl, sym, ap, subst, arith}
 use Rattle.std.proofs.lemmas.List.{length-append}
-use Rattle.json_text.specs.Known.{Consumes, prepend_known}
-use Rattle.json_text.specs.Outside.{SinkState, SourceState, Rose}
-use Rattle.json_text.specs.Transfer.{WritingCause}
-use Rattle.json_text.specs.declared.error.ErrorCode.{ErrorCode}
-use Rattle.json_text.specs.declared.error.ErrorCode.TheVariants.{NoMemory, Io, TooLarge}
-use Rattle.json_text.specs.declared.error.Place.{Place}
-use Rattle.json_text.specs.declared.error.Place.TheVariants.{None as nowhere, Reading, Writing}
+use Rattle.json_io.specs.Known.{Consumes, prepend_known}
+use Rattle.json_io.specs.Outside.{SinkState, SourceState, Rose}
+use Rattle.json_io.specs.Transfer.{WritingCause}
+use Rattle.json_io.specs.declared.error.ErrorCode.{ErrorCode}
+use Rattle.json_io.specs.declared.error.ErrorCode.TheVariants.{NoMemory, Io, TooLarge}
+use Rattle.json_io.specs.declared.error.Place.{Place}
+use Rattle.json_io.specs.declared.error.Place.TheVariants.{None as nowhere, Reading, Writing}
 use Rattle.json_command.specs.Input.{max_bytes}
 use Rattle.json_lines.specs.Reading.{ReaderState, NextLineCause}
 use Rattle.json_lines.specs.TopCall.{ErrorCause, run_status}

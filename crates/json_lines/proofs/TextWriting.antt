@@ -1,9 +1,9 @@
 -- One text after another, written to a sink.
 use Rattle.std.proofs.Common.{◌≡◌, ℕ, List, [], ◌++◌, Option, Ok, Err, Result, refl, sym, ap, ◌∙◌, subst, arith}
-use Rattle.json_text.specs.Known.{append_known}
-use Rattle.json_text.specs.Outside.{SinkState}
-use Rattle.json_text.specs.declared.error.Error.{Error}
-use Rattle.json_text.proofs.Known.{known-append, Appends-nil, Appends-trans}
+use Rattle.json_io.specs.Known.{append_known}
+use Rattle.json_io.specs.Outside.{SinkState}
+use Rattle.json_io.specs.declared.error.Error.{Error}
+use Rattle.json_io.proofs.Known.{known-append, Appends-nil, Appends-trans}
 use Rattle.json_print.specs.Printer.{Begins, StopCause}
 use Rattle.json_print.specs.TextWriting.{WritesText}
 

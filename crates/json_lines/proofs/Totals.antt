@@ -1,7 +1,7 @@
 -- The rows and the errors of some lines, and of others after them.
 use Rattle.std.proofs.Common.{◌≡◌, ℕ, suc, ◌+◌, Bool, true, false, ◌||◌, List, [], ◌∷◌, ◌++◌, length, Ok, Err, refl, sym, ap, ◌∙◌, subst, arith, append_assoc, append-nil}
-use Rattle.json_text.specs.Outside.{SinkState}
-use Rattle.json_text.proofs.Putting.{Puts-then, Puts-first}
+use Rattle.json_io.specs.Outside.{SinkState}
+use Rattle.json_io.proofs.Putting.{Puts-then, Puts-first}
 use Rattle.json_lines.specs.Rows.{Outcome, outcome_row, is_bad, error_bytes, rows_of, errors_from, some_bad, AllHave}
 use Rattle.json_command.specs.Reporting.{ReportsUnlessMuted}
 

@@ -8,13 +8,13 @@ use Rattle.std.specs.Prelude.{option_map}
 use Rattle.std.specs.Str.Pattern.{LacksTextAt, FindsTextPrefix, StripsPrefix}
 use Rattle.json_grammar.specs.Tree.{Tree, null, boolean, num, text, list, pairs, trees_list}
 use Rattle.json_grammar.proofs.Values.{one_tree}
-use Rattle.json_text.specs.Errors.{no_memory, bad_words}
+use Rattle.json_io.specs.Errors.{no_memory, bad_words}
 use Rattle.json_text.specs.Ruled.{usual_rules}
-use Rattle.json_text.specs.declared.error.Error.{Error}
-use Rattle.json_text.specs.declared.error.ErrorCode.{ErrorCode}
-use Rattle.json_text.specs.declared.error.ErrorCode.TheVariants.{NoMemory, TypeUnmatched, NumberOutOfRange, ExpectedNumericKey}
-use Rattle.json_text.specs.declared.error.Place.{Place}
-use Rattle.json_text.specs.declared.error.Place.TheVariants.{None as nowhere}
+use Rattle.json_io.specs.declared.error.Error.{Error}
+use Rattle.json_io.specs.declared.error.ErrorCode.{ErrorCode}
+use Rattle.json_io.specs.declared.error.ErrorCode.TheVariants.{NoMemory, TypeUnmatched, NumberOutOfRange, ExpectedNumericKey}
+use Rattle.json_io.specs.declared.error.Place.{Place}
+use Rattle.json_io.specs.declared.error.Place.TheVariants.{None as nowhere}
 use Rattle.json_model.specs.Edit.{Step, push_at}
 use Rattle.json_value.specs.EditTrees.{path_in, each_in}
 use Rattle.json_value.specs.Seen.{list_of}

@@ -1,9 +1,9 @@
 -- How a reader finds the first line of what it holds and reads, and its range in the buffer.
 use Rattle.std.specs.Prelude.{◌≡◌, ℕ, ◌+◌, ◌<◌, ◌≤◌, ◌⊎◌, true, false, List, [], ◌++◌, length, take, slice_range, None, Some, IfOk, OnOk, IfErr, MatchOption, Result, ⊤}
 use Rattle.std.specs.declared.option.Option.{Option}
-use Rattle.json_text.specs.Known.{told_as}
-use Rattle.json_text.specs.Outside.{SourceState}
-use Rattle.json_text.specs.declared.error.Error.{Error}
+use Rattle.json_io.specs.Known.{told_as}
+use Rattle.json_io.specs.Outside.{SourceState}
+use Rattle.json_io.specs.declared.error.Error.{Error}
 use Rattle.json_lines.specs.declared.line_reader.LineReader.{LineReader}
 use Rattle.json_lines.specs.declared.line_reader.Line.{Line}
 use Rattle.json_lines.specs.declared.line_reader.Line.TheVariants.{Whole, TooLong}

@@ -2,10 +2,10 @@
 use Rattle.std.specs.Prelude.{ℕ, ◌<◌, ◌≤◌, false, List, [], length}
 use Rattle.json_grammar.specs.Grammar.{ws, is_text}
 use Rattle.json_grammar.specs.Tree.{Tree, depth}
-use Rattle.json_text.specs.FaultText.{text_of}
+use Rattle.json_io.specs.FaultText.{text_of}
 use Rattle.json_text.specs.Ruled.{usual_rules}
-use Rattle.json_text.specs.declared.error.ErrorCode.{ErrorCode}
-use Rattle.json_text.specs.declared.error.Place.{Place}
+use Rattle.json_io.specs.declared.error.ErrorCode.{ErrorCode}
+use Rattle.json_io.specs.declared.error.Place.{Place}
 use Rattle.json_command.specs.Input.{InputFault}
 use Rattle.json_lines.specs.Cells.{LinesCommand, table_row}
 use Rattle.json_lines.specs.Rows.{Outcome, Row, Bad, AllHave, line_too_long}

@@ -1,11 +1,11 @@
 -- What a run over lines does, for each status.
 use Rattle.std.specs.Prelude.{◌≡◌, ◌⊎◌, ℕ, ◌<◌, ◌≤◌, false, List, [], ◌++◌, length, Option, Some, IfSome, if◌then◌else◌}
-use Rattle.json_text.specs.Errors.{bad_words, no_memory}
-use Rattle.json_text.specs.FaultText.{text_of}
-use Rattle.json_text.specs.Known.{Consumes, Appends, told_as}
-use Rattle.json_text.specs.Outside.{Rose}
-use Rattle.json_text.specs.Transfer.{AppendsFront}
-use Rattle.json_text.specs.declared.error.Error.{Error}
+use Rattle.json_io.specs.Errors.{bad_words, no_memory}
+use Rattle.json_io.specs.FaultText.{text_of}
+use Rattle.json_io.specs.Known.{Consumes, Appends, told_as}
+use Rattle.json_io.specs.Outside.{Rose}
+use Rattle.json_io.specs.Transfer.{AppendsFront}
+use Rattle.json_io.specs.declared.error.Error.{Error}
 use Rattle.json_lines.specs.Cells.{LinesCommand}
 use Rattle.json_lines.specs.Lines.{lines}
 use Rattle.json_lines.specs.Outcomes.{HaveOutcomes}

@@ -1,15 +1,15 @@
 -- What the loop over all lines does.
 use Rattle.std.specs.Prelude.{◌≡◌, ℕ, ◌<◌, ◌≤◌, Bool, false, List, [], ◌++◌, None, IfSome, Ok, ◌⊎◌, ⊤}
-use Rattle.json_text.specs.Known.{told_as, append_known}
-use Rattle.json_text.specs.Outside.{SinkState, SourceState, Rose}
+use Rattle.json_io.specs.Known.{told_as, append_known}
+use Rattle.json_io.specs.Outside.{SinkState, SourceState, Rose}
 use Rattle.json_print.specs.Printer.{Begins as BeginsWith}
 use Rattle.json_print.specs.TextWriting.{WritesText}
-use Rattle.json_text.specs.declared.error.Error.{Error}
-use Rattle.json_text.specs.declared.error.ErrorCode.{ErrorCode}
-use Rattle.json_text.specs.declared.error.ErrorCode.TheVariants.{NoMemory, Io}
-use Rattle.json_text.specs.declared.error.Place.{Place}
-use Rattle.json_text.specs.declared.error.Place.TheVariants.{None as nowhere, Writing}
-use Rattle.json_text.specs.Errors.{reading_failed, writing_failed}
+use Rattle.json_io.specs.declared.error.Error.{Error}
+use Rattle.json_io.specs.declared.error.ErrorCode.{ErrorCode}
+use Rattle.json_io.specs.declared.error.ErrorCode.TheVariants.{NoMemory, Io}
+use Rattle.json_io.specs.declared.error.Place.{Place}
+use Rattle.json_io.specs.declared.error.Place.TheVariants.{None as nowhere, Writing}
+use Rattle.json_io.specs.Errors.{reading_failed, writing_failed}
 use Rattle.json_lines.specs.declared.line_reader.LineReader.{LineReader}
 use Rattle.json_lines.specs.declared.run.Tally.{Tally}
 use Rattle.json_lines.specs.Lines.{lines}

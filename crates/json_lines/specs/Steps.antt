@@ -1,7 +1,7 @@
 -- What one step of the loop over lines does.
 use Rattle.std.specs.Prelude.{◌≡◌, ℕ, Bool, true, false, List, None, Some, Ok, Err, ◌⊎◌}
-use Rattle.json_text.specs.Outside.{SinkState, SourceState}
-use Rattle.json_text.specs.declared.error.Error.{Error}
+use Rattle.json_io.specs.Outside.{SinkState, SourceState}
+use Rattle.json_io.specs.declared.error.Error.{Error}
 use Rattle.json_lines.specs.declared.line_reader.Line.{Line}
 use Rattle.json_lines.specs.declared.run.Tally.{Tally}
 use Rattle.json_lines.specs.Reading.{ReaderState, NextLineCall}

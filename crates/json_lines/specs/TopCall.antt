@@ -1,16 +1,16 @@
 -- What the call that writes all rows does.
 use Rattle.std.specs.Prelude.{◌≡◌, ℕ, ◌<◌, Bool, false, List, [], ◌++◌, length, IfSome, ⊤}
-use Rattle.json_text.specs.Known.{Consumes, Appends, told_as}
-use Rattle.json_text.specs.Errors.{reading_failed, writing_failed}
-use Rattle.json_text.specs.Outside.{SinkState, SourceState, Rose}
-use Rattle.json_text.specs.Transfer.{AppendsFront}
+use Rattle.json_io.specs.Known.{Consumes, Appends, told_as}
+use Rattle.json_io.specs.Errors.{reading_failed, writing_failed}
+use Rattle.json_io.specs.Outside.{SinkState, SourceState, Rose}
+use Rattle.json_io.specs.Transfer.{AppendsFront}
 use Rattle.json_command.specs.Statuses.{status_number, status_of}
 use Rattle.json_command.specs.declared.status.Status.TheVariants.{TooMuchInput}
-use Rattle.json_text.specs.declared.error.Error.{Error}
-use Rattle.json_text.specs.declared.error.ErrorCode.{ErrorCode}
-use Rattle.json_text.specs.declared.error.ErrorCode.TheVariants.{NoMemory, Io, TooLarge}
-use Rattle.json_text.specs.declared.error.Place.{Place}
-use Rattle.json_text.specs.declared.error.Place.TheVariants.{None as nowhere, Reading, Writing}
+use Rattle.json_io.specs.declared.error.Error.{Error}
+use Rattle.json_io.specs.declared.error.ErrorCode.{ErrorCode}
+use Rattle.json_io.specs.declared.error.ErrorCode.TheVariants.{NoMemory, Io, TooLarge}
+use Rattle.json_io.specs.declared.error.Place.{Place}
+use Rattle.json_io.specs.declared.error.Place.TheVariants.{None as nowhere, Reading, Writing}
 use Rattle.json_lines.specs.declared.run.Tally.{Tally}
 use Rattle.json_lines.specs.Lines.{lines}
 use Rattle.json_command.specs.Input.{max_bytes}

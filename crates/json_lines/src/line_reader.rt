@@ -1,6 +1,6 @@
 // Reads a source line by line.
 ghost use Rattle.std.specs.Prelude.{◌≡◌, ◌+◌, ◌-◌, ◌<◌, ◌≤◌, Bool, false, true, None, Some, length, take, IfOk, IfErr, IfNone, slice_range, vec_len};
-ghost use Rattle.json_text.specs.Errors.{no_memory};
+ghost use Rattle.json_io.specs.Errors.{no_memory};
 ghost use Rattle.json_lines.specs.Lines.{IsFirstNewline, has_newline};
 ghost use Rattle.json_lines.specs.Ranges.{IsRangeFrom, IsLastRange};
 

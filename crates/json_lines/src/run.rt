@@ -1,6 +1,6 @@
 // Writes the row of each line, and reports the error of each bad one.
 ghost use Rattle.std.specs.Prelude.{◌≡◌, ◌+◌, ◌++◌, ◌<◌, ◌≤◌, List, ℕ, length, IfOk, IfErr, OnOk, Ok, Err, true, Bool, ◌⊎◌};
-ghost use Rattle.json_text.specs.Transfer.{Puts};
+ghost use Rattle.json_io.specs.Transfer.{Puts};
 ghost use Rattle.json_lines.specs.Rows.{Outcome, HasWithin, error_line};
 ghost use Rattle.json_lines.specs.Reading.{line_reader_state};
 ghost use Rattle.json_lines.specs.Running.{IsFreshRun, FinishesLines, FailsEarly, run_state};

@@ -9,9 +9,9 @@ ghost use Rattle.json_lines.specs.TopCall.{IsNewTally, WritesAllRows, WritesPart
 ghost use Rattle.json_lines.specs.Words.{AsksForColumns, IsLinesRequest};
 ghost use Rattle.json_command.specs.Input.{max_bytes};
 ghost use Rattle.json_command.specs.Reporting.{Reports};
-ghost use Rattle.json_text.specs.FaultText.{text_of};
-ghost use Rattle.json_text.specs.Known.{Consumes};
-ghost use Rattle.json_text.specs.Outside.{Rose};
+ghost use Rattle.json_io.specs.FaultText.{text_of};
+ghost use Rattle.json_io.specs.Known.{Consumes};
+ghost use Rattle.json_io.specs.Outside.{Rose};
 
 use crate::asked::asked;
 use crate::run::{Tally, write_all_rows};

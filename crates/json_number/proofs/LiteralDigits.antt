@@ -6,7 +6,7 @@ use Rattle.std.specs.Str.Parse.{digits_value}
 use Rattle.json_grammar.specs.Given.{piece}
 use Rattle.json_grammar.specs.Grammar.{sign, integer_part, number}
 use Rattle.json_grammar.proofs.Numbers.{number_begins}
-use Rattle.json_text.proofs.Pieces.{piece_cons}
+use Rattle.json_io.proofs.Pieces.{piece_cons}
 use Rattle.json_number.specs.Integers.{below_zero, integer_in}
 use Rattle.json_number.proofs.Integers.{minus_is, plain_is}
 

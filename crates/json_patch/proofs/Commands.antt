@@ -8,15 +8,15 @@ use Rattle.json_grammar.specs.Grammar.{is_text}
 use Rattle.json_grammar.specs.Tree.{Tree, null, boolean, num, text, list, pairs, Trees, no_trees, tree_and, trees_list}
 use Rattle.json_model.specs.Edit.{not_found, type_unmatched}
 use Rattle.json_model.specs.Print.{shown}
-use Rattle.json_text.specs.Errors.{no_memory, bad_words}
-use Rattle.json_text.specs.FaultText.{text_of}
-use Rattle.json_text.specs.Outside.{SourceState, SinkState}
+use Rattle.json_io.specs.Errors.{no_memory, bad_words}
+use Rattle.json_io.specs.FaultText.{text_of}
+use Rattle.json_io.specs.Outside.{SourceState, SinkState}
 use Rattle.json_text.specs.Ruled.{usual_rules}
-use Rattle.json_text.specs.declared.error.Error.{Error}
-use Rattle.json_text.specs.declared.error.ErrorCode.{ErrorCode}
-use Rattle.json_text.specs.declared.error.ErrorCode.TheVariants.{NoMemory, Io, TooLarge, NotFound, TypeUnmatched, BadWords}
-use Rattle.json_text.specs.declared.error.Place.{Place}
-use Rattle.json_text.specs.declared.error.Place.TheVariants.{None as nowhere, Reading, Writing}
+use Rattle.json_io.specs.declared.error.Error.{Error}
+use Rattle.json_io.specs.declared.error.ErrorCode.{ErrorCode}
+use Rattle.json_io.specs.declared.error.ErrorCode.TheVariants.{NoMemory, Io, TooLarge, NotFound, TypeUnmatched, BadWords}
+use Rattle.json_io.specs.declared.error.Place.{Place}
+use Rattle.json_io.specs.declared.error.Place.TheVariants.{None as nowhere, Reading, Writing}
 use Rattle.json_command.specs.Input.{InputFault}
 use Rattle.json_command.specs.Printing.{PrintingFails}
 use Rattle.json_command.specs.Reading.{ReadsInput, InputFails, KnownFault}

@@ -5,16 +5,16 @@ use Rattle.json_doc.specs.Docs.{doc_root, doc_tree}
 use Rattle.json_grammar.specs.Tree.{Tree}
 use Rattle.json_model.specs.Edit.{not_found, type_unmatched}
 use Rattle.json_model.specs.Print.{shown}
-use Rattle.json_text.specs.Known.{Appends}
-use Rattle.json_text.specs.Outside.{SourceState, SinkState, Rose, RoseBy}
-use Rattle.json_text.specs.Errors.{no_memory, bad_words}
-use Rattle.json_text.specs.FaultText.{text_of}
+use Rattle.json_io.specs.Known.{Appends}
+use Rattle.json_io.specs.Outside.{SourceState, SinkState, Rose, RoseBy}
+use Rattle.json_io.specs.Errors.{no_memory, bad_words}
+use Rattle.json_io.specs.FaultText.{text_of}
 use Rattle.json_text.specs.Ruled.{usual_rules}
-use Rattle.json_text.specs.Transfer.{AppendsFront}
-use Rattle.json_text.specs.declared.error.ErrorCode.{ErrorCode}
-use Rattle.json_text.specs.declared.error.ErrorCode.TheVariants.{NoMemory, Io, TooLarge}
-use Rattle.json_text.specs.declared.error.Place.{Place}
-use Rattle.json_text.specs.declared.error.Place.TheVariants.{None as nowhere, Reading, Writing}
+use Rattle.json_io.specs.Transfer.{AppendsFront}
+use Rattle.json_io.specs.declared.error.ErrorCode.{ErrorCode}
+use Rattle.json_io.specs.declared.error.ErrorCode.TheVariants.{NoMemory, Io, TooLarge}
+use Rattle.json_io.specs.declared.error.Place.{Place}
+use Rattle.json_io.specs.declared.error.Place.TheVariants.{None as nowhere, Reading, Writing}
 use Rattle.json_command.specs.Input.{max_bytes, IsInput}
 use Rattle.json_command.specs.Reading.{ReadsInput, ReadsFault, KnownInput, KnownFault}
 use Rattle.json_command.specs.Reporting.{Reports}

@@ -2,9 +2,9 @@
 use Rattle.std.specs.Prelude.{ℕ, List, Bool, map, string_bytes, Result, Ok, Err, bytes_eq, codes, ◌||◌, ◌&&◌, nat_le, slice_index}
 use Rattle.json_grammar.specs.Tree.{Tree}
 use Rattle.json_model.specs.Edit.{Changed, Refusal, not_found, type_unmatched, and_then}
-use Rattle.json_text.specs.declared.error.Error.{Error}
-use Rattle.json_text.specs.declared.error.ErrorCode.TheVariants as code
-use Rattle.json_text.specs.declared.error.Place.TheVariants as place
+use Rattle.json_io.specs.declared.error.Error.{Error}
+use Rattle.json_io.specs.declared.error.ErrorCode.TheVariants as code
+use Rattle.json_io.specs.declared.error.Place.TheVariants as place
 use Rattle.json_patch.specs.ValuesAt.{value_at_step}
 use Rattle.json_patch.specs.Pointer.{ReferenceToken, step_of_token}
 use Rattle.json_value.specs.Seen.{seen}

@@ -3,8 +3,8 @@ ghost use Rattle.std.specs.Prelude.{◌≡◌, ◌≢◌, ◌⊎◌, ◌+◌, �
 ghost use Rattle.json_grammar.specs.Tree.{Tree};
 ghost use Rattle.json_model.specs.Print.{shown};
 ghost use Rattle.json_print.specs.Styles.{printed};
-ghost use Rattle.json_text.specs.Errors.{no_memory, bad_words, reading_failed, writing_failed};
-ghost use Rattle.json_text.specs.Transfer.{TakesAtMost};
+ghost use Rattle.json_io.specs.Errors.{no_memory, bad_words, reading_failed, writing_failed};
+ghost use Rattle.json_io.specs.Transfer.{TakesAtMost};
 ghost use Rattle.json_value.specs.Denotes.{tree_of};
 ghost use Rattle.json_command.specs.Input.{max_bytes};
 ghost use Rattle.json_patch.specs.Errors.{PatchFails};

@@ -1,6 +1,6 @@
 -- A call of a serializer that stopped.
 use Rattle.std.proofs.Common.{◌≡◌, ◌∙◌, ap, Option, None, Result, Err, false}
-use Rattle.json_text.specs.declared.error.Error.{Error}
+use Rattle.json_io.specs.declared.error.Error.{Error}
 use Rattle.json_print.specs.Given.{TokenOrInteger}
 use Rattle.json_print.specs.Layouts.{Form}
 use Rattle.json_print.specs.Printer.{Out, StopsTaking, took}

@@ -6,8 +6,8 @@ use Rattle.std.proofs.Math.Nat.{mul-le-mul_right}
 use Rattle.std.proofs.Math.Seq.{take-append_seam}
 use Rattle.std.proofs.lemmas.List.{length-append}
 use Rattle.json_model.specs.Print.{indents}
-use Rattle.json_text.specs.declared.sink.SinkError.{SinkError}
-use Rattle.json_text.specs.Outside.{SinkState}
+use Rattle.json_io.specs.declared.sink.SinkError.{SinkError}
+use Rattle.json_io.specs.Outside.{SinkState}
 use Rattle.json_print.specs.Adding.{Adds}
 use Rattle.json_print.specs.Calls.{comma}
 use Rattle.json_print.proofs.Pieces.{Adds-first, Adds-then}

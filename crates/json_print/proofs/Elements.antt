@@ -4,8 +4,8 @@ use Rattle.std.proofs.lemmas.List.{drop_more, drop_all}
 use Rattle.std.proofs.lemmas.Bool.{ne_eqb}
 use Rattle.std.specs.Fmt.{decimal}
 use Rattle.json_model.specs.Print.{line}
-use Rattle.json_text.specs.declared.sink.SinkError.{SinkError}
-use Rattle.json_text.specs.Outside.{SinkState}
+use Rattle.json_io.specs.declared.sink.SinkError.{SinkError}
+use Rattle.json_io.specs.Outside.{SinkState}
 use Rattle.json_print.specs.Adding.{Adds}
 use Rattle.json_print.proofs.Pieces.{Adds-first, Adds-then, Adds-nil}
 use Rattle.json_print.specs.Calls.{byte_elements, comma, holds_any}

@@ -1,7 +1,7 @@
 -- The rows of a sorted object, written into its surroundings.
 use Rattle.std.proofs.Common.{◌≡◌, ℕ, List, [], ◌∷◌, ◌++◌, ◌∙◌, refl, sym, ap, arith, Bool, true, false, Option, Some, append_assoc}
-use Rattle.json_text.specs.declared.error.Error.{Error}
-use Rattle.json_text.specs.Errors.{no_memory}
+use Rattle.json_io.specs.declared.error.Error.{Error}
+use Rattle.json_io.specs.Errors.{no_memory}
 use Rattle.json_print.specs.Calls.{string_call, begin_key, end_key, begin_member, end_member}
 use Rattle.json_print.specs.Layouts.{Form}
 use Rattle.json_print.specs.Printer.{Out, MemberText, row_put, rows_put}

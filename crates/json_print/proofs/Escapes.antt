@@ -7,12 +7,12 @@ use Rattle.std.proofs.lemmas.List.{take_all, take_more, take-append-drop}
 use Rattle.std.specs.Fmt.{digits, format_spec, padded_integral}
 use Rattle.json_model.specs.Print.{shown_byte, shown_bytes, unit_escape}
 use Rattle.json_model.proofs.Printing.{plain_shown, shown_append}
-use Rattle.json_text.specs.declared.sink.SinkError.{SinkError}
-use Rattle.json_text.specs.Outside.{SinkState}
+use Rattle.json_io.specs.declared.sink.SinkError.{SinkError}
+use Rattle.json_io.specs.Outside.{SinkState}
 use Rattle.json_print.specs.Adding.{Adds}
 use Rattle.json_print.proofs.Pieces.{Adds-first, Adds-then}
 use Rattle.json_grammar.specs.Given.{piece}
-use Rattle.json_text.specs.Runs.{IsPlain, plain}
+use Rattle.json_scan.specs.Runs.{IsPlain, plain}
 
 -- a byte that has to be escaped and is neither a quote nor a backslash
 control : (x : ℕ) → ¬ (IsPlain x) → (x ≡ 34 → ⊥) → (x ≡ 92 → ⊥) → x < 32

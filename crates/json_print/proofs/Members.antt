@@ -7,10 +7,10 @@ use Rattle.std.proofs.lemmas.Bool.{cases_lt}
 use Rattle.std.proofs.lemmas.List.{get_or_append_left, drop-append-le, take-append-le, length-map}
 use Rattle.std.proofs.lemmas.Str.{IsCharBoundary-at_seam, IsCharBoundary-end}
 use Rattle.json_grammar.specs.Given.{piece}
-use Rattle.json_text.specs.declared.error.Error.{Error}
-use Rattle.json_text.specs.Known.{Appends, append_known}
-use Rattle.json_text.specs.Outside.{SinkState}
-use Rattle.json_text.specs.Transfer.{Puts}
+use Rattle.json_io.specs.declared.error.Error.{Error}
+use Rattle.json_io.specs.Known.{Appends, append_known}
+use Rattle.json_io.specs.Outside.{SinkState}
+use Rattle.json_io.specs.Transfer.{Puts}
 use Rattle.json_print.specs.declared.sorted.Member.{Member}
 use Rattle.json_print.specs.Printer.{MemberText, Layer}
 use Rattle.json_print.specs.Members.{member_text_of, layer_of, IsWithin, AreWithin, HoldMembers}

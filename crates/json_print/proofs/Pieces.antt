@@ -2,15 +2,15 @@
 use Rattle.std.proofs.Common.{◌≡◌, ℕ, ◌-◌, List, [], ◌++◌, length, take, drop, ◌∙◌, sym, ap, refl, subst, arith, Ok, Err, Result, length-drop}
 use Rattle.std.specs.Prelude.{IsErrOf}
 use Rattle.std.proofs.lemmas.List.{take_all, take-append-drop}
-use Rattle.json_text.specs.Known.{Appends}
-use Rattle.json_text.proofs.Known.{Appends-nil, Appends-trans}
-use Rattle.json_text.specs.declared.error.Error.{Error}
-use Rattle.json_text.specs.declared.sink.SinkError.{SinkError}
-use Rattle.json_text.specs.declared.sink.SinkError.TheVariants as sink_error
-use Rattle.json_text.specs.Errors.{no_memory, writing_failed}
-use Rattle.json_text.specs.Outside.{SinkState, Counts, Writes}
-use Rattle.json_text.specs.Transfer.{Puts}
-use Rattle.json_text.proofs.Putting.{AppendsFront-first, AppendsFront-then}
+use Rattle.json_io.specs.Known.{Appends}
+use Rattle.json_io.proofs.Known.{Appends-nil, Appends-trans}
+use Rattle.json_io.specs.declared.error.Error.{Error}
+use Rattle.json_io.specs.declared.sink.SinkError.{SinkError}
+use Rattle.json_io.specs.declared.sink.SinkError.TheVariants as sink_error
+use Rattle.json_io.specs.Errors.{no_memory, writing_failed}
+use Rattle.json_io.specs.Outside.{SinkState, Counts, Writes}
+use Rattle.json_io.specs.Transfer.{Puts}
+use Rattle.json_io.proofs.Putting.{AppendsFront-first, AppendsFront-then}
 use Rattle.json_print.specs.Adding.{Adds, Sends}
 
 -- ---- counts

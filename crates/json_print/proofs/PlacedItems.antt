@@ -2,7 +2,7 @@
 use Rattle.std.proofs.Common.{◌≡◌, ℕ, ◌+◌, ◌≤◌, List, [], ◌∷◌, ◌++◌, length, take, Bool, true, false, refl, sym, ap, ◌∙◌, arith, append_assoc}
 use Rattle.std.proofs.lemmas.List.{take-take, take_at, length-take-le}
 use Rattle.json_model.specs.Print.{quoted}
-use Rattle.json_text.specs.Runs.{plain}
+use Rattle.json_scan.specs.Runs.{plain}
 use Rattle.json_print.specs.Calls.{comma}
 use Rattle.json_print.proofs.Escapes.{plain_all}
 

@@ -8,7 +8,7 @@ use Rattle.std.proofs.lemmas.Simd.{length-chunk, mask_l-lt, mask_l-mod}
 use Rattle.std.specs.Int.{w64}
 use Rattle.std.specs.Int.Count.{count_trailing_zeros}
 use lib.Lanes.{chunk, mask_l, top}
-use Rattle.json_text.specs.Runs.{CountedIn, IsPlain, plain}
+use Rattle.json_scan.specs.Runs.{CountedIn, IsPlain, plain}
 
 positive : (m : ℕ) → (m ≡ 0 → ⊥) → 0 < m
 positive zero some = absurd (some refl)

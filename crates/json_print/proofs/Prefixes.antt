@@ -3,9 +3,9 @@ use Rattle.std.proofs.Common.{◌≡◌, ℕ, List, [], ◌∷◌, ◌++◌, len
 use Rattle.json_grammar.specs.Tree.{Tree, Token, null_token, boolean_token, num_token, text_token, begin, end, key_token, tokens}
 use Rattle.json_grammar.specs.Place.{outside}
 use Rattle.json_model.specs.Print.{shown}
-use Rattle.json_text.specs.declared.error.Error.{Error}
-use Rattle.json_text.specs.Known.{append_known}
-use Rattle.json_text.specs.Outside.{SinkState}
+use Rattle.json_io.specs.declared.error.Error.{Error}
+use Rattle.json_io.specs.Known.{append_known}
+use Rattle.json_io.specs.Outside.{SinkState}
 use Rattle.json_print.specs.Calls.{Call, null_call, boolean_call, number_call, string_call, begin_call, end_call, begin_key, end_key}
 use Rattle.json_print.specs.Layouts.{Form}
 use Rattle.json_print.specs.Printer.{Out, Begins, StopsAtToken, after, call, value_begun, took_scalar, emptied, is_first, start}

@@ -3,8 +3,8 @@ use Rattle.std.proofs.Common.{◌≡◌, ℕ, List, [], ◌∷◌, ◌++◌, tak
 use Rattle.std.proofs.lemmas.List.{take-append-drop}
 use Rattle.json_model.specs.Print.{quoted, shown_bytes}
 use Rattle.json_model.proofs.Printing.{shown_append}
-use Rattle.json_text.specs.declared.sink.SinkError.{SinkError}
-use Rattle.json_text.specs.Outside.{SinkState}
+use Rattle.json_io.specs.declared.sink.SinkError.{SinkError}
+use Rattle.json_io.specs.Outside.{SinkState}
 use Rattle.json_print.specs.Adding.{Adds}
 use Rattle.json_print.specs.Calls.{comma}
 use Rattle.json_print.proofs.Escapes.{shown_failed}

@@ -3,10 +3,10 @@ use Rattle.std.proofs.Common.{◌≡◌, ℕ, zero, suc, ◌+◌, ◌≤◌, Lis
 use Rattle.std.specs.Prelude.{slice_get}
 use Rattle.std.proofs.lemmas.Bool.{ne_eqb}
 use Rattle.std.proofs.lemmas.List.{take_all, take-append-drop}
-use Rattle.json_text.specs.declared.error.Error.{Error}
-use Rattle.json_text.specs.Outside.{SinkState}
-use Rattle.json_text.specs.Transfer.{Puts}
-use Rattle.json_text.proofs.Putting.{Puts-nil, Puts-first, Puts-then}
+use Rattle.json_io.specs.declared.error.Error.{Error}
+use Rattle.json_io.specs.Outside.{SinkState}
+use Rattle.json_io.specs.Transfer.{Puts}
+use Rattle.json_io.proofs.Putting.{Puts-nil, Puts-first, Puts-then}
 use Rattle.json_print.specs.Layouts.{Form}
 use Rattle.json_print.specs.Printer.{MemberText}
 use Rattle.json_print.specs.Rows.{row_bytes, row_next, rows_bytes, rows_next}

@@ -1,11 +1,11 @@
 -- What a sink that holds bytes back has sent.
 use Rattle.std.proofs.Common.{◌≡◌, Option, ℕ, ◌+◌, ◌-◌, ◌≤◌, List, [], ◌++◌, length, take, drop, ◌∙◌, subst, sym, ap, refl, arith, Ok, Err, Result}
-use Rattle.json_text.specs.Known.{Appends, Keeps, append_known}
-use Rattle.json_text.proofs.Known.{Appends-trans, Appends-nil, Appends-kept, append_known-moved, known-append, known-nil}
+use Rattle.json_io.specs.Known.{Appends, Keeps, append_known}
+use Rattle.json_io.proofs.Known.{Appends-trans, Appends-nil, Appends-kept, append_known-moved, known-append, known-nil}
 use Rattle.std.proofs.Math.Seq.{take-add}
 use Rattle.std.proofs.lemmas.List.{length-drop, length-take, take_all, take-append-drop, drop-drop, drop_all, drop-append-le}
-use Rattle.json_text.specs.declared.sink.SinkError.{SinkError}
-use Rattle.json_text.specs.Outside.{SinkState, Counts, Writes, Flushes}
+use Rattle.json_io.specs.declared.sink.SinkError.{SinkError}
+use Rattle.json_io.specs.Outside.{SinkState, Counts, Writes, Flushes}
 use Rattle.json_print.specs.Adding.{Adds, Sends}
 use Rattle.json_print.specs.Buffered.{held_behind}
 use Rattle.json_print.proofs.Pieces.{counts_from, counts_err, counts_ok}

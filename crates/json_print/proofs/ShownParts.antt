@@ -1,16 +1,16 @@
 -- Parts of a text shown one after another.
 use Rattle.std.proofs.Common.{◌≡◌, ℕ, ◌+◌, ◌-◌, ◌^◌, ◌≤◌, List, [], ◌++◌, length, ◌∙◌, sym, ap, refl, subst, inl, inr, arith, Ok, Err, Result, Option, length-append}
 use Rattle.std.specs.Prelude.{IsErrOf}
-use Rattle.json_text.specs.Known.{append_known}
-use Rattle.json_text.specs.declared.error.Error.{Error}
-use Rattle.json_text.specs.declared.error.ErrorCode.TheVariants as code
-use Rattle.json_text.specs.Errors.{no_memory, writing_failed}
-use Rattle.json_text.specs.Transfer.{AppendsFront}
-use Rattle.json_text.proofs.Known.{Appends-nil, Appends-trans, known-append}
-use Rattle.json_text.specs.declared.sink.SinkError.{SinkError}
-use Rattle.json_text.specs.declared.sink.SinkError.TheVariants as sink_error
-use Rattle.json_text.specs.Outside.{Rose, SinkState}
-use Rattle.json_text.proofs.Putting.{AppendsFront-first, AppendsFront-then}
+use Rattle.json_io.specs.Known.{append_known}
+use Rattle.json_io.specs.declared.error.Error.{Error}
+use Rattle.json_io.specs.declared.error.ErrorCode.TheVariants as code
+use Rattle.json_io.specs.Errors.{no_memory, writing_failed}
+use Rattle.json_io.specs.Transfer.{AppendsFront}
+use Rattle.json_io.proofs.Known.{Appends-nil, Appends-trans, known-append}
+use Rattle.json_io.specs.declared.sink.SinkError.{SinkError}
+use Rattle.json_io.specs.declared.sink.SinkError.TheVariants as sink_error
+use Rattle.json_io.specs.Outside.{Rose, SinkState}
+use Rattle.json_io.proofs.Putting.{AppendsFront-first, AppendsFront-then}
 use Rattle.json_print.specs.Adding.{Adds}
 use Rattle.json_print.specs.Printer.{Begins}
 use Rattle.json_print.specs.Showing.{RanOut, Shows}

@@ -5,9 +5,9 @@ use Rattle.std.proofs.lemmas.Result.{on_err_weaker}
 use Rattle.json_grammar.specs.declared.Kind.{Kind}
 use Rattle.json_grammar.specs.declared.Kind.TheVariants.{Array as array, Object as object}
 use Rattle.json_grammar.specs.Place.{outside}
-use Rattle.json_text.specs.declared.error.Error.{Error}
-use Rattle.json_text.specs.Known.{append_known}
-use Rattle.json_text.proofs.Known.{known-append, known-nil}
+use Rattle.json_io.specs.declared.error.Error.{Error}
+use Rattle.json_io.specs.Known.{append_known}
+use Rattle.json_io.proofs.Known.{known-append, known-nil}
 use Rattle.json_print.specs.declared.events.Turn.{Turn}
 use Rattle.json_print.specs.declared.events.Turn.TheVariants.{Value as at_value, Element as at_element, Key as at_key, Member as at_member, Done as at_done}
 use Rattle.json_print.specs.Calls.{Call, string_call, begin_element, end_element, begin_key, end_key, begin_member, end_member}

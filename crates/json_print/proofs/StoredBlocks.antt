@@ -5,8 +5,8 @@ use Rattle.std.proofs.lemmas.List.{take-take, length-take, length-drop, get_or-d
 use Rattle.json_grammar.specs.Given.{piece}
 use Rattle.json_model.specs.Print.{shown_byte, shown_bytes}
 use Rattle.json_model.proofs.Printing.{shown_append}
-use Rattle.json_text.proofs.Pieces.{piece_append}
-use Rattle.json_text.specs.Runs.{plain}
+use Rattle.json_io.proofs.Pieces.{piece_append}
+use Rattle.json_scan.specs.Runs.{plain}
 use Rattle.json_print.proofs.Escapes.{byte_shown, plain_all}
 
 same_end : (i n : ℕ) → i + n - i ≡ n

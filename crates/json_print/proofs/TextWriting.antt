@@ -3,11 +3,11 @@ use Rattle.std.proofs.Common.{◌≡◌, ℕ, List, [], ◌∷◌, ◌++◌, len
 use Rattle.std.specs.Borrow.{GName}
 use Rattle.std.proofs.lemmas.List.{take-append-drop, append_cancel_left}
 use Rattle.json_grammar.specs.Tree.{Tree, tokens}
-use Rattle.json_text.specs.declared.error.Error.{Error}
-use Rattle.json_text.specs.Known.{Grows, append_known}
-use Rattle.json_text.specs.Lending.{lent_as, ComesBack}
-use Rattle.json_text.specs.Outside.{SinkState, Loan}
-use Rattle.json_text.specs.Transfer.{AppendsFront}
+use Rattle.json_io.specs.declared.error.Error.{Error}
+use Rattle.json_io.specs.Known.{Grows, append_known}
+use Rattle.json_io.specs.Lending.{lent_as, ComesBack}
+use Rattle.json_io.specs.Outside.{SinkState, Loan}
+use Rattle.json_io.specs.Transfer.{AppendsFront}
 use Rattle.json_print.specs.Given.{TokenOrInteger, token_of, given_tokens}
 use Rattle.json_print.specs.Layouts.{Form, LaidOut}
 use Rattle.json_print.specs.Printer.{Out, StopsAtToken, StopsTaking, after, took, start}

@@ -6,7 +6,7 @@ use Rattle.json_grammar.specs.Tree.{Tree, null, boolean, num, text, list, pairs,
 use Rattle.json_grammar.specs.Place.{closing, outside}
 use Rattle.json_model.specs.Sort.{bytes_less, pair_in}
 use Rattle.json_model.specs.Print.{shown, more_trees_shown, pairs_shown, more_pairs_shown, line, quoted, colon_bytes}
-use Rattle.json_text.proofs.Known.{known-append, known-nil}
+use Rattle.json_io.proofs.Known.{known-append, known-nil}
 use Rattle.json_print.specs.declared.events.Turn.{Turn}
 use Rattle.json_print.specs.declared.events.Turn.TheVariants.{Element as at_element, Key as at_key, Member as at_member}
 use Rattle.json_print.specs.Calls.{Call, null_call, boolean_call, number_call, string_call, begin_call, end_call, begin_element, end_element, begin_key, end_key, begin_member, end_member, piece_of, flag_after, comma, closing_line}

@@ -1,9 +1,9 @@
 -- What putting a piece into a sink does, answered as the sink answers.
 use Rattle.std.specs.Prelude.{◌≡◌, ℕ, ◌-◌, ◌≤◌, List, length, take, drop, Result, OnOk, OnErr}
-use Rattle.json_text.specs.Known.{Appends}
-use Rattle.json_text.specs.declared.sink.SinkError.{SinkError}
-use Rattle.json_text.specs.Outside.{SinkState, Counts}
-use Rattle.json_text.specs.Transfer.{AppendsFront}
+use Rattle.json_io.specs.Known.{Appends}
+use Rattle.json_io.specs.declared.sink.SinkError.{SinkError}
+use Rattle.json_io.specs.Outside.{SinkState, Counts}
+use Rattle.json_io.specs.Transfer.{AppendsFront}
 
 -- this piece was added, or a prefix of it
 pub record Adds (old new : SinkState) (piece : List ℕ) (result : Result (Unit {0}) SinkError) : Type 0 where

@@ -1,7 +1,7 @@
 -- A sink that holds bytes back.
 use Rattle.std.specs.Prelude.{ℕ, List, ◌||◌}
-use Rattle.json_text.specs.Known.{append_known}
-use Rattle.json_text.specs.Outside.{SinkState}
+use Rattle.json_io.specs.Known.{append_known}
+use Rattle.json_io.specs.Outside.{SinkState}
 use Rattle.json_print.specs.Calls.{holds_any}
 
 -- the inner sink's bytes and then those that are held

@@ -5,14 +5,14 @@ use Rattle.json_grammar.specs.Tree.{Token, null_token, boolean_token, num_token,
 use Rattle.json_grammar.specs.declared.Kind.TheVariants.{Array as array, Object as object}
 use Rattle.json_grammar.specs.Place.{outside}
 use Rattle.json_model.specs.Sort.{bytes_less}
-use Rattle.json_text.specs.declared.error.Error.{Error}
-use Rattle.json_text.specs.declared.error.ErrorCode.{ErrorCode}
-use Rattle.json_text.specs.declared.error.ErrorCode.TheVariants.{NoMemory, Io}
-use Rattle.json_text.specs.declared.error.Place.{Place}
-use Rattle.json_text.specs.declared.error.Place.TheVariants.{None as nowhere, Writing}
-use Rattle.json_text.specs.Errors.{writing_failed}
-use Rattle.json_text.specs.Known.{append_known}
-use Rattle.json_text.specs.Outside.{Rose, Loan, SinkState}
+use Rattle.json_io.specs.declared.error.Error.{Error}
+use Rattle.json_io.specs.declared.error.ErrorCode.{ErrorCode}
+use Rattle.json_io.specs.declared.error.ErrorCode.TheVariants.{NoMemory, Io}
+use Rattle.json_io.specs.declared.error.Place.{Place}
+use Rattle.json_io.specs.declared.error.Place.TheVariants.{None as nowhere, Writing}
+use Rattle.json_io.specs.Errors.{writing_failed}
+use Rattle.json_io.specs.Known.{append_known}
+use Rattle.json_io.specs.Outside.{Rose, Loan, SinkState}
 use Rattle.json_print.specs.declared.events.Turn.{Turn}
 use Rattle.json_print.specs.declared.events.Turn.TheVariants.{Value as at_value, Element as at_element, Key as at_key, Member as at_member, Done as at_done}
 use Rattle.json_print.specs.Calls.{Call, null_call, boolean_call, number_call, string_call, begin_call, end_call, begin_element, end_element, begin_key, end_key, begin_member, end_member}

@@ -1,7 +1,7 @@
 -- What a serializer stands for, and what a step of it does.
 use Rattle.std.specs.Prelude.{false, reverse, Option, Result}
-use Rattle.json_text.specs.declared.error.Error.{Error}
-use Rattle.json_text.specs.Outside.{SinkState}
+use Rattle.json_io.specs.declared.error.Error.{Error}
+use Rattle.json_io.specs.Outside.{SinkState}
 use Rattle.json_print.specs.declared.serializer.Halted.{Halted}
 use Rattle.json_print.specs.declared.serializer.Serializer.{Serializer}
 use Rattle.json_print.specs.Printer.{Out}

@@ -2,11 +2,11 @@
 use Rattle.std.specs.Prelude.{◌≡◌, ◌⊎◌, ℕ, ◌+◌, ◌-◌, ◌^◌, ◌≤◌, List, [], ◌∷◌, ◌++◌, length, Bool, true, false, Option, Result, OnOk, OnErr, IsErrOf}
 use Rattle.json_model.specs.Print.{line, quoted, colon_bytes}
 use Rattle.json_print.specs.Calls.{comma}
-use Rattle.json_text.specs.Known.{Appends}
-use Rattle.json_text.specs.declared.sink.SinkError.{SinkError}
-use Rattle.json_text.specs.declared.sink.SinkError.TheVariants as sink_error
-use Rattle.json_text.specs.Outside.{SinkState, Rose}
-use Rattle.json_text.specs.Transfer.{AppendsFront}
+use Rattle.json_io.specs.Known.{Appends}
+use Rattle.json_io.specs.declared.sink.SinkError.{SinkError}
+use Rattle.json_io.specs.declared.sink.SinkError.TheVariants as sink_error
+use Rattle.json_io.specs.Outside.{SinkState, Rose}
+use Rattle.json_io.specs.Transfer.{AppendsFront}
 
 -- the sink found no memory, or a text of so many bytes has as many as a usize counts
 abbrev pub RanOut : SinkState → SinkState → ℕ → Type 0

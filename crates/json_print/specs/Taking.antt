@@ -1,6 +1,6 @@
 -- What a call of events does.
 use Rattle.std.specs.Prelude.{◌≡◌, List, [], ◌∷◌, ◌++◌, Option, None, Some, Result, Err, OnOk, IfErr, IfSome}
-use Rattle.json_text.specs.declared.error.Error.{Error}
+use Rattle.json_io.specs.declared.error.Error.{Error}
 
 -- one after another
 abbrev pub after_all : {S T : Type 0} → (S → T → S) → S → List T → S

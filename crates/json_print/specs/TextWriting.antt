@@ -1,9 +1,9 @@
 -- What becomes of a sink to which a text is written.
 use Rattle.std.specs.Prelude.{◌≡◌, ℕ, ◌<◌, List, Result, OnOk, OnErr, IfErr, IsErrOf}
-use Rattle.json_text.specs.declared.error.Error.{Error}
-use Rattle.json_text.specs.Errors.{writing_failed}
-use Rattle.json_text.specs.Known.{Appends, append_known}
-use Rattle.json_text.specs.Outside.{SinkState}
+use Rattle.json_io.specs.declared.error.Error.{Error}
+use Rattle.json_io.specs.Errors.{writing_failed}
+use Rattle.json_io.specs.Known.{Appends, append_known}
+use Rattle.json_io.specs.Outside.{SinkState}
 use Rattle.json_print.specs.Printer.{Begins, StopCause}
 
 -- the text was written and may wait for a flush, or what was gained is a prefix of the old bytes and the text

@@ -1,10 +1,10 @@
 -- What a serializer has written.
 use Rattle.std.specs.Prelude.{◌≡◌, ℕ, ◌<◌, List, ◌∷◌, ◌++◌, Bool, false, Option}
 use Rattle.json_grammar.specs.Tree.{Tree, Token, tokens}
-use Rattle.json_text.specs.declared.error.Error.{Error}
-use Rattle.json_text.specs.Errors.{writing_failed}
-use Rattle.json_text.specs.Known.{append_known}
-use Rattle.json_text.specs.Outside.{SinkState}
+use Rattle.json_io.specs.declared.error.Error.{Error}
+use Rattle.json_io.specs.Errors.{writing_failed}
+use Rattle.json_io.specs.Known.{append_known}
+use Rattle.json_io.specs.Outside.{SinkState}
 use Rattle.json_print.specs.Layouts.{Form, LaidOut}
 use Rattle.json_print.specs.Printer.{Out, Begins, StopCause, StopsAtToken, after, start}
 use Rattle.json_print.specs.Shown.{shown_as}

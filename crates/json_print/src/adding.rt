@@ -1,11 +1,11 @@
 // Pieces put into a sink, answered as the sink answers: an answer that can hold a place in the input costs more.
 ghost use Rattle.std.specs.Prelude.{◌≡◌, ◌≤◌, ℕ, List, length, drop};
-ghost use Rattle.json_text.specs.Errors.{no_memory, writing_failed};
-ghost use Rattle.json_text.specs.Outside.{SinkState};
-ghost use Rattle.json_text.specs.Transfer.{Puts};
+ghost use Rattle.json_io.specs.Errors.{no_memory, writing_failed};
+ghost use Rattle.json_io.specs.Outside.{SinkState};
+ghost use Rattle.json_io.specs.Transfer.{Puts};
 ghost use Rattle.json_print.specs.Adding.{Adds, Sends};
 
-use json_text::{Error, ErrorCode, Place, Result, Sink, SinkError};
+use json_io::{Error, ErrorCode, Place, Result, Sink, SinkError};
 
 pub(crate) type Added = std::result::Result<(), SinkError>;
 

@@ -1,8 +1,8 @@
 // A sink that holds bytes back and sends many at once.
 ghost use Rattle.std.specs.Prelude.{◌≡◌, ◌≤◌, ◌<◌, ◌+◌, ◌++◌, length, IfErr, IfOk, OnOk, List, ℕ, drop, take};
 ghost use Rattle.std.specs.Io.{WritesAtMost};
-ghost use Rattle.json_text.specs.Errors.{no_memory};
-ghost use Rattle.json_text.specs.Outside.{Writes};
+ghost use Rattle.json_io.specs.Errors.{no_memory};
+ghost use Rattle.json_io.specs.Outside.{Writes};
 ghost use Rattle.std.specs.Prelude.{◌∷◌, [], IsTrue, Ok, Err, false};
 ghost use Rattle.json_grammar.specs.Given.{piece};
 ghost use Rattle.json_model.specs.Print.{quoted, shown_bytes};
@@ -14,7 +14,7 @@ use crate::adding::{Added, send};
 use crate::blocks::{BLOCK_ROOM, store_blocks, store_last};
 use crate::placing::{ITEM, place_byte, place_item, place_key, place_lead};
 use crate::shown::BATCH;
-use json_text::{Result, Sink, SinkError};
+use json_io::{Result, Sink, SinkError};
 use std::alloc::Global;
 use std::simd::prelude::*;
 
@@ -24,7 +24,7 @@ const CAPACITY: usize = 8192;
 ///
 /// ```
 /// use json_print::{Buffer, BufferedWriter};
-/// use json_text::{VecSink, flush_all, put_all};
+/// use json_io::{VecSink, flush_all, put_all};
 /// let buffer = Buffer::new(alloc)?;
 /// let mut writer = BufferedWriter::with_buffer(buffer, VecSink::new(alloc));
 /// put_all(&mut writer, b"null")?;
@@ -54,7 +54,7 @@ impl Buffer {
 ///
 /// ```
 /// use json_print::BufferedWriter;
-/// use json_text::{VecSink, flush_all, put_all};
+/// use json_io::{VecSink, flush_all, put_all};
 /// let mut writer = BufferedWriter::new(alloc, VecSink::new(alloc))?;
 /// put_all(&mut writer, b"sent")?;
 /// flush_all(&mut writer)?;

@@ -5,13 +5,13 @@ use crate::Formatter;
 use crate::adding::{add, told};
 use crate::escape::{add_number, add_string, add_unsigned};
 use crate::layout::add_byte_array;
-use json_text::{Result, Sink};
+use json_io::{Result, Sink};
 
 /// A formatter that writes no whitespace between the tokens.
 ///
 /// ```
 /// use json_print::{CompactFormatter, Formatter};
-/// use json_text::VecSink;
+/// use json_io::VecSink;
 /// let mut sink = VecSink::new(alloc);
 /// CompactFormatter.write_byte_array(&mut sink, b"\x01\xff")?;
 /// assert_eq!(rt; sink.as_slice(), b"[1,255]".as_slice());

@@ -5,13 +5,14 @@ ghost use Rattle.json_model.specs.Print.{quoted, shown_bytes};
 ghost use Rattle.json_grammar.specs.Given.{piece};
 ghost use Rattle.json_print.specs.Adding.{Adds};
 ghost use Rattle.json_print.specs.Calls.{string_text};
-ghost use Rattle.json_text.specs.Runs.{plain};
+ghost use Rattle.json_scan.specs.Runs.{plain};
 
 use crate::adding::{Added, add};
 use crate::plain::is_plain_short;
 use crate::shown::{BATCH, add_batch};
 use itoa::{Buffer, Integer};
-use json_text::{Sink, plain_run};
+use json_io::Sink;
+use json_scan::plain_run;
 
 // How many bytes go by tables after a long run.
 const FEW: usize = 4;

@@ -4,12 +4,12 @@ ghost use Rattle.std.specs.Fmt.{decimal, signed_decimal};
 ghost use Rattle.json_grammar.specs.Grammar.{number};
 ghost use Rattle.json_grammar.specs.Tree.{Token, null_token, boolean_token, num_token, text_token, begin, end, key_token};
 ghost use Rattle.json_grammar.specs.declared.Kind.TheVariants.{Array as array, Object as object};
-ghost use Rattle.json_text.specs.declared.error.Error.{Error};
+ghost use Rattle.json_io.specs.declared.error.Error.{Error};
 ghost use Rattle.json_print.specs.Given.{TokenOrInteger, given, given_integer, token_of};
 ghost use Rattle.json_print.specs.Standing.{ExpectedTokens, MayCome, stand_after};
 ghost use Rattle.json_print.specs.Taking.{Takes};
 
-use json_text::Result;
+use json_io::Result;
 
 /// What comes next of a value's parts. The contracts of [`Events`] say by it which call may come; no
 /// call returns it.
@@ -42,7 +42,7 @@ pub enum Turn {
 ///
 /// ```
 /// use json_print::{Events, Serializer};
-/// use json_text::VecSink;
+/// use json_io::VecSink;
 /// let mut out = Serializer::new(alloc, VecSink::new(alloc));
 /// out.begin_array(None)?;
 /// out.text("x")?;

@@ -1,11 +1,11 @@
 // How the parts of a JSON text are written.
 ghost use Rattle.std.specs.Prelude.{◌≡◌, OnOk};
 ghost use Rattle.json_grammar.specs.declared.Kind.TheVariants.{Array as array, Object as object};
-ghost use Rattle.json_text.specs.Transfer.{Puts};
+ghost use Rattle.json_io.specs.Transfer.{Puts};
 ghost use Rattle.json_print.specs.Calls.{null_call, boolean_call, number_call, signed_call, unsigned_call, string_call, bytes_call, begin_string, end_string, begin_call, end_call, begin_element, end_element, begin_key, end_key, begin_member, end_member, raw_call};
 ghost use Rattle.json_print.specs.Layouts.{Form};
 
-use json_text::{Result, Sink};
+use json_io::{Result, Sink};
 
 /// Writes the parts of a JSON text (RFC 8259): each call appends one piece to the writer.
 ///
@@ -13,7 +13,7 @@ use json_text::{Result, Sink};
 ///
 /// ```
 /// use json_print::{Formatter, PrettyFormatter};
-/// use json_text::VecSink;
+/// use json_io::VecSink;
 /// let mut sink = VecSink::new(alloc);
 /// let mut formatter = PrettyFormatter::new();
 /// formatter.write_string_fast(&mut sink, "a\tb", true)?;

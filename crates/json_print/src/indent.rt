@@ -5,7 +5,7 @@ ghost use Rattle.json_print.specs.Adding.{Adds};
 ghost use Rattle.json_print.specs.Calls.{comma};
 
 use crate::adding::{Added, add};
-use json_text::Sink;
+use json_io::Sink;
 
 // How many spaces a line has that is ready.
 const SPACES: usize = 64;

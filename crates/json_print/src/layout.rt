@@ -7,7 +7,7 @@ ghost use Rattle.json_print.specs.Calls.{byte_array, byte_elements, closing_line
 use crate::adding::{Added, add};
 use crate::escape::add_number;
 use crate::indent::{Indent, add_break};
-use json_text::Sink;
+use json_io::Sink;
 
 /// What comes before an element or a key.
 #[inline(always)]

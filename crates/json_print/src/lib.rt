@@ -2,7 +2,7 @@
 //!
 //! ```
 //! use json_print::{Events, Serializer};
-//! use json_text::VecSink;
+//! use json_io::VecSink;
 //! let mut out = Serializer::pretty(alloc, VecSink::new(alloc)).sort_map_keys();
 //! out.begin_object(None)?;
 //! out.key("name")?;

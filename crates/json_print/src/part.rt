@@ -1,12 +1,12 @@
 // The calls of a formatter that a serializer makes.
 ghost use Rattle.std.specs.Prelude.{◌≡◌, OnOk};
-ghost use Rattle.json_text.specs.Transfer.{Puts};
+ghost use Rattle.json_io.specs.Transfer.{Puts};
 ghost use Rattle.json_print.specs.Calls.{signed_call, unsigned_call};
 ghost use Rattle.json_print.specs.Parts.{meaning};
 
 use crate::Formatter;
 use json_grammar::Kind;
-use json_text::{Result, Sink};
+use json_io::{Result, Sink};
 
 // A call of a formatter.
 #[derive(Clone, Copy)]

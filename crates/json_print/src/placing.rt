@@ -2,7 +2,7 @@
 ghost use Rattle.std.specs.Prelude.{◌≡◌, ◌≤◌, ◌<◌, ◌+◌, ◌++◌, ◌∷◌, [], length, take, IsTrue, IfSome};
 ghost use Rattle.json_model.specs.Print.{quoted};
 ghost use Rattle.json_print.specs.Calls.{comma};
-ghost use Rattle.json_text.specs.Runs.{plain};
+ghost use Rattle.json_scan.specs.Runs.{plain};
 
 use crate::buffered::fill_by;
 use crate::plain::{is_plain, is_plain_by};

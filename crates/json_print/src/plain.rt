@@ -1,7 +1,7 @@
 // Whether a short string has no byte that has to be escaped.
 ghost use Rattle.std.specs.Prelude.{◌≡◌, ℕ, ◌+◌, ◌^◌, ◌<◌, ◌≤◌, ◌==◌, cond, length, get_or, IsTrue};
 ghost use Rattle.std.specs.Int.Count.{count_trailing_zeros};
-ghost use Rattle.json_text.specs.Runs.{CountedIn, IsPlain, plain};
+ghost use Rattle.json_scan.specs.Runs.{CountedIn, IsPlain, plain};
 
 use std::simd::prelude::*;
 

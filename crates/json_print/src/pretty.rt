@@ -7,14 +7,14 @@ use crate::adding::{add, told};
 use crate::escape::{add_number, add_string, add_unsigned};
 use crate::indent::Indent;
 use crate::layout::{add_byte_array, add_end, add_start};
-use json_text::{Result, Sink};
+use json_io::{Result, Sink};
 
 /// A formatter that writes each element and each key on a line of its own, after one indent for each
 /// container around it. An empty container is `[]` or `{}`, and `: ` follows a key.
 ///
 /// ```
 /// use json_print::{Events, PrettyFormatter, Serializer};
-/// use json_text::VecSink;
+/// use json_io::VecSink;
 /// let tabs = PrettyFormatter::with_indent(b"\t");
 /// let mut out = Serializer::with_formatter(alloc, VecSink::new(alloc), tabs);
 /// out.begin_array(None)?;

@@ -2,9 +2,9 @@
 ghost use Rattle.std.specs.Prelude.{◌≡◌, Some, MatchOption};
 ghost use Rattle.std.specs.Fmt.{WritesOnOk};
 ghost use Rattle.json_model.specs.Print.{quoted, shown_byte, shown_bytes, unit_escape};
-ghost use Rattle.json_text.specs.Runs.{IsPlain};
+ghost use Rattle.json_scan.specs.Runs.{IsPlain};
 
-use json_text::plain_run;
+use json_scan::plain_run;
 use std::fmt;
 
 /// Shows the characters by std's formatting as a JSON string, between quotes and escaped as the formatters do

@@ -16,7 +16,7 @@ use crate::part::Part;
 use crate::sorted::SortedObject;
 use crate::{CompactFormatter, Events, Formatter, PrettyFormatter, Turn};
 use json_grammar::Kind;
-use json_text::{Error, Result, Sink};
+use json_io::{Error, Result, Sink};
 use std::alloc::Global;
 
 // A step stopped, and the serializer keeps why.
@@ -32,7 +32,7 @@ type Step = std::result::Result<(), Halted>;
 ///
 /// ```
 /// use json_print::{Events, Serializer};
-/// use json_text::VecSink;
+/// use json_io::VecSink;
 /// let mut out = Serializer::pretty(alloc, VecSink::new(alloc));
 /// out.begin_object(None)?;
 /// out.key("n")?;

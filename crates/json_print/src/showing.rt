@@ -2,8 +2,8 @@
 ghost use Rattle.std.specs.Prelude.{◌≡◌, ◌+◌, ◌∷◌, ◌++◌, [], ℕ, List, Option, None, Some, length, IsErrOf};
 ghost use Rattle.std.specs.Fmt.{decimal, signed_decimal};
 ghost use Rattle.json_model.specs.Print.{quoted, colon_bytes};
-ghost use Rattle.json_text.specs.Errors.{no_memory};
-ghost use Rattle.json_text.specs.Outside.{SinkState};
+ghost use Rattle.json_io.specs.Errors.{no_memory};
+ghost use Rattle.json_io.specs.Outside.{SinkState};
 ghost use Rattle.json_print.specs.Adding.{Adds};
 ghost use Rattle.json_print.specs.Calls.{comma};
 ghost use Rattle.json_print.specs.Showing.{RanOut, Shows, lead, closed_by, key_shown, text_shown};
@@ -13,14 +13,14 @@ use crate::BufferedWriter;
 use crate::adding::{Added, add, refusal};
 use crate::escape::{add_number, add_unsigned};
 use crate::indent::{Indent, add_break};
-use json_text::{Result, Sink};
+use json_io::{Result, Sink};
 
 /// How the parts of a text are laid out: what comes before elements and keys, after keys, and before
 /// closing brackets.
 ///
 /// ```
 /// use json_print::{BufferedWriter, Layout, ManyLines, answered, show_unsigned};
-/// use json_text::{VecSink, flush_all};
+/// use json_io::{VecSink, flush_all};
 /// let mut out = BufferedWriter::new(alloc, VecSink::new(alloc))?;
 /// let lines = ManyLines::new(b"  ");
 /// answered(lines.key(&mut out, 1, true, "born"))?;
@@ -109,7 +109,7 @@ fn add_item<W: Sink>(out: &mut BufferedWriter<W>, first: bool, text: &[u8]) -> A
 ///
 /// ```
 /// use json_print::{BufferedWriter, Layout, OneLine, answered};
-/// use json_text::{VecSink, flush_all};
+/// use json_io::{VecSink, flush_all};
 /// let mut out = BufferedWriter::new(alloc, VecSink::new(alloc))?;
 /// answered(OneLine.element(&mut out, 0, true, "Ada"))?;
 /// answered(OneLine.element(&mut out, 0, false, "Grace"))?;
@@ -177,7 +177,7 @@ impl Layout for OneLine {
 ///
 /// ```
 /// use json_print::{BufferedWriter, Layout, ManyLines, answered};
-/// use json_text::{VecSink, flush_all};
+/// use json_io::{VecSink, flush_all};
 /// let mut out = BufferedWriter::new(alloc, VecSink::new(alloc))?;
 /// answered(ManyLines::new(b"\t").element(&mut out, 1, true, "Ada"))?;
 /// flush_all(&mut out)?;

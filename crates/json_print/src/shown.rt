@@ -4,7 +4,7 @@ ghost use Rattle.json_model.specs.Print.{shown_byte, shown_bytes};
 ghost use Rattle.json_print.specs.Adding.{Adds};
 
 use crate::adding::{Added, add};
-use json_text::Sink;
+use json_io::Sink;
 use std::simd::prelude::*;
 
 // How many bytes are shown at once.

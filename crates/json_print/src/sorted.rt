@@ -1,7 +1,7 @@
 // An open object whose members wait for its end, to be put in the order of their keys.
 ghost use Rattle.std.specs.Prelude.{◌≡◌, ◌<◌, length, slice_get, None, Some, true, false, OnOk, IfOk, IfErr, ◌^◌, ◌-◌};
-ghost use Rattle.json_text.specs.Errors.{no_memory};
-ghost use Rattle.json_text.specs.Transfer.{Puts};
+ghost use Rattle.json_io.specs.Errors.{no_memory};
+ghost use Rattle.json_io.specs.Transfer.{Puts};
 ghost use Rattle.json_print.specs.Parts.{meaning};
 ghost use Rattle.json_print.specs.Printer.{key_more, no_layer, pair_filed, row_with, text_put};
 ghost use Rattle.json_print.specs.Rows.{IsOrderOf, key_bytes, key_next, members_bytes, members_next, row_bytes, row_next, value_bytes, value_next};
@@ -9,7 +9,7 @@ ghost use Rattle.json_print.specs.Rows.{IsOrderOf, key_bytes, key_next, members_
 use crate::Formatter;
 use crate::order::{Numbered, sort_pairs};
 use crate::part::{Part, write_part};
-use json_text::{Result, Sink, SinkError, put_all};
+use json_io::{Result, Sink, SinkError, put_all};
 use std::alloc::Global;
 use std::marker::Model;
 

@@ -3,7 +3,7 @@ ghost use Rattle.std.specs.Prelude.{option_map};
 ghost use Rattle.json_model.specs.Print.{IsIndent};
 ghost use Rattle.json_print.specs.Indents.{indent_is_prop};
 
-use json_text::ws_run;
+use json_scan::ws_run;
 
 /// How a JSON text is laid out: an indent of whitespace, or none for no whitespace between the tokens,
 /// and whether the members of each object are sorted by their keys.

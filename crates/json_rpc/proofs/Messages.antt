@@ -10,15 +10,15 @@ use Rattle.json_grammar.proofs.Moves.{give_start, cut_off}
 use Rattle.json_grammar.proofs.OneFault.{text_no_fault}
 use Rattle.json_grammar.proofs.TextUtf8.{text_utf8}
 use Rattle.json_grammar.proofs.Values.{one_tree}
-use Rattle.json_text.specs.declared.error.ErrorCode.{ErrorCode}
-use Rattle.json_text.specs.declared.error.ErrorCode.TheVariants as code
-use Rattle.json_text.specs.declared.error.Place.{Place}
+use Rattle.json_io.specs.declared.error.ErrorCode.{ErrorCode}
+use Rattle.json_io.specs.declared.error.ErrorCode.TheVariants as code
+use Rattle.json_io.specs.declared.error.Place.{Place}
 use Rattle.json_text.specs.Faults.{FaultAt}
-use Rattle.json_text.specs.Positions.{place_at}
-use Rattle.json_text.specs.Utf8.{IsUtf8Fault, Utf8Cause}
-use Rattle.json_text.proofs.Masks.{space_test, space_decided}
+use Rattle.json_io.specs.Positions.{place_at}
+use Rattle.json_io.specs.Utf8.{IsUtf8Fault, Utf8Cause}
+use Rattle.json_scan.proofs.Masks.{space_test, space_decided}
 use Rattle.json_text.proofs.OneFaultAt.{stands, some_fault_at}
-use Rattle.json_text.proofs.Utf8Faults.{some_fault}
+use Rattle.json_io.proofs.Utf8Faults.{some_fault}
 use Rattle.json_doc.specs.Reading.{ReadingFails}
 use Rattle.json_command.proofs.Inputs.{utf8_no_fault}
 use Rattle.json_command.specs.Input.{BlankTest}

@@ -3,17 +3,17 @@ use Rattle.std.proofs.Common.{◌≡◌, ◌∙◌, inl, inr, ℕ, ◌+◌, ◌<
 use Rattle.std.specs.Borrow.{GName}
 use Rattle.std.proofs.lemmas.Bool.{cases_lt}
 use Rattle.json_grammar.specs.Tree.{null}
-use Rattle.json_text.specs.declared.error.Error.{Error}
-use Rattle.json_text.specs.declared.error.ErrorCode.{ErrorCode}
-use Rattle.json_text.specs.declared.error.ErrorCode.TheVariants.{NoMemory, Io, TooLarge}
-use Rattle.json_text.specs.declared.error.Place.{Place}
-use Rattle.json_text.specs.declared.error.Place.TheVariants.{None as nowhere, Reading, Writing}
-use Rattle.json_text.specs.Errors.{no_memory, writing_failed}
-use Rattle.json_text.specs.Known.{Appends, Grows, append_known}
-use Rattle.json_text.specs.Lending.{lent_as, ComesBack}
-use Rattle.json_text.specs.Outside.{SinkState, SourceState, Rose, counted}
-use Rattle.json_text.specs.Transfer.{FlushesAll, WritingCause}
-use Rattle.json_text.proofs.Known.{known-nil, known-append, Consumes-nil}
+use Rattle.json_io.specs.declared.error.Error.{Error}
+use Rattle.json_io.specs.declared.error.ErrorCode.{ErrorCode}
+use Rattle.json_io.specs.declared.error.ErrorCode.TheVariants.{NoMemory, Io, TooLarge}
+use Rattle.json_io.specs.declared.error.Place.{Place}
+use Rattle.json_io.specs.declared.error.Place.TheVariants.{None as nowhere, Reading, Writing}
+use Rattle.json_io.specs.Errors.{no_memory, writing_failed}
+use Rattle.json_io.specs.Known.{Appends, Grows, append_known}
+use Rattle.json_io.specs.Lending.{lent_as, ComesBack}
+use Rattle.json_io.specs.Outside.{SinkState, SourceState, Rose, counted}
+use Rattle.json_io.specs.Transfer.{FlushesAll, WritingCause}
+use Rattle.json_io.proofs.Known.{known-nil, known-append, Consumes-nil}
 use Rattle.json_print.specs.Buffered.{held_behind}
 use Rattle.json_print.specs.Calls.{holds_any}
 use Rattle.json_print.specs.Printer.{Begins as BeginsWith, StopCause}

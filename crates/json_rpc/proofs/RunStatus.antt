@@ -1,15 +1,15 @@
 -- What the status of a run says.
 use Rattle.std.proofs.Common.{◌≡◌, ◌≢◌, ◌⊎◌, ◌∙◌, inl, inr, ℕ, ◌<◌, ◌≤◌, List, [], length, ◌++◌, Option, Some, None, refl, sym, ap, subst, arith}
 use Rattle.std.proofs.lemmas.List.{length-append}
-use Rattle.json_text.specs.declared.error.Error.{Error}
-use Rattle.json_text.specs.declared.error.ErrorCode.{ErrorCode}
-use Rattle.json_text.specs.declared.error.ErrorCode.TheVariants.{NoMemory, Io, TooLarge}
-use Rattle.json_text.specs.declared.error.Place.{Place}
-use Rattle.json_text.specs.declared.error.Place.TheVariants.{None as nowhere, Reading, Writing}
-use Rattle.json_text.specs.Errors.{bad_words}
-use Rattle.json_text.specs.FaultText.{text_of}
-use Rattle.json_text.specs.Known.{Consumes, prepend_known}
-use Rattle.json_text.specs.Outside.{SourceState, SinkState, Rose}
+use Rattle.json_io.specs.declared.error.Error.{Error}
+use Rattle.json_io.specs.declared.error.ErrorCode.{ErrorCode}
+use Rattle.json_io.specs.declared.error.ErrorCode.TheVariants.{NoMemory, Io, TooLarge}
+use Rattle.json_io.specs.declared.error.Place.{Place}
+use Rattle.json_io.specs.declared.error.Place.TheVariants.{None as nowhere, Reading, Writing}
+use Rattle.json_io.specs.Errors.{bad_words}
+use Rattle.json_io.specs.FaultText.{text_of}
+use Rattle.json_io.specs.Known.{Consumes, prepend_known}
+use Rattle.json_io.specs.Outside.{SourceState, SinkState, Rose}
 use Rattle.json_command.specs.Input.{max_bytes}
 use Rattle.json_command.specs.Reporting.{Reports}
 use Rattle.json_lines.specs.TopCall.{run_status}

@@ -3,9 +3,9 @@ use Rattle.std.proofs.Common.{◌≡◌, ℕ, ◌+◌, ◌-◌, ◌<◌, ◌⊎�
 use Rattle.std.specs.Prelude.{option_to_list}
 use Rattle.json_grammar.specs.Tree.{Tree}
 use Rattle.json_model.specs.Print.{shown}
-use Rattle.json_text.specs.Known.{append_known}
-use Rattle.json_text.specs.declared.error.Error.{Error}
-use Rattle.json_text.specs.Errors.{writing_failed, no_memory}
+use Rattle.json_io.specs.Known.{append_known}
+use Rattle.json_io.specs.declared.error.Error.{Error}
+use Rattle.json_io.specs.Errors.{writing_failed, no_memory}
 use Rattle.json_print.specs.Printer.{Begins as BeginsWith, StopCause}
 use Rattle.json_print.specs.TextWriting.{WritesText}
 use Rattle.json_lines.specs.declared.line_reader.Line.{Line}
@@ -19,7 +19,7 @@ use Rattle.json_rpc.specs.Serving.{Message, served, IsMessage, LineIsMessage, ma
 use Rattle.json_rpc.specs.Sessions.{AreMessages, session, reply_texts, replies, reply_text, ReplyFails}
 use Rattle.json_rpc.specs.Steps.{ServingState, ServesNextLine, ServesNoLine, ServingReadFails, ServingStepFails, IsFreshServing, FinishesServing, StopsServing}
 use Rattle.json_rpc.proofs.Messages.{some_message}
-use Rattle.json_text.proofs.Known.{known-append}
+use Rattle.json_io.proofs.Known.{known-append}
 
 -- ---- sessions
 

@@ -4,7 +4,7 @@ use Rattle.json_value.specs.Edits.{path_steps, edit_of}
 use Rattle.json_value.specs.Seen.{seen}
 use Rattle.json_grammar.specs.Tree.{Tree}
 use Rattle.json_value.specs.Denotes.{tree_of}
-use Rattle.json_text.specs.Outside.{SinkState, SourceState}
+use Rattle.json_io.specs.Outside.{SinkState, SourceState}
 use Rattle.json_lines.specs.declared.line_reader.LineReader.{LineReader}
 use Rattle.json_lines.specs.Reading.{line_reader_state}
 use Rattle.json_rpc.specs.Steps.{ServingState}

@@ -1,14 +1,14 @@
 -- What a run does, for each status.
 use Rattle.std.specs.Prelude.{◌≡◌, ◌≢◌, ◌⊎◌, ℕ, ◌<◌, ◌≤◌, List, [], length, false, Some, IfSome}
 use Rattle.json_grammar.specs.Tree.{null}
-use Rattle.json_text.specs.declared.error.Error.{Error}
-use Rattle.json_text.specs.declared.error.ErrorCode.{ErrorCode}
-use Rattle.json_text.specs.declared.error.Place.{Place}
-use Rattle.json_text.specs.Errors.{reading_failed, writing_failed, bad_words}
-use Rattle.json_text.specs.FaultText.{text_of}
-use Rattle.json_text.specs.Known.{Appends, Consumes, append_known, told_as}
-use Rattle.json_text.specs.Outside.{SourceState, SinkState, Rose, counted}
-use Rattle.json_text.specs.Transfer.{AppendsFront}
+use Rattle.json_io.specs.declared.error.Error.{Error}
+use Rattle.json_io.specs.declared.error.ErrorCode.{ErrorCode}
+use Rattle.json_io.specs.declared.error.Place.{Place}
+use Rattle.json_io.specs.Errors.{reading_failed, writing_failed, bad_words}
+use Rattle.json_io.specs.FaultText.{text_of}
+use Rattle.json_io.specs.Known.{Appends, Consumes, append_known, told_as}
+use Rattle.json_io.specs.Outside.{SourceState, SinkState, Rose, counted}
+use Rattle.json_io.specs.Transfer.{AppendsFront}
 use Rattle.json_print.specs.Printer.{Begins as BeginsWith}
 use Rattle.json_command.specs.Input.{max_bytes}
 use Rattle.json_command.specs.Reporting.{Reports}

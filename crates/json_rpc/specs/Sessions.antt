@@ -2,9 +2,9 @@
 use Rattle.std.specs.Prelude.{◌≡◌, ◌⊎◌, ℕ, List, [], ◌∷◌, ◌++◌, None, Ok, Err, Option, option_to_list, ⊤}
 use Rattle.json_grammar.specs.Tree.{Tree}
 use Rattle.json_model.specs.Print.{shown}
-use Rattle.json_text.specs.declared.error.Error.{Error}
-use Rattle.json_text.specs.Errors.{no_memory}
-use Rattle.json_text.specs.Outside.{SinkState}
+use Rattle.json_io.specs.declared.error.Error.{Error}
+use Rattle.json_io.specs.Errors.{no_memory}
+use Rattle.json_io.specs.Outside.{SinkState}
 use Rattle.json_print.specs.TextWriting.{WritesText}
 use Rattle.json_lines.specs.declared.line_reader.Line.{Line}
 use Rattle.json_rpc.specs.Serving.{Message, served, IsMessage, Serves}

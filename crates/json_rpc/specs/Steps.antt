@@ -1,10 +1,10 @@
 -- What one step of the loop over lines does, and all of them.
 use Rattle.std.specs.Prelude.{◌≡◌, ◌⊎◌, ℕ, ◌<◌, ◌≤◌, Bool, true, false, List, [], None, Some, Ok, Err, IfSome}
 use Rattle.json_grammar.specs.Tree.{Tree}
-use Rattle.json_text.specs.declared.error.Error.{Error}
-use Rattle.json_text.specs.Errors.{reading_failed, writing_failed}
-use Rattle.json_text.specs.Known.{append_known, told_as}
-use Rattle.json_text.specs.Outside.{SinkState, SourceState}
+use Rattle.json_io.specs.declared.error.Error.{Error}
+use Rattle.json_io.specs.Errors.{reading_failed, writing_failed}
+use Rattle.json_io.specs.Known.{append_known, told_as}
+use Rattle.json_io.specs.Outside.{SinkState, SourceState}
 use Rattle.json_print.specs.Printer.{Begins as BeginsWith, StopCause}
 use Rattle.json_print.specs.TextWriting.{WritesText}
 use Rattle.json_command.specs.Input.{max_bytes}

@@ -4,9 +4,9 @@ ghost use Rattle.json_command.specs.Input.{max_bytes};
 ghost use Rattle.json_lines.specs.Reading.{line_reader_state, fresh_reader};
 ghost use Rattle.json_lines.specs.TopCall.{run_status as spec_run_status};
 ghost use Rattle.json_rpc.specs.RunResults.{service_streams, ReadsWholeSource, AppendsReplies, WritesAll, ServesAll, StopsRun, StopsBuffered, ServingRunFails, RefusesAnyWords, ReportsFailure, ServingResult, IsRunStatus, NothingFailsServing};
-ghost use Rattle.json_text.specs.Errors.{bad_words};
-ghost use Rattle.json_text.specs.Known.{Consumes};
-ghost use Rattle.json_text.specs.Outside.{Rose};
+ghost use Rattle.json_io.specs.Errors.{bad_words};
+ghost use Rattle.json_io.specs.Known.{Consumes};
+ghost use Rattle.json_io.specs.Outside.{Rose};
 
 use crate::lines::serve_lines;
 use crate::message::MAX_LINE_BYTES;

@@ -10,11 +10,11 @@ use Rattle.json_grammar.specs.Tree.{Tree, tokens}
 use Rattle.json_grammar.proofs.Opens.{opens_reading}
 use Rattle.json_grammar.proofs.Reading.{one_place}
 use Rattle.json_grammar.proofs.ValueFaults.{value_short, one_value_fault}
-use Rattle.json_text.specs.declared.error.Error.{Error}
-use Rattle.json_text.specs.declared.error.ErrorCode.{ErrorCode}
-use Rattle.json_text.specs.declared.error.ErrorCode.TheVariants as code
-use Rattle.json_text.specs.declared.error.Place.{Place}
-use Rattle.json_text.specs.declared.error.Place.TheVariants as at
+use Rattle.json_io.specs.declared.error.Error.{Error}
+use Rattle.json_io.specs.declared.error.ErrorCode.{ErrorCode}
+use Rattle.json_io.specs.declared.error.ErrorCode.TheVariants as code
+use Rattle.json_io.specs.declared.error.Place.{Place}
+use Rattle.json_io.specs.declared.error.Place.TheVariants as at
 use Rattle.json_text.specs.Ends.{NothingLeft}
 use Rattle.json_text.specs.Faults.{IsValueFault}
 use Rattle.json_text.proofs.OneFaultAt.{code_of, stands}

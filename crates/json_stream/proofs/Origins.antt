@@ -7,8 +7,8 @@ use Rattle.std.proofs.lemmas.List.Sums.{suffix_len-le-length}
 use Rattle.std.proofs.lemmas.Str.{utf8_lossy_empty}
 use Rattle.std.proofs.Math.Seq.{take-append-add}
 use Rattle.bstr.proofs.lemmas.PieceLemmas.{pieces-nil}
-use Rattle.json_text.specs.declared.error.Place.TheVariants as place
-use Rattle.json_text.specs.Positions.{line_at, column_at, place_at}
+use Rattle.json_io.specs.declared.error.Place.TheVariants as place
+use Rattle.json_io.specs.Positions.{line_at, column_at, place_at}
 use Rattle.json_text.specs.Repaired.{RepairedText, origin_in, origin_at, origin_of}
 use Rattle.json_stream.specs.Streams.{origin_place}
 use Rattle.json_stream.specs.Laws.{IsRepairOf}

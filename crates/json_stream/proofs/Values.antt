@@ -15,18 +15,18 @@ use Rattle.json_grammar.proofs.OneValue.{value_text}
 use Rattle.json_grammar.proofs.Sizes.{nodes_some, text_fits}
 use Rattle.json_grammar.proofs.TextUtf8.{text_utf8}
 use Rattle.json_grammar.proofs.TokensUnique.{tokens_injective}
-use Rattle.json_text.specs.declared.error.Error.{Error}
-use Rattle.json_text.specs.declared.error.ErrorCode.{ErrorCode}
-use Rattle.json_text.specs.declared.error.ErrorCode.TheVariants as code
-use Rattle.json_text.specs.declared.error.Place.{Place}
-use Rattle.json_text.specs.declared.error.Place.TheVariants as place
+use Rattle.json_io.specs.declared.error.Error.{Error}
+use Rattle.json_io.specs.declared.error.ErrorCode.{ErrorCode}
+use Rattle.json_io.specs.declared.error.ErrorCode.TheVariants as code
+use Rattle.json_io.specs.declared.error.Place.{Place}
+use Rattle.json_io.specs.declared.error.Place.TheVariants as place
 use Rattle.json_text.specs.Ends.{ComesNext, ReadsEnd, TrailsAt, LacksEnd}
-use Rattle.json_text.specs.Errors.{no_memory}
+use Rattle.json_io.specs.Errors.{no_memory}
 use Rattle.json_text.specs.Faults.{ValueFaultFrom}
 use Rattle.json_text.specs.Parsing.{ParserState, taken}
-use Rattle.json_text.specs.Positions.{place_at}
-use Rattle.json_text.specs.Runs.{ByteAt}
-use Rattle.json_text.specs.Utf8.{Utf8Cause}
+use Rattle.json_io.specs.Positions.{place_at}
+use Rattle.json_scan.specs.Runs.{ByteAt}
+use Rattle.json_io.specs.Utf8.{Utf8Cause}
 use Rattle.json_text.proofs.OneFaultAt.{stands}
 use Rattle.json_data.specs.Reading.{Reading}
 use Rattle.json_data.specs.Refusals.{is_refusal}

@@ -1,7 +1,7 @@
 -- Laws on places that are told.
 use Rattle.std.specs.Prelude.{◌≡◌, ℕ, ◌≤◌, Bool, List, length, Some}
 use Rattle.std.specs.Str.Lossy.{utf8_lossy}
-use Rattle.json_text.specs.Positions.{place_at}
+use Rattle.json_io.specs.Positions.{place_at}
 use Rattle.json_text.specs.Repaired.{RepairedText, origin_at, origin_of}
 use Rattle.json_stream.specs.Streams.{stands_at, told_at}
 

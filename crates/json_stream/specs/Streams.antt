@@ -7,18 +7,18 @@ use Rattle.json_grammar.specs.Fault.{reads}
 use Rattle.json_grammar.specs.Place.{closing}
 use Rattle.json_grammar.specs.Tree.{Tree, depth}
 use Rattle.json_model.specs.Datum.{Datum}
-use Rattle.json_text.specs.declared.error.Error.{Error}
-use Rattle.json_text.specs.declared.error.ErrorCode.{ErrorCode}
-use Rattle.json_text.specs.declared.error.ErrorCode.TheVariants as code
-use Rattle.json_text.specs.declared.error.Place.{Place}
-use Rattle.json_text.specs.declared.error.Place.TheVariants as place
+use Rattle.json_io.specs.declared.error.Error.{Error}
+use Rattle.json_io.specs.declared.error.ErrorCode.{ErrorCode}
+use Rattle.json_io.specs.declared.error.ErrorCode.TheVariants as code
+use Rattle.json_io.specs.declared.error.Place.{Place}
+use Rattle.json_io.specs.declared.error.Place.TheVariants as place
 use Rattle.json_text.specs.Ends.{ComesNext}
 use Rattle.json_text.specs.Faults.{IsValueFault}
 use Rattle.json_text.specs.Parsing.{ParserState}
-use Rattle.json_text.specs.Positions.{place_at}
+use Rattle.json_io.specs.Positions.{place_at}
 use Rattle.json_text.specs.Repaired.{RepairedText, origin_of}
-use Rattle.json_text.specs.Runs.{ByteAt}
-use Rattle.json_text.specs.Utf8.{Utf8Cause}
+use Rattle.json_scan.specs.Runs.{ByteAt}
+use Rattle.json_io.specs.Utf8.{Utf8Cause}
 use Rattle.json_data.specs.Reading.{Reading, gives, refuses}
 
 -- what is read, and the place in it where the next value must come, in bytes; whether lone surrogates are taken; and, where the text was repaired,

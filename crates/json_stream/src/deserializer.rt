@@ -37,7 +37,7 @@ pub struct Deserializer<'a> {
 
 impl<'a> Model for Deserializer<'a> {
     ghost use Rattle.std.specs.Prelude.{◌≡◌, IsOk, MatchResult, IfSome, option_copied};
-    ghost use Rattle.json_text.specs.Utf8.{Utf8Cause};
+    ghost use Rattle.json_io.specs.Utf8.{Utf8Cause};
     ghost use Rattle.json_stream.specs.Streams.{InputState, IsTextAt};
 
     ghost Value = { InputState };

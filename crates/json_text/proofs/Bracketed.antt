@@ -7,7 +7,7 @@ use Rattle.json_grammar.specs.declared.Spot.TheVariants.{Done as done}
 use Rattle.json_grammar.specs.Place.{TakesValue, TakesEnd, bracket, closing, opened}
 use Rattle.json_grammar.specs.Tree.{Token, begin, end}
 use Rattle.json_text.specs.declared.event.Event.TheVariants as event
-use Rattle.json_text.specs.Runs.{ByteAt}
+use Rattle.json_scan.specs.Runs.{ByteAt}
 use Rattle.json_text.specs.Stack.{top}
 use Rattle.json_text.specs.Standing.{Stood}
 use Rattle.json_text.specs.Steps.{Advances}

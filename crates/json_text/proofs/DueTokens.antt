@@ -15,15 +15,15 @@ use Rattle.json_grammar.proofs.Lists.{ws-append}
 use Rattle.json_grammar.proofs.Moves.{take_on}
 use Rattle.json_grammar.proofs.NeedsNames.{names_before, name_behind_gap}
 use Rattle.json_grammar.proofs.OneFault.{Told, deep, short, other, told}
-use Rattle.json_text.specs.declared.error.Error.{Error}
-use Rattle.json_text.specs.declared.error.ErrorCode.{ErrorCode}
-use Rattle.json_text.specs.declared.error.ErrorCode.TheVariants as code
+use Rattle.json_io.specs.declared.error.Error.{Error}
+use Rattle.json_io.specs.declared.error.ErrorCode.{ErrorCode}
+use Rattle.json_io.specs.declared.error.ErrorCode.TheVariants as code
 use Rattle.json_text.specs.Faults.{IsFault}
 use Rattle.json_text.specs.Parsing.{ParserState, input, taken, HasGiven, IsDue}
 use Rattle.json_text.specs.Standing.{Stood}
 use Rattle.json_text.proofs.OneFaultAt.{stands}
 use Rattle.json_text.proofs.Stands.{stood_at}
-use Rattle.json_text.proofs.Pieces.{piece_append}
+use Rattle.json_io.proofs.Pieces.{piece_append}
 
 front : (b p r : List ℕ) (k : ℕ) → b ≡ p ++ r → length p ≡ k → p ≡ take k b
 front b p r k e l = sym (ap (take k) e ∙ ap (λ n. take n (p ++ r)) (sym l) ∙ take-append_seam p r)

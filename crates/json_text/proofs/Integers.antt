@@ -13,8 +13,8 @@ use Rattle.json_grammar.specs.Grammar.{IsDigit, digits}
 use Rattle.json_grammar.proofs.Moves.{piece_more, piece_none}
 use Rattle.json_grammar.specs.NumberStates.{at_start}
 use Rattle.json_text.specs.Numbers.{NumberTo, IntegerTo, NoDigit, BeginsNumber}
-use Rattle.json_text.specs.Runs.{ByteAt}
-use Rattle.json_text.proofs.Pieces.{piece_cons}
+use Rattle.json_scan.specs.Runs.{ByteAt}
+use Rattle.json_io.proofs.Pieces.{piece_cons}
 use Rattle.json_text.proofs.Scans.{stands_begin, integer_digits, integer_alone, fraction_none, exponent_none}
 
 pub ascii_digit : (x : ℕ) → is_ascii_digit x ≡ true → IsDigit x

@@ -10,15 +10,15 @@ use Rattle.json_grammar.proofs.Atoms.{atoms_append, atoms_one, atoms_chars}
 use Rattle.json_grammar.proofs.Moves.{piece_none, take_on}
 use Rattle.json_grammar.proofs.NumberRuns.{run_on, number_ends}
 use Rattle.json_grammar.proofs.NumberScan.{number_by_state}
-use Rattle.json_text.specs.declared.error.ErrorCode.{ErrorCode}
-use Rattle.json_text.specs.declared.error.ErrorCode.TheVariants as code
+use Rattle.json_io.specs.declared.error.ErrorCode.{ErrorCode}
+use Rattle.json_io.specs.declared.error.ErrorCode.TheVariants as code
 use Rattle.json_text.specs.Due.{TokenNeeds, NextNeeds}
 use Rattle.json_text.specs.Literals.{RefusesLiteral, WordStops}
 use Rattle.json_text.specs.Numbers.{IsUnfinished, GoesNoFurther, StopsAt}
-use Rattle.json_text.specs.Runs.{ByteAt}
+use Rattle.json_scan.specs.Runs.{ByteAt}
 use Rattle.json_text.specs.Escapes.{EscapeStops}
 use Rattle.json_text.specs.Spelled.{StringStops}
-use Rattle.json_text.proofs.Pieces.{piece_append, piece_single}
+use Rattle.json_io.proofs.Pieces.{piece_append, piece_single}
 use Rattle.json_text.proofs.StringFaults.{Inside, plain_inside, escape_inside, cons_some}
 use Rattle.json_text.proofs.TokenFaults.{zero_after, begun, zero_read, ended_whole, unfinished_alone}
 

@@ -10,9 +10,9 @@ use Rattle.json_grammar.specs.Given.{piece}
 use Rattle.json_grammar.specs.Place.{after_comma, closing, TakesEnd, end_first, end_key_or_end, end_done}
 use Rattle.json_grammar.proofs.Lists.{not_ws}
 use Rattle.json_text.specs.Nexts.{SpaceTo, MarkTo, NextAt}
-use Rattle.json_text.specs.Runs.{ByteAt}
+use Rattle.json_scan.specs.Runs.{ByteAt}
 use Rattle.json_text.specs.Stack.{top}
-use Rattle.json_text.proofs.Pieces.{piece_append, piece_cons}
+use Rattle.json_io.proofs.Pieces.{piece_append, piece_cons}
 
 -- each byte of a run of whitespace is whitespace
 space_within : (b : List ℕ) (i k j : ℕ) → i ≤ k → k < j → j ≤ length b → ws (piece b i j) → IsWhitespace (get_or b k 0)

@@ -7,12 +7,12 @@ use Rattle.json_grammar.proofs.Atoms.{atom_same, atom_no_quote, chars_atoms, Onw
 use Rattle.json_grammar.proofs.EscapeParts.{no_control}
 use Rattle.json_grammar.proofs.Lists.{Cut, cut, longer, shorter}
 use Rattle.json_grammar.proofs.Moves.{take_on}
-use Rattle.json_text.specs.declared.error.ErrorCode.{ErrorCode}
-use Rattle.json_text.specs.declared.error.ErrorCode.TheVariants as code
+use Rattle.json_io.specs.declared.error.ErrorCode.{ErrorCode}
+use Rattle.json_io.specs.declared.error.ErrorCode.TheVariants as code
 use Rattle.json_text.specs.Escapes.{escape_step, escape_refusal, EscapeStops}
-use Rattle.json_text.specs.Runs.{ByteAt}
+use Rattle.json_scan.specs.Runs.{ByteAt}
 use Rattle.json_text.specs.Spelled.{Spells, Quoted, StringStops}
-use Rattle.json_text.proofs.Pieces.{drop_byte}
+use Rattle.json_io.proofs.Pieces.{drop_byte}
 use Rattle.json_text.proofs.StringFaults.{Inside, plain_inside, escape_inside, no_atom}
 use Rattle.json_text.proofs.Tokens.{quoted_bytes}
 

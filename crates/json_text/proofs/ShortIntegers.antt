@@ -11,7 +11,7 @@ use Rattle.json_grammar.proofs.NumberRuns.{digit_true, dot_then, e_then}
 use Rattle.json_text.specs.Nexts.{IsShortInteger}
 use Rattle.json_text.specs.Numbers.{NoDigit, HasInteger, GoesOn}
 use Rattle.json_text.proofs.Integers.{are_digits}
-use Rattle.json_text.proofs.Pieces.{piece_append, piece_cons}
+use Rattle.json_io.proofs.Pieces.{piece_append, piece_cons}
 use Rattle.json_text.proofs.WholeNumbers.{zero_ends}
 
 later_digits : (p q : List ℕ) → digits (p ++ q) → digits q

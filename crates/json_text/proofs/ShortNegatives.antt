@@ -9,9 +9,9 @@ use Rattle.json_grammar.specs.NumberStates.{NumberState, at_start, after_minus, 
 use Rattle.json_grammar.proofs.Moves.{piece_none}
 use Rattle.json_text.specs.Nexts.{IsShortInteger}
 use Rattle.json_text.specs.NextLiterals.{IsShortNegative}
-use Rattle.json_text.specs.Runs.{ByteAt}
+use Rattle.json_scan.specs.Runs.{ByteAt}
 use Rattle.json_text.proofs.Integers.{are_digits}
-use Rattle.json_text.proofs.Pieces.{piece_cons, piece_single}
+use Rattle.json_io.proofs.Pieces.{piece_cons, piece_single}
 use Rattle.json_text.proofs.ShortIntegers.{digit_within, one_integer}
 
 digit_step : (x : ℕ) → IsDigit x → number_step at_start x ≡ number_step after_minus x

@@ -11,10 +11,10 @@ use Rattle.json_grammar.proofs.OneValue.{value_no_more, value_place, viable_spli
 use Rattle.json_grammar.proofs.Opens.{closed_opens}
 use Rattle.json_grammar.proofs.Closing.{whole_text}
 use Rattle.json_grammar.proofs.ValueFaults.{faulty_value}
-use Rattle.json_text.specs.declared.error.Error.{Error}
-use Rattle.json_text.specs.declared.error.ErrorCode.{ErrorCode}
-use Rattle.json_text.specs.declared.error.ErrorCode.TheVariants as code
-use Rattle.json_text.specs.declared.error.Place.{Place}
+use Rattle.json_io.specs.declared.error.Error.{Error}
+use Rattle.json_io.specs.declared.error.ErrorCode.{ErrorCode}
+use Rattle.json_io.specs.declared.error.ErrorCode.TheVariants as code
+use Rattle.json_io.specs.declared.error.Place.{Place}
 use Rattle.json_text.specs.Faults.{IsFault, FaultFrom, IsInValue, IsValueFault, ValueFaultFrom}
 use Rattle.json_text.specs.Parsing.{ParserState, IsWhole, Refuses, IsSound}
 

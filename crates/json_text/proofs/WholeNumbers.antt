@@ -10,7 +10,7 @@ use Rattle.json_grammar.specs.NumberStates.{NumberState, at_start, after_zero, n
 use Rattle.json_grammar.proofs.NumberRuns.{number_ends, no_number_goes_on}
 use Rattle.json_grammar.proofs.NumberScan.{number_by_state, ended_whole}
 use Rattle.json_text.specs.Numbers.{BeginsNumber, Stands, IsUnfinished, NumberTo, StopsAt}
-use Rattle.json_text.proofs.Pieces.{drop_piece, drop_byte}
+use Rattle.json_io.proofs.Pieces.{drop_piece, drop_byte}
 
 false_true : false ≡ true → ⊥
 false_true e = cc

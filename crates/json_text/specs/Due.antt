@@ -2,8 +2,8 @@
 use Rattle.std.specs.Prelude.{◌≡◌, Bool, ℕ, ◌≤◌, List}
 use Rattle.json_grammar.specs.Given.{piece}
 use Rattle.json_grammar.specs.Needs.{IsBegun, NeedsByte}
-use Rattle.json_text.specs.declared.error.ErrorCode.{ErrorCode}
-use Rattle.json_text.specs.declared.error.ErrorCode.TheVariants as code
+use Rattle.json_io.specs.declared.error.ErrorCode.{ErrorCode}
+use Rattle.json_io.specs.declared.error.ErrorCode.TheVariants as code
 
 -- the token that begins at i, or would, needs the byte at k, which is refused by this code;
 -- a digit behind a leading zero is refused as an invalid number

@@ -5,12 +5,12 @@ use Rattle.json_grammar.specs.declared.Kind.TheVariants.{Array as array, Object 
 use Rattle.json_grammar.specs.Grammar.{IsWhitespace, ws}
 use Rattle.json_grammar.specs.Given.{piece}
 use Rattle.json_grammar.specs.Place.{closing}
-use Rattle.json_text.specs.declared.error.Error.{Error}
-use Rattle.json_text.specs.declared.error.ErrorCode.{ErrorCode}
-use Rattle.json_text.specs.declared.error.ErrorCode.TheVariants as code
+use Rattle.json_io.specs.declared.error.Error.{Error}
+use Rattle.json_io.specs.declared.error.ErrorCode.{ErrorCode}
+use Rattle.json_io.specs.declared.error.ErrorCode.TheVariants as code
 use Rattle.json_text.specs.Parsing.{ParserState, HasGiven}
-use Rattle.json_text.specs.Positions.{place_at}
-use Rattle.json_text.specs.Runs.{ByteAt}
+use Rattle.json_io.specs.Positions.{place_at}
+use Rattle.json_scan.specs.Runs.{ByteAt}
 
 -- at k stands the next byte that is no whitespace, or the text ends there
 pub record ComesNext (s : ParserState) (k : ℕ) : Type 0 where

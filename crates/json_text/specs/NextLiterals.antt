@@ -9,7 +9,7 @@ use Rattle.json_text.specs.Literals.{WordTo}
 use Rattle.json_text.specs.Nexts.{NextPart}
 use Rattle.json_text.specs.Numbers.{NumberTo}
 use Rattle.json_text.specs.Parsing.{ParserState, input}
-use Rattle.json_text.specs.Runs.{ByteAt}
+use Rattle.json_scan.specs.Runs.{ByteAt}
 
 -- the literal comes next as a value
 pub record LiteralNext (s : ParserState) (word : List ℕ) : Type 0 where

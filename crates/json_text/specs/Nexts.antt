@@ -10,7 +10,7 @@ use Rattle.json_grammar.specs.Given.{piece}
 use Rattle.json_grammar.specs.Place.{after_comma, bracket, closing, TakesValue, TakesKey, TakesEnd}
 use Rattle.json_text.specs.Numbers.{NumberTo}
 use Rattle.json_text.specs.Parsing.{ParserState, input, taken}
-use Rattle.json_text.specs.Runs.{ByteAt}
+use Rattle.json_scan.specs.Runs.{ByteAt}
 use Rattle.json_text.specs.Spelled.{Quoted}
 use Rattle.json_text.specs.Stack.{top}
 

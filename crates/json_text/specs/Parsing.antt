@@ -8,13 +8,13 @@ use Rattle.json_grammar.specs.Grammar.{is_text}
 use Rattle.json_grammar.specs.Given.{piece, LastEnds}
 use Rattle.json_grammar.specs.Fault.{reads}
 use Rattle.json_grammar.specs.Needs.{IsGap}
-use Rattle.json_text.specs.declared.error.Error.{Error}
+use Rattle.json_io.specs.declared.error.Error.{Error}
 use Rattle.json_text.specs.declared.event.Event.{Event}
 use Rattle.json_text.specs.declared.event.Event.TheVariants as event
 use Rattle.json_text.specs.Events.{Means, IsRead, raw_size, event_bytes, EndsToken}
 use Rattle.json_text.specs.Faults.{IsFault, FaultFrom, IsInValue}
 use Rattle.json_text.specs.Due.{NextNeeds}
-use Rattle.json_text.specs.Positions.{place_at}
+use Rattle.json_io.specs.Positions.{place_at}
 use Rattle.json_text.specs.Standing.{Stood}
 
 -- the whole text and where reading began in it; whether it is read in the lossy mode; the most levels of a tree; the place behind what was taken, counted from the

@@ -6,11 +6,10 @@ ghost use Rattle.json_grammar.specs.Given.{piece};
 ghost use Rattle.json_text.specs.Numbers.{NumberTo, NoDigit, GoesOn};
 ghost use Rattle.json_text.specs.Nexts.{IsShortInteger};
 ghost use Rattle.json_text.specs.NextLiterals.{IsShortNegative};
-ghost use Rattle.json_text.specs.Runs.{ByteAt};
+ghost use Rattle.json_scan.specs.Runs.{ByteAt};
 ghost use Rattle.json_text.specs.declared.integer.DigitsRead.TheVariants as DigitsRead;
 
-use crate::lanes::{BLOCK, digits_in_block};
-use crate::runs::{byte_is, digit_is};
+use json_scan::{BLOCK, byte_is, digit_is, digits_in_block};
 
 /// So many digits are always an integer of 64 bits.
 const MOST_DIGITS: usize = 19;

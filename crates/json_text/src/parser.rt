@@ -9,17 +9,16 @@ ghost use Rattle.json_text.specs.Due.{NextNeeds};
 ghost use Rattle.json_text.specs.Parsing.{input, taken, HasGiven, SameInput, IsWhole, Goes, IsTight};
 ghost use Rattle.json_text.specs.Parsing.{IsLent, Refuses, IsDue, EventsBeginTexts, HasRead};
 ghost use Rattle.json_text.specs.Ends.{ComesNext, NothingLeft, IsNewAt, TrailsAt, ReadsEnd, LacksEnd, no_end as spec_no_end};
-ghost use Rattle.json_text.specs.Positions.{place_at};
+ghost use Rattle.json_io.specs.Positions.{place_at};
 
-use crate::error::{Error, ErrorCode, Result};
 use crate::event::Event;
 use crate::fault::Fault;
-use crate::place::place_of;
-use crate::runs::ws_run;
 use crate::spot::closing;
 use crate::stack::Kinds;
 use crate::steps::{is_whole, step};
 use json_grammar::{Kind, Spot};
+use json_io::{Error, ErrorCode, Result, place_of};
+use json_scan::ws_run;
 use std::marker::Model;
 
 mod booleans;

@@ -2,12 +2,12 @@
 ghost use Rattle.std.specs.Prelude.{◌≡◌, ℕ, ◌≤◌, length, IfOk, IfErr, IfSome};
 ghost use Rattle.std.specs.List.Sorted.{IsNonDecreasingBy};
 ghost use Rattle.std.specs.Str.Lossy.{utf8_lossy};
-ghost use Rattle.json_text.specs.Errors.{no_memory};
+ghost use Rattle.json_io.specs.Errors.{no_memory};
 ghost use Rattle.json_text.specs.declared.repaired.IllFormed.{IllFormed};
 ghost use Rattle.json_text.specs.Repaired.{origin_at, origin_of, last_shown as spec_last_shown};
 
-use crate::error::Result;
 use bstr::ByteSlice;
+use json_io::Result;
 use std::alloc::Global;
 use std::marker::Model;
 

@@ -9,19 +9,19 @@ ghost use Rattle.json_grammar.specs.Given.{piece};
 ghost use Rattle.json_grammar.specs.Needs.{IsGap};
 ghost use Rattle.json_grammar.specs.Place.{TakesEnd, after_comma as spec_after_comma, closing as spec_closing};
 ghost use Rattle.json_text.specs.Stack.{top};
-ghost use Rattle.json_text.specs.Runs.{ByteAt};
+ghost use Rattle.json_scan.specs.Runs.{ByteAt};
 ghost use Rattle.json_text.specs.Faults.{IsFault, IsInValue};
 ghost use Rattle.json_text.specs.Due.{NextNeeds};
 ghost use Rattle.json_text.specs.Standing.{Stood};
 ghost use Rattle.json_text.specs.Nexts.{NextAt, SpaceTo};
 ghost use Rattle.json_text.specs.Misplaced.{misplaced as spec_misplaced};
 
-use crate::error::ErrorCode;
 use crate::fault::Fault;
 use crate::literal::refuse;
-use crate::runs::{byte_is, ws_end};
 use crate::stack::Kinds;
 use json_grammar::{Kind, Spot};
+use json_io::ErrorCode;
+use json_scan::{byte_is, ws_end};
 
 /// The offset in bytes at which the next part begins, and what it may be. What may not be is refused there.
 #[derive(Clone, Copy)]

@@ -6,13 +6,13 @@ ghost use Rattle.json_text.specs.Due.{NextNeeds};
 ghost use Rattle.json_text.specs.Standing.{Stood};
 ghost use Rattle.json_text.specs.Steps.{Advances, StandsBehindGap, IsDone};
 
-use crate::error::ErrorCode;
 use crate::event::Event;
 use crate::fault::Fault;
 use crate::spot::ready;
 use crate::stack::Kinds;
 use crate::token::{Read, take_event};
 use json_grammar::{Kind, Spot};
+use json_io::ErrorCode;
 
 /// Whether a value is whole: it was read, and the kind of no container is open.
 #[inline(always)]

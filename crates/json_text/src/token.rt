@@ -7,7 +7,7 @@ ghost use Rattle.json_grammar.specs.declared.Spot.{Spot};
 ghost use Rattle.json_grammar.specs.declared.Spot.TheVariants as Spot;
 ghost use Rattle.json_grammar.specs.Tree.{Token};
 ghost use Rattle.json_grammar.specs.Place.{TakesValue, TakesKey, bracket as spec_bracket, opened as spec_opened};
-ghost use Rattle.json_text.specs.Runs.{ByteAt};
+ghost use Rattle.json_scan.specs.Runs.{ByteAt};
 ghost use Rattle.json_text.specs.Numbers.{BeginsNumber};
 ghost use Rattle.json_text.specs.Faults.{IsFault, IsInValue};
 ghost use Rattle.json_text.specs.Due.{TokenNeeds};
@@ -18,7 +18,6 @@ ghost use Rattle.json_text.specs.Spelled.{Quoted, StringStops};
 ghost use Rattle.json_text.specs.Stack.{top};
 ghost use Rattle.json_text.specs.Tokens.{WordOf, NoEnd, no_key as spec_no_key, begin_event as spec_begin_event, end_event as spec_end_event};
 
-use crate::error::ErrorCode;
 use crate::event::Event;
 use crate::fault::Fault;
 use crate::literal::{refuse, word_end};
@@ -28,6 +27,7 @@ use crate::spot::{closing, misplaced};
 use crate::stack::Kinds;
 use crate::string::string_end;
 use json_grammar::{Kind, Spot};
+use json_io::ErrorCode;
 
 /// What value a byte begins, if any (RFC 8259, section 3). By it the parser knows what to read.
 #[derive(Clone, Copy, PartialEq, Eq)]

@@ -4,11 +4,11 @@ use Rattle.std.specs.Prelude.{◌+◌, slice_get, remove, take, drop, option_map
 use Rattle.std.proofs.lemmas.List.{map-set, length-map, set-get_or, get_or-map, map-append, map_push, map_more, take-map, drop-map, take_all}
 use Rattle.std.proofs.lemmas.Option.{slice_get-map, slice_get_read}
 use Rattle.json_grammar.specs.Tree.{Tree, list, pairs, Trees, Pairs, list_trees, list_pairs}
-use Rattle.json_text.specs.declared.error.Error.{Error}
-use Rattle.json_text.specs.declared.error.ErrorCode.{ErrorCode}
-use Rattle.json_text.specs.declared.error.ErrorCode.TheVariants.{NoMemory, NotFound, TypeUnmatched}
-use Rattle.json_text.specs.declared.error.Place.{Place}
-use Rattle.json_text.specs.declared.error.Place.TheVariants.{None as nowhere}
+use Rattle.json_io.specs.declared.error.Error.{Error}
+use Rattle.json_io.specs.declared.error.ErrorCode.{ErrorCode}
+use Rattle.json_io.specs.declared.error.ErrorCode.TheVariants.{NoMemory, NotFound, TypeUnmatched}
+use Rattle.json_io.specs.declared.error.Place.{Place}
+use Rattle.json_io.specs.declared.error.Place.TheVariants.{None as nowhere}
 use Rattle.json_model.specs.Edit.{has_key, inserted, pushed, removed, without_key, without_index, Changed, Refusal, within, on_list, on_pairs, at_path, at_key, at_index, edited_once, Step, not_found, type_unmatched}
 use Rattle.json_value.specs.Denotes.{tree_of, list_in, pairs_in, pair_of, text_bytes}
 use Rattle.json_value.specs.Edits.{step_of, steps_of, edit_at, change_of, RefusesChange}

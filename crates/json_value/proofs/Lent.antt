@@ -5,12 +5,12 @@ use Rattle.std.proofs.Math.Seq.{get_or-append_seam}
 use Rattle.std.proofs.lemmas.List.{length-map, length_push, map_push, set_at}
 use Rattle.std.proofs.lemmas.Option.{none-some, same_Some}
 use Rattle.json_grammar.specs.Tree.{Tree, null, boolean, num, text, list, pairs, Trees, Pairs, no_pairs, pair_and, list_trees, list_pairs, pairs_list}
-use Rattle.json_text.specs.Errors.{no_memory}
-use Rattle.json_text.specs.declared.error.Error.{Error}
-use Rattle.json_text.specs.declared.error.ErrorCode.{ErrorCode}
-use Rattle.json_text.specs.declared.error.ErrorCode.TheVariants.{NoMemory, NotFound, TypeUnmatched}
-use Rattle.json_text.specs.declared.error.Place.{Place}
-use Rattle.json_text.specs.declared.error.Place.TheVariants.{None as nowhere}
+use Rattle.json_io.specs.Errors.{no_memory}
+use Rattle.json_io.specs.declared.error.Error.{Error}
+use Rattle.json_io.specs.declared.error.ErrorCode.{ErrorCode}
+use Rattle.json_io.specs.declared.error.ErrorCode.TheVariants.{NoMemory, NotFound, TypeUnmatched}
+use Rattle.json_io.specs.declared.error.Place.{Place}
+use Rattle.json_io.specs.declared.error.Place.TheVariants.{None as nowhere}
 use Rattle.json_doc.specs.Readings.{elements, type_of}
 use Rattle.json_doc.specs.declared.json_type.JsonType.TheVariants as kind
 use Rattle.json_model.specs.Edit.{Step, Changed, not_found, type_unmatched, within, at_path, at_key, at_index, on_list, on_pairs, inserted, pushed, has_key, key_step, index_step}

@@ -6,8 +6,8 @@ use lib.Dec.{T}
 use mathlib.Core.Bool.{not}
 use Rattle.std.proofs.lemmas.Option.{none-some, same_Some}
 use Rattle.json_grammar.specs.Tree.{Tree, null, boolean, num, text, list, pairs, Trees, no_trees, tree_and, Pairs, no_pairs, pair_and, trees_list, pairs_list}
-use Rattle.json_text.specs.declared.error.ErrorCode.{ErrorCode}
-use Rattle.json_text.specs.declared.error.Place.{Place}
+use Rattle.json_io.specs.declared.error.ErrorCode.{ErrorCode}
+use Rattle.json_io.specs.declared.error.Place.{Place}
 use Rattle.json_model.specs.Edit.{Step, key_step, index_step, Changed, Refusal, within, at_path, at_key, at_index}
 use Rattle.json_value.specs.Edits.{steps_of, step_of, RefusesChange}
 use Rattle.json_value.specs.Lending.{first_node}

@@ -6,15 +6,15 @@ use Rattle.json_grammar.specs.Proper.{IsProper}
 use Rattle.json_grammar.proofs.TextUtf8.{text_utf8}
 use Rattle.json_model.specs.Print.{shown}
 use Rattle.json_model.proofs.Printing.{shown_text}
-use Rattle.json_text.specs.declared.error.Error.{Error}
-use Rattle.json_text.specs.declared.error.ErrorCode.{ErrorCode}
-use Rattle.json_text.specs.declared.error.ErrorCode.TheVariants.{NoMemory, Io}
-use Rattle.json_text.specs.declared.error.Place.{Place}
-use Rattle.json_text.specs.declared.error.Place.TheVariants.{None as nowhere, Writing}
-use Rattle.json_text.specs.Errors.{no_memory}
-use Rattle.json_text.specs.Known.{Appends, append_known}
-use Rattle.json_text.specs.Outside.{SinkState}
-use Rattle.json_text.specs.Transfer.{FlushesAll, WritingCause}
+use Rattle.json_io.specs.declared.error.Error.{Error}
+use Rattle.json_io.specs.declared.error.ErrorCode.{ErrorCode}
+use Rattle.json_io.specs.declared.error.ErrorCode.TheVariants.{NoMemory, Io}
+use Rattle.json_io.specs.declared.error.Place.{Place}
+use Rattle.json_io.specs.declared.error.Place.TheVariants.{None as nowhere, Writing}
+use Rattle.json_io.specs.Errors.{no_memory}
+use Rattle.json_io.specs.Known.{Appends, append_known}
+use Rattle.json_io.specs.Outside.{SinkState}
+use Rattle.json_io.specs.Transfer.{FlushesAll, WritingCause}
 use Rattle.json_print.specs.Buffered.{held_behind}
 use Rattle.json_print.specs.Calls.{holds_any}
 use Rattle.json_print.specs.Printer.{StopCause}

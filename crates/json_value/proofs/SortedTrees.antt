@@ -3,8 +3,8 @@ use Rattle.std.proofs.Common.{◌≡◌, ℕ, ◌+◌, List, ◌∷◌, true, Op
 use Rattle.json_grammar.specs.Tree.{Tree, list, pairs, list_trees, list_pairs}
 use Rattle.json_model.specs.Print.{shown}
 use Rattle.json_model.specs.Sort.{sorted, pairs_sorted}
-use Rattle.json_text.specs.declared.sink.SinkError.{SinkError}
-use Rattle.json_text.specs.Outside.{SinkState}
+use Rattle.json_io.specs.declared.sink.SinkError.{SinkError}
+use Rattle.json_io.specs.Outside.{SinkState}
 use Rattle.json_doc.specs.Nodes.{NodeOf}
 use Rattle.json_doc.specs.declared.children.DocChildren.{DocChildren}
 use Rattle.json_doc.specs.declared.node.DocNode.{DocNode}

@@ -3,7 +3,7 @@ use Rattle.std.proofs.Common.{◌≡◌, ℕ, zero, suc, ◌+◌, ◌≤◌, Lis
 use Rattle.json_grammar.specs.declared.Kind.TheVariants.{Array as array, Object as object}
 use Rattle.json_grammar.specs.Tree.{Tree, null, boolean, num, text, list, pairs, Trees, Pairs, trees_list, pairs_list, list_trees, list_pairs, begin, end, key_token}
 use Rattle.json_grammar.specs.Sizes.{nodes, trees_nodes, pairs_nodes}
-use Rattle.json_text.specs.declared.error.Error.{Error}
+use Rattle.json_io.specs.declared.error.Error.{Error}
 use Rattle.json_doc.specs.Readings.{object_keys, values, children}
 use Rattle.std.proofs.lemmas.List.{take_all, length-map}
 use Rattle.json_print.specs.Given.{TokenOrInteger, given, token_of}

@@ -3,11 +3,11 @@ use Rattle.std.specs.Prelude.{◌≡◌, ℕ, List, map, ⊤, Err, Ok, Result, I
 use Rattle.json_grammar.specs.Tree.{Tree, Trees, Pairs}
 use Rattle.json_model.specs.Edit.{Step, key_step, index_step, set_at, insert_at, push_at, remove_at, Changed, inserted, pushed, removed, at_path, on_list, on_pairs, not_found, type_unmatched}
 use Rattle.json_model.specs.Edit as model
-use Rattle.json_text.specs.declared.error.Error.{Error}
-use Rattle.json_text.specs.declared.error.ErrorCode.{ErrorCode}
-use Rattle.json_text.specs.declared.error.ErrorCode.TheVariants.{NoMemory, NotFound, TypeUnmatched}
-use Rattle.json_text.specs.declared.error.Place.{Place}
-use Rattle.json_text.specs.declared.error.Place.TheVariants.{None as nowhere}
+use Rattle.json_io.specs.declared.error.Error.{Error}
+use Rattle.json_io.specs.declared.error.ErrorCode.{ErrorCode}
+use Rattle.json_io.specs.declared.error.ErrorCode.TheVariants.{NoMemory, NotFound, TypeUnmatched}
+use Rattle.json_io.specs.declared.error.Place.{Place}
+use Rattle.json_io.specs.declared.error.Place.TheVariants.{None as nowhere}
 use Rattle.json_value.specs.Denotes.{text_bytes, tree_of}
 use Rattle.json_value.specs.declared.value.Value.{Value}
 use Rattle.json_value.specs.declared.path.PointerNode.{PointerNode}

@@ -5,10 +5,10 @@ use Rattle.std.specs.Borrow.{follows_so, name_if_ok, LendsSoOk, MutBor, Fml, GNa
 use mathlib.Core.Option as maybe
 use Rattle.std.specs.declared.alloc.Global.{Global}
 use Rattle.json_grammar.specs.Tree.{Tree, null, list, pairs, Pairs, no_pairs, pair_and, list_trees, list_pairs}
-use Rattle.json_text.specs.Errors.{no_memory, type_unmatched}
-use Rattle.json_text.specs.declared.error.Error.{Error}
-use Rattle.json_text.specs.declared.error.ErrorCode.{ErrorCode}
-use Rattle.json_text.specs.declared.error.ErrorCode.TheVariants.{NoMemory}
+use Rattle.json_io.specs.Errors.{no_memory, type_unmatched}
+use Rattle.json_io.specs.declared.error.Error.{Error}
+use Rattle.json_io.specs.declared.error.ErrorCode.{ErrorCode}
+use Rattle.json_io.specs.declared.error.ErrorCode.TheVariants.{NoMemory}
 use Rattle.json_model.specs.Edit.{Step, key_step, index_step, Changed, at_path, edited_once, set_at, at_index, on_list, on_pairs, inserted, has_key}
 use Rattle.json_value.specs.Denotes.{tree_of, pair_of}
 use Rattle.json_value.specs.Edits.{RefusesChange, inserted_in, pushed_in}

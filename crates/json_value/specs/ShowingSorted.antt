@@ -1,7 +1,7 @@
 -- What showing a text in the order of its keys does to a sink.
 use Rattle.std.specs.Prelude.{ℕ, ◌-◌, ◌^◌, List, Result}
-use Rattle.json_text.specs.declared.sink.SinkError.{SinkError}
-use Rattle.json_text.specs.Outside.{SinkState}
+use Rattle.json_io.specs.declared.sink.SinkError.{SinkError}
+use Rattle.json_io.specs.Outside.{SinkState}
 use Rattle.json_print.specs.Showing.{Shows}
 
 -- the greatest level: memory may run out at any text that has so many containers around it

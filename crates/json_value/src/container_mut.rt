@@ -2,7 +2,7 @@
 ghost use Rattle.std.specs.Prelude.{◌≡◌, ◌⊎◌, map, IfOk, OnOk, OnErr, [], ◌∷◌, Some, ◌++◌, length};
 ghost use Rattle.std.specs.Borrow.{LendsSoOk, sem};
 ghost use Rattle.json_grammar.specs.Tree.{list, pairs, list_trees, list_pairs};
-ghost use Rattle.json_text.specs.Errors.{not_found, type_unmatched};
+ghost use Rattle.json_io.specs.Errors.{not_found, type_unmatched};
 ghost use Rattle.json_model.specs.Edit.{key_step, index_step};
 ghost use Rattle.json_value.specs.Denotes.{tree_of, pair_of};
 ghost use Rattle.json_value.specs.Edits.{FailsAlong, FailsOnList, FailsOnPairs};

@@ -1,7 +1,7 @@
 // Views of values.
 ghost use Rattle.std.specs.Prelude.{◌≡◌, None, Some, option_map, IfSome, ◌<◌, length, IfOk, IsErrOf};
 ghost use Rattle.json_grammar.specs.Tree.{num, null, tokens};
-ghost use Rattle.json_text.specs.Errors.{no_memory};
+ghost use Rattle.json_io.specs.Errors.{no_memory};
 ghost use Rattle.json_number.specs.Numbers.{value_of, text_of_number};
 ghost use Rattle.json_doc.specs.Readings.{type_of, bool_of, integer_of, literal_of, string_of};
 ghost use Rattle.json_doc.specs.Seen.{view_doc, view_place, view_tree};

@@ -2,8 +2,8 @@
 use Rattle.std.proofs.Common.{◌≡◌, ◌⊎◌, inl, inr, ℕ, ℤ, List, [], ◌∷◌, ◌++◌, Bool, true, false, ◌&&◌, cond, Option, Some, None, option_map, Ok, Err, Result, IsErr, refl, sym, ap, ap₂, ◌∙◌, append_assoc, append-nil}
 use Rattle.json_grammar.specs.declared.Kind.TheVariants.{Array as array, Object as object}
 use Rattle.json_grammar.specs.Tree.{Tree, null, boolean, num, text, list, pairs, Trees, no_trees, tree_and, Pairs, no_pairs, pair_and, list_trees, trees_list, pairs_list, Token, null_token, end, tokens, trees_tokens, pairs_tokens}
-use Rattle.json_text.specs.declared.error.Error.{Error}
-use Rattle.json_text.specs.Errors.{no_memory, out_of_range, key_refused}
+use Rattle.json_io.specs.declared.error.Error.{Error}
+use Rattle.json_io.specs.Errors.{no_memory, out_of_range, key_refused}
 use Rattle.json_model.specs.Datum.{Datum}
 use Rattle.json_model.specs.Datum.{tree_of_datum as datum_tree}
 use Rattle.json_model.specs.Merged.{merged, trees_merged, values_merged}

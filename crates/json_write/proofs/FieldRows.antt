@@ -3,7 +3,7 @@ use Rattle.std.proofs.Common.{◌≡◌, ℕ, List, [], ◌∷◌, ◌++◌, Boo
 use Rattle.json_grammar.specs.declared.Kind.{Kind}
 use Rattle.json_grammar.specs.declared.Kind.TheVariants.{Object as object}
 use Rattle.json_grammar.specs.Tree.{begin, key_token}
-use Rattle.json_text.specs.declared.error.Error.{Error}
+use Rattle.json_io.specs.declared.error.Error.{Error}
 use Rattle.json_model.specs.Datum.{Datum, Rows, no_rows, row_and, key_of}
 use Rattle.json_print.specs.Data.{parts, rows_parts, before_gap, is_whole}
 use Rattle.json_print.specs.Given.{TokenOrInteger, given}

@@ -6,7 +6,7 @@ use Rattle.std.proofs.lemmas.Simd.{length-chunk}
 use lib.Lanes.{chunk, put_chunk}
 use Rattle.json_grammar.specs.Given.{piece}
 use Rattle.json_model.specs.Print.{quoted, shown_byte, shown_bytes}
-use Rattle.json_text.specs.Runs.{plain}
+use Rattle.json_scan.specs.Runs.{plain}
 use Rattle.json_print.proofs.Escapes.{plain_all, run_shown, byte_shown}
 use Rattle.json_print.proofs.Overlapping.{before_back}
 use Rattle.json_print.proofs.PlacedItems.{front_stays}

@@ -3,14 +3,14 @@ use Rattle.std.proofs.Common.{◌≡◌, ℕ, ◌⊎◌, inl, inr, List, [], fal
 use Rattle.json_grammar.specs.Tree.{Tree}
 use Rattle.json_model.specs.Datum.{Datum, tree_of_datum}
 use Rattle.json_model.specs.Print.{shown, IsIndent}
-use Rattle.json_text.specs.declared.error.Error.{Error}
-use Rattle.json_text.specs.declared.error.ErrorCode.{ErrorCode}
-use Rattle.json_text.specs.declared.error.ErrorCode.TheVariants.{NoMemory, Io}
-use Rattle.json_text.specs.declared.error.Place.{Place}
-use Rattle.json_text.specs.declared.error.Place.TheVariants.{None as nowhere, Writing}
-use Rattle.json_text.specs.Errors.{no_memory, key_refused}
-use Rattle.json_text.specs.Known.{append_known}
-use Rattle.json_text.specs.Outside.{SinkState}
+use Rattle.json_io.specs.declared.error.Error.{Error}
+use Rattle.json_io.specs.declared.error.ErrorCode.{ErrorCode}
+use Rattle.json_io.specs.declared.error.ErrorCode.TheVariants.{NoMemory, Io}
+use Rattle.json_io.specs.declared.error.Place.{Place}
+use Rattle.json_io.specs.declared.error.Place.TheVariants.{None as nowhere, Writing}
+use Rattle.json_io.specs.Errors.{no_memory, key_refused}
+use Rattle.json_io.specs.Known.{append_known}
+use Rattle.json_io.specs.Outside.{SinkState}
 use Rattle.json_print.specs.Data.{parts, before_gap}
 use Rattle.json_print.specs.Layouts.{Form, LaidOut}
 use Rattle.json_print.specs.Printer.{Out, StopCause, StopsTaking, took, start}

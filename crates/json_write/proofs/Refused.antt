@@ -1,7 +1,7 @@
 -- What an Err tells.
 use Rattle.std.proofs.Common.{◌≡◌, ◌⊎◌, inl, inr, List, Bool, true, false, Option, Some, None, Ok, Err, Result, IfErr, refl, sym, ap, subst, ◌∙◌, cond}
-use Rattle.json_text.specs.declared.error.Error.{Error}
-use Rattle.json_text.specs.Errors.{key_refused}
+use Rattle.json_io.specs.declared.error.Error.{Error}
+use Rattle.json_io.specs.Errors.{key_refused}
 use Rattle.json_print.specs.Data.{before_gap, is_whole}
 use Rattle.json_print.specs.Given.{TokenOrInteger}
 use Rattle.json_print.specs.Taking.{StopsAmong, after_all}

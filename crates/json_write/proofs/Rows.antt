@@ -2,12 +2,12 @@
 use Rattle.std.proofs.Common.{◌≡◌, ℕ, List, [], ◌∷◌, ◌++◌, map, Option, Some, None, Err, Result, option_map, sym, ap, ◌∙◌, append_assoc, append-nil}
 use Rattle.json_grammar.specs.declared.Kind.TheVariants.{Object as object}
 use Rattle.json_grammar.specs.Tree.{begin, end, key_token}
-use Rattle.json_text.specs.declared.error.Error.{Error}
+use Rattle.json_io.specs.declared.error.Error.{Error}
 use Rattle.json_print.specs.Given.{TokenOrInteger, given}
 use Rattle.json_model.specs.Datum.{Datum, rows_datum, row_of, list_rows, key_of}
 use Rattle.json_print.specs.Data.{parts}
 use Rattle.json_write.specs.Writing.{WritesDatumTokens}
-use Rattle.json_text.specs.Errors.{key_refused}
+use Rattle.json_io.specs.Errors.{key_refused}
 use Rattle.json_write.proofs.Parts.{Wrote, wrote_then, wrote_same, writes_then, writes_stop, writes_same, writes_gap}
 use Rattle.json_write.proofs.Members.{rows_front, rows_front_more, rows_around}
 

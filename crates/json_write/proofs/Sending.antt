@@ -2,11 +2,11 @@
 use Rattle.std.proofs.Common.{◌≡◌, ℕ, ◌⊎◌, inl, inr, List, Option, Some, None, Ok, Err, Result, refl, sym, ap, subst, ◌∙◌, arith, false}
 use Rattle.std.specs.Borrow.{GName}
 use Rattle.json_grammar.specs.Tree.{Tree}
-use Rattle.json_text.specs.declared.error.Error.{Error}
-use Rattle.json_text.specs.Errors.{no_memory, key_refused}
-use Rattle.json_text.specs.Known.{Grows}
-use Rattle.json_text.specs.Lending.{lent_as, ComesBack}
-use Rattle.json_text.specs.Outside.{SinkState}
+use Rattle.json_io.specs.declared.error.Error.{Error}
+use Rattle.json_io.specs.Errors.{no_memory, key_refused}
+use Rattle.json_io.specs.Known.{Grows}
+use Rattle.json_io.specs.Lending.{lent_as, ComesBack}
+use Rattle.json_io.specs.Outside.{SinkState}
 use Rattle.json_model.specs.Datum.{Datum, tree_of_datum}
 use Rattle.json_model.specs.Print.{shown}
 use Rattle.json_print.specs.Data.{parts, before_gap}

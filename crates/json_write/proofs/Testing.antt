@@ -1,8 +1,8 @@
 -- Keys that are tested.
 use Rattle.std.proofs.Common.{◌≡◌, ◌⊎◌, inl, inr, Option, Some, None, Ok, Err, Result, OnOk, IfErr, ◌∙◌}
 use Rattle.json_grammar.specs.Tree.{Tree, null_token}
-use Rattle.json_text.specs.declared.error.Error.{Error}
-use Rattle.json_text.specs.Errors.{no_memory, key_refused}
+use Rattle.json_io.specs.declared.error.Error.{Error}
+use Rattle.json_io.specs.Errors.{no_memory, key_refused}
 use Rattle.json_model.specs.Datum.{Datum, tree_of_datum}
 use Rattle.json_print.specs.Data.{parts}
 use Rattle.json_print.specs.Given.{TokenOrInteger, given}

@@ -3,8 +3,8 @@ use Rattle.std.proofs.Common.{◌≡◌, ℕ, ◌⊎◌, inl, inr, List, Option,
 use Rattle.json_grammar.specs.Tree.{Tree}
 use Rattle.json_model.specs.Datum.{Datum, tree_of_datum}
 use Rattle.json_model.specs.Print.{shown}
-use Rattle.json_text.specs.declared.error.Error.{Error}
-use Rattle.json_text.specs.Errors.{no_memory, key_refused}
+use Rattle.json_io.specs.declared.error.Error.{Error}
+use Rattle.json_io.specs.Errors.{no_memory, key_refused}
 use Rattle.json_print.specs.Data.{parts, before_gap}
 use Rattle.json_print.specs.Taking.{after_all}
 use Rattle.json_print.proofs.Data.{whole_tree, gap_tree}

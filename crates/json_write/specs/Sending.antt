@@ -1,11 +1,11 @@
 -- What becomes of a sink to which the text of a datum is written.
 use Rattle.std.specs.Prelude.{◌≡◌, ◌⊎◌, ℕ, ◌<◌, List, Option, Some, None, Result, OnOk, IfErr, IsErrOf, option_map, codes}
 use Rattle.json_grammar.specs.Tree.{Tree}
-use Rattle.json_text.specs.declared.error.Error.{Error}
-use Rattle.json_text.specs.Errors.{no_memory, writing_failed, key_refused}
-use Rattle.json_text.specs.Known.{Appends}
-use Rattle.json_text.specs.Outside.{SinkState}
-use Rattle.json_text.specs.Transfer.{AppendsFront}
+use Rattle.json_io.specs.declared.error.Error.{Error}
+use Rattle.json_io.specs.Errors.{no_memory, writing_failed, key_refused}
+use Rattle.json_io.specs.Known.{Appends}
+use Rattle.json_io.specs.Outside.{SinkState}
+use Rattle.json_io.specs.Transfer.{AppendsFront}
 use Rattle.json_model.specs.Datum.{Datum, tree_of_datum}
 use Rattle.json_model.specs.Print.{shown}
 use Rattle.json_print.specs.Printer.{StopCause}

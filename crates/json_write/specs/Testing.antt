@@ -1,7 +1,7 @@
 -- What may come next of what was tested.
 use Rattle.std.specs.Prelude.{◌≡◌, Result}
-use Rattle.json_text.specs.declared.error.Error.{Error}
-use Rattle.json_text.specs.Errors.{no_memory}
+use Rattle.json_io.specs.declared.error.Error.{Error}
+use Rattle.json_io.specs.Errors.{no_memory}
 use Rattle.json_print.specs.Given.{TokenOrInteger, token_of}
 use Rattle.json_print.specs.Standing.{ExpectedTokens, turn_after_value, stand_after}
 use Rattle.json_print.specs.Taking.{Takes}

@@ -5,8 +5,8 @@ use Rattle.json_grammar.specs.Grammar.{null_bytes, boolean_bytes}
 use Rattle.json_grammar.specs.Place.{bracket, closing, outside}
 use Rattle.json_grammar.specs.Tree.{Token, null_token, boolean_token, num_token, text_token, begin, end, key_token}
 use Rattle.json_model.specs.Print.{quoted}
-use Rattle.json_text.specs.declared.error.Error.{Error}
-use Rattle.json_text.specs.Errors.{no_memory}
+use Rattle.json_io.specs.declared.error.Error.{Error}
+use Rattle.json_io.specs.Errors.{no_memory}
 use Rattle.json_print.specs.Given.{TokenOrInteger, token_of}
 use Rattle.json_print.specs.Taking.{Takes}
 use Rattle.json_print.specs.Standing.{ExpectedTokens, turn_after_value, first_turn}

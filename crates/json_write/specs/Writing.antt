@@ -2,8 +2,8 @@
 use Rattle.std.specs.Prelude.{◌≡◌, List, [], ◌∷◌, IsUtf8, Option, None, Result, Ok, Err, IfSome, cond}
 use Rattle.json_grammar.specs.Grammar.{number}
 use Rattle.json_grammar.specs.Tree.{Token, num_token, text_token, key_token}
-use Rattle.json_text.specs.declared.error.Error.{Error}
-use Rattle.json_text.specs.Errors.{key_refused}
+use Rattle.json_io.specs.declared.error.Error.{Error}
+use Rattle.json_io.specs.Errors.{key_refused}
 use Rattle.json_print.specs.Data.{before_gap, is_whole}
 use Rattle.json_print.specs.Given.{TokenOrInteger, token_of}
 use Rattle.json_print.specs.Taking.{after_all, StopsAmong}

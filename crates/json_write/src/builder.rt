@@ -3,7 +3,7 @@ ghost use Rattle.std.specs.Prelude.{◌≡◌, ◌⊎◌, None, Some, false, tru
 ghost use Rattle.std.specs.Fmt.{decimal, signed_decimal};
 ghost use Rattle.json_grammar.specs.Tree.{Tree, num, null_token, begin, end, key_token};
 ghost use Rattle.json_grammar.specs.declared.Kind.TheVariants.{Array as array};
-ghost use Rattle.json_text.specs.Errors.{no_memory, out_of_range};
+ghost use Rattle.json_io.specs.Errors.{no_memory, out_of_range};
 ghost use Rattle.json_model.specs.Datum.{tree_of_datum as datum_tree};
 ghost use Rattle.json_model.specs.Merged.{merged};
 ghost use Rattle.json_print.specs.Data.{parts};

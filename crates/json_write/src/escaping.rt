@@ -3,7 +3,7 @@ ghost use Rattle.std.specs.Prelude.{◌≡◌, ◌≤◌, ◌<◌, ◌+◌, ◌-
 ghost use Rattle.std.specs.Char.{digit_char};
 ghost use Rattle.json_grammar.specs.Given.{piece};
 ghost use Rattle.json_model.specs.Print.{shown_byte, shown_bytes, unit_escape};
-ghost use Rattle.json_text.specs.Runs.{IsPlain};
+ghost use Rattle.json_scan.specs.Runs.{IsPlain};
 
 use crate::placing::{place_byte, place_piece};
 use json_text::plain_run;

@@ -1,7 +1,7 @@
 // Events that write nothing: they tell whether each key has a text.
 ghost use Rattle.std.specs.Prelude.{◌≡◌, ◌⊎◌, None, Some, OnOk, IfErr, refl};
 ghost use Rattle.json_grammar.specs.Tree.{Tree, null_token, begin, end};
-ghost use Rattle.json_text.specs.Errors.{no_memory, key_refused};
+ghost use Rattle.json_io.specs.Errors.{no_memory, key_refused};
 ghost use Rattle.json_model.specs.Datum.{tree_of_datum};
 ghost use Rattle.json_print.specs.Given.{given};
 ghost use Rattle.json_print.specs.Standing as standing;

@@ -1,7 +1,7 @@
 // An open container.
 ghost use Rattle.std.specs.Prelude.{◌≡◌, [], ◌∷◌, OnOk, IfOk, IfErr};
 ghost use Rattle.json_grammar.specs.Tree.{Tree};
-ghost use Rattle.json_text.specs.Errors.{no_memory};
+ghost use Rattle.json_io.specs.Errors.{no_memory};
 ghost use Rattle.json_value.specs.Denotes.{text_bytes, tree_of};
 ghost use Rattle.json_write.specs.Building.{frame_of, new_frame, frame_key, frame_take, frame_tree};
 

@@ -1,7 +1,7 @@
 // What may come next of tokens.
 ghost use Rattle.std.specs.Prelude.{◌≡◌, OnOk, IfErr};
 ghost use Rattle.json_grammar.specs.Tree.{null_token, begin, end, key_token};
-ghost use Rattle.json_text.specs.Errors.{no_memory};
+ghost use Rattle.json_io.specs.Errors.{no_memory};
 ghost use Rattle.json_print.specs.Standing.{stand_after};
 ghost use Rattle.json_write.specs.Nesting.{nesting_stand, at_first};
 

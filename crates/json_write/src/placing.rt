@@ -2,7 +2,7 @@
 ghost use Rattle.std.specs.Prelude.{◌≡◌, ℕ, ◌≤◌, ◌<◌, ◌+◌, ◌++◌, ◌∷◌, [], length, take, get_or, IsTrue, IfSome};
 ghost use Rattle.std.specs.Fmt.{decimal};
 ghost use Rattle.json_model.specs.Print.{quoted};
-ghost use Rattle.json_text.specs.Runs.{IsPlain, plain};
+ghost use Rattle.json_scan.specs.Runs.{IsPlain, plain};
 ghost use Rattle.json_write.specs.Leads.{lead_bytes};
 
 use crate::lead::Lead;

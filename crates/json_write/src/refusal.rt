@@ -1,6 +1,6 @@
 // The refusal of a key.
 ghost use Rattle.std.specs.Prelude.{◌≡◌};
-ghost use Rattle.json_text.specs.Errors.{key_refused};
+ghost use Rattle.json_io.specs.Errors.{key_refused};
 
 use json_text::{Error, ErrorCode, Place};
 

@@ -3,7 +3,7 @@ ghost use Rattle.std.specs.Prelude.{◌≡◌, ◌≤◌, ◌<◌, ◌+◌, ◌+
 ghost use Rattle.std.specs.Io.{WritesAtMost};
 ghost use Rattle.std.specs.Fmt.{decimal};
 ghost use Rattle.json_model.specs.Print.{quoted};
-ghost use Rattle.json_text.specs.Outside.{Writes, Flushes};
+ghost use Rattle.json_io.specs.Outside.{Writes, Flushes};
 
 use crate::escaping::{ESCAPED, place_escaped};
 use crate::lead::Lead;

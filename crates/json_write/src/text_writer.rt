@@ -1,7 +1,7 @@
 // Events that append a text without whitespace to memory.
 ghost use Rattle.std.specs.Prelude.{◌≡◌, ◌∷◌, [], None, Err, true};
 ghost use Rattle.std.specs.Fmt.{decimal, signed_decimal};
-ghost use Rattle.json_text.specs.Errors.{no_memory};
+ghost use Rattle.json_io.specs.Errors.{no_memory};
 ghost use Rattle.json_grammar.specs.Place.{bracket, closing};
 ghost use Rattle.json_grammar.specs.Tree.{begin, end};
 ghost use Rattle.json_print.specs.Given.{given, token_of};

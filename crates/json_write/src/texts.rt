@@ -1,6 +1,6 @@
 // Texts in memory.
 ghost use Rattle.std.specs.Prelude.{◌≡◌, ◌⊎◌, None, Some, IfOk, IfErr, IsUtf8, string_bytes};
-ghost use Rattle.json_text.specs.Errors.{no_memory, key_refused};
+ghost use Rattle.json_io.specs.Errors.{no_memory, key_refused};
 ghost use Rattle.json_model.specs.Datum.{tree_of_datum};
 ghost use Rattle.json_write.specs.Sending.{datum_text, two_spaces};
 

@@ -16,7 +16,7 @@ use Rattle.json_patch.specs.declared.error.PatchCode.TheVariants.{NoMemory, BadP
 use Rattle.json_patch.specs.declared.error.PatchError.{PatchError}
 use Rattle.json_print.specs.Styles.{printed}
 use Rattle.json_print.specs.declared.style.Style.{Style}
-use Rattle.json_text.specs.Errors.{no_memory as no_memory_for_text}
+use Rattle.json_io.specs.Errors.{no_memory as no_memory_for_text}
 use Rattle.json_text.specs.Ruled.{usual_rules}
 use Rattle.mezdruk_c.specs.declared.failure.Failure.{Failure}
 use Rattle.mezdruk_c.specs.declared.failure.Failure.TheVariants.{Options as bad_options, Argument, Text, Patch}

@@ -1,13 +1,13 @@
 -- What printing to memory comes to.
 use Rattle.std.proofs.Common.{◌≡◌, ℕ, ◌+◌, List, [], Some, Option, refl, sym, subst, ap, ◌∙◌, arith}
-use Rattle.json_text.specs.declared.error.Error.{Error}
-use Rattle.json_text.specs.declared.error.ErrorCode.{ErrorCode}
-use Rattle.json_text.specs.declared.error.ErrorCode.TheVariants.{NoMemory, Io}
-use Rattle.json_text.specs.declared.error.Place.{Place}
-use Rattle.json_text.specs.declared.error.Place.TheVariants.{None as nowhere, Writing}
-use Rattle.json_text.specs.Errors.{no_memory}
-use Rattle.json_text.specs.Known.{Appends, append_known}
-use Rattle.json_text.specs.Outside.{SinkState, Rose}
+use Rattle.json_io.specs.declared.error.Error.{Error}
+use Rattle.json_io.specs.declared.error.ErrorCode.{ErrorCode}
+use Rattle.json_io.specs.declared.error.ErrorCode.TheVariants.{NoMemory, Io}
+use Rattle.json_io.specs.declared.error.Place.{Place}
+use Rattle.json_io.specs.declared.error.Place.TheVariants.{None as nowhere, Writing}
+use Rattle.json_io.specs.Errors.{no_memory}
+use Rattle.json_io.specs.Known.{Appends, append_known}
+use Rattle.json_io.specs.Outside.{SinkState, Rose}
 use Rattle.json_command.specs.Printing.{PrintingFails}
 
 -- no call failed where none can

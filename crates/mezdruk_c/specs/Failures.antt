@@ -1,7 +1,7 @@
 -- The status of a failure.
 use Rattle.std.specs.Prelude.{ℕ}
-use Rattle.json_text.specs.declared.error.ErrorCode.{ErrorCode}
-use Rattle.json_text.specs.declared.error.ErrorCode.TheVariants.{NoMemory, NotFound, TypeUnmatched}
+use Rattle.json_io.specs.declared.error.ErrorCode.{ErrorCode}
+use Rattle.json_io.specs.declared.error.ErrorCode.TheVariants.{NoMemory, NotFound, TypeUnmatched}
 use Rattle.json_patch.specs.declared.error.PatchCode.{PatchCode}
 use Rattle.json_patch.specs.declared.error.PatchCode.TheVariants as patch
 use Rattle.mezdruk_c.specs.declared.failure.Failure.{Failure}

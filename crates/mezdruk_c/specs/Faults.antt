@@ -1,8 +1,8 @@
 -- What C learns of a failure.
 use Rattle.std.specs.Prelude.{◌≡◌, ℕ, ◌-◌, ◌^◌, Option, Some, None, Result, Ok, Err}
-use Rattle.json_text.specs.Errors.{number_of}
-use Rattle.json_text.specs.declared.error.Place.{Place}
-use Rattle.json_text.specs.declared.error.Place.TheVariants.{At, Edit}
+use Rattle.json_io.specs.Errors.{number_of}
+use Rattle.json_io.specs.declared.error.Place.{Place}
+use Rattle.json_io.specs.declared.error.Place.TheVariants.{At, Edit}
 use Rattle.json_patch.specs.Errors.{patch_code_number as patch_number}
 use Rattle.mezdruk_c.specs.declared.failure.Failure.{Failure}
 use Rattle.mezdruk_c.specs.declared.failure.Failure.TheVariants.{Options, Argument, Text, Patch}

@@ -7,8 +7,8 @@ use Rattle.json_patch.specs.Errors.{no_memory_in_patch}
 use Rattle.json_patch.specs.Pointer.{ReferenceToken, pointer_of, value_at_pointer}
 use Rattle.json_patch.specs.declared.error.PatchCode.{PatchCode}
 use Rattle.json_patch.specs.declared.error.PatchCode.TheVariants.{NoMemory, BadPointer, NotFound}
-use Rattle.json_text.specs.Errors.{no_memory as no_memory_for_text}
-use Rattle.json_text.specs.Utf8.{Utf8Cause}
+use Rattle.json_io.specs.Errors.{no_memory as no_memory_for_text}
+use Rattle.json_io.specs.Utf8.{Utf8Cause}
 use Rattle.mezdruk_c.specs.declared.failure.Failure.{Failure}
 use Rattle.mezdruk_c.specs.declared.failure.Failure.TheVariants.{Options as bad_options, Argument, Text, Patch}
 use Rattle.mezdruk_c.specs.declared.options.Options.{Options}

@@ -3,7 +3,7 @@ use Rattle.std.specs.Prelude.{◌≡◌, ◌⊎◌, ℕ, List, Option, Some, Non
 use Rattle.json_grammar.specs.Tree.{Tree}
 use Rattle.json_print.specs.Styles.{printed}
 use Rattle.json_print.specs.declared.style.Style.{Style}
-use Rattle.json_text.specs.Errors.{no_memory, not_found}
+use Rattle.json_io.specs.Errors.{no_memory, not_found}
 use Rattle.mezdruk_c.specs.declared.failure.Failure.{Failure}
 use Rattle.mezdruk_c.specs.declared.failure.Failure.TheVariants.{Options as bad_options, Text}
 use Rattle.mezdruk_c.specs.declared.options.Options.{Options}

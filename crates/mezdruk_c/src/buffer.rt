@@ -21,7 +21,7 @@ pub struct Buffer {
 }
 
 impl Buffer {
-    ghost use Rattle.json_text.specs.Errors.{no_memory};
+    ghost use Rattle.json_io.specs.Errors.{no_memory};
     ghost use Rattle.mezdruk_c.specs.Buffers.{buffer_bytes};
 
     /// A buffer of no bytes.

@@ -1,9 +1,9 @@
 // Whether a text is JSON.
 ghost use Rattle.std.specs.Prelude.{◌≡◌, ◌≢◌, ◌⊎◌, OnOk, IfErr};
 ghost use Rattle.json_command.specs.Input.{IsValid, InputFault};
-ghost use Rattle.json_text.specs.declared.error.ErrorCode.{ErrorCode};
-ghost use Rattle.json_text.specs.declared.error.Place.{Place};
-ghost use Rattle.json_text.specs.Errors.{number_of};
+ghost use Rattle.json_io.specs.declared.error.ErrorCode.{ErrorCode};
+ghost use Rattle.json_io.specs.declared.error.Place.{Place};
+ghost use Rattle.json_io.specs.Errors.{number_of};
 ghost use Rattle.mezdruk_c.specs.Asked.{HasRules, rules_of_options};
 ghost use Rattle.mezdruk_c.specs.Checking.{CheckFails};
 ghost use Rattle.mezdruk_c.specs.Faults.{CallFailsFor, fault_at};

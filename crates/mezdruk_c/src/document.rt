@@ -19,7 +19,7 @@ pub struct Document {
 
 impl Document {
     ghost use Rattle.json_doc.specs.Docs.{doc_root};
-    ghost use Rattle.json_text.specs.Errors.{no_memory};
+    ghost use Rattle.json_io.specs.Errors.{no_memory};
     ghost use Rattle.mezdruk_c.specs.Owned.{owned_payload};
     ghost use Rattle.mezdruk_c.specs.declared.payload.Payload.TheVariants.{Document as a_document};
 

@@ -2,7 +2,7 @@
 ghost use Rattle.std.specs.Prelude.{◌≡◌, ◌≢◌, ◌⊎◌, ◌<◌, ◌^◌, List, length, map, IfOk, IfErr};
 ghost use Rattle.json_model.specs.Edit.{Edit as TreeEdit};
 ghost use Rattle.json_text.specs.Ruled.{rules_of};
-ghost use Rattle.json_text.specs.declared.error.ErrorCode.TheVariants.{NoMemory};
+ghost use Rattle.json_io.specs.declared.error.ErrorCode.TheVariants.{NoMemory};
 ghost use Rattle.json_value.specs.Edits.{edit_of};
 ghost use Rattle.json_print.specs.Styles.{printed};
 ghost use Rattle.reshape.specs.Words.{SpellsEdits};

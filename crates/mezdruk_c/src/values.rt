@@ -3,7 +3,7 @@ ghost use Rattle.std.specs.Prelude.{◌≡◌, IfOk, IfErr};
 ghost use Rattle.json_command.specs.Input.{IsInput};
 ghost use Rattle.json_doc.specs.Docs.{doc_root, doc_tree};
 ghost use Rattle.json_print.specs.Styles.{printed};
-ghost use Rattle.json_text.specs.Errors.{no_memory};
+ghost use Rattle.json_io.specs.Errors.{no_memory};
 ghost use Rattle.json_text.specs.Ruled.{rules_of, usual_rules};
 ghost use Rattle.json_value.specs.Denotes.{tree_of};
 ghost use Rattle.mezdruk_c.specs.Buffers.{buffer_bytes};

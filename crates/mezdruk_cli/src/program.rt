@@ -1,6 +1,6 @@
 // The programs that other commands run.
 ghost use Rattle.std.specs.Prelude.{◌≡◌, drop, IfOk, IfErr, IfNone};
-ghost use Rattle.json_text.specs.Errors.{no_memory};
+ghost use Rattle.json_io.specs.Errors.{no_memory};
 
 use json_command::{About, Status};
 use json_history::run_history;

@@ -9,13 +9,13 @@ use Rattle.json_model.specs.Sort.{sorted}
 use Rattle.json_model.specs.Print.{IsIndent}
 use Rattle.json_model.proofs.Proper.{sorted_proper}
 use Rattle.json_model.proofs.Printing.{shown_text}
-use Rattle.json_text.specs.declared.error.Error.{Error}
-use Rattle.json_text.specs.Known.{Appends}
-use Rattle.json_text.specs.declared.error.ErrorCode.{ErrorCode}
-use Rattle.json_text.specs.declared.error.ErrorCode.TheVariants.{NoMemory, Io, TooLarge, NotFound, TypeUnmatched}
-use Rattle.json_text.specs.declared.error.Place.{Place}
-use Rattle.json_text.specs.declared.error.Place.TheVariants.{None as nowhere, Reading, Writing, Edit as in_edit}
-use Rattle.json_text.specs.Outside.{SourceState, SinkState}
+use Rattle.json_io.specs.declared.error.Error.{Error}
+use Rattle.json_io.specs.Known.{Appends}
+use Rattle.json_io.specs.declared.error.ErrorCode.{ErrorCode}
+use Rattle.json_io.specs.declared.error.ErrorCode.TheVariants.{NoMemory, Io, TooLarge, NotFound, TypeUnmatched}
+use Rattle.json_io.specs.declared.error.Place.{Place}
+use Rattle.json_io.specs.declared.error.Place.TheVariants.{None as nowhere, Reading, Writing, Edit as in_edit}
+use Rattle.json_io.specs.Outside.{SourceState, SinkState}
 use Rattle.json_doc.specs.declared.doc.Doc.{Doc}
 use Rattle.json_doc.specs.Docs.{doc_tree, doc_root}
 use Rattle.json_value.specs.declared.value.Value.{Value}

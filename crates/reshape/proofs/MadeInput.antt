@@ -8,10 +8,10 @@ use Rattle.json_grammar.specs.Grammar.{hex4, Spelling, unicode_escape, none, mor
 use Rattle.json_grammar.proofs.Steps.{letters, number_value}
 use Rattle.json_number.proofs.Integers.{decimal_number}
 use Rattle.json_model.specs.Edit.{Edit}
-use Rattle.json_text.specs.declared.error.Error.{Error}
-use Rattle.json_text.specs.Errors.{no_memory}
-use Rattle.json_text.specs.Known.{Appends, append_known}
-use Rattle.json_text.specs.Outside.{SourceState, SinkState, Rose}
+use Rattle.json_io.specs.declared.error.Error.{Error}
+use Rattle.json_io.specs.Errors.{no_memory}
+use Rattle.json_io.specs.Known.{Appends, append_known}
+use Rattle.json_io.specs.Outside.{SourceState, SinkState, Rose}
 use Rattle.json_text.specs.Ruled.{usual_rules}
 use Rattle.json_command.specs.Input.{max_bytes, IsInput}
 use Rattle.json_command.specs.Printing.{Prints}

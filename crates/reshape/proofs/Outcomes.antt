@@ -2,14 +2,14 @@
 use Rattle.std.proofs.Common.{◌≡◌, ◌⊎◌, inl, inr, ℕ, ◌≤◌, List, [], ◌∷◌, Result, Ok, Err, OnOk, IfErr, refl, sym, subst, ap, ◌∙◌}
 use Rattle.json_model.specs.Edit.{Edit, Refusal, not_found, type_unmatched}
 use Rattle.json_grammar.specs.Rules.{Rules}
-use Rattle.json_text.specs.declared.error.Error.{Error}
-use Rattle.json_text.specs.declared.error.ErrorCode.{ErrorCode}
-use Rattle.json_text.specs.declared.error.ErrorCode.TheVariants.{NoMemory, Io, NotFound, TypeUnmatched, BadWords}
-use Rattle.json_text.specs.declared.error.Place.{Place}
-use Rattle.json_text.specs.declared.error.Place.TheVariants.{None as nowhere, Writing}
-use Rattle.json_text.specs.Errors.{no_memory, bad_words}
-use Rattle.json_text.specs.Outside.{SourceState, SinkState}
-use Rattle.json_text.specs.FaultText.{text_of}
+use Rattle.json_io.specs.declared.error.Error.{Error}
+use Rattle.json_io.specs.declared.error.ErrorCode.{ErrorCode}
+use Rattle.json_io.specs.declared.error.ErrorCode.TheVariants.{NoMemory, Io, NotFound, TypeUnmatched, BadWords}
+use Rattle.json_io.specs.declared.error.Place.{Place}
+use Rattle.json_io.specs.declared.error.Place.TheVariants.{None as nowhere, Writing}
+use Rattle.json_io.specs.Errors.{no_memory, bad_words}
+use Rattle.json_io.specs.Outside.{SourceState, SinkState}
+use Rattle.json_io.specs.FaultText.{text_of}
 use Rattle.json_command.specs.Input.{InputFault}
 use Rattle.reshape.specs.Options.{Command, Asks, AsksMade, IsAsked, IsMaking}
 use Rattle.reshape.specs.Asked.{asked_command, AsksFor}

@@ -3,10 +3,10 @@ use Rattle.std.proofs.Common.{◌≡◌, ◌≢◌, ◌∙◌, false, ℕ, ◌�
 use Rattle.json_grammar.specs.Tree.{Tree, null, boolean, num, text, list, pairs}
 use Rattle.json_grammar.proofs.TextUtf8.{text_utf8}
 use Rattle.json_grammar.proofs.Values.{one_tree}
-use Rattle.json_text.specs.declared.error.ErrorCode.{ErrorCode}
-use Rattle.json_text.specs.declared.error.ErrorCode.TheVariants.{NoMemory, TooLarge, InvalidUTF8, TypeUnmatched, NumberOutOfRange, ExpectedNumericKey}
-use Rattle.json_text.specs.declared.error.Place.{Place}
-use Rattle.json_text.specs.declared.error.Place.TheVariants.{None as nowhere}
+use Rattle.json_io.specs.declared.error.ErrorCode.{ErrorCode}
+use Rattle.json_io.specs.declared.error.ErrorCode.TheVariants.{NoMemory, TooLarge, InvalidUTF8, TypeUnmatched, NumberOutOfRange, ExpectedNumericKey}
+use Rattle.json_io.specs.declared.error.Place.{Place}
+use Rattle.json_io.specs.declared.error.Place.TheVariants.{None as nowhere}
 use Rattle.json_text.proofs.NoText.{no_text}
 use Rattle.json_model.specs.Datum.{Datum, list_datum, list_data}
 use Rattle.json_model.specs.Edit.{Edit}

@@ -1,9 +1,9 @@
 -- What the known bytes of a source come to: a text to which the edits apply, or one to which they do not apply.
 use Rattle.std.specs.Prelude.{◌≡◌, ◌⊎◌, ℕ, List, Result, Ok, Err, IsErrOf}
-use Rattle.json_text.specs.declared.error.Error.{Error}
-use Rattle.json_text.specs.declared.error.Place.TheVariants.{Edit as in_edit}
-use Rattle.json_text.specs.Errors.{no_memory}
-use Rattle.json_text.specs.Outside.{SourceState, SinkState, Rose}
+use Rattle.json_io.specs.declared.error.Error.{Error}
+use Rattle.json_io.specs.declared.error.Place.TheVariants.{Edit as in_edit}
+use Rattle.json_io.specs.Errors.{no_memory}
+use Rattle.json_io.specs.Outside.{SourceState, SinkState, Rose}
 use Rattle.json_grammar.specs.Tree.{Tree}
 use Rattle.json_grammar.specs.Rules.{Rules}
 use Rattle.json_model.specs.Edit.{Edit, edited, Refusal}

@@ -1,12 +1,12 @@
 -- The status of the top call, and what it tells of a refusal.
 use Rattle.std.specs.Prelude.{◌≡◌, ◌⊎◌, ℕ, List}
-use Rattle.json_text.specs.declared.error.Error.{Error}
-use Rattle.json_text.specs.declared.error.ErrorCode.{ErrorCode}
-use Rattle.json_text.specs.declared.error.ErrorCode.TheVariants.{NoMemory, BadWords}
-use Rattle.json_text.specs.declared.error.Place.{Place}
-use Rattle.json_text.specs.declared.error.Place.TheVariants.{None as nowhere}
-use Rattle.json_text.specs.Outside.{SourceState, SinkState}
-use Rattle.json_text.specs.FaultText.{text_of}
+use Rattle.json_io.specs.declared.error.Error.{Error}
+use Rattle.json_io.specs.declared.error.ErrorCode.{ErrorCode}
+use Rattle.json_io.specs.declared.error.ErrorCode.TheVariants.{NoMemory, BadWords}
+use Rattle.json_io.specs.declared.error.Place.{Place}
+use Rattle.json_io.specs.declared.error.Place.TheVariants.{None as nowhere}
+use Rattle.json_io.specs.Outside.{SourceState, SinkState}
+use Rattle.json_io.specs.FaultText.{text_of}
 use Rattle.json_model.specs.Edit.{Refusal}
 use Rattle.reshape.specs.Options.{Command, Asks, AsksMade, IsAsked}
 use Rattle.reshape.specs.Made.{GainsSummary, SummaryFails}

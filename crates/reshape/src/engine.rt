@@ -1,9 +1,9 @@
 // From the bytes of a source to the bytes of a sink.
 ghost use Rattle.std.specs.Prelude.{◌+◌, ◌<◌, ◌^◌, length, map, OnOk, IfErr, IsOkUnless};
 ghost use Rattle.json_value.specs.Edits.{edit_of};
-ghost use Rattle.json_text.specs.Errors.{no_memory};
+ghost use Rattle.json_io.specs.Errors.{no_memory};
 ghost use Rattle.json_text.specs.Ruled.{rules_of, usual_rules};
-ghost use Rattle.json_text.specs.Transfer.{TakesAtMost};
+ghost use Rattle.json_io.specs.Transfer.{TakesAtMost};
 ghost use Rattle.json_command.specs.Input.{max_bytes};
 ghost use Rattle.reshape.specs.Reshape.{layout_of, Reshapes, ReshapingRefuses};
 ghost use Rattle.json_command.specs.Printing.{ReturnsWriteError};

@@ -1,7 +1,7 @@
 // A large input that is made from a number, and the summary of it and of its text.
 ghost use Rattle.std.specs.Prelude.{◌≡◌, ◌++◌, ◌≤◌, sum, decimal, OnOk, IfOk, IfErr};
 ghost use Rattle.json_grammar.specs.Tree.{Tree};
-ghost use Rattle.json_text.specs.Errors.{no_memory};
+ghost use Rattle.json_io.specs.Errors.{no_memory};
 ghost use Rattle.json_text.specs.Ruled.{usual_rules};
 ghost use Rattle.json_command.specs.Input.{IsInput};
 ghost use Rattle.reshape.specs.Reshape.{layout_of};

@@ -1,6 +1,6 @@
 // What the words of the command line ask for.
 ghost use Rattle.std.specs.Prelude.{◌≡◌, ◌⊎◌, List, IfOk, IfErr, option_map, option_to_list};
-ghost use Rattle.json_text.specs.Errors.{no_memory, bad_words};
+ghost use Rattle.json_io.specs.Errors.{no_memory, bad_words};
 ghost use Rattle.json_model.specs.Edit.{Edit as TreeEdit};
 ghost use Rattle.reshape.specs.Words.{SpellsEdits, AsksEdits};
 ghost use Rattle.reshape.specs.Options.{IsAsked};

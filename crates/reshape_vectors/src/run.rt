@@ -1,6 +1,6 @@
 // The worked examples of the top call, run.
 ghost use Rattle.std.specs.Prelude.{◌≡◌, IfErr};
-ghost use Rattle.json_text.specs.Errors.{no_memory};
+ghost use Rattle.json_io.specs.Errors.{no_memory};
 
 use crate::rows::ROWS;
 use json_command::rows::differing_rows;

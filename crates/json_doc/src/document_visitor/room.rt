@@ -1,7 +1,7 @@
 // Room that grows.
 ghost use Rattle.std.specs.Prelude.{◌≡◌, ◌+◌, ◌≤◌, List, OnOk, IfErr};
 ghost use Rattle.json_grammar.specs.Tree.{Token};
-ghost use Rattle.json_text.specs.Errors.{no_memory};
+ghost use Rattle.json_io.specs.Errors.{no_memory};
 ghost use Rattle.json_doc.specs.Recorded.{visitor_state, Holds};
 
 use super::DocumentVisitor;

@@ -8,7 +8,7 @@ ghost use Rattle.json_print.specs.Steps.{stop_of};
 use super::{Halted, Serializer, Step};
 use crate::Formatter;
 use crate::part::{Part, write_part};
-use json_text::{Error, ErrorCode, Place, Sink};
+use json_io::{Error, ErrorCode, Place, Sink};
 
 // The error of a sink that has this code.
 fn stop_of(code: ErrorCode) -> Error

@@ -13,7 +13,7 @@ use crate::part::Part;
 use crate::sorted::{SortedObject, put_rows};
 use crate::{Formatter, Turn};
 use json_grammar::Kind;
-use json_text::{Error, ErrorCode, Sink};
+use json_io::{Error, ErrorCode, Sink};
 
 #[inline(always)]
 fn first_key(turn: Turn) -> bool

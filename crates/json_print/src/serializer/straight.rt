@@ -9,7 +9,7 @@ use super::{Serializer, Step};
 use crate::part::{Part, write_part, write_uint};
 use crate::{Formatter, Turn};
 use json_grammar::Kind;
-use json_text::Sink;
+use json_io::Sink;
 
 // A call of the formatter, whose error is kept.
 macro_rules! straight {

@@ -8,11 +8,11 @@ ghost use Rattle.json_text.specs.Tokens.{begin_event, end_event};
 
 use crate::parser::Parser;
 use crate::parser::expected::takes_value;
-use crate::runs::byte_is;
 use crate::spot::{closing, ready};
 use crate::stack::Kinds;
 use crate::token::opened;
 use json_grammar::{Kind, Spot};
+use json_scan::byte_is;
 
 #[inline(always)]
 fn bracket(kind: Kind) -> u8

@@ -9,11 +9,11 @@ ghost use Rattle.json_grammar.specs.Place.{TakesValue, TakesKey};
 
 use crate::integer::integer_at;
 use crate::parser::Parser;
-use crate::runs::byte_is;
 use crate::span::Span;
 use crate::spot::ready;
 use crate::token::string_at;
 use json_grammar::Spot;
+use json_scan::byte_is;
 
 /// A number that is an integer by value, with its literal.
 ///

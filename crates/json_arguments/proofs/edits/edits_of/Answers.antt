@@ -1,5 +1,5 @@
 use Rattle.std.proofs.Common.{◌≡◌, ◌⊎◌, None, sym, subst, ap, ◌∙◌}
-use Rattle.json_text.specs.Errors.{no_memory}
+use Rattle.json_io.specs.Errors.{no_memory}
 use Rattle.json_value.specs.Denotes.{tree_of}
 use Rattle.json_value.specs.EditTrees.{edits_in}
 use Rattle.json_arguments.proofs.Lines.{if_ok_then, if_err_then}

@@ -2,7 +2,7 @@ use Rattle.std.proofs.Common.{[], ◌∷◌, ◌++◌, ◌≡◌, ◌+◌, Resul
 use Rattle.std.specs.Result.{IsErrAnd, IfErr}
 use Rattle.json_grammar.specs.declared.Spot.TheVariants.{Value as at_value}
 use Rattle.json_grammar.specs.Tree.{tokens}
-use Rattle.json_text.specs.declared.error.Error.{Error}
+use Rattle.json_io.specs.declared.error.Error.{Error}
 use Rattle.json_text.specs.Parsing.{state_of}
 use Rattle.json_text.specs.Ruled.{rules_of}
 use Rattle.json_text.specs.Standing.{Stood}

@@ -1,7 +1,7 @@
 use Rattle.std.proofs.Common.{◌≡◌, Result, Ok, Err, refl, sym, subst, ap, inr}
 use Rattle.std.proofs.lemmas.Result.{IfOk-weaker}
 use Rattle.std.specs.Result.{IsErrAnd, IfErr}
-use Rattle.json_text.specs.declared.error.Error.{Error}
+use Rattle.json_io.specs.declared.error.Error.{Error}
 use Rattle.json_text.specs.Parsing.{ParserState}
 use Rattle.json_doc.proofs.Fronts.{fresh_not_whole, first_out, front_read, front_whole, front_kept, front_fails, front_gives_up}
 use Rattle.json_doc.proofs.reader.read_front.Goals as goal

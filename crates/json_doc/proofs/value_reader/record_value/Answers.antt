@@ -1,6 +1,6 @@
 use Rattle.std.proofs.Common.{◌≡◌, ◌≤◌, Result, Ok, Err, sym, subst, inr}
 use Rattle.std.specs.Result.{IsErrAnd, IfErr}
-use Rattle.json_text.specs.declared.error.Error.{Error}
+use Rattle.json_io.specs.declared.error.Error.{Error}
 use Rattle.json_text.specs.Parsing.{IsWhole}
 use Rattle.json_doc.specs.Recorded.{visitor_state}
 use Rattle.json_doc.proofs.ValueRecording.{begins_here, number_here, here_recorded, records_end, still_open, goes_forward, records_on, refuses_value}

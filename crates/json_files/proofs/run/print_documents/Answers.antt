@@ -1,6 +1,6 @@
 use Rattle.std.proofs.Common.{inl, inr, refl, ap, ◌∙◌}
 use Rattle.json_command.specs.Statuses.{status_number}
-use Rattle.json_text.specs.Errors.{writing_failed}
+use Rattle.json_io.specs.Errors.{writing_failed}
 use Rattle.json_files.proofs.Handled.{prints_all, small, prints_some, high, not_high, not_small}
 use Rattle.json_files.proofs.SmallStatuses.{told_status}
 use Rattle.json_files.proofs.TextWriting.{ok_no_error}

@@ -1,5 +1,5 @@
 use Rattle.std.proofs.Common.{◌≡◌, ◌⊎◌, sym, subst, ap, ◌∙◌}
-use Rattle.json_text.specs.FaultText.{text_of}
+use Rattle.json_io.specs.FaultText.{text_of}
 use Rattle.json_command.specs.Reporting.{Reports}
 use Rattle.json_command.specs.Statuses.{status_number}
 use Rattle.json_history.specs.Calls.{edit_error}

@@ -1,6 +1,6 @@
 use Rattle.std.proofs.Common.{◌≡◌, ◌⊎◌, inl, inr, List, Some, map, refl, ap, ◌∙◌, rules}
 use Rattle.std.proofs.lemmas.Result.{IfOk-weaker, IfErr-weaker}
-use Rattle.json_text.specs.Errors.{no_memory, bad_words}
+use Rattle.json_io.specs.Errors.{no_memory, bad_words}
 use Rattle.json_doc.specs.Docs.{doc_root, doc_tree}
 use Rattle.json_value.specs.EditTrees.{each_in}
 use Rattle.json_value.specs.Seen.{elements_seen, list_of}

@@ -1,8 +1,8 @@
 use Rattle.std.proofs.Common.{ℕ, List, Ok, Err, OnOk, IfErr, Result, sym, ap, subst}
 use Rattle.std.proofs.lemmas.Result.{err_from_is_err_and}
-use Rattle.json_text.specs.Outside.{SinkState}
-use Rattle.json_text.specs.Transfer.{FlushesAll}
-use Rattle.json_text.specs.declared.error.Error.{Error}
+use Rattle.json_io.specs.Outside.{SinkState}
+use Rattle.json_io.specs.Transfer.{FlushesAll}
+use Rattle.json_io.specs.declared.error.Error.{Error}
 use Rattle.json_lines.specs.Rows.{Outcome, HasWithin}
 use Rattle.json_lines.specs.Steps.{RunState}
 use Rattle.json_lines.specs.Running.{run_state, FinishesLines}

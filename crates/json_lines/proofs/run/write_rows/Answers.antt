@@ -1,5 +1,5 @@
 use Rattle.std.proofs.Common.{ℕ, List, inl, inr, subst}
-use Rattle.json_text.specs.declared.error.Error.{Error}
+use Rattle.json_io.specs.declared.error.Error.{Error}
 use Rattle.json_lines.specs.Running.{run_state, FailsEarly}
 use Rattle.json_lines.specs.Rows.{Outcome, HasWithin}
 use Rattle.json_lines.specs.Steps.{RunState, StepResult, StepFails}

@@ -1,4 +1,4 @@
-use Rattle.json_text.proofs.Putting.{Puts-then}
+use Rattle.json_io.proofs.Putting.{Puts-then}
 use Rattle.json_lines.proofs.run.write_three.Goals as goal
 
 pub returns-in-Ok : goal.returns-in-Ok

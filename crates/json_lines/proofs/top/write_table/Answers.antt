@@ -1,6 +1,6 @@
 use Rattle.std.proofs.Common.{◌∙◌, rules}
 use Rattle.std.proofs.lemmas.Result.{err_from_is_err_and}
-use Rattle.json_text.specs.Outside.{SinkState}
+use Rattle.json_io.specs.Outside.{SinkState}
 use Rattle.json_lines.specs.Outcomes.{HasOutcome}
 use Rattle.json_lines.specs.Rows.{HasWithin}
 use Rattle.json_lines.specs.Tables.{table_command}

@@ -1,5 +1,5 @@
 use Rattle.std.proofs.Common.{ℕ, ◌<◌, get_or}
-use Rattle.json_text.specs.Runs.{IsPlain}
+use Rattle.json_scan.specs.Runs.{IsPlain}
 use Rattle.json_print.proofs.plain.is_plain_few.Given as goal
 
 abbrev pub invariant-each : goal.invariant-each

@@ -1,5 +1,5 @@
 use Rattle.std.proofs.lemmas.Result.{err_from_is_err_and}
-use Rattle.json_text.proofs.Putting.{Puts-first, Puts-then}
+use Rattle.json_io.proofs.Putting.{Puts-first, Puts-then}
 use Rattle.json_print.proofs.sorted.put_key.Goals as goal
 
 pub returns-in_err-begin_object_key-clause-puts : goal.returns-in_err-begin_object_key-clause-puts

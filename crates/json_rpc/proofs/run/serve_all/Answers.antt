@@ -1,6 +1,6 @@
 use Rattle.std.proofs.Common.{◌∙◌, rules}
 use Rattle.std.proofs.lemmas.Result.{err_from_is_err_and}
-use Rattle.json_text.specs.Outside.{SinkState}
+use Rattle.json_io.specs.Outside.{SinkState}
 use Rattle.json_lines.proofs.SinkEnds.{same_sink}
 use Rattle.json_rpc.proofs.RunResults.{stops_at_once, stopped_through}
 use Rattle.json_rpc.proofs.run.serve_all.Goals as goal

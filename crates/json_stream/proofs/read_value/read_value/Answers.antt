@@ -1,7 +1,7 @@
 use Rattle.std.proofs.Common.{◌≡◌, ◌∙◌, ℕ, ◌≤◌, List, true, length, refl, sym, ap, subst}
 use Rattle.std.specs.Prelude.{option_copied}
-use Rattle.json_text.specs.declared.error.Error.{Error}
-use Rattle.json_text.specs.Positions.{place_at}
+use Rattle.json_io.specs.declared.error.Error.{Error}
+use Rattle.json_io.specs.Positions.{place_at}
 use Rattle.json_data.specs.Reading.{gives, refuses}
 use Rattle.json_data.specs.Refusals.{is_refusal}
 use Rattle.json_stream.specs.Streams.{standing, stands_at, in_input, PlaceIsWithin, TakesNextValue, NextValueFails}

@@ -2,7 +2,7 @@ use Rattle.std.proofs.Common.{◌≡◌, ◌≤◌, ◌∷◌, [], length, map, 
 use Rattle.std.specs.Vec.{with_item}
 use Rattle.std.proofs.lemmas.Result.{err_from_is_err_and}
 use Rattle.json_grammar.specs.Tree.{list, list_trees}
-use Rattle.json_text.specs.Errors.{not_found}
+use Rattle.json_io.specs.Errors.{not_found}
 use Rattle.json_model.specs.Edit.{at_path, at_index, index_step}
 use Rattle.json_value.specs.Denotes.{tree_of}
 use Rattle.json_value.specs.Touched.{ArrayTouched, ReplacedBy}

@@ -12,7 +12,7 @@ use base.Logic.{SProp, ent}
 use base.Fml.{Lft}
 use denote.Triple.Statement.{Contract}
 use Rattle.std.specs.declared.alloc.Global.{Global}
-use Rattle.json_text.specs.declared.error.Error.{Error}
+use Rattle.json_io.specs.declared.error.Error.{Error}
 use base.Fml.{Incl}
 use lib.NonEmpty.{one}
 use lib.WfN.{lt-wf_rel}
@@ -48,9 +48,9 @@ use Rattle.json_value.specs.Lending.{LendsAlong, LendsStep, LeadsTo, first_node,
 use Rattle.json_value.specs.declared.value.Value.{Value}
 use Rattle.json_value.specs.declared.path.PointerNode.{PointerNode}
 use Rattle.json_value.specs.contracts.value.Value.{the_row as value}
-use Rattle.json_text.specs.contracts.error.Error.{the_row as refusal}
+use Rattle.json_io.specs.contracts.error.Error.{the_row as refusal}
 use Rattle.json_value.specs.contracts.path.PointerNode.{the_row as node}
-use Rattle.json_text.proofs.error.Error.TheLaws.{the_row_laws as refusal_laws, the_told as refusal_told}
+use Rattle.json_io.proofs.error.Error.TheLaws.{the_row_laws as refusal_laws, the_told as refusal_told}
 use Rattle.json_value.proofs.path.PointerNode.TheLaws.{the_row_laws as node_laws}
 use Rattle.json_value.proofs.value.Value.TheLaws.{the_row_laws as value_laws}
 use Rattle.json_value.proofs.Results.{ok_val, err_val, ok_out, err_out, ok_in, err_in}

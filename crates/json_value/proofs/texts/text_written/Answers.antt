@@ -1,6 +1,6 @@
 use Rattle.std.proofs.Common.{◌≡◌, Some, IsUtf8, string_bytes, refl, sym, ap, subst, ◌∙◌}
 use Rattle.std.specs.Prelude.{IfSome}
-use Rattle.json_text.specs.Sinks.{vec_sink_state}
+use Rattle.json_io.specs.Sinks.{vec_sink_state}
 use Rattle.json_value.proofs.PrintedTexts.{flush_failed, flushed_out}
 use Rattle.json_value.proofs.texts.text_written.Goals as goal
 

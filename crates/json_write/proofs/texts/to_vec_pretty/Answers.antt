@@ -1,8 +1,8 @@
 use Rattle.std.proofs.Common.{Some, codes, refl, ap, inl}
 use Rattle.std.proofs.lemmas.Result.{err_from_is_err_and}
 use Rattle.json_model.specs.Print.{IsIndent}
-use Rattle.json_text.specs.Outside.{SinkState}
-use Rattle.json_text.specs.Sinks.{vec_sink_state}
+use Rattle.json_io.specs.Outside.{SinkState}
+use Rattle.json_io.specs.Sinks.{vec_sink_state}
 use Rattle.json_print.specs.contracts.pretty.PrettyFormatterFormatter.TheImpl.{ghosts}
 use Rattle.json_write.proofs.Refused.{if_err}
 use Rattle.json_write.proofs.Printing.{memory_or_refused, text_gained, text_in_vec, text_is_utf8}

@@ -1,7 +1,7 @@
 use Rattle.std.proofs.Common.{Some, codes, rules}
 use Rattle.std.proofs.lemmas.Result.{err_from_is_err_and}
 use Rattle.json_model.specs.Print.{shown}
-use Rattle.json_text.specs.Outside.{SinkState}
+use Rattle.json_io.specs.Outside.{SinkState}
 use Rattle.json_write.proofs.Sending.{sent_name, written_through, not_begun}
 use Rattle.json_write.proofs.writing.to_writer_pretty.Goals as goal
 

@@ -11,7 +11,7 @@ use base.Fml.{GName}
 use Rattle.std.specs.Prelude.{IfOk, IfErr, IfSome, option_map}
 use Rattle.std.specs.Borrow.{follows_so}
 use Rattle.json_grammar.specs.Tree.{list, list_trees}
-use Rattle.json_text.specs.Errors.{no_memory}
+use Rattle.json_io.specs.Errors.{no_memory}
 use Rattle.json_value.specs.Denotes.{tree_of, list_in}
 use Rattle.json_value.specs.Seen.{list_of}
 use Rattle.json_value.specs.Lending.{lent, lent_name, IsReferenceLent, UnlessLent}

@@ -12,7 +12,7 @@ use base.Fml.{GName}
 use Rattle.std.specs.Prelude.{IfOk, IfErr, IfSome, option_map}
 use Rattle.std.specs.Borrow.{follows_so}
 use Rattle.json_grammar.specs.Tree.{pairs, list_pairs}
-use Rattle.json_text.specs.Errors.{no_memory}
+use Rattle.json_io.specs.Errors.{no_memory}
 use Rattle.json_value.specs.Denotes.{tree_of, pairs_in}
 use Rattle.json_value.specs.Seen.{object_pairs}
 use Rattle.json_value.specs.Lending.{lent, lent_name, IsReferenceLent, UnlessLent}

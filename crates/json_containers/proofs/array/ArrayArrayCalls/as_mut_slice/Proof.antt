@@ -14,14 +14,14 @@ use Rattle.std.specs.Prelude as prelude
 use Rattle.std.specs.Borrow.{Lends, LendsSoOk}
 use Rattle.std.specs.Vec.{with_items}
 use Rattle.std.specs.contracts.alloc.Global.{the_row as global}
-use Rattle.json_text.specs.contracts.error.Error.{the_row as refusal}
+use Rattle.json_io.specs.contracts.error.Error.{the_row as refusal}
 use Rattle.std.specs.contracts.result.Result as result
 use Rattle.std.proofs.alloc.Global.TheLaws.{the_row_laws as global_laws, the_told as global_told}
-use Rattle.json_text.proofs.error.Error.TheLaws.{the_row_laws as refusal_laws, the_told as refusal_told}
+use Rattle.json_io.proofs.error.Error.TheLaws.{the_row_laws as refusal_laws, the_told as refusal_told}
 use Rattle.std.specs.contracts.impls.GlobalAllocator.TheImpl.{ghosts}
 use Rattle.std.proofs.vec.Vec.TheLaws.{the_row_laws as vec_laws}
 use Rattle.std.proofs.result.Result.TheLaws.{the_row_laws as result_laws}
-use Rattle.json_text.specs.Errors.{no_memory}
+use Rattle.json_io.specs.Errors.{no_memory}
 use Rattle.json_value.specs.Denotes.{tree_of, list_in}
 use Rattle.json_value.specs.Rows.{array_row, value_row, vec_row, owned}
 use Rattle.json_value.specs.Spots.{IsPlace}

@@ -14,7 +14,7 @@ use Rattle.std.proofs.alloc.Global.TheLaws.{the_row_laws as global_laws, the_tol
 use Rattle.std.proofs.result.Result.TheLaws.{the_row_laws as result_laws}
 use Rattle.std.proofs.option.Option.TheLaws.{the_row_laws as option_laws}
 use Rattle.json_value.specs.Denotes.{tree_of}
-use Rattle.json_text.specs.Errors.{no_memory}
+use Rattle.json_io.specs.Errors.{no_memory}
 use Rattle.json_value.specs.Denotes.{pairs_in}
 use Rattle.json_value.specs.Rows.{object_row}
 use Rattle.json_value.specs.Spots.{IsPlace}
@@ -35,8 +35,8 @@ use mir.Syntax.{w8}
 use Rattle.json_value.proofs.LenderRelations.{so_weaken}
 use Rattle.json_value.specs.declared.value.Value.{Value}
 use Rattle.json_value.specs.contracts.value.Value.{the_row as value}
-use Rattle.json_text.specs.contracts.error.Error.{the_row as refusal}
-use Rattle.json_text.proofs.error.Error.TheLaws.{the_row_laws as refusal_laws}
+use Rattle.json_io.specs.contracts.error.Error.{the_row as refusal}
+use Rattle.json_io.proofs.error.Error.TheLaws.{the_row_laws as refusal_laws}
 use Rattle.json_value.proofs.value.Value.TheLaws.{the_row_laws as value_laws}
 use Rattle.json_containers.specs.contracts.object.ObjectObjectCalls.get_mut as f
 use Rattle.json_containers.proofs.object.ObjectObjectCalls.get_mut.Statement.{statement}

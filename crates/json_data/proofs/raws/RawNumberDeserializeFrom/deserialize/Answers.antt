@@ -8,8 +8,8 @@ use Rattle.json_model.specs.Datum.{literal_datum}
 use Rattle.json_number.specs.Numbers.{text_of_number}
 use Rattle.json_number.specs.Tests.{is_number}
 use Rattle.json_number.proofs.Literals.{number_from_test}
-use Rattle.json_text.specs.declared.error.Error.{Error}
-use Rattle.json_text.specs.declared.error.ErrorCode.TheVariants.{TypeUnmatched}
+use Rattle.json_io.specs.declared.error.Error.{Error}
+use Rattle.json_io.specs.declared.error.ErrorCode.TheVariants.{TypeUnmatched}
 use Rattle.json_data.specs.Reading.{gives, refuses, read_literal}
 use Rattle.json_data.proofs.Steps.{peek_tree}
 use Rattle.json_data.proofs.Exits.{mismatch}

@@ -1,6 +1,6 @@
 use Rattle.std.proofs.Common.{◌≡◌, ◌∙◌, List, [], Option, Some, None, IfSome, sym, ap, subst, arith, option_map}
 use Rattle.json_grammar.specs.Tree.{Token as Tok}
-use Rattle.json_text.specs.declared.error.Error.{Error}
+use Rattle.json_io.specs.declared.error.Error.{Error}
 use Rattle.json_value.specs.Denotes.{tree_of}
 use Rattle.json_data.specs.declared.ahead.Ahead.{Ahead}
 use Rattle.json_data.specs.Stand.{Peeks, TakesTokens}

@@ -1,5 +1,5 @@
 use Rattle.std.proofs.Common.{◌≡◌, ◌∙◌, ◌≤◌, [], Option, Some, None, IfSome, sym, ap, subst, inr, arith, option_map}
-use Rattle.json_text.specs.declared.error.Error.{Error}
+use Rattle.json_io.specs.declared.error.Error.{Error}
 use Rattle.json_text.specs.declared.event.Event.{Event}
 use Rattle.json_text.specs.Parsing.{ParserState, HasGiven, IsWhole, HasRead}
 use Rattle.json_data.specs.declared.ahead.Ahead.{Ahead}

@@ -2,8 +2,8 @@ use Rattle.std.proofs.Common.{◌≡◌, ◌⊎◌, inl, inr, refl, List, ℕ, R
 use Rattle.std.specs.Result.{IfErr, OnOk}
 use Rattle.std.proofs.lemmas.Bool.{both_ways}
 use Rattle.json_grammar.specs.Grammar.{number}
-use Rattle.json_text.specs.Errors.{no_memory}
-use Rattle.json_text.specs.declared.error.Error.{Error}
+use Rattle.json_io.specs.Errors.{no_memory}
+use Rattle.json_io.specs.declared.error.Error.{Error}
 use Rattle.json_number.specs.Errors.{invalid_number}
 use Rattle.json_number.specs.declared.raw_number.RawNumber.{RawNumber}
 use Rattle.json_number.proofs.raw_number.RawNumber.new.Goals as goal

@@ -1,5 +1,5 @@
 use Rattle.std.proofs.Common.{◌≡◌, drop, length, length-drop, Option, None, IfSome, sym, ap, subst, ◌∙◌, arith}
-use Rattle.json_text.specs.declared.error.Error.{Error}
+use Rattle.json_io.specs.declared.error.Error.{Error}
 use Rattle.json_text.specs.Faults.{IsFault, IsInValue}
 use Rattle.json_text.specs.Parsing.{ParserState}
 use Rattle.json_text.specs.Due.{NextNeeds}

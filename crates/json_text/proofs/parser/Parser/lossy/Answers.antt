@@ -1,5 +1,5 @@
 use Rattle.std.proofs.Common.{◌≡◌, ◌+◌, ◌-◌, None, Option, IfSome, true, [], drop, subst, sym}
-use Rattle.json_text.specs.declared.error.Error.{Error}
+use Rattle.json_io.specs.declared.error.Error.{Error}
 use Rattle.json_text.specs.Faults.{FaultFrom, IsInValue}
 use Rattle.json_text.specs.Parsing.{ParserState, HasGiven}
 use Rattle.json_text.proofs.Modes.{fresh_in}

@@ -3,10 +3,10 @@ use Rattle.json_grammar.specs.Given.{piece}
 use Rattle.json_grammar.specs.Needs.{IsGap}
 use Rattle.json_grammar.specs.Place.{TakesValue, bracket}
 use Rattle.json_grammar.proofs.Reading.{takes_not_done}
-use Rattle.json_text.specs.declared.error.Error.{Error}
+use Rattle.json_io.specs.declared.error.Error.{Error}
 use Rattle.json_text.specs.Faults.{IsInValue}
 use Rattle.json_text.specs.Parsing.{ParserState}
-use Rattle.json_text.specs.Runs.{ByteAt}
+use Rattle.json_scan.specs.Runs.{ByteAt}
 use Rattle.json_text.specs.Tokens.{begin_event}
 use Rattle.json_text.proofs.Bracketed.{begins}
 use Rattle.json_text.proofs.NextParts.{rest_next}

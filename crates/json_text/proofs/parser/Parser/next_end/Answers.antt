@@ -4,10 +4,10 @@ use Rattle.json_grammar.specs.Given.{piece}
 use Rattle.json_grammar.specs.declared.Spot.TheVariants.{Done as done}
 use Rattle.json_grammar.specs.Needs.{IsGap}
 use Rattle.json_grammar.specs.Place.{TakesEnd, closing}
-use Rattle.json_text.specs.declared.error.Error.{Error}
+use Rattle.json_io.specs.declared.error.Error.{Error}
 use Rattle.json_text.specs.Faults.{IsInValue}
 use Rattle.json_text.specs.Parsing.{ParserState}
-use Rattle.json_text.specs.Runs.{ByteAt}
+use Rattle.json_scan.specs.Runs.{ByteAt}
 use Rattle.json_text.specs.Stack.{top}
 use Rattle.json_text.specs.Tokens.{end_event}
 use Rattle.json_text.proofs.Behind.{event_reads}

@@ -5,7 +5,7 @@ use Rattle.json_grammar.specs.declared.Spot.TheVariants.{Done as done}
 use Rattle.json_grammar.specs.Needs.{IsGap}
 use Rattle.json_grammar.specs.Place.{TakesValue}
 use Rattle.json_grammar.proofs.Reading.{takes_not_done}
-use Rattle.json_text.specs.declared.error.Error.{Error}
+use Rattle.json_io.specs.declared.error.Error.{Error}
 use Rattle.json_text.specs.Faults.{IsInValue}
 use Rattle.json_text.specs.Literals.{WordTo}
 use Rattle.json_text.specs.Parsing.{ParserState}

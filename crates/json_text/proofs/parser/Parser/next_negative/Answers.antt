@@ -8,7 +8,7 @@ use Rattle.json_grammar.specs.Place.{TakesValue}
 use Rattle.json_grammar.specs.Tree.{num_token}
 use Rattle.json_grammar.proofs.Pieces.{piece_length}
 use Rattle.json_grammar.proofs.Reading.{takes_not_done}
-use Rattle.json_text.specs.declared.error.Error.{Error}
+use Rattle.json_io.specs.declared.error.Error.{Error}
 use Rattle.json_text.specs.declared.event.Event.TheVariants as event
 use Rattle.json_text.specs.Faults.{IsInValue}
 use Rattle.json_text.specs.NextLiterals.{IsShortNegative}

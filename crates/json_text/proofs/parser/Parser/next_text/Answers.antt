@@ -6,11 +6,11 @@ use Rattle.json_grammar.specs.Needs.{IsGap}
 use Rattle.json_grammar.specs.Place.{TakesValue}
 use Rattle.json_grammar.specs.Tree.{text_token}
 use Rattle.json_grammar.proofs.Reading.{takes_not_done}
-use Rattle.json_text.specs.declared.error.Error.{Error}
+use Rattle.json_io.specs.declared.error.Error.{Error}
 use Rattle.json_text.specs.declared.event.Event.TheVariants as event
 use Rattle.json_text.specs.Faults.{IsInValue}
 use Rattle.json_text.specs.Parsing.{ParserState}
-use Rattle.json_text.specs.Runs.{ByteAt}
+use Rattle.json_scan.specs.Runs.{ByteAt}
 use Rattle.json_text.specs.Standing.{Stood}
 use Rattle.json_text.proofs.Behind.{event_reads}
 use Rattle.json_text.proofs.Going.{to_rest, from_rest, within_text, takes_token}

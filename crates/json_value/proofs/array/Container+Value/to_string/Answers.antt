@@ -2,7 +2,7 @@ use Rattle.std.proofs.Common.{ap, refl}
 use Rattle.std.specs.Prelude.{string_bytes}
 use Rattle.std.proofs.lemmas.Result.{err_from_is_err_and}
 use Rattle.json_grammar.specs.Tree.{list, list_trees}
-use Rattle.json_text.specs.Outside.{SinkState}
+use Rattle.json_io.specs.Outside.{SinkState}
 use Rattle.json_value.specs.Denotes.{list_in}
 use Rattle.json_value.proofs.PrintedTexts.{print_failed, gained_utf8, returned_text, array_proper}
 use Rattle.json_value.proofs.array.Container+Value.to_string.Goals as goal

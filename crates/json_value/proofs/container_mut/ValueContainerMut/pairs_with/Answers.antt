@@ -1,5 +1,5 @@
 use Rattle.std.proofs.Common.{refl, sym, ap, ◌∙◌}
-use Rattle.json_text.specs.Errors.{type_unmatched}
+use Rattle.json_io.specs.Errors.{type_unmatched}
 use Rattle.json_model.specs.Edit.{on_pairs}
 use Rattle.json_value.specs.Denotes.{tree_of}
 use Rattle.json_value.specs.Lending.{null_as_object}

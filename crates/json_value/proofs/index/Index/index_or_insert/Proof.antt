@@ -20,8 +20,8 @@ use Rattle.std.specs.contracts.result.Result as result
 use Rattle.std.proofs.alloc.Global.TheLaws.{the_row_laws as global_laws, the_told as global_told}
 use Rattle.std.proofs.result.Result.TheLaws.{the_row_laws as result_laws}
 use Rattle.json_grammar.specs.Tree.{Tree}
-use Rattle.json_text.specs.contracts.error.Error.{the_row as refusal}
-use Rattle.json_text.proofs.error.Error.TheLaws.{the_row_laws as refusal_laws}
+use Rattle.json_io.specs.contracts.error.Error.{the_row as refusal}
+use Rattle.json_io.proofs.error.Error.TheLaws.{the_row_laws as refusal_laws}
 use Rattle.json_value.specs.Denotes.{tree_of}
 use Rattle.json_value.specs.Edits.{RefusesChange}
 use Rattle.json_value.specs.Lending.{put_or_insert, PutsNothing}

@@ -2,7 +2,7 @@ use Rattle.std.proofs.Common.{ap, refl}
 use Rattle.std.specs.Prelude.{string_bytes}
 use Rattle.std.proofs.lemmas.Result.{err_from_is_err_and}
 use Rattle.json_grammar.specs.Tree.{pairs, list_pairs}
-use Rattle.json_text.specs.Outside.{SinkState}
+use Rattle.json_io.specs.Outside.{SinkState}
 use Rattle.json_value.specs.Denotes.{pairs_in}
 use Rattle.json_value.proofs.PrintedTexts.{print_failed, gained_utf8, returned_text, object_proper}
 use Rattle.json_value.proofs.object.Container+Keyed+Value.to_string.Goals as goal

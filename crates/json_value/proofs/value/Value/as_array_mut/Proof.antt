@@ -13,9 +13,9 @@ use Rattle.std.proofs.alloc.Global.TheLaws.{the_row_laws as global_laws, the_tol
 use Rattle.std.proofs.result.Result.TheLaws.{the_row_laws as result_laws}
 use Rattle.std.proofs.option.Option.TheLaws.{the_row_laws as option_laws}
 use Rattle.json_grammar.specs.Tree.{list, list_trees}
-use Rattle.json_text.specs.Errors.{no_memory}
-use Rattle.json_text.specs.contracts.error.Error.{the_row as refusal}
-use Rattle.json_text.proofs.error.Error.TheLaws.{the_row_laws as refusal_laws}
+use Rattle.json_io.specs.Errors.{no_memory}
+use Rattle.json_io.specs.contracts.error.Error.{the_row as refusal}
+use Rattle.json_io.proofs.error.Error.TheLaws.{the_row_laws as refusal_laws}
 use Rattle.json_value.specs.Denotes.{tree_of, list_in}
 use Rattle.json_value.specs.Seen.{list_of}
 use Rattle.json_value.specs.Lending.{Opens, missing_as_none, lent, lent_name, name_of_ok, IsReferenceLent, UnlessLent}

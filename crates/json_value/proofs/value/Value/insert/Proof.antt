@@ -19,7 +19,7 @@ use denote.Struct.Laws.{mut_ref_laws}
 use denote.Param.Laws.{of_field, row_shared}
 use denote.Param.Shared.{mut_ref_shared}
 use Rattle.json_value.specs.contracts.value.Value.{the_row as value}
-use Rattle.json_text.specs.contracts.error.Error.{the_row as refusal}
+use Rattle.json_io.specs.contracts.error.Error.{the_row as refusal}
 use Rattle.std.specs.contracts.alloc.Global.{the_row as global}
 use Rattle.std.specs.contracts.result.Result as result
 use Rattle.json_value.specs.Denotes.{tree_of}
@@ -28,13 +28,13 @@ use Rattle.json_value.specs.Touched.{UpsertsValue}
 use Rattle.json_model.specs.Edit.{on_pairs, inserted}
 use Rattle.json_doc.specs.Readings.{type_of}
 use Rattle.json_doc.specs.declared.json_type.JsonType.TheVariants as kind
-use Rattle.json_text.specs.Errors.{no_memory}
+use Rattle.json_io.specs.Errors.{no_memory}
 use Rattle.std.specs.Prelude.{IfOk, IfErr, Ok}
 use Rattle.json_value.proofs.HandedOn.{gave, Goes-gave}
 use Rattle.std.specs.Borrow.{LendsSoOk}
 use Rattle.std.proofs.alloc.Global.TheLaws.{the_row_laws as global_laws, the_told as global_told}
 use Rattle.std.proofs.result.Result.TheLaws.{the_row_laws as result_laws}
-use Rattle.json_text.proofs.error.Error.TheLaws.{the_row_laws as refusal_laws}
+use Rattle.json_io.proofs.error.Error.TheLaws.{the_row_laws as refusal_laws}
 use Rattle.json_value.proofs.value.Value.TheLaws.{the_row_laws as value_laws}
 use Rattle.json_value.specs.contracts.value.Value.insert as f
 use Rattle.json_value.proofs.value.Value.insert.Statement.{statement}

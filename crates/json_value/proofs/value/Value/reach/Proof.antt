@@ -17,15 +17,15 @@ use Rattle.std.proofs.option.Option.TheLaws.{the_row_laws as option_laws}
 use Rattle.json_value.specs.Denotes.{tree_of}
 use Rattle.json_value.specs.Edits.{steps_of}
 use Rattle.json_value.specs.Steps.{tree_at}
-use Rattle.json_text.specs.Errors.{no_memory}
+use Rattle.json_io.specs.Errors.{no_memory}
 use Rattle.json_value.specs.Lending.{LendsAlong, LendsNamed, PutsAtPath, PutsNothing, LeadsTo, missing_as_none, lent, lent_name, name_of_ok}
 use Rattle.json_value.proofs.LenderRelations.{so_weaken}
 use Rattle.json_value.proofs.MissingPlaces.{missing_name, missing_lent, missing_stands, missing_only}
 use Rattle.json_value.specs.declared.value.Value.{Value}
 use Rattle.json_value.specs.contracts.value.Value.{the_row as value}
-use Rattle.json_text.specs.contracts.error.Error.{the_row as refusal}
+use Rattle.json_io.specs.contracts.error.Error.{the_row as refusal}
 use Rattle.json_value.specs.contracts.path.PointerNode.{the_row as node}
-use Rattle.json_text.proofs.error.Error.TheLaws.{the_row_laws as refusal_laws}
+use Rattle.json_io.proofs.error.Error.TheLaws.{the_row_laws as refusal_laws}
 use Rattle.json_value.proofs.value.Value.TheLaws.{the_row_laws as value_laws}
 use Rattle.json_value.specs.contracts.value.Value.reach as f
 use Rattle.json_value.proofs.value.Value.reach.Statement.{statement}

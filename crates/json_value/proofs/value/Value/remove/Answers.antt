@@ -1,7 +1,7 @@
 use Rattle.std.proofs.Common.{◌≡◌, ◌<◌, ◌≤◌, map, length, cond, Ok, Err, inr, refl, sym, ap, ◌∙◌, arith}
 use Rattle.std.specs.Prelude.{remove}
 use Rattle.json_grammar.specs.Tree.{list_trees, list_pairs}
-use Rattle.json_text.specs.Errors.{not_found}
+use Rattle.json_io.specs.Errors.{not_found}
 use Rattle.json_model.specs.Edit.{removed, without_index, without_key, not_found as missing}
 use Rattle.json_value.specs.Denotes.{tree_of, pair_of}
 use Rattle.json_value.specs.Edits.{step_of}

@@ -23,9 +23,9 @@ use denote.Param.Shared.{mut_ref_shared}
 use Rattle.json_value.specs.Lending.{LendsStep, LendsNamed, PutsAtPath, PutsNothing, LeadsTo, missing_as_none, lent, lent_name, name_of_ok}
 use Rattle.json_value.specs.Steps.{child}
 use Rattle.json_value.proofs.MissingPlaces.{missing_lent, one_step, missing_name, missing_stands, missing_only}
-use Rattle.json_text.specs.Errors.{no_memory}
+use Rattle.json_io.specs.Errors.{no_memory}
 use Rattle.json_value.specs.contracts.value.Value.{the_row as value}
-use Rattle.json_text.specs.contracts.error.Error.{the_row as refusal}
+use Rattle.json_io.specs.contracts.error.Error.{the_row as refusal}
 use Rattle.std.specs.contracts.alloc.Global.{the_row as global}
 use Rattle.std.specs.contracts.option.Option as option
 use Rattle.std.specs.contracts.result.Result as result
@@ -38,7 +38,7 @@ use Rattle.json_value.proofs.LentNames.{place_ok, on_no_place}
 use Rattle.std.proofs.alloc.Global.TheLaws.{the_row_laws as global_laws, the_told as global_told}
 use Rattle.std.proofs.result.Result.TheLaws.{the_row_laws as result_laws}
 use Rattle.std.proofs.option.Option.TheLaws.{the_row_laws as option_laws}
-use Rattle.json_text.proofs.error.Error.TheLaws.{the_row_laws as refusal_laws}
+use Rattle.json_io.proofs.error.Error.TheLaws.{the_row_laws as refusal_laws}
 use Rattle.json_value.proofs.value.Value.TheLaws.{the_row_laws as value_laws}
 use Rattle.json_value.specs.contracts.value.Value.step_mut as f
 use Rattle.json_value.proofs.value.Value.step_mut.Statement.{statement}

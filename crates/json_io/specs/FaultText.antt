@@ -1,0 +1,22 @@
+-- The text of a refusal.
+use Rattle.std.specs.Prelude.{ℕ, List, [], ◌∷◌, ◌++◌, codes, decimal}
+use Rattle.json_io.specs.declared.error.Error.{Error}
+use Rattle.json_io.specs.Errors.{name_of}
+use Rattle.json_io.specs.declared.error.Place.{Place}
+use Rattle.json_io.specs.declared.error.Place.TheVariants as place
+
+-- the text of a place, behind a name
+abbrev pub place_text : Place → List ℕ
+place_text place.None = []
+place_text (place.At offset line column) = codes " at offset " ++ decimal offset ++ codes ", line " ++ decimal line ++ codes " column " ++ decimal column
+place_text place.Reading = codes " while reading"
+place_text place.Writing = codes " while writing"
+place_text (place.Edit number) = codes " in edit " ++ decimal number
+
+-- the name and the place
+abbrev pub message_of : Error → List ℕ
+message_of error = name_of error.code ++ place_text error.place
+
+-- the same and one byte 0A
+abbrev pub text_of : Error → List ℕ
+text_of error = message_of error ++ 10 ∷ []

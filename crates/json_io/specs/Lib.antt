@@ -1,0 +1,11 @@
+pub mod Errors
+pub mod Known
+pub mod Outside
+pub mod Lending
+pub mod Transfer
+pub mod Positions
+pub mod Utf8
+pub mod Fakes
+pub mod FaultText
+pub mod Sources
+pub mod Sinks

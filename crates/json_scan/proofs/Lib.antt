@@ -1,0 +1,4 @@
+pub mod Digits
+pub mod Plain
+pub mod Masks
+pub mod RunEnds

@@ -1,0 +1,12 @@
+use Rattle.std.proofs.Common.{refl, arith}
+use Rattle.std.proofs.lemmas.Simd.{zip2_splat, length-chunk}
+use lib.Lanes.{chunk}
+use Rattle.json_scan.proofs.Masks.{joined, counted_in, plain_decided}
+use Rattle.json_scan.proofs.lanes.plain_in_quarter.Goals as goal
+
+pub returns : goal.returns
+returns c =
+    let v = chunk c.args.at 4 c.args.bytes.now in
+    let long = length-chunk c.args.at 4 c.args.bytes.now c.requires in
+    counted_in _ _ plain_decided c.args.bytes.now c.args.at 4 _ _ c.requires (omega arith) c.type_inv.bytes c.lowest.ensures _
+    (joined _ _ _ v (joined _ _ _ v (zip2_splat _ v 4 32 long) (zip2_splat _ v 4 34 long)) (zip2_splat _ v 4 92 long)) refl

@@ -1,0 +1,14 @@
+use Rattle.std.proofs.Common.{◌+◌, arith}
+use Rattle.json_scan.specs.Runs.{IsPlain}
+use Rattle.json_scan.proofs.RunEnds.{each_none, ends_within, ends_behind}
+use Rattle.json_scan.proofs.runs.plain_end_by_quarter.Goals as goal
+
+pub returns-then-count-lt-QUARTER : goal.returns-then-count-lt-QUARTER
+returns-then-count-lt-QUARTER c =
+    let b = c.args.bytes.now in let at = c.args.from in
+    ends_within IsPlain b at at 4 c.plain_in_quarter-count.result (omega arith) (omega arith) (each_none IsPlain b at) c.plain_in_quarter-count.ensures (omega arith)
+
+pub returns : goal.returns
+returns c =
+    let b = c.args.bytes.now in let at = c.args.from in
+    ends_behind IsPlain b at (at + 4) c.plain_end_of_few-2.result (omega arith) (λ k l m. c.plain_in_quarter-count.ensures.each k l (omega (arith, c.plain_in_quarter-count.ensures.few))) c.plain_end_of_few-2.ensures
