@@ -264,6 +264,8 @@ pub(crate) fn fit_unsigned(whole: IntegerLiteral) -> Result<u128>
     match whole {
         IntegerLiteral::NotInteger => Err(refusal(ErrorCode::TypeUnmatched)),
         IntegerLiteral::NonNegative(n) => Ok(n),
-        IntegerLiteral::Negative(_) | IntegerLiteral::TooBig => Err(refusal(ErrorCode::NumberOutOfRange)),
+        IntegerLiteral::Negative(_) | IntegerLiteral::TooBig => Err(refusal(
+            ErrorCode::NumberOutOfRange,
+        )),
     }
 }
