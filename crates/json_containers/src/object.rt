@@ -3,7 +3,6 @@ ghost use Rattle.std.specs.Prelude.{◌≡◌, ◌+◌, ◌<◌, ◌≤◌, ◌�
 ghost use Rattle.std.specs.Prelude.{IfOk, IfErr, IfSome, IfNone, OnOk, OnErr, IsOk, IsTrue, Some};
 ghost use Rattle.std.specs.Prelude.{slice_get, option_map};
 ghost use Rattle.std.specs.Borrow.{LendsSoOk, RestsIfErr, sem};
-ghost use Rattle.std.specs.Vec.{vec_len, vec_capacity};
 ghost use Rattle.std.specs.List.Retain.{RetainsInTurn};
 ghost use Rattle.json_grammar.specs.Tree.{list_pairs};
 ghost use Rattle.json_model.specs.Edit.{has_key, inserted, without_key};
@@ -13,7 +12,7 @@ ghost use Rattle.json_value.specs.Denotes.{tree_of, pair_of, pairs_in};
 ghost use Rattle.json_value.specs.FirstMember.{IsFirstOf};
 ghost use Rattle.json_value.specs.Left.{members_left, members_sights_left};
 ghost use Rattle.json_value.specs.Lending.{missing_as_none, LendsPart};
-ghost use Rattle.json_value.specs.Merged.{with_member, with_members};
+ghost use Rattle.json_value.specs.Merged.{with_members};
 ghost use Rattle.json_value.specs.Rows.{pair_row, object_row, value_row, OwnsList};
 ghost use Rattle.json_value.specs.Room.{spare_in};
 ghost use Rattle.json_value.specs.Seen.{seen, first_of};
@@ -30,11 +29,11 @@ ghost use Rattle.json_containers.specs.Entry.{entry_ref, entry_object, entry_key
 ghost use Rattle.json_containers.specs.Entry.{entry_value, entry_with};
 ghost use Rattle.json_containers.specs.Found.{Finds};
 ghost use Rattle.json_value.specs.Touched.{AtMember};
-ghost use Rattle.json_containers.specs.Members.{own_members, found, CalledAtMember, RetainsTo};
+ghost use Rattle.json_containers.specs.Members.{own_members, found, CalledAtMember};
 ghost use Rattle.json_containers.specs.Put.{PutsValue, TakesOut, AreCopies};
-ghost use Rattle.json_containers.specs.Put.{copied_member, stood_member};
 
-use crate::entry::{Entry, OccupiedEntry, VacantEntry, add, take_all};
+use crate::entry::{Entry, OccupiedEntry, VacantEntry, take_all};
+use crate::members::{copy_pairs, keep_members, put_pairs};
 use json_text::{Error, ErrorCode, Place, Result};
 use json_value::{Iter, Object, Pair, Text, Value, View, find_key};
 use std::alloc::Global;
@@ -104,80 +103,6 @@ fn none_if_missing<'a>(r: Result<&'a mut Value>) -> Result<Option<&'a mut Value>
             _ => Ok(None),
         },
     }
-}
-
-// Copies of these.
-fn copy_pairs(alloc: Global, pairs: &[Pair]) -> Result<Vec<Pair>>
-    ensures pairs { IfOk result (λ v. map pair_of v.items ≡ map pair_of pairs.now) }
-    ensures copies { IfOk result (λ v. map stood_member v.items ≡ map copied_member pairs.now) }
-    ensures only { IfErr result (λ e. e ≡ no_memory) }
-{
-    let mut copies = Vec::with_capacity(alloc, pairs.len())?;
-    for pair in pairs {
-        let key = Text::copy(alloc, pair.key())?;
-        let value = pair.value().clone(alloc)?;
-        copies.push(Pair::new(key, value))?;
-    }
-    Ok(copies)
-}
-
-// Puts the member's value at the first member of its key, or the member after the others, for
-// which there is room.
-fn put_pair(pairs: &mut Vec<Pair>, mut pair: Pair)
-    requires { vec_len pairs.old < vec_capacity pairs.old }
-    ensures pairs { list_pairs (map pair_of pairs.new.items)
-        ≡ inserted (pair_of pair).0 (pair_of pair).1 (list_pairs (map pair_of pairs.old.items)) }
-    ensures members { pairs.new.items ≡ with_member pair pairs.old.items }
-    ensures len { vec_len pairs.new ≤ vec_len pairs.old + 1 }
-    ensures capacity { vec_capacity pairs.new ≡ vec_capacity pairs.old }
-{
-    match find_key(pairs.as_slice(), pair.key()) {
-        Some(at) => *pairs[at].value_mut() = pair.value_mut().take(),
-        None => add(pairs, pair),
-    }
-}
-
-// Puts these in turn, for which there is room.
-fn put_pairs(pairs: &mut Vec<Pair>, more: Vec<Pair>)
-    requires { vec_len pairs.old + vec_len more ≤ vec_capacity pairs.old }
-    ensures pairs { list_pairs (map pair_of pairs.new.items)
-        ≡ inserted_all (map pair_of more.items) (list_pairs (map pair_of pairs.old.items)) }
-    ensures members { pairs.new.items ≡ with_members more.items pairs.old.items }
-{
-    for pair in more {
-        put_pair(pairs, pair);
-    }
-}
-
-// Calls `f` at the member.
-fn keeps_member<F: FnMut(&str, &mut Value) -> bool>(f: &mut F, pair: &mut Pair) -> bool
-    requires { F.IsAlwaysCallable f.old }
-    ensures called { CalledAtMember F.FnMut f.old pair.old result f.new pair.new }
-    ensures callable { F.IsAlwaysCallable f.new }
-{
-    let mut value = pair.value_mut().take();
-    let keeps = f(pair.key(), &mut value);
-    *pair.value_mut() = value;
-    keeps
-}
-
-// Keeps the members for which `f` is true, in order, with what it writes. It is called once for
-// each, and no more.
-fn keep_members<F: FnMut(&str, &mut Value) -> bool>(pairs: &mut Vec<Pair>, f: &mut F)
-    requires { F.IsAlwaysCallable f.old }
-    ensures { RetainsTo (CalledAtMember F.FnMut) f.old pairs.old.items pairs.new.items f.new }
-{
-    let len = pairs.len();
-    let mut kept = 0;
-    let mut at = 0;
-    while at < len {
-        if keeps_member(f, &mut pairs[at]) {
-            pairs.swap(kept, at);
-            kept += 1;
-        }
-        at += 1;
-    }
-    pairs.truncate(kept);
 }
 
 /// The calls of an object that are those of a list of members. The first of equal keys is read and

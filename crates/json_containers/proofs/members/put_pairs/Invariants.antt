@@ -5,7 +5,7 @@ use Rattle.json_grammar.specs.Tree.{list_pairs}
 use Rattle.json_value.specs.Denotes.{pair_of}
 use Rattle.json_model.specs.Merged.{inserted_all}
 use Rattle.json_value.specs.Merged.{with_members}
-use Rattle.json_containers.proofs.object.put_pairs.Given as goal
+use Rattle.json_containers.proofs.members.put_pairs.Given as goal
 
 abbrev pub invariant-loop-pair : goal.invariant-loop-pair
 invariant-loop-pair l = record {
