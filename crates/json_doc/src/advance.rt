@@ -14,25 +14,25 @@ ghost use Rattle.json_doc.specs.Recorded.{SameRoom};
 use crate::document_visitor::DocumentVisitor;
 use crate::reader::{lent_from, record_event};
 use json_grammar::{Kind, Spot};
-use json_text::{Event, Fault, Kinds, Read, step};
+use json_text::{Cursor, Event, Fault, Kinds, Read, step};
 
 // Reads the next event of a text as `step` does, and records it. Each use has a copy of its own.
 #[inline(always)]
 fn advance<'a, const USE: u8>(
     visitor: &mut DocumentVisitor,
     text: &'a str,
-    at: usize,
-    spot: Spot,
+    cursor: Cursor,
     limit: usize,
     kinds: &mut Kinds,
 ) -> Result<Read<'a>, Fault>
-    requires kept { IsReading limit text.now at kinds.old spot visitor.old }
+    requires kept { IsReading limit text.now cursor.at kinds.old cursor.spot visitor.old }
     requires most { limit ≤ 1024 }
     ensures ok { IfOk result (λ r.
-        Advances false limit text.now at kinds.old spot r.event r.end kinds.new r.spot) }
-    ensures tight { IfOk result (λ r. StandsBehindGap false text.now at r.event r.end) }
+        Advances false limit text.now cursor.at kinds.old cursor.spot
+        r.event r.end kinds.new r.spot) }
+    ensures tight { IfOk result (λ r. StandsBehindGap false text.now cursor.at r.event r.end) }
     ensures err { IfErr result (λ f. IsFault false limit text.now f.code f.offset) }
-    ensures needs { IfErr result (λ f. NextNeeds false text.now at f.code f.offset) }
+    ensures needs { IfErr result (λ f. NextNeeds false text.now cursor.at f.code f.offset) }
     ensures recorded { IfOk result (λ r. (x : Token) (ts : List Token) → Means r.event x
         → Follows visitor.old ts → BeginsTree (ts ++ x ∷ [])
         → HasRoomFor visitor.old (raw_size r.event) → Follows visitor.new (ts ++ x ∷ [])) }
@@ -40,7 +40,7 @@ fn advance<'a, const USE: u8>(
         → SameRoom visitor.old visitor.new) }
     ensures at_end { IfOk result (λ r. r.event ≡ Event.End → visitor.new ≡ visitor.old) }
 {
-    match step::<USE>(text, at, spot, limit, false, kinds) {
+    match step::<USE>(text, cursor, limit, false, kinds) {
         Ok(read) => match read.event {
             Event::End => Ok(read),
             event => {
@@ -53,24 +53,24 @@ fn advance<'a, const USE: u8>(
     }
 }
 
-// The same, by a copy for each of what may come, and behind a value for each kind of container, so that
-// each of them leaves out what cannot come there.
+// The same, by a copy for each of what may come, and after a value for each kind of container, so
+// that each of them leaves out what cannot come there.
 #[inline(always)]
 pub(crate) fn advance_by_spot<'a>(
     visitor: &mut DocumentVisitor,
     text: &'a str,
-    at: usize,
-    spot: Spot,
+    cursor: Cursor,
     limit: usize,
     kinds: &mut Kinds,
 ) -> Result<Read<'a>, Fault>
-    requires kept { IsReading limit text.now at kinds.old spot visitor.old }
+    requires kept { IsReading limit text.now cursor.at kinds.old cursor.spot visitor.old }
     requires most { limit ≤ 1024 }
     ensures ok { IfOk result (λ r.
-        Advances false limit text.now at kinds.old spot r.event r.end kinds.new r.spot) }
-    ensures tight { IfOk result (λ r. StandsBehindGap false text.now at r.event r.end) }
+        Advances false limit text.now cursor.at kinds.old cursor.spot
+        r.event r.end kinds.new r.spot) }
+    ensures tight { IfOk result (λ r. StandsBehindGap false text.now cursor.at r.event r.end) }
     ensures err { IfErr result (λ f. IsFault false limit text.now f.code f.offset) }
-    ensures needs { IfErr result (λ f. NextNeeds false text.now at f.code f.offset) }
+    ensures needs { IfErr result (λ f. NextNeeds false text.now cursor.at f.code f.offset) }
     ensures recorded { IfOk result (λ r. (x : Token) (ts : List Token) → Means r.event x
         → Follows visitor.old ts → BeginsTree (ts ++ x ∷ [])
         → HasRoomFor visitor.old (raw_size r.event) → Follows visitor.new (ts ++ x ∷ [])) }
@@ -78,15 +78,15 @@ pub(crate) fn advance_by_spot<'a>(
         → SameRoom visitor.old visitor.new) }
     ensures at_end { IfOk result (λ r. r.event ≡ Event.End → visitor.new ≡ visitor.old) }
 {
-    match spot {
-        Spot::First => advance::<2>(visitor, text, at, Spot::First, limit, kinds),
-        Spot::KeyOrEnd => advance::<3>(visitor, text, at, Spot::KeyOrEnd, limit, kinds),
-        Spot::Colon => advance::<4>(visitor, text, at, Spot::Colon, limit, kinds),
+    match cursor.spot {
+        Spot::First => advance::<2>(visitor, text, cursor, limit, kinds),
+        Spot::KeyOrEnd => advance::<3>(visitor, text, cursor, limit, kinds),
+        Spot::Colon => advance::<4>(visitor, text, cursor, limit, kinds),
         Spot::Done => match kinds.top() {
-            Some(Kind::Array) => advance::<5>(visitor, text, at, Spot::Done, limit, kinds),
-            Some(Kind::Object) => advance::<7>(visitor, text, at, Spot::Done, limit, kinds),
-            None => advance::<8>(visitor, text, at, Spot::Done, limit, kinds),
+            Some(Kind::Array) => advance::<5>(visitor, text, cursor, limit, kinds),
+            Some(Kind::Object) => advance::<7>(visitor, text, cursor, limit, kinds),
+            None => advance::<8>(visitor, text, cursor, limit, kinds),
         },
-        Spot::Value | Spot::Key => advance::<6>(visitor, text, at, spot, limit, kinds),
+        Spot::Value | Spot::Key => advance::<6>(visitor, text, cursor, limit, kinds),
     }
 }

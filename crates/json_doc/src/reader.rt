@@ -25,7 +25,7 @@ use crate::value_reader::record_value;
 use crate::visitor::JsonVisitor;
 use json_grammar::Spot;
 use json_number::{Integer, integer_of_in};
-use json_text::{Error, ErrorCode, Event, Kinds, Parser, Result, Rules, Span, place_of};
+use json_text::{Cursor, Error, ErrorCode, Event, Kinds, Parser, Result, Rules, Span, place_of};
 use std::alloc::Global;
 use std::rc::Rc;
 
@@ -192,7 +192,8 @@ pub(crate) fn read_by(
     let mut at = 0;
     let mut spot = Spot::Value;
     'events: loop {
-        let read = match advance_by_spot(&mut visitor, text, at, spot, limit, &mut kinds) {
+        let cursor = Cursor { at, spot };
+        let read = match advance_by_spot(&mut visitor, text, cursor, limit, &mut kinds) {
             Ok(read) => read,
             Err(fault) => return Err(fault.error_in(text)),
         };

@@ -1,6 +1,6 @@
 // What a parser hands out, and what it refuses.
 use json_grammar::Spot;
-use json_text::{Error, ErrorCode, Event, Kinds, Parser, Place, Result, step};
+use json_text::{Cursor, Error, ErrorCode, Event, Kinds, Parser, Place, Result, step};
 use std::alloc::Global;
 
 // A letter for each event.
@@ -173,7 +173,11 @@ fn levels_up_to_the_limit(rt: HostRuntime) {
 
 // The letter of the first event and the offset after it, or what is refused and its offset.
 fn first_step(text: &str) -> std::result::Result<(u8, usize), (ErrorCode, usize)> {
-    match step::<0>(text, 0, Spot::Value, 254, false, &mut Kinds::new()) {
+    let start = Cursor {
+        at: 0,
+        spot: Spot::Value,
+    };
+    match step::<0>(text, start, 254, false, &mut Kinds::new()) {
         Ok(read) => Ok((letter(read.event), read.end)),
         Err(fault) => Err((fault.code, fault.offset)),
     }

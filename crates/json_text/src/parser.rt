@@ -16,6 +16,7 @@ use crate::fault::Fault;
 use crate::spot::closing;
 use crate::stack::Kinds;
 use crate::steps::{is_whole, step};
+use crate::token::Cursor;
 use json_grammar::{Kind, Spot};
 use json_io::{Error, ErrorCode, Result, place_of};
 use json_scan::ws_run;
@@ -234,14 +235,11 @@ impl<'a> Parser<'a> {
         ensures inside { IfErr result (λ f. ¬ (IsWhole self.old) → IsInValue f.code) }
         ensures kept { OnErr result (self.new ≡ self.old) }
     {
-        match step::<USE>(
-            self.rest,
-            self.at,
-            self.spot,
-            self.limit,
-            self.lossy,
-            &mut self.kinds,
-        ) {
+        let cursor = Cursor {
+            at: self.at,
+            spot: self.spot,
+        };
+        match step::<USE>(self.rest, cursor, self.limit, self.lossy, &mut self.kinds) {
             Ok(read) => {
                 self.at = read.end;
                 self.spot = read.spot;

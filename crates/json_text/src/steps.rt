@@ -10,7 +10,7 @@ use crate::event::Event;
 use crate::fault::Fault;
 use crate::spot::ready;
 use crate::stack::Kinds;
-use crate::token::{Read, take_event};
+use crate::token::{Cursor, Read, take_event};
 use json_grammar::{Kind, Spot};
 use json_io::ErrorCode;
 
@@ -33,36 +33,39 @@ pub(crate) fn is_whole(spot: Spot, kind: Option<Kind>) -> bool
 ///
 /// ```
 /// use json_grammar::Spot;
-/// use json_text::{Event, Kinds, step};
+/// use json_text::{Cursor, Event, Kinds, step};
 /// let mut kinds = Kinds::new();
-/// let first = step::<0>("[1.50]", 0, Spot::Value, 254, false, &mut kinds).ok().ok_or("no value")?;
+/// let start = Cursor { at: 0, spot: Spot::Value };
+/// let first = step::<0>("[1.50]", start, 254, false, &mut kinds).ok().ok_or("no value")?;
 /// assert!(rt; matches!(first.event, Event::BeginArray) && kinds.len() == 1);
-/// let second = step::<0>("[1.50]", first.end, first.spot, 254, false, &mut kinds).ok().ok_or("no element")?;
+/// let next = Cursor { at: first.end, spot: first.spot };
+/// let second = step::<0>("[1.50]", next, 254, false, &mut kinds).ok().ok_or("no element")?;
 /// assert!(rt; matches!(second.event, Event::Number("1.50")) && second.end == 5);
 /// ```
 #[inline(always)]
 pub fn step<'a, const USE: u8>(
     text: &'a str,
-    at: usize,
-    spot: Spot,
+    cursor: Cursor,
     limit: usize,
     lossy: bool,
     kinds: &mut Kinds,
 ) -> Result<Read<'a>, Fault>
-    requires given { (ts : List Token) × Stood lossy limit text.now at kinds.old spot ts }
+    requires given { (ts : List Token)
+        × Stood lossy limit text.now cursor.at kinds.old cursor.spot ts }
     requires most { limit ≤ 1024 }
     ensures ok { IfOk result (λ r.
-        Advances lossy limit text.now at kinds.old spot r.event r.end kinds.new r.spot) }
-    ensures tight { IfOk result (λ r. StandsBehindGap lossy text.now at r.event r.end) }
-    ensures whole { IfOk result (λ r. r.event ≡ Event.End → IsDone spot kinds.old) }
+        Advances lossy limit text.now cursor.at kinds.old cursor.spot
+        r.event r.end kinds.new r.spot) }
+    ensures tight { IfOk result (λ r. StandsBehindGap lossy text.now cursor.at r.event r.end) }
+    ensures whole { IfOk result (λ r. r.event ≡ Event.End → IsDone cursor.spot kinds.old) }
     ensures err { IfErr result (λ f. IsFault lossy limit text.now f.code f.offset) }
-    ensures needs { IfErr result (λ f. NextNeeds lossy text.now at f.code f.offset) }
-    ensures inside { IfErr result (λ f. ¬ (IsDone spot kinds.old) → IsInValue f.code) }
+    ensures needs { IfErr result (λ f. NextNeeds lossy text.now cursor.at f.code f.offset) }
+    ensures inside { IfErr result (λ f. ¬ (IsDone cursor.spot kinds.old) → IsInValue f.code) }
     ensures within { IfErr result (λ f. f.offset ≤ length text.now) }
     ensures kept { OnErr result (kinds.new ≡ kinds.old) }
 {
     let bytes = text.as_bytes();
-    let stand = match ready(bytes, at, spot, kinds) {
+    let stand = match ready(bytes, cursor.at, cursor.spot, kinds) {
         Ok(stand) => stand,
         Err(fault) => return Err(fault),
     };
@@ -70,8 +73,8 @@ pub fn step<'a, const USE: u8>(
         if is_whole(stand.spot, kinds.top()) {
             return Ok(Read {
                 event: Event::End,
-                end: at,
-                spot,
+                end: cursor.at,
+                spot: cursor.spot,
             });
         }
         return Err(Fault {
@@ -79,5 +82,9 @@ pub fn step<'a, const USE: u8>(
             offset: stand.at,
         });
     }
-    take_event(text, stand.at, stand.spot, limit, lossy, kinds)
+    let at_token = Cursor {
+        at: stand.at,
+        spot: stand.spot,
+    };
+    take_event(text, at_token, limit, lossy, kinds)
 }

@@ -92,15 +92,34 @@ pub(crate) fn string_at<'a>(text: &'a str, at: usize, lossy: bool) -> Result<Quo
 ///
 /// ```
 /// use json_grammar::Spot;
-/// use json_text::{Event, Kinds, step};
+/// use json_text::{Cursor, Event, Kinds, step};
 /// let mut kinds = Kinds::new();
-/// let read = step::<0>(" null ", 0, Spot::Value, 254, false, &mut kinds).ok().ok_or("no value")?;
+/// let cursor = Cursor { at: 0, spot: Spot::Value };
+/// let read = step::<0>(" null ", cursor, 254, false, &mut kinds).ok().ok_or("no value")?;
 /// assert!(rt; matches!(read.event, Event::Null) && matches!(read.spot, Spot::Done) && read.end == 5);
 /// ```
 #[derive(Clone, Copy)]
 pub struct Read<'a> {
     pub event: Event<'a>,
     pub end: usize,
+    pub spot: Spot,
+}
+
+/// Where a reader is in a text: the offset in bytes of what it reads next, and what may come there.
+///
+/// ```
+/// use json_grammar::Spot;
+/// use json_text::{Cursor, Event, Kinds, step};
+/// let cursor = Cursor { at: 1, spot: Spot::First };
+/// let mut kinds = Kinds::new();
+/// let array = step::<0>("[2]", Cursor { at: 0, spot: Spot::Value }, 254, false, &mut kinds);
+/// assert!(rt; array.is_ok());
+/// let read = step::<0>("[2]", cursor, 254, false, &mut kinds).ok().ok_or("no element")?;
+/// assert!(rt; matches!(read.event, Event::Number("2")) && read.end == 2);
+/// ```
+#[derive(Clone, Copy)]
+pub struct Cursor {
+    pub at: usize,
     pub spot: Spot,
 }
 
@@ -448,35 +467,35 @@ fn behind_value<'a>(text: &'a str, at: usize, kinds: &mut Kinds) -> Result<Read<
     }
 }
 
-/// Reads the part that begins at `at`, where there is neither whitespace nor a comma or a colon.
+/// Reads the part that begins at the cursor, where there is neither whitespace nor a comma or a colon.
 /// Fails at the first fault of that part.
 #[inline(always)]
 pub fn take_event<'a>(
     text: &'a str,
-    at: usize,
-    spot: Spot,
+    cursor: Cursor,
     limit: usize,
     lossy: bool,
     kinds: &mut Kinds,
 ) -> Result<Read<'a>, Fault>
-    requires within { at < length text.now }
-    requires byte { ¬ (IsWhitespace (get_or text.now at 0)) }
-    requires spot { spot ≢ Spot.Colon }
-    requires first { spot ≡ Spot.First → top kinds.old ≡ Some Kind.Array }
-    requires key_or_end { spot ≡ Spot.KeyOrEnd → top kinds.old ≡ Some Kind.Object }
-    requires apart { spot ≡ Spot.Done → top kinds.old ≢ None → ¬ (ByteAt text.now at 44) }
+    requires within { cursor.at < length text.now }
+    requires byte { ¬ (IsWhitespace (get_or text.now cursor.at 0)) }
+    requires spot { cursor.spot ≢ Spot.Colon }
+    requires first { cursor.spot ≡ Spot.First → top kinds.old ≡ Some Kind.Array }
+    requires key_or_end { cursor.spot ≡ Spot.KeyOrEnd → top kinds.old ≡ Some Kind.Object }
+    requires apart { cursor.spot ≡ Spot.Done → top kinds.old ≢ None → ¬ (ByteAt text.now cursor.at 44) }
     requires most { limit ≤ 1024 }
     ensures ok { IfOk result (λ r.
-        From lossy limit text.now at kinds.old spot r.event r.end kinds.new r.spot) }
-    ensures tight { IfOk result (λ r. Tight lossy text.now at r.event r.end) }
-    ensures err { (ts : List Token) → Stood lossy limit text.now at kinds.old spot ts
+        From lossy limit text.now cursor.at kinds.old cursor.spot r.event r.end kinds.new r.spot) }
+    ensures tight { IfOk result (λ r. Tight lossy text.now cursor.at r.event r.end) }
+    ensures err { (ts : List Token) → Stood lossy limit text.now cursor.at kinds.old cursor.spot ts
         → IfErr result (λ f. IsFault lossy limit text.now f.code f.offset) }
-    ensures needs { IfErr result (λ f. TokenNeeds lossy text.now at f.code f.offset) }
-    ensures inside { IfErr result (λ f. (spot ≡ Spot.Done → top kinds.old ≢ None)
+    ensures needs { IfErr result (λ f. TokenNeeds lossy text.now cursor.at f.code f.offset) }
+    ensures inside { IfErr result (λ f. (cursor.spot ≡ Spot.Done → top kinds.old ≢ None)
         → IsInValue f.code) }
     ensures kept { OnErr result (kinds.new ≡ kinds.old) }
 {
-    match spot {
+    let at = cursor.at;
+    match cursor.spot {
         Spot::Value => value(text, at, limit, lossy, kinds),
         Spot::First => first(text, at, limit, lossy, kinds),
         Spot::Key => key(text, at, Spot::Key, lossy),

@@ -12,18 +12,18 @@ use Rattle.json_doc.proofs.advance.advance.Goals as goal
 pub step-requires-clause-given : goal.step-requires-clause-given
 step-requires-clause-given g c =
     let k = c.requires.kept in
-    let index : (0 + c.args.at) - 0 ≡ c.args.at = omega arith in
-    (k.so_far, subst (λ i. Stood false c.args.limit c.args.text.now i c.args.kinds.now c.args.spot k.so_far) index k.kept.gave)
+    let index : (0 + c.args.cursor.at) - 0 ≡ c.args.cursor.at = omega arith in
+    (k.so_far, subst (λ i. Stood false c.args.limit c.args.text.now i c.args.kinds.now c.args.cursor.spot k.so_far) index k.kept.gave)
 
 pub lent_from-from-requires : goal.lent_from-from-requires
 lent_from-from-requires g c =
-    let r = c.in-Ok.read in let s = stepped c.args.text.now c.args.limit c.args.at r.end c.args.kinds.now c.step.new.kinds c.args.spot r.spot r.event c.in-Ok.ensures.ok c.in-Ok.ensures.tight in
+    let r = c.in-Ok.read in let s = stepped c.args.text.now c.args.limit c.args.cursor.at r.end c.args.kinds.now c.step.new.kinds c.args.cursor.spot r.spot r.event c.in-Ok.ensures.ok c.in-Ok.ensures.tight in
     let behind = next_behind c.requires.kept.kept c.in_default.not-End s.goes s.tight s.same in
     omega (arith, behind)
 
 pub record_event-recorded-requires-clause-lent : goal.record_event-recorded-requires-clause-lent
 record_event-recorded-requires-clause-lent g c =
-    let r = c.in-Ok.read in let s = stepped c.args.text.now c.args.limit c.args.at r.end c.args.kinds.now c.step.new.kinds c.args.spot r.spot r.event c.in-Ok.ensures.ok c.in-Ok.ensures.tight in
+    let r = c.in-Ok.read in let s = stepped c.args.text.now c.args.limit c.args.cursor.at r.end c.args.kinds.now c.step.new.kinds c.args.cursor.spot r.spot r.event c.in-Ok.ensures.ok c.in-Ok.ensures.tight in
     let k = c.requires.kept.kept in
     let behind = next_behind k c.in_default.not-End s.goes s.tight s.same in
     let on = goes_forward k c.in_default.not-End s.goes s.tight s.same in
@@ -35,12 +35,12 @@ record_event-recorded-requires-clause-lent g c =
 
 pub record_event-recorded-requires-clause-number : goal.record_event-recorded-requires-clause-number
 record_event-recorded-requires-clause-number g c =
-    let r = c.in-Ok.read in let s = stepped c.args.text.now c.args.limit c.args.at r.end c.args.kinds.now c.step.new.kinds c.args.spot r.spot r.event c.in-Ok.ensures.ok c.in-Ok.ensures.tight in
+    let r = c.in-Ok.read in let s = stepped c.args.text.now c.args.limit c.args.cursor.at r.end c.args.kinds.now c.step.new.kinds c.args.cursor.spot r.spot r.event c.in-Ok.ensures.ok c.in-Ok.ensures.tight in
     next_number c.requires.kept.kept c.in_default.not-End s.goes s.tight s.same
 
 pub record_event-recorded-requires-clause-come : goal.record_event-recorded-requires-clause-come
 record_event-recorded-requires-clause-come g c full =
-    let r = c.in-Ok.read in let s = stepped c.args.text.now c.args.limit c.args.at r.end c.args.kinds.now c.step.new.kinds c.args.spot r.spot r.event c.in-Ok.ensures.ok c.in-Ok.ensures.tight in
+    let r = c.in-Ok.read in let s = stepped c.args.text.now c.args.limit c.args.cursor.at r.end c.args.kinds.now c.step.new.kinds c.args.cursor.spot r.spot r.event c.in-Ok.ensures.ok c.in-Ok.ensures.tight in
     let k = c.requires.kept in
     let next = next_token k.kept c.in_default.not-End s.goes s.tight s.same in
     (next.0, next.1, (k.so_far, k.kept.follows.held full, next_begins k.kept c.in_default.not-End s.goes s.tight s.same))

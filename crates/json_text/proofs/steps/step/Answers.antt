@@ -24,7 +24,7 @@ stood_of lossy limit b t i j c w v ts e f h = subst (λ y. Stood lossy limit y j
 ready_fault : goal.returns-in-Err-clause-err
 ready_fault g c =
     let a = c.args in let e = c.as_bytes-bytes.ensures.value in let i = c.requires.given in
-    subst (λ y. IsFault a.lossy a.limit y c.in-Err.fault.code c.in-Err.fault.offset) e (c.in-Err.ensures.err a.lossy a.limit i.0 (subst (λ y. Stood a.lossy a.limit y a.at a.kinds.now a.spot i.0) (sym e) i.1))
+    subst (λ y. IsFault a.lossy a.limit y c.in-Err.fault.code c.in-Err.fault.offset) e (c.in-Err.ensures.err a.lossy a.limit i.0 (subst (λ y. Stood a.lossy a.limit y a.cursor.at a.kinds.now a.cursor.spot i.0) (sym e) i.1))
 
 pub returns-in-Err-clause-err : goal.returns-in-Err-clause-err
 returns-in-Err-clause-err g c = ready_fault g c
@@ -40,39 +40,39 @@ returns-then-is_whole-clause-ok g c =
       refl,
       refl,
       refl,
-      λ ts h. stood_whole a.lossy a.limit a.text.now st.at a.kinds.now ts (subst (λ w. Stood a.lossy a.limit a.text.now st.at a.kinds.now w ts) d.0 (stood_of a.lossy a.limit _ _ a.at st.at a.kinds.now a.spot st.spot ts e (c.in-Ok.ensures.ok a.lossy a.limit ts) h)) n (c.if-stand-bytes.true ∙ ap length e),
+      λ ts h. stood_whole a.lossy a.limit a.text.now st.at a.kinds.now ts (subst (λ w. Stood a.lossy a.limit a.text.now st.at a.kinds.now w ts) d.0 (stood_of a.lossy a.limit _ _ a.cursor.at st.at a.kinds.now a.cursor.spot st.spot ts e (c.in-Ok.ensures.ok a.lossy a.limit ts) h)) n (c.if-stand-bytes.true ∙ ap length e),
     )
 
 pub returns-then-stand-bytes-clause-err : goal.returns-then-stand-bytes-clause-err
 returns-then-stand-bytes-clause-err g c =
     let a = c.args in let st = c.in-Ok.stand in let i = c.requires.given in let e = c.as_bytes-bytes.ensures.value in
-    place_end a.lossy a.limit a.text.now st.at a.kinds.now st.spot i.0 (stood_of a.lossy a.limit _ _ a.at st.at a.kinds.now a.spot st.spot i.0 e (c.in-Ok.ensures.ok a.lossy a.limit i.0) i.1) (c.if-stand-bytes.true ∙ ap length e) (λ f. both_ways _ c.if-is_whole.false (c.is_whole.ensures.1 (f.0, c.top.ensures ∙ ap top f.1)))
+    place_end a.lossy a.limit a.text.now st.at a.kinds.now st.spot i.0 (stood_of a.lossy a.limit _ _ a.cursor.at st.at a.kinds.now a.cursor.spot st.spot i.0 e (c.in-Ok.ensures.ok a.lossy a.limit i.0) i.1) (c.if-stand-bytes.true ∙ ap length e) (λ f. both_ways _ c.if-is_whole.false (c.is_whole.ensures.1 (f.0, c.top.ensures ∙ ap top f.1)))
 
 pub take_event-requires-clause-first : goal.take_event-requires-clause-first
 take_event-requires-clause-first g c = λ d.
     let a = c.args in let st = c.in-Ok.stand in let i = c.requires.given in let e = c.as_bytes-bytes.ensures.value in
-    ap top (first_in (stood_at a.lossy a.limit a.text.now st.at a.kinds.now st.spot i.0 (stood_of a.lossy a.limit _ _ a.at st.at a.kinds.now a.spot st.spot i.0 e (c.in-Ok.ensures.ok a.lossy a.limit i.0) i.1)) d).1
+    ap top (first_in (stood_at a.lossy a.limit a.text.now st.at a.kinds.now st.spot i.0 (stood_of a.lossy a.limit _ _ a.cursor.at st.at a.kinds.now a.cursor.spot st.spot i.0 e (c.in-Ok.ensures.ok a.lossy a.limit i.0) i.1)) d).1
 
 pub take_event-requires-clause-key_or_end : goal.take_event-requires-clause-key_or_end
 take_event-requires-clause-key_or_end g c = λ d.
     let a = c.args in let st = c.in-Ok.stand in let i = c.requires.given in let e = c.as_bytes-bytes.ensures.value in
-    ap top (key_or_end_in (stood_at a.lossy a.limit a.text.now st.at a.kinds.now st.spot i.0 (stood_of a.lossy a.limit _ _ a.at st.at a.kinds.now a.spot st.spot i.0 e (c.in-Ok.ensures.ok a.lossy a.limit i.0) i.1)) d).1
+    ap top (key_or_end_in (stood_at a.lossy a.limit a.text.now st.at a.kinds.now st.spot i.0 (stood_of a.lossy a.limit _ _ a.cursor.at st.at a.kinds.now a.cursor.spot st.spot i.0 e (c.in-Ok.ensures.ok a.lossy a.limit i.0) i.1)) d).1
 
 pub returns-clause-ok : goal.returns-clause-ok
 returns-clause-ok g c =
     let a = c.args in let st = c.in-Ok.stand in let e = c.as_bytes-bytes.ensures.value in
-    IfOk-weaker c.take_event.result _ _ (λ r f. advances a.lossy a.limit a.text.now a.at a.kinds.now a.spot r.event r.end _ r.spot c.requires.given (λ ts h. f ts (stood_of a.lossy a.limit _ _ a.at st.at a.kinds.now a.spot st.spot ts e (c.in-Ok.ensures.ok a.lossy a.limit ts) h))) c.take_event.ensures.ok
+    IfOk-weaker c.take_event.result _ _ (λ r f. advances a.lossy a.limit a.text.now a.cursor.at a.kinds.now a.cursor.spot r.event r.end _ r.spot c.requires.given (λ ts h. f ts (stood_of a.lossy a.limit _ _ a.cursor.at st.at a.kinds.now a.cursor.spot st.spot ts e (c.in-Ok.ensures.ok a.lossy a.limit ts) h))) c.take_event.ensures.ok
 
 pub returns-clause-whole : goal.returns-clause-whole
 returns-clause-whole g c =
     let a = c.args in let st = c.in-Ok.stand in let i = c.requires.given in let e = c.as_bytes-bytes.ensures.value in
-    IfOk-weaker c.take_event.result _ _ (λ r f is. absurd (let x = f i.0 (stood_of a.lossy a.limit _ _ a.at st.at a.kinds.now a.spot st.spot i.0 e (c.in-Ok.ensures.ok a.lossy a.limit i.0) i.1) in subst (λ (v : Event). Means v x.0) is x.1)) c.take_event.ensures.ok
+    IfOk-weaker c.take_event.result _ _ (λ r f is. absurd (let x = f i.0 (stood_of a.lossy a.limit _ _ a.cursor.at st.at a.kinds.now a.cursor.spot st.spot i.0 e (c.in-Ok.ensures.ok a.lossy a.limit i.0) i.1) in subst (λ (v : Event). Means v x.0) is x.1)) c.take_event.ensures.ok
 
 -- the fault of the token
 token_fault : goal.returns-clause-err
 token_fault g c =
     let a = c.args in let st = c.in-Ok.stand in let i = c.requires.given in let e = c.as_bytes-bytes.ensures.value in
-    c.take_event.ensures.err i.0 (stood_of a.lossy a.limit _ _ a.at st.at a.kinds.now a.spot st.spot i.0 e (c.in-Ok.ensures.ok a.lossy a.limit i.0) i.1)
+    c.take_event.ensures.err i.0 (stood_of a.lossy a.limit _ _ a.cursor.at st.at a.kinds.now a.cursor.spot st.spot i.0 e (c.in-Ok.ensures.ok a.lossy a.limit i.0) i.1)
 
 pub returns-clause-err : goal.returns-clause-err
 returns-clause-err g c = token_fault g c
