@@ -1,5 +1,5 @@
 // Values read from texts and sources.
-ghost use Rattle.std.specs.Prelude.{◌≡◌, ◌+◌, ◌<◌, ◌≤◌, ◌^◌, length, true, IfOk, IfErr, IsErrOf, IsOkUnless, OnErr, OnOk, IsUtf8};
+ghost use Rattle.std.specs.Prelude.{◌≡◌, ◌<◌, ◌≤◌, ◌^◌, length, true, IfOk, IfErr, IsErrOf, IsOkUnless, OnErr, OnOk, IsUtf8};
 ghost use Rattle.json_io.specs.Errors.{no_memory, reading_failed, too_large as spec_too_large};
 ghost use Rattle.json_text.specs.Ruled.{rules_of};
 ghost use Rattle.json_io.specs.Transfer.{ReadsWithin, ReadingCause, TakesOneBeyond};

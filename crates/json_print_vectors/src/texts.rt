@@ -1,5 +1,5 @@
 // What no clause says: that calls with ample memory succeed, and the texts of one small tree.
-ghost use Rattle.std.specs.Prelude.{◌≡◌, [], true, false, OnOk};
+ghost use Rattle.std.specs.Prelude.{◌≡◌, [], true, OnOk};
 ghost use Rattle.json_print.specs.declared.events.Turn.TheVariants.{Done as at_done};
 ghost use Rattle.json_print.specs.Standing.{AwaitsTree, AwaitsMember};
 

@@ -1,5 +1,5 @@
 // Lists.
-ghost use Rattle.std.specs.Prelude.{[], ◌∷◌, None, map};
+ghost use Rattle.std.specs.Prelude.{[], ◌∷◌, map};
 ghost use Rattle.json_print.specs.Standing.{AcceptsValue};
 ghost use Rattle.json_model.specs.Datum.{list_datum, list_data};
 ghost use Rattle.json_print.specs.Data.{parts};

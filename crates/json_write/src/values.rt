@@ -1,5 +1,5 @@
 // Values and views.
-ghost use Rattle.std.specs.Prelude.{None, map, option_map};
+ghost use Rattle.std.specs.Prelude.{map, option_map};
 ghost use Rattle.json_print.specs.Standing.{AcceptsValue};
 ghost use Rattle.json_number.specs.Numbers.{value_of};
 ghost use Rattle.json_value.specs.Denotes.{tree_of, list_in, pairs_in};

@@ -1,5 +1,5 @@
 // The top call.
-ghost use Rattle.std.specs.Prelude.{ℕ, ◌≡◌, ◌≢◌, ◌⊎◌, ◌<◌, OnOk, IfErr};
+ghost use Rattle.std.specs.Prelude.{ℕ, ◌≡◌, ◌≢◌, ◌⊎◌, OnOk, IfErr};
 ghost use Rattle.json_io.specs.declared.error.ErrorCode.{ErrorCode};
 ghost use Rattle.json_io.specs.declared.error.Place.{Place};
 ghost use Rattle.json_io.specs.Transfer.{TakesOneBeyond};
