@@ -1,5 +1,5 @@
 -- The status that a program ends with, and its number.
-use Rattle.std.specs.Prelude.{ℕ}
+use Rattle.std.specs.Prelude.{ℕ, ◌≡◌, ◌<◌}
 use Rattle.json_io.specs.declared.error.ErrorCode.{ErrorCode}
 use Rattle.json_io.specs.declared.error.ErrorCode.TheVariants.{NoMemory, Io, NotFound, TypeUnmatched, BadWords}
 use Rattle.json_io.specs.declared.error.Place.{Place}
@@ -7,6 +7,7 @@ use Rattle.json_io.specs.declared.error.Place.TheVariants.{Writing}
 use Rattle.json_command.specs.declared.status.Status.{Status}
 use Rattle.json_command.specs.declared.status.Status.TheVariants.{Success, InvalidInput, InvalidArguments, EditFailed, ReadFailed, WriteFailed, OutOfMemory, TooMuchInput, NoArguments}
 use Rattle.json_model.specs.Edit.{Refusal, not_found, type_unmatched}
+use Rattle.json_io.specs.Outside.{SourceState, SinkState, Rose}
 
 -- its number
 abbrev pub status_number : Status → ℕ
@@ -38,3 +39,19 @@ status_of code place = status_number (error_status code place)
 abbrev pub code_of_refusal : Refusal → ErrorCode
 code_of_refusal not_found = NotFound
 code_of_refusal type_unmatched = TypeUnmatched
+
+-- a read that failed ends in its status
+abbrev pub ReturnsReadStatus : (source source' : SourceState) → ℕ → Type 0
+ReturnsReadStatus source source' status = source.faults < source'.faults → status ≡ 4
+
+-- a write that failed ends in its status
+abbrev pub ReturnsWriteStatus : (sink sink' : SinkState) → ℕ → Type 0
+ReturnsWriteStatus sink sink' status = sink.faults < sink'.faults → status ≡ 5
+
+-- the status of a failed read means one
+abbrev pub MeansReadFailed : (source source' : SourceState) → ℕ → Type 0
+MeansReadFailed source source' status = status ≡ 4 → Rose source.faults source'.faults
+
+-- the status of a failed write means one
+abbrev pub MeansWriteFailed : (sink sink' : SinkState) → ℕ → Type 0
+MeansWriteFailed sink sink' status = status ≡ 5 → Rose sink.faults sink'.faults

@@ -1,7 +1,7 @@
 // The document of a source's text.
-ghost use Rattle.std.specs.Prelude.{◌+◌, IfOk, IfErr};
+ghost use Rattle.std.specs.Prelude.{IfOk, IfErr};
 ghost use Rattle.json_text.specs.Ruled.{rules_of};
-ghost use Rattle.json_io.specs.Transfer.{TakesAtMost};
+ghost use Rattle.json_io.specs.Transfer.{TakesOneBeyond};
 ghost use Rattle.json_doc.specs.Docs.{doc_root, doc_tree};
 ghost use Rattle.json_command.specs.Input.{max_bytes};
 ghost use Rattle.json_command.specs.Reading.{ReadsInput, InputFails, ReturnsReadError};
@@ -23,7 +23,7 @@ pub fn read_document_from<S: Source>(alloc: Global, source: &mut S, rules: Rules
         (S.state source.old) (S.state source.new) (doc_tree d.value (doc_root d.value))) }
     ensures failed { IfErr result (λ e. InputFails (rules_of rules)
         (S.state source.old) (S.state source.new) e.code e.place) }
-    ensures taken { TakesAtMost (max_bytes + 1) (S.state source.old) (S.state source.new) }
+    ensures taken { TakesOneBeyond max_bytes (S.state source.old) (S.state source.new) }
     ensures told { ReturnsReadError (S.state source.old) (S.state source.new) result }
 {
     let bytes = read_all(alloc, source, MAX_BYTES)?;

@@ -1,5 +1,5 @@
 -- What calls leave of an array and of an object: the members after the first write, changed in one way.
-use Rattle.std.specs.Prelude.{◌≡◌, ℕ, ◌+◌, ◌≤◌, Bool, List, ◌++◌, ◌⊎◌, length, map, Vec}
+use Rattle.std.specs.Prelude.{◌≡◌, ℕ, ◌+◌, ◌≤◌, Bool, List, ◌++◌, ◌⊎◌, length, map, Vec, Result, OnErr}
 use Rattle.std.specs.List.{items_where_true}
 use Rattle.std.specs.declared.alloc.Global.{Global}
 use Rattle.json_value.specs.Denotes.{tree_of, pair_of, list_in, pairs_in}
@@ -64,3 +64,11 @@ AppendsCopies copied items now = (more : List Value) × (map value_origin more �
 -- the elements of an owned list
 abbrev pub own_elements : Container Value → List Value
 own_elements a = owned_items_of a
+
+-- an error changes no array
+abbrev pub ArrayStaysOnErr : {A E : Type 0} → (old new : Container Value) → Result A E → Type 0
+ArrayStaysOnErr old new result = OnErr result (ArrayStays old new)
+
+-- an error changes no object
+abbrev pub ObjectStaysOnErr : {A E : Type 0} → (old new : Container (Keyed Value)) → Result A E → Type 0
+ObjectStaysOnErr old new result = OnErr result (ObjectStays old new)

@@ -17,7 +17,7 @@ ghost use Rattle.json_value.specs.Written.{FirstElements};
 ghost use Rattle.json_value.specs.declared.container.Container.{Container};
 ghost use Rattle.json_value.specs.declared.value.Value.{Value};
 ghost use Rattle.json_containers.specs.IntoIter.{values_left, values_shown, slice_row};
-ghost use Rattle.json_containers.specs.Changed.{ArrayChanged, ArrayBecame, ArrayStays};
+ghost use Rattle.json_containers.specs.Changed.{ArrayChanged, ArrayBecame, ArrayStays, ArrayStaysOnErr};
 ghost use Rattle.json_containers.specs.Changed.{own_elements, RetainsWhereTrue};
 ghost use Rattle.json_containers.specs.Changed.{TakesRoomForOne, KeepsRoom, AppendsCopies};
 ghost use Rattle.json_containers.specs.Slices.{written_over};
@@ -135,7 +135,7 @@ pub trait ArrayCalls {
             ≡ insert (list_in (held self.old)) index (tree_of element)) }
         ensures children { OnOk result (ArrayBecame (λ items. insert items index element)
             (held self.old) (held self.new)) }
-        ensures kept { OnErr result (ArrayStays (held self.old) (held self.new)) }
+        ensures kept { ArrayStaysOnErr (held self.old) (held self.new) result }
         ensures only { IfErr result (λ e. e ≡ no_memory) };
 
     /// Appends the element. Fails with `NoMemory`, and changes nothing, if memory runs out.
@@ -144,7 +144,7 @@ pub trait ArrayCalls {
             ≡ list_in (held self.old) ++ tree_of val ∷ []) }
         ensures children { OnOk result (ArrayBecame (λ items. items ++ val ∷ [])
             (held self.old) (held self.new)) }
-        ensures kept { OnErr result (ArrayStays (held self.old) (held self.new)) }
+        ensures kept { ArrayStaysOnErr (held self.old) (held self.new) result }
         ensures free { 0 < spare_in (held self.old) → IsOk result }
         ensures room { TakesRoomForOne (held self.old) (held self.new) }
         ensures only { IfErr result (λ e. e ≡ no_memory) };
@@ -222,7 +222,7 @@ pub trait ArrayCalls {
         ensures children { IfOk result (λ a. ArrayChanged
             (λ items now. (now ≡ take at items) × (own_elements a ≡ drop at items))
             (held self.old) (held self.new)) }
-        ensures kept { OnErr result (ArrayStays (held self.old) (held self.new)) }
+        ensures kept { ArrayStaysOnErr (held self.old) (held self.new) result }
         ensures only { IfErr result (λ e. e ≡ no_memory) };
 
     /// The elements of the range, taken out. Fails with `NoMemory`, and changes nothing, if memory
@@ -238,7 +238,7 @@ pub trait ArrayCalls {
         ensures children { IfOk result (λ a. ArrayChanged (λ items now.
             (now ≡ remove_range items from to) × (own_elements a ≡ slice_range items from to))
             (held self.old) (held self.new)) }
-        ensures kept { OnErr result (ArrayStays (held self.old) (held self.new)) }
+        ensures kept { ArrayStaysOnErr (held self.old) (held self.new) result }
         ensures only { IfErr result (λ e. e ≡ no_memory) };
 
     /// The other's elements, appended; the other has none then. Fails with `NoMemory`, and changes
@@ -261,7 +261,7 @@ pub trait ArrayCalls {
             ≡ list_in (held self.old) ++ map tree_of items.now) }
         ensures children { OnOk result (ArrayChanged (AppendsCopies items.now)
             (held self.old) (held self.new)) }
-        ensures kept { OnErr result (ArrayStays (held self.old) (held self.new)) }
+        ensures kept { ArrayStaysOnErr (held self.old) (held self.new) result }
         ensures only { IfErr result (λ e. e ≡ no_memory) };
 
     /// Copies of that range, appended. Fails with `NoMemory`, and changes nothing, if memory runs
@@ -274,7 +274,7 @@ pub trait ArrayCalls {
         ensures children { OnOk result (ArrayChanged
             (λ items now. AppendsCopies (slice_range items from to) items now)
             (held self.old) (held self.new)) }
-        ensures kept { OnErr result (ArrayStays (held self.old) (held self.new)) }
+        ensures kept { ArrayStaysOnErr (held self.old) (held self.new) result }
         ensures only { IfErr result (λ e. e ≡ no_memory) };
 
     /// Cut to this length, or filled up with copies of the value. Fails with `NoMemory`, and
@@ -286,7 +286,7 @@ pub trait ArrayCalls {
         ensures children { OnOk result (ArrayChanged (λ items now.
             AppendsCopies (replicate (new_len - length items) value.now) (take new_len items) now)
             (held self.old) (held self.new)) }
-        ensures kept { OnErr result (ArrayStays (held self.old) (held self.new)) }
+        ensures kept { ArrayStaysOnErr (held self.old) (held self.new) result }
         ensures only { IfErr result (λ e. e ≡ no_memory) };
 
     /// Keeps the elements for which `f` is true, in order. Fails with `NoMemory`, and changes
@@ -324,7 +324,7 @@ pub trait ArrayCalls {
         ensures children { OnOk result (ArrayChanged
             (λ items now. AppendsResults F.step (take new_len items) now f)
             (held self.old) (held self.new)) }
-        ensures kept { OnErr result (ArrayStays (held self.old) (held self.new)) }
+        ensures kept { ArrayStaysOnErr (held self.old) (held self.new) result }
         ensures only { IfErr result (λ e. e ≡ no_memory) };
 
     /// An iterator over all elements. After a refusal the array is gone.

@@ -23,7 +23,7 @@ ghost use Rattle.json_value.specs.Written.{FirstMembers};
 ghost use Rattle.json_value.specs.declared.container.Container.{Container};
 ghost use Rattle.json_value.specs.declared.pair.Keyed.{Keyed};
 ghost use Rattle.json_value.specs.declared.value.Value.{Value};
-ghost use Rattle.json_containers.specs.Changed.{ObjectChanged, ObjectBecame, ObjectStays};
+ghost use Rattle.json_containers.specs.Changed.{ObjectChanged, ObjectBecame, ObjectStays, ObjectStaysOnErr};
 ghost use Rattle.json_containers.specs.Changed.{KeepsRoom};
 ghost use Rattle.json_containers.specs.Entry.{entry_ref, entry_object, entry_key};
 ghost use Rattle.json_containers.specs.Entry.{entry_value, entry_with};
@@ -190,7 +190,7 @@ pub trait ObjectCalls {
             ≡ found key.now (pairs_in (held self.old))) }
         ensures children { IfOk result (λ o. ObjectChanged (PutsValue key.now value o)
             (held self.old) (held self.new)) }
-        ensures kept { OnErr result (ObjectStays (held self.old) (held self.new)) }
+        ensures kept { ObjectStaysOnErr (held self.old) (held self.new) result }
         ensures only { IfErr result (λ e. e ≡ no_memory) };
 
     /// Keeps the members for which `f` is true, in order, with what it writes. Fails with
@@ -248,7 +248,7 @@ pub trait ObjectCalls {
         ensures children { OnOk result (ObjectChanged (λ items now. (more : List (Keyed Value))
             × AreCopies pairs.now more × (now ≡ with_members more items))
             (held self.old) (held self.new)) }
-        ensures kept { OnErr result (ObjectStays (held self.old) (held self.new)) }
+        ensures kept { ObjectStaysOnErr (held self.old) (held self.new) result }
         ensures only { IfErr result (λ e. e ≡ no_memory) };
 
     /// The other's members, inserted in turn; the other has none then. Fails with `NoMemory`, and

@@ -1,5 +1,5 @@
 -- What the calls that read a value answer.
-use Rattle.std.specs.Prelude.{◌≡◌, ◌⊎◌, ℕ, ◌^◌, ◌<◌, ◌≤◌, List, length, get_or, false, IsUtf8}
+use Rattle.std.specs.Prelude.{◌≡◌, ◌⊎◌, ℕ, ◌^◌, ◌<◌, ◌≤◌, List, length, get_or, false, IsUtf8, Result, IfOk, IfErr, IsErrOf, IsOkUnless}
 use Rattle.json_grammar.specs.Grammar.{IsWhitespace, ws, is_text}
 use Rattle.json_grammar.specs.Given.{piece}
 use Rattle.json_grammar.specs.Rules.{Rules, fits}
@@ -15,6 +15,8 @@ use Rattle.json_io.specs.Transfer.{ReadsWithin, ReadingCause}
 use Rattle.json_io.specs.Utf8.{IsUtf8Fault}
 use Rattle.json_model.specs.Datum.{Datum}
 use Rattle.json_data.specs.Reading.{Reading, gives, refuses}
+use Rattle.json_io.specs.declared.error.Error.{Error}
+use Rattle.json_io.specs.Errors.{no_memory, too_large}
 
 -- the bytes are a text of a tree of so many levels at most, of which r is the reading
 abbrev pub ReadsTypedText : ℕ → (Tree → Reading) → List ℕ → Reading → Type 0
@@ -81,3 +83,19 @@ ReadsSource old new f r = (b : List ℕ) × ReadsWithin most old new b × ReadsT
 -- why no value is read of a source: its bytes were not had, or no value is read of them
 abbrev pub SourceFails : SourceState → SourceState → (Tree → Reading) → ErrorCode → Place → Type 0
 SourceFails old new f c p = ReadingCause most old new c p ⊎ ((b : List ℕ) × ReadsWithin most old new b × TypedReadingFails 254 f b c p)
+
+-- more bytes than a text may have are refused
+abbrev pub RefusesTooLarge : {A : Type 0} → List ℕ → Result A Error → Type 0
+RefusesTooLarge b result = 2 ^ 32 ≤ length b → IsErrOf result too_large
+
+-- the value has the datum that is read of the text, of 254 levels at most
+abbrev pub ReadsTypedValue : {V E : Type 0} → (Tree → Reading) → (V → Datum) → List ℕ → Result V E → Type 0
+ReadsTypedValue f datum b result = IfOk result (λ v. ReadsTypedText 254 f b (gives (datum v)))
+
+-- an error says why no value of 254 levels at most is read
+abbrev pub FailsTypedReading : {A : Type 0} → (Tree → Reading) → List ℕ → Result A Error → Type 0
+FailsTypedReading f b result = IfErr result (λ e. TypedReadingFails 254 f b e.code e.place)
+
+-- a text of which the type has a datum is read, unless memory runs out
+abbrev pub ReadsUnlessNoMemory : {A : Type 0} → (Tree → Reading) → List ℕ → Result A Error → Type 0
+ReadsUnlessNoMemory f b result = HasDatum 254 f b → length b < 2 ^ 32 → IsOkUnless result no_memory

@@ -1,5 +1,5 @@
 -- What a reader promises.
-use Rattle.std.specs.Prelude.{◌≡◌, ◌≢◌, ℕ, List, Some, true, false, ◌⊎◌}
+use Rattle.std.specs.Prelude.{◌≡◌, ◌≢◌, ℕ, List, Some, true, false, ◌⊎◌, Result, IfErr}
 use Rattle.json_grammar.specs.declared.Kind.{Kind}
 use Rattle.json_grammar.specs.Tree.{Tree, Token as Tok, null, begin}
 use Rattle.json_io.specs.declared.error.Error.{Error}
@@ -47,3 +47,7 @@ pub record KeyReadingFails (says : List ℕ → Type 0) (f : List ℕ → Readin
 -- every tree but a container of the kind is refused
 abbrev pub RefusesOthers : Kind → (Tree → Reading) → Type 0
 RefusesOthers k f = (t : Tree) → first_kind t ≢ kind_of (begin k) → f t ≡ refuses TypeUnmatched
+
+-- an error is want of memory, or the source's
+abbrev pub GivesUpOnErr : {A : Type 0} → (a b : TokensState) → Result A Error → Type 0
+GivesUpOnErr a b result = IfErr result (λ e. GivesUp a b e)

@@ -1,5 +1,5 @@
 -- What a reader of each type answers of a tree: a datum, or the leftmost refusal.
-use Rattle.std.specs.Prelude.{ℕ, ℤ, pos, negsuc, List, [], ◌∷◌, length, Bool, ◌==◌, nat_lt, if◌then◌else◌, Option, Some, None}
+use Rattle.std.specs.Prelude.{ℕ, ℤ, pos, negsuc, List, [], ◌∷◌, length, Bool, ◌==◌, nat_lt, if◌then◌else◌, Option, Some, None, ◌≡◌, true, Result, IfOk}
 use Rattle.std.specs.Str.{chars}
 use Rattle.std.specs.Cmp.Lexicographic.{slice_cmp}
 use Rattle.std.specs.Ordering.{nat_cmp, int_cmp, bool_cmp, match_ordering}
@@ -142,3 +142,7 @@ rows_from f h rs (pair_and k t ps) = row_step (f k) (h t) (λ r. rows_from f h r
 abbrev pub read_map : (List ℕ → Reading) → (Tree → Reading) → Tree → Reading
 read_map f h (pairs ps) = rows_from f h no_rows ps
 read_map f h _ = refuses TypeUnmatched
+
+-- an integer that is returned lies between them
+abbrev pub ReturnsBetween : {E : Type 0} → ℕ → ℕ → Result ℤ E → Type 0
+ReturnsBetween low high result = IfOk result (λ n. between low high n ≡ true)

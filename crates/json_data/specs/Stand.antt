@@ -1,5 +1,5 @@
 -- What a call of a source of tokens takes.
-use Rattle.std.specs.Prelude.{◌≡◌, ◌<◌, ◌≤◌, ℕ, pos, neg_ℤ, List, [], ◌∷◌, ◌++◌, Bool, Option, Some, None, true, false}
+use Rattle.std.specs.Prelude.{◌≡◌, ◌<◌, ◌≤◌, ℕ, pos, neg_ℤ, List, [], ◌∷◌, ◌++◌, Bool, Option, Some, None, true, false, Result, Err, IfErr, IfSome}
 use Rattle.json_grammar.specs.declared.Kind.TheVariants.{Array as array, Object as object}
 use Rattle.json_grammar.specs.Tree.{Tree, num, text as text_tree, Trees, Pairs, tokens, trees_tokens, pairs_tokens, Token as Tok, key_token, end}
 use Rattle.json_number.specs.Integers.{integer_in}
@@ -130,3 +130,15 @@ pub record TokensFail (a b : TokensState) (e : Error) : Type 0 where
   pub input : b.input ≡ a.input
   pub no_refusal : is_refusal e.code ≡ false
   pub failed : b.failed ≡ Some e
+
+-- an error is one that the source of tokens answered
+abbrev pub FailsWithTokens : {A : Type 0} → (a b : TokensState) → Result A Error → Type 0
+FailsWithTokens a b result = IfErr result (λ e. TokensFail a b e)
+
+-- a first error has one of the causes
+abbrev pub FailsForCause : {A : Type 0} → TokensState → (Error → Type 0) → Result A Error → Type 0
+FailsForCause s causes result = s.failed ≡ None → IfErr result causes
+
+-- an error that is kept is returned again
+abbrev pub ReturnsAgain : {A : Type 0} → Option Error → Result A Error → Type 0
+ReturnsAgain failed result = IfSome failed (λ e. result ≡ Err e)

@@ -4,7 +4,7 @@ ghost use Rattle.json_grammar.specs.Tree.{Tree, Token as Tok, begin as begin_tok
 ghost use Rattle.json_data.specs.Kinds.{kind_of};
 ghost use Rattle.json_data.specs.Reader.{StopsReading, RefusesOthers};
 ghost use Rattle.json_data.specs.Reading.{Reading};
-ghost use Rattle.json_data.specs.Stand.{NotWhole, WantsValue, TakesOne, TokensFail};
+ghost use Rattle.json_data.specs.Stand.{NotWhole, WantsValue, TakesOne, FailsWithTokens};
 
 use crate::lent::Lent;
 use crate::refusals::refusal;
@@ -29,7 +29,7 @@ pub(crate) fn begin_kind(kind: Kind) -> TokenKind
 pub(crate) fn pass<S: Lent, T: Tokens<S>>(tokens: &mut T) -> Result<()>
     requires { NotWhole (T.stand tokens.old) }
     ensures ok { OnOk result ((x : Tok) × TakesOne T.taken T.stand tokens.old tokens.new x) }
-    ensures err { IfErr result (λ e. TokensFail (T.stand tokens.old) (T.stand tokens.new) e) }
+    ensures err { FailsWithTokens (T.stand tokens.old) (T.stand tokens.new) result }
 {
     let _token = tokens.next()?;
     Ok(())

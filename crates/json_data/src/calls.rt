@@ -1,10 +1,10 @@
 // Values read from texts and sources.
-ghost use Rattle.std.specs.Prelude.{◌≡◌, ◌+◌, ◌<◌, ◌≤◌, ◌^◌, length, true, IfOk, IfErr, IsErrOf, IsOkUnless, OnErr, OnOk, IsUtf8};
+ghost use Rattle.std.specs.Prelude.{◌≡◌, ◌<◌, ◌≤◌, ◌^◌, length, true, IfOk, IfErr, IsErrOf, IsOkUnless, OnErr, OnOk, IsUtf8};
 ghost use Rattle.json_io.specs.Errors.{no_memory, reading_failed, too_large as spec_too_large};
 ghost use Rattle.json_text.specs.Ruled.{rules_of};
-ghost use Rattle.json_io.specs.Transfer.{ReadsWithin, ReadingCause, TakesAtMost};
+ghost use Rattle.json_io.specs.Transfer.{ReadsWithin, ReadingCause, TakesOneBeyond};
 ghost use Rattle.json_data.specs.Reading.{gives};
-ghost use Rattle.json_data.specs.Calls.{most, BytesRefused};
+ghost use Rattle.json_data.specs.Calls.{most, BytesRefused, RefusesTooLarge, ReadsTypedValue, FailsTypedReading, ReadsUnlessNoMemory};
 ghost use Rattle.json_data.specs.TextValues.{IsPackedAtRoot};
 ghost use Rattle.json_data.specs.Calls.{ReadsTypedText, TypedReadingFails, HasDatum, ReadsTextWith, TypedReadingFailsWith, ReadsSource, SourceFails};
 
@@ -40,7 +40,7 @@ fn text_of(json: &[u8]) -> Result<&str>
     ensures valid { IfOk result (λ _. IsUtf8 json.now) }
     ensures size { IfOk result (λ _. length json.now < 2 ^ 32) }
     ensures cause { IfErr result (λ e. BytesRefused json.now e.code e.place) }
-    ensures large { 2 ^ 32 ≤ length json.now → IsErrOf result spec_too_large }
+    ensures large { RefusesTooLarge json.now result }
 {
     if json.len() > MOST {
         return Err(too_large());
@@ -99,12 +99,11 @@ pub fn from_str<'a, T: Deserialize<'a> + Drop>(alloc: Global, s: &'a str) -> Res
 /// The value of the bytes of a JSON text, as [`from_str`]. Fails with `InvalidUTF8` where they are
 /// no UTF-8, before any fault of the text, and otherwise as [`from_str`] does.
 pub fn from_slice<'a, T: Deserialize<'a> + Drop>(alloc: Global, json: &'a [u8]) -> Result<T>
-    ensures ok { IfOk result (λ v. ReadsTypedText 254 T.from_tree json.now (gives (T.datum v))) }
+    ensures ok { ReadsTypedValue T.from_tree T.datum json.now result }
     ensures place { IfOk result (T.placed IsPackedAtRoot) }
-    ensures err { IfErr result (λ e. TypedReadingFails 254 T.from_tree json.now e.code e.place) }
-    ensures complete { HasDatum 254 T.from_tree json.now → length json.now < 2 ^ 32
-        → IsOkUnless result no_memory }
-    ensures large { 2 ^ 32 ≤ length json.now → IsErrOf result spec_too_large }
+    ensures err { FailsTypedReading T.from_tree json.now result }
+    ensures complete { ReadsUnlessNoMemory T.from_tree json.now result }
+    ensures large { RefusesTooLarge json.now result }
 {
     let text = text_of(json)?;
     read_text(alloc, text, LEVELS)
@@ -117,12 +116,11 @@ pub fn from_slice_unchecked<'a, T: Deserialize<'a> + Drop>(
     json: &'a [u8],
 ) -> Result<T>
     requires { IsUtf8 json.now }
-    ensures ok { IfOk result (λ v. ReadsTypedText 254 T.from_tree json.now (gives (T.datum v))) }
+    ensures ok { ReadsTypedValue T.from_tree T.datum json.now result }
     ensures place { IfOk result (T.placed IsPackedAtRoot) }
-    ensures err { IfErr result (λ e. TypedReadingFails 254 T.from_tree json.now e.code e.place) }
-    ensures complete { HasDatum 254 T.from_tree json.now → length json.now < 2 ^ 32
-        → IsOkUnless result no_memory }
-    ensures large { 2 ^ 32 ≤ length json.now → IsErrOf result spec_too_large }
+    ensures err { FailsTypedReading T.from_tree json.now result }
+    ensures complete { ReadsUnlessNoMemory T.from_tree json.now result }
+    ensures large { RefusesTooLarge json.now result }
 {
     from_str(alloc, unsafe { from_utf8_unchecked(json) })
 }
@@ -160,7 +158,7 @@ pub fn from_slice_with<'a, T: Deserialize<'a> + Drop>(
     ensures place { IfOk result (T.placed IsPackedAtRoot) }
     ensures err { IfErr result (λ e.
         TypedReadingFailsWith (rules_of rules) T.from_tree json.now e.code e.place) }
-    ensures large { 2 ^ 32 ≤ length json.now → IsErrOf result spec_too_large }
+    ensures large { RefusesTooLarge json.now result }
 {
     let text = text_of(json)?;
     if rules.unique() {
@@ -179,7 +177,7 @@ fn fill<S: Source>(alloc: Global, source: &mut S, room: &mut Vec<u8>) -> Result<
         ReadingCause most (S.state source.old) (S.state source.new) e.code e.place) }
     ensures told { (S.state source.old).faults < (S.state source.new).faults
         → IsErrOf result reading_failed }
-    ensures taken { TakesAtMost (most + 1) (S.state source.old) (S.state source.new) }
+    ensures taken { TakesOneBeyond most (S.state source.old) (S.state source.new) }
 {
     let bytes = read_all(alloc, source, MOST)?;
     *room = bytes;
@@ -203,7 +201,7 @@ pub fn from_reader<'a, S: Source, T: Deserialize<'a> + Drop>(
         SourceFails (S.state source.old) (S.state source.new) T.from_tree e.code e.place) }
     ensures told { (S.state source.old).faults < (S.state source.new).faults
         → IsErrOf result reading_failed }
-    ensures taken { TakesAtMost (most + 1) (S.state source.old) (S.state source.new) }
+    ensures taken { TakesOneBeyond most (S.state source.old) (S.state source.new) }
 {
     fill(alloc, source, room)?;
     from_slice(alloc, room.as_slice())

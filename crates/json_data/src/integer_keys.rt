@@ -7,7 +7,7 @@ ghost use Rattle.json_io.specs.declared.error.ErrorCode.TheVariants.{ExpectedNum
 ghost use Rattle.json_data.specs.Keys.{integer_key, integer_named, unsigned_orders};
 ghost use Rattle.json_data.specs.Pieces.{Says};
 ghost use Rattle.json_data.specs.Reader.{KeyReadingFails};
-ghost use Rattle.json_data.specs.Reading.{gives, between};
+ghost use Rattle.json_data.specs.Reading.{gives, between, ReturnsBetween};
 ghost use Rattle.json_data.specs.Refusals.{refusal as spec_refusal};
 ghost use Rattle.json_number.specs.IntegerLiterals.{IsIntegerLiteral};
 ghost use Rattle.json_number.specs.Integers.{whole_in};
@@ -42,7 +42,7 @@ fn key_between<S: Lent>(alloc: Global, key: Piece<S>, low: u128, high: u128) -> 
     requires high { high ≤ 2 ^ 127 }
     ensures ok { IfOk result (λ n. (s : List ℕ) → Says s key.escaped (S.bytes key.text)
         → integer_key (between low high) s ≡ gives (integer_datum n)) }
-    ensures within { IfOk result (λ n. between low high n ≡ true) }
+    ensures within { ReturnsBetween low high result }
     ensures err { IfErr result (λ e.
         KeyReadingFails (λ s. Says s key.escaped (S.bytes key.text))
         (integer_key (between low high)) e) }

@@ -10,7 +10,7 @@ ghost use Rattle.json_data.specs.Pieces.{Says};
 ghost use Rattle.json_data.specs.Reading.{Reading, gives, key_cmp};
 ghost use Rattle.json_data.specs.Reader.{KeyReadingFails};
 ghost use Rattle.json_data.specs.Spots.{InObject};
-ghost use Rattle.json_data.specs.Stand.{NotWhole, TakesOne, TakesKeyPiece, TokensFail};
+ghost use Rattle.json_data.specs.Stand.{NotWhole, TakesOne, TakesKeyPiece, FailsWithTokens};
 
 use crate::brackets::pass;
 use crate::lent::Lent;
@@ -126,7 +126,7 @@ pub(crate) fn next_key<S: Lent, T: Tokens<S>>(tokens: &mut T) -> Result<Piece<S>
     requires told { (T.stand tokens.old).told ≡ Some TokenKind.Key }
     ensures ok { IfOk result (λ p. (s : List ℕ) × Says s p.escaped (S.bytes p.text)
         × TakesOne T.taken T.stand tokens.old tokens.new (key_token s)) }
-    ensures err { IfErr result (λ e. TokensFail (T.stand tokens.old) (T.stand tokens.new) e) }
+    ensures err { FailsWithTokens (T.stand tokens.old) (T.stand tokens.new) result }
 {
     match tokens.next()? {
         Token::Key(piece) => Ok(piece),
@@ -143,7 +143,7 @@ pub(crate) fn next_name<S: Lent, T: Tokens<S>>(tokens: &mut T) -> Result<Option<
         (λ s. Says s p.escaped (S.bytes p.text)) tokens.old tokens.new)) }
     ensures end { IfOk result (λ r. r ≡ None
         → TakesOne T.taken T.stand tokens.old tokens.new (end_token object)) }
-    ensures err { IfErr result (λ e. TokensFail (T.stand tokens.old) (T.stand tokens.new) e) }
+    ensures err { FailsWithTokens (T.stand tokens.old) (T.stand tokens.new) result }
 {
     if let Some(key) = tokens.key() {
         return Ok(Some(key));

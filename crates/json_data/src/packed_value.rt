@@ -1,7 +1,7 @@
 // A value within a text.
 ghost use Rattle.std.specs.Prelude.{◌≤◌, List, IfOk, IfErr};
 ghost use Rattle.json_grammar.specs.Tree.{Token as Tok};
-ghost use Rattle.json_text.specs.Parsing.{HasGiven, HasRead, IsWhole, SameInput};
+ghost use Rattle.json_text.specs.Parsing.{HasGiven, SameInput, KeepsHasRead};
 ghost use Rattle.json_doc.specs.OneValue.{HandedOut, ReadsValue};
 ghost use Rattle.json_value.specs.Denotes.{tree_of};
 ghost use Rattle.json_data.specs.Text.{TextFails};
@@ -23,8 +23,7 @@ pub(crate) fn packed_value<'a>(
     ensures order { parser.old.index ≤ parser.new.index }
     ensures ok { IfOk result (λ v. ReadsValue parser.old first.entry (tree_of v) parser.new) }
     ensures place { IfOk result IsPackedAtRoot }
-    ensures whole { (IsWhole parser.old → HasRead parser.old)
-        → IsWhole parser.new → HasRead parser.new }
+    ensures whole { KeepsHasRead parser.old parser.new }
     ensures err { IfErr result (TextFails parser.new) }
     ensures given { (ts : List Tok) × HasGiven parser.new ts }
 {

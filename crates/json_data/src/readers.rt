@@ -9,7 +9,7 @@ ghost use Rattle.json_model.specs.Datum.{null_datum, boolean_datum, text_datum, 
 ghost use Rattle.json_data.specs.Reading.{gives, read_boolean, read_unit, read_text, read_option, read_list, read_pair, read_any};
 ghost use Rattle.json_data.specs.Refusals.{is_refusal as spec_is_refusal};
 ghost use Rattle.json_data.specs.Spots.{IsOpen, InArray};
-ghost use Rattle.json_data.specs.Stand.{NotWhole, WantsValue, TakesOne, TakesTree, TakesText, Leaves, TokensFail};
+ghost use Rattle.json_data.specs.Stand.{NotWhole, WantsValue, TakesOne, TakesTree, TakesText, Leaves, TokensFail, FailsWithTokens};
 ghost use Rattle.json_data.specs.Reader.{ReadsTree, ReadsNonNull, Misses, StopsReading};
 
 use crate::brackets::{open, pass};
@@ -74,7 +74,7 @@ pub(crate) fn next_text<S: Lent, T: Tokens<S>>(tokens: &mut T) -> Result<Piece<S
     requires told { (T.stand tokens.old).told ≡ Some TokenKind.Text }
     ensures ok { IfOk result (λ p. (s : List ℕ) × Says s p.escaped (S.bytes p.text)
         × TakesTree T.taken T.stand tokens.old tokens.new (text s)) }
-    ensures err { IfErr result (λ e. TokensFail (T.stand tokens.old) (T.stand tokens.new) e) }
+    ensures err { FailsWithTokens (T.stand tokens.old) (T.stand tokens.new) result }
 {
     match tokens.next()? {
         Token::Text(piece) => Ok(piece),

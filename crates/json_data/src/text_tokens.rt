@@ -1,11 +1,11 @@
 // The tokens of a text.
-ghost use Rattle.std.specs.Prelude.{◌≡◌, ◌≤◌, ◌^◌, length, List, [], true, false, Err, None, OnOk, IfOk, IfErr, IfSome, IsSome, IsTrue, MatchOption};
+ghost use Rattle.std.specs.Prelude.{◌≡◌, ◌≤◌, ◌^◌, length, List, [], true, false, None, OnOk, IfOk, IfErr, IfSome, IsSome, IsTrue, MatchOption};
 ghost use Rattle.json_grammar.specs.Tree.{Tree, Token as Tok, tokens, depth};
 ghost use Rattle.json_value.specs.Denotes.{tree_of};
 ghost use Rattle.json_data.specs.Kinds.{DenotesToken};
 ghost use Rattle.json_data.specs.TextValues.{IsPackedAtRoot};
 ghost use Rattle.json_data.specs.Spots.{IsOpen, over};
-ghost use Rattle.json_data.specs.Stand.{NotWhole, WantsValue, TakesTokens, Peeks, TakesOne, TakesTree, Leaves, TokensFail};
+ghost use Rattle.json_data.specs.Stand.{NotWhole, WantsValue, TakesTokens, Peeks, TakesOne, TakesTree, Leaves, TokensFail, FailsWithTokens, ReturnsAgain};
 ghost use Rattle.json_data.specs.Text.{IsFreshReader, text_taken, text_tokens_state, TextFails, HasFault, HasReadValue};
 ghost use Rattle.json_data.specs.declared.token.TokenKind.{TokenKind as TokenKindOf};
 ghost use Rattle.json_data.specs.declared.token.TokenKind.TheVariants as TokenKindAt;
@@ -206,10 +206,9 @@ impl<'a> TextTokens<'a> {
             (λ k. Peeks (text_tokens_state self.old) (text_tokens_state self.new) k) }
         ensures none { OnOk result (TakesTokens text_taken self.old [] self.new) }
         ensures unfailed { OnOk result (self.new.failed ≡ None) }
-        ensures err { IfErr result
-            (λ e. TokensFail (text_tokens_state self.old) (text_tokens_state self.new) e) }
+        ensures err { FailsWithTokens (text_tokens_state self.old) (text_tokens_state self.new) result }
         ensures cause { self.old.failed ≡ None → IfErr result (HasFault self.new.parser) }
-        ensures again { IfSome self.old.failed (λ e. result ≡ Err e) }
+        ensures again { ReturnsAgain self.old.failed result }
     {
         if self.failed.is_some() {
             return Err(self.refusal());
@@ -233,10 +232,9 @@ impl<'a> TextTokens<'a> {
         ensures ok { IfOk result (λ y. (x : Tok) × DenotesToken (λ s. s.now) y x
             × TakesOne text_taken text_tokens_state self.old self.new x) }
         ensures unfailed { OnOk result (self.new.failed ≡ None) }
-        ensures err { IfErr result
-            (λ e. TokensFail (text_tokens_state self.old) (text_tokens_state self.new) e) }
+        ensures err { FailsWithTokens (text_tokens_state self.old) (text_tokens_state self.new) result }
         ensures cause { self.old.failed ≡ None → IfErr result (HasFault self.new.parser) }
-        ensures again { IfSome self.old.failed (λ e. result ≡ Err e) }
+        ensures again { ReturnsAgain self.old.failed result }
     {
         self.look()?;
         match self.ahead {
@@ -255,10 +253,9 @@ impl<'a> TextTokens<'a> {
             TakesTree text_taken text_tokens_state self.old self.new (tree_of v)) }
         ensures place { IfOk result IsPackedAtRoot }
         ensures unfailed { OnOk result (self.new.failed ≡ None) }
-        ensures err { IfErr result
-            (λ e. TokensFail (text_tokens_state self.old) (text_tokens_state self.new) e) }
+        ensures err { FailsWithTokens (text_tokens_state self.old) (text_tokens_state self.new) result }
         ensures cause { self.old.failed ≡ None → IfErr result (TextFails self.new.parser) }
-        ensures again { IfSome self.old.failed (λ e. result ≡ Err e) }
+        ensures again { ReturnsAgain self.old.failed result }
     {
         self.look()?;
         let event = match self.ahead {
@@ -280,10 +277,9 @@ impl<'a> TextTokens<'a> {
         requires { IsOpen (text_tokens_state self.old).spot }
         ensures ok { OnOk result (Leaves text_taken text_tokens_state self.old self.new) }
         ensures unfailed { OnOk result (self.new.failed ≡ None) }
-        ensures err { IfErr result
-            (λ e. TokensFail (text_tokens_state self.old) (text_tokens_state self.new) e) }
+        ensures err { FailsWithTokens (text_tokens_state self.old) (text_tokens_state self.new) result }
         ensures cause { self.old.failed ≡ None → IfErr result (HasFault self.new.parser) }
-        ensures again { IfSome self.old.failed (λ e. result ≡ Err e) }
+        ensures again { ReturnsAgain self.old.failed result }
     {
         if let Some(error) = self.failed {
             return Err(error);
@@ -305,10 +301,9 @@ impl<'a> TextTokens<'a> {
         ensures ok { OnOk result ((t : Tree)
             × TakesTree text_taken text_tokens_state self.old self.new t) }
         ensures unfailed { OnOk result (self.new.failed ≡ None) }
-        ensures err { IfErr result
-            (λ e. TokensFail (text_tokens_state self.old) (text_tokens_state self.new) e) }
+        ensures err { FailsWithTokens (text_tokens_state self.old) (text_tokens_state self.new) result }
         ensures cause { self.old.failed ≡ None → IfErr result (HasFault self.new.parser) }
-        ensures again { IfSome self.old.failed (λ e. result ≡ Err e) }
+        ensures again { ReturnsAgain self.old.failed result }
     {
         let kind = self.look()?;
         self.take()?;

@@ -7,10 +7,10 @@ ghost use Rattle.json_number.specs.IntegerLiterals.{IsIntegerLiteral};
 ghost use Rattle.json_number.specs.Integers.{integer_in};
 ghost use Rattle.json_number.specs.Numbers.{value_of, text_of_number};
 ghost use Rattle.json_data.specs.declared.token.TokenKind.TheVariants as TokenKind;
-ghost use Rattle.json_data.specs.Reading.{gives, tree_integer, between, in_range, refuses, read_integer};
+ghost use Rattle.json_data.specs.Reading.{gives, tree_integer, between, in_range, refuses, read_integer, ReturnsBetween};
 ghost use Rattle.json_data.specs.Refusals.{is_refusal as spec_is_refusal, refusal as spec_refusal};
 ghost use Rattle.json_data.specs.Reader.{ReadsTree, ReadsNonNull, StopsReading};
-ghost use Rattle.json_data.specs.Stand.{NotWhole, WantsValue, TakesTree, TokensFail};
+ghost use Rattle.json_data.specs.Stand.{NotWhole, WantsValue, TakesTree, FailsWithTokens};
 
 use crate::lent::Lent;
 use crate::refusals::refusal;
@@ -39,7 +39,7 @@ pub(crate) fn next_int<S: Lent, T: Tokens<S>>(tokens: &mut T) -> Result<Number>
         TakesTree T.taken T.stand tokens.old tokens.new (num (text_of_number n))) }
     ensures value { IfOk result (λ n. (integer_in (text_of_number n) ≡ Some (value_of n))
         × number (text_of_number n)) }
-    ensures err { IfErr result (λ e. TokensFail (T.stand tokens.old) (T.stand tokens.new) e) }
+    ensures err { FailsWithTokens (T.stand tokens.old) (T.stand tokens.new) result }
 {
     match tokens.next()? {
         Token::Int(n) => Ok(n),
@@ -55,7 +55,7 @@ pub(crate) fn next_raw<S: Lent, T: Tokens<S>>(tokens: &mut T) -> Result<S>
     ensures ok { IfOk result (λ l.
         TakesTree T.taken T.stand tokens.old tokens.new (num (S.bytes l))) }
     ensures value { IfOk result (λ l. (integer_in (S.bytes l) ≡ None) × number (S.bytes l)) }
-    ensures err { IfErr result (λ e. TokensFail (T.stand tokens.old) (T.stand tokens.new) e) }
+    ensures err { FailsWithTokens (T.stand tokens.old) (T.stand tokens.new) result }
 {
     match tokens.next()? {
         Token::Raw(literal) => Ok(literal),
@@ -69,7 +69,7 @@ pub(crate) fn read_whole<S: Lent, T: Tokens<S>>(tokens: &mut T) -> Result<Intege
     requires { WantsValue (T.stand tokens.old) }
     ensures ok { IfOk result (λ w. (t : Tree) × TakesTree T.taken T.stand tokens.old tokens.new t
         × IsIntegerLiteral (tree_integer t) w) }
-    ensures err { IfErr result (λ e. TokensFail (T.stand tokens.old) (T.stand tokens.new) e) }
+    ensures err { FailsWithTokens (T.stand tokens.old) (T.stand tokens.new) result }
 {
     let kind = tokens.peek()?;
     if kind == TokenKind::Int {
@@ -90,7 +90,7 @@ pub(crate) fn fit(whole: IntegerLiteral, low: u128, high: u128) -> Result<i128>
     requires low { low ≤ 2 ^ 127 }
     requires high { high ≤ 2 ^ 127 }
     ensures ok { (o : Option ℤ) → IsIntegerLiteral o whole → IfOk result (λ n. o ≡ Some n) }
-    ensures within { IfOk result (λ n. between low high n ≡ true) }
+    ensures within { ReturnsBetween low high result }
     ensures err { (o : Option ℤ) → IsIntegerLiteral o whole
         → IfErr result (λ e. (in_range (between low high) o ≡ refuses e.code)
         × (e ≡ spec_refusal e.code) × (spec_is_refusal e.code ≡ true)) }
@@ -198,7 +198,7 @@ fn between_by_kind<S: Lent, T: Tokens<S>>(tokens: &mut T, low: u128, high: u128)
     ensures ok { IfOk result (λ n.
         ReadsTree T.taken T.stand (read_integer (between low high)) tokens.old tokens.new
         (gives (integer_datum n))) }
-    ensures within { IfOk result (λ n. between low high n ≡ true) }
+    ensures within { ReturnsBetween low high result }
     ensures err { IfErr result (λ e.
         StopsReading T.taken T.stand (read_integer (between low high)) tokens.old tokens.new e) }
 {
@@ -218,7 +218,7 @@ fn negative_or_by_kind<S: Lent, T: Tokens<S>>(tokens: &mut T, low: u128, high: u
     ensures ok { IfOk result (λ n.
         ReadsTree T.taken T.stand (read_integer (between low high)) tokens.old tokens.new
         (gives (integer_datum n))) }
-    ensures within { IfOk result (λ n. between low high n ≡ true) }
+    ensures within { ReturnsBetween low high result }
     ensures err { IfErr result (λ e.
         StopsReading T.taken T.stand (read_integer (between low high)) tokens.old tokens.new e) }
 {
@@ -241,7 +241,7 @@ pub(crate) fn read_between<S: Lent, T: Tokens<S>>(
     ensures ok { IfOk result (λ n.
         ReadsTree T.taken T.stand (read_integer (between low high)) tokens.old tokens.new
         (gives (integer_datum n))) }
-    ensures within { IfOk result (λ n. between low high n ≡ true) }
+    ensures within { ReturnsBetween low high result }
     ensures err { IfErr result (λ e.
         StopsReading T.taken T.stand (read_integer (between low high)) tokens.old tokens.new e) }
 {

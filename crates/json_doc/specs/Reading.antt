@@ -1,5 +1,5 @@
 -- Why no document is made of a text, and what its reader keeps.
-use Rattle.std.specs.Prelude.{◌≡◌, ◌⊎◌, ℕ, ◌+◌, ◌-◌, ◌<◌, ◌≤◌, List, length, false, true}
+use Rattle.std.specs.Prelude.{◌≡◌, ◌⊎◌, ℕ, ◌+◌, ◌-◌, ◌<◌, ◌≤◌, List, length, false, true, Result, IfErr}
 use Rattle.json_grammar.specs.Tree.{Token, key_token}
 use Rattle.json_grammar.specs.Grammar.{chars, number}
 use Rattle.json_grammar.specs.Sizes.{nodes_of}
@@ -57,3 +57,7 @@ HasRoomFor v m = (visitor_state v).full ≡ false → (visitor_state v).bytes + 
 pub record Follows (v : DocumentVisitor) (ts : List Token) : Type 0 where
   pub held : (visitor_state v).full ≡ false → Holds v ts
   pub over : (visitor_state v).full ≡ true → (visitor_state v).cell_room < nodes_of ts
+
+-- an error is want of memory, or the text's fault by the rules
+abbrev pub FailsByRules : {A : Type 0} → Rules → List ℕ → Result A Error → Type 0
+FailsByRules rules text result = IfErr result (λ e. ReadingFailsWith rules text e.code e.place)

@@ -1,5 +1,5 @@
 -- What clauses see of a builder, and what an event does to it.
-use Rattle.std.specs.Prelude.{◌≡◌, ℕ, ◌+◌, ◌≤◌, List, [], ◌∷◌, ◌++◌, Bool, true, false}
+use Rattle.std.specs.Prelude.{◌≡◌, ℕ, ◌+◌, ◌≤◌, List, [], ◌∷◌, ◌++◌, Bool, true, false, ◌↔◌, IsTrue}
 use Rattle.json_grammar.specs.Tree.{Token}
 use Rattle.json_doc.specs.Awaited.{BeginsTree}
 
@@ -27,3 +27,15 @@ MayComeAfter holds x = (ts : List Token) × holds ts × BeginsTree (ts ++ x ∷ 
 -- what was held, and the token behind it
 abbrev pub HoldsMore : (List Token → Type 0) → (List Token → Type 0) → Token → Type 0
 HoldsMore old new x = (ts : List Token) → old ts → BeginsTree (ts ++ x ∷ []) → new (ts ++ x ∷ [])
+
+-- an event is recorded where n nodes and m bytes more are within the room
+abbrev pub RecordedIfFits : ℕ → ℕ → VisitorState → Bool → Type 0
+RecordedIfFits n m s recorded = IsTrue recorded ↔ Fits s n m
+
+-- one node more, where the event was recorded
+abbrev pub AddsNode : Bool → (old new : VisitorState) → Type 0
+AddsNode recorded old new = new ≡ after_event recorded 1 0 old
+
+-- no node more
+abbrev pub AddsNoNode : Bool → (old new : VisitorState) → Type 0
+AddsNoNode recorded old new = new ≡ after_event recorded 0 0 old

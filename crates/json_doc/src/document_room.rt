@@ -6,7 +6,7 @@ ghost use Rattle.json_grammar.specs.Rules.{fits};
 ghost use Rattle.json_io.specs.Errors.{no_memory};
 ghost use Rattle.json_text.specs.Ruled.{rules_of};
 ghost use Rattle.json_doc.specs.Docs.{IsDocOf};
-ghost use Rattle.json_doc.specs.Reading.{ReadingFailsWith};
+ghost use Rattle.json_doc.specs.Reading.{FailsByRules};
 ghost use Rattle.json_doc.specs.Recorded.{visitor_state, Holds};
 
 use crate::cell::Cell;
@@ -54,8 +54,7 @@ impl DocumentRoom {
         requires { length text.now < 2 ^ 32 }
         ensures ok { IfOk result (λ d. (t : Tree) × is_text false t text.now
             × fits t (rules_of rules) × IsDocOf d.now t) }
-        ensures err { IfErr result (λ e.
-            ReadingFailsWith (rules_of rules) text.now e.code e.place) }
+        ensures err { FailsByRules (rules_of rules) text.now result }
     {
         let visitor = self.builder(text.len())?;
         let doc = read_by(visitor, self.alloc, text, rules)?;

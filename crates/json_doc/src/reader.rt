@@ -13,7 +13,7 @@ ghost use Rattle.json_doc.specs.Awaited.{BeginsTree};
 ghost use Rattle.json_doc.specs.Lent.{IsPieceAt, EventIsLentBy, from_of};
 ghost use Rattle.json_doc.specs.State.{MayComeAfter};
 ghost use Rattle.json_doc.specs.Recorded.{visitor_state, Holds, SameRoom};
-ghost use Rattle.json_doc.specs.Reading.{ReadingFails, ReadingFailsWith, FrontFails, RefusesName, EventIsNumber, HasRoomFor, Follows};
+ghost use Rattle.json_doc.specs.Reading.{ReadingFails, FrontFails, RefusesName, EventIsNumber, HasRoomFor, Follows, FailsByRules};
 ghost use Rattle.json_doc.specs.OpenNames.{HasSomeNames, TakesIn, Differ};
 ghost use Rattle.json_doc.specs.Docs.{IsDocOf};
 
@@ -183,7 +183,7 @@ pub(crate) fn read_by(
     requires held { Holds builder [] }
     ensures ok { IfOk result (λ d. (t : Tree) × is_text false t text.now × fits t (rules_of rules)
         × IsDocOf d t) }
-    ensures err { IfErr result (λ e. ReadingFailsWith (rules_of rules) text.now e.code e.place) }
+    ensures err { FailsByRules (rules_of rules) text.now result }
 {
     let mut visitor = builder;
     let mut keys = OpenKeys::new(alloc);
@@ -226,7 +226,7 @@ pub fn read_document_with(alloc: Global, text: &str, rules: Rules) -> Result<Rc<
     requires { length text.now < 2 ^ 32 }
     ensures ok { IfOk result (λ d. (t : Tree) × is_text false t text.now × fits t (rules_of rules)
         × IsDocOf d.value t) }
-    ensures err { IfErr result (λ e. ReadingFailsWith (rules_of rules) text.now e.code e.place) }
+    ensures err { FailsByRules (rules_of rules) text.now result }
 {
     let visitor = DocumentVisitor::new(alloc, text.len())?;
     let doc = read_by(visitor, alloc, text, rules)?;

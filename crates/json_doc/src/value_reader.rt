@@ -3,7 +3,7 @@ ghost use Rattle.std.specs.Prelude.{◌≡◌, ◌⊎◌, ◌<◌, ◌≤◌, �
 ghost use Rattle.json_grammar.specs.Tree.{Tree, Token, tokens};
 ghost use Rattle.json_io.specs.Errors.{no_memory};
 ghost use Rattle.json_text.specs.Events.{Means, raw_size};
-ghost use Rattle.json_text.specs.Parsing.{HasGiven, HasRead, IsWhole, SameInput};
+ghost use Rattle.json_text.specs.Parsing.{HasGiven, SameInput, KeepsHasRead};
 ghost use Rattle.json_doc.specs.Docs.{IsDocOf};
 ghost use Rattle.json_doc.specs.Lent.{EventIsLentBy};
 ghost use Rattle.json_doc.specs.OneValue.{HandedOut, ReadsValue, RefusesValue, levels_behind as spec_levels_behind};
@@ -66,8 +66,7 @@ pub(crate) fn record_value<'a>(
     ensures order { parser.old.index ≤ parser.new.index }
     ensures ok { OnOk result ((t : Tree) × ReadsValue parser.old first.entry t parser.new
         × Holds visitor.new (tokens t)) }
-    ensures whole { (IsWhole parser.old → HasRead parser.old)
-        → IsWhole parser.new → HasRead parser.new }
+    ensures whole { KeepsHasRead parser.old parser.new }
     ensures err { IfErr result (λ e. (e ≡ no_memory) ⊎ RefusesValue parser.new e) }
     ensures given { (ts : List Token) × HasGiven parser.new ts }
 {
@@ -104,8 +103,7 @@ pub fn read_value<'a>(alloc: Global, parser: &mut Parser<'a>, first: Event<'a>) 
     ensures order { parser.old.index ≤ parser.new.index }
     ensures ok { IfOk result (λ d. (t : Tree) × ReadsValue parser.old first.entry t parser.new
         × IsDocOf d.value t) }
-    ensures whole { (IsWhole parser.old → HasRead parser.old)
-        → IsWhole parser.new → HasRead parser.new }
+    ensures whole { KeepsHasRead parser.old parser.new }
     ensures err { IfErr result (λ e. (e ≡ no_memory) ⊎ RefusesValue parser.new e) }
     ensures given { (ts : List Token) × HasGiven parser.new ts }
 {

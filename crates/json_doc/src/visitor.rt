@@ -7,7 +7,7 @@ ghost use Rattle.json_grammar.specs.Grammar.{chars, number};
 ghost use Rattle.json_grammar.specs.declared.Kind.TheVariants.{Array as array, Object as object};
 ghost use Rattle.json_number.specs.Integers.{integer_in};
 ghost use Rattle.json_text.specs.Spelled.{NoEscape};
-ghost use Rattle.json_doc.specs.State.{VisitorState, Fits, after_event, MayComeAfter, HoldsMore};
+ghost use Rattle.json_doc.specs.State.{VisitorState, Fits, after_event, MayComeAfter, HoldsMore, RecordedIfFits, AddsNode, AddsNoNode};
 
 use json_text::Span;
 
@@ -38,16 +38,16 @@ pub trait JsonVisitor {
     /// `null`.
     fn visit_null(&mut self) -> bool
         requires { (state self.old).full ≡ false → MayComeAfter (holds self.old) null_token }
-        ensures answer { IsTrue result ↔ Fits (state self.old) 1 0 }
-        ensures state { state self.new ≡ after_event result 1 0 (state self.old) }
+        ensures answer { RecordedIfFits 1 0 (state self.old) result }
+        ensures state { AddsNode result (state self.old) (state self.new) }
         ensures held { OnTrue result (HoldsMore (holds self.old) (holds self.new) null_token) }
         ensures memory { keeps_memory self.old self.new };
 
     /// `true` or `false`.
     fn visit_bool(&mut self, b: bool) -> bool
         requires { (state self.old).full ≡ false → MayComeAfter (holds self.old) (boolean_token b) }
-        ensures answer { IsTrue result ↔ Fits (state self.old) 1 0 }
-        ensures state { state self.new ≡ after_event result 1 0 (state self.old) }
+        ensures answer { RecordedIfFits 1 0 (state self.old) result }
+        ensures state { AddsNode result (state self.old) (state self.new) }
         ensures held { OnTrue result
             (HoldsMore (holds self.old) (holds self.new) (boolean_token b)) }
         ensures memory { keeps_memory self.old self.new };
@@ -56,8 +56,8 @@ pub trait JsonVisitor {
     fn visit_u64(&mut self, n: u64) -> bool
         requires { (state self.old).full ≡ false
             → MayComeAfter (holds self.old) (num_token (signed_decimal (pos n))) }
-        ensures answer { IsTrue result ↔ Fits (state self.old) 1 0 }
-        ensures state { state self.new ≡ after_event result 1 0 (state self.old) }
+        ensures answer { RecordedIfFits 1 0 (state self.old) result }
+        ensures state { AddsNode result (state self.old) (state self.new) }
         ensures held { OnTrue result
             (HoldsMore (holds self.old) (holds self.new) (num_token (signed_decimal (pos n)))) }
         ensures memory { keeps_memory self.old self.new };
@@ -67,8 +67,8 @@ pub trait JsonVisitor {
         requires negative { n <ℤ pos 0 }
         requires come { (state self.old).full ≡ false
             → MayComeAfter (holds self.old) (num_token (signed_decimal n)) }
-        ensures answer { IsTrue result ↔ Fits (state self.old) 1 0 }
-        ensures state { state self.new ≡ after_event result 1 0 (state self.old) }
+        ensures answer { RecordedIfFits 1 0 (state self.old) result }
+        ensures state { AddsNode result (state self.old) (state self.new) }
         ensures held { OnTrue result
             (HoldsMore (holds self.old) (holds self.new) (num_token (signed_decimal n))) }
         ensures memory { keeps_memory self.old self.new };
@@ -113,32 +113,32 @@ pub trait JsonVisitor {
     /// An array begins.
     fn visit_array_start(&mut self) -> bool
         requires { (state self.old).full ≡ false → MayComeAfter (holds self.old) (begin array) }
-        ensures answer { IsTrue result ↔ Fits (state self.old) 1 0 }
-        ensures state { state self.new ≡ after_event result 1 0 (state self.old) }
+        ensures answer { RecordedIfFits 1 0 (state self.old) result }
+        ensures state { AddsNode result (state self.old) (state self.new) }
         ensures held { OnTrue result (HoldsMore (holds self.old) (holds self.new) (begin array)) }
         ensures memory { keeps_memory self.old self.new };
 
     /// The innermost array ends.
     fn visit_array_end(&mut self) -> bool
         requires { (state self.old).full ≡ false → MayComeAfter (holds self.old) (end array) }
-        ensures answer { IsTrue result ↔ Fits (state self.old) 0 0 }
-        ensures state { state self.new ≡ after_event result 0 0 (state self.old) }
+        ensures answer { RecordedIfFits 0 0 (state self.old) result }
+        ensures state { AddsNoNode result (state self.old) (state self.new) }
         ensures held { OnTrue result (HoldsMore (holds self.old) (holds self.new) (end array)) }
         ensures memory { keeps_memory self.old self.new };
 
     /// An object begins.
     fn visit_object_start(&mut self) -> bool
         requires { (state self.old).full ≡ false → MayComeAfter (holds self.old) (begin object) }
-        ensures answer { IsTrue result ↔ Fits (state self.old) 1 0 }
-        ensures state { state self.new ≡ after_event result 1 0 (state self.old) }
+        ensures answer { RecordedIfFits 1 0 (state self.old) result }
+        ensures state { AddsNode result (state self.old) (state self.new) }
         ensures held { OnTrue result (HoldsMore (holds self.old) (holds self.new) (begin object)) }
         ensures memory { keeps_memory self.old self.new };
 
     /// The innermost object ends.
     fn visit_object_end(&mut self) -> bool
         requires { (state self.old).full ≡ false → MayComeAfter (holds self.old) (end object) }
-        ensures answer { IsTrue result ↔ Fits (state self.old) 0 0 }
-        ensures state { state self.new ≡ after_event result 0 0 (state self.old) }
+        ensures answer { RecordedIfFits 0 0 (state self.old) result }
+        ensures state { AddsNoNode result (state self.old) (state self.new) }
         ensures held { OnTrue result (HoldsMore (holds self.old) (holds self.new) (end object)) }
         ensures memory { keeps_memory self.old self.new };
 }

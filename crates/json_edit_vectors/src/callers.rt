@@ -3,7 +3,7 @@
 ghost use Rattle.std.specs.Prelude.{◌≡◌, slice_set, map, IfOk, OnOk, OnErr, Some};
 ghost use Rattle.json_grammar.specs.Tree.{boolean};
 ghost use Rattle.json_model.specs.Edit.{set_at, edited_once};
-ghost use Rattle.json_value.specs.Denotes.{tree_of, list_in};
+ghost use Rattle.json_value.specs.Denotes.{tree_of, list_in, KeepsTreeOnErr};
 ghost use Rattle.json_value.specs.Edits.{steps_of, Makes};
 ghost use Rattle.json_value.specs.Steps.{tree_at};
 
@@ -42,7 +42,7 @@ pub fn replace<V: Places>(
         tree_at (steps_of path.now) (tree_of (V.held target.old)) ≡ Some (tree_of old)) }
     ensures put { OnOk result (Makes (edited_once (set_at (steps_of path.now) (tree_of new))
         (tree_of (V.held target.old))) (V.held target.new)) }
-    ensures kept { OnErr result (tree_of (V.held target.new) ≡ tree_of (V.held target.old)) }
+    ensures kept { KeepsTreeOnErr (V.held target.old) (V.held target.new) result }
 {
     let place = target.place_mut(alloc, path)?;
     Ok(mem::replace(place, new))

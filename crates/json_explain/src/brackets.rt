@@ -1,12 +1,12 @@
 // Brackets of arrays and objects, and names.
-ghost use Rattle.std.specs.Prelude.{◌≡◌, ◌≢◌, ℕ, List, true, false, None, Some, OnOk, IfOk, IfErr, IfSome};
+ghost use Rattle.std.specs.Prelude.{◌≡◌, ◌≢◌, ℕ, List, true, false, None, Some, OnOk, IfOk, IfSome};
 ghost use Rattle.json_grammar.specs.declared.Kind.TheVariants.{Object as object};
 ghost use Rattle.json_grammar.specs.Tree.{Tree, Token as Tok, begin as begin_token, end as end_token, key_token};
 ghost use Rattle.json_data.specs.declared.token.TokenKind.TheVariants as TokenKind;
 ghost use Rattle.json_data.specs.Kinds.{kind_of, first_kind};
 ghost use Rattle.json_data.specs.Pieces.{Says};
 ghost use Rattle.json_data.specs.Spots.{InObject};
-ghost use Rattle.json_data.specs.Stand.{NotWhole, WantsValue, TakesOne, TakesTree, TakesKeyPiece, TokensFail};
+ghost use Rattle.json_data.specs.Stand.{NotWhole, WantsValue, TakesOne, TakesTree, TakesKeyPiece, FailsWithTokens};
 
 use json_data::{Lent, Piece, Token, TokenKind, Tokens};
 use json_grammar::Kind;
@@ -31,7 +31,7 @@ pub(crate) fn open<S: Lent, T: Tokens<S>>(tokens: &mut T, kind: Kind) -> Result<
     ensures other { IfOk result (λ b. b ≡ false
         → (t : Tree) × TakesTree T.taken T.stand tokens.old tokens.new t
         × (first_kind t ≢ kind_of (begin_token kind))) }
-    ensures err { IfErr result (λ e. TokensFail (T.stand tokens.old) (T.stand tokens.new) e) }
+    ensures err { FailsWithTokens (T.stand tokens.old) (T.stand tokens.new) result }
 {
     if tokens.peek()? != begin_kind(kind) {
         tokens.skip()?;
@@ -45,7 +45,7 @@ pub(crate) fn open<S: Lent, T: Tokens<S>>(tokens: &mut T, kind: Kind) -> Result<
 pub(crate) fn pass<S: Lent, T: Tokens<S>>(tokens: &mut T) -> Result<()>
     requires { NotWhole (T.stand tokens.old) }
     ensures ok { OnOk result ((x : Tok) × TakesOne T.taken T.stand tokens.old tokens.new x) }
-    ensures err { IfErr result (λ e. TokensFail (T.stand tokens.old) (T.stand tokens.new) e) }
+    ensures err { FailsWithTokens (T.stand tokens.old) (T.stand tokens.new) result }
 {
     let _token = tokens.next()?;
     Ok(())
@@ -57,7 +57,7 @@ fn next_key<S: Lent, T: Tokens<S>>(tokens: &mut T) -> Result<Piece<S>>
     requires told { (T.stand tokens.old).told ≡ Some TokenKind.Key }
     ensures ok { IfOk result (λ p. (s : List ℕ) × Says s p.escaped (S.bytes p.text)
         × TakesOne T.taken T.stand tokens.old tokens.new (key_token s)) }
-    ensures err { IfErr result (λ e. TokensFail (T.stand tokens.old) (T.stand tokens.new) e) }
+    ensures err { FailsWithTokens (T.stand tokens.old) (T.stand tokens.new) result }
 {
     match tokens.next()? {
         Token::Key(piece) => Ok(piece),
@@ -73,7 +73,7 @@ pub(crate) fn next_name<S: Lent, T: Tokens<S>>(tokens: &mut T) -> Result<Option<
         (λ s. Says s p.escaped (S.bytes p.text)) tokens.old tokens.new)) }
     ensures end { IfOk result (λ r. r ≡ None
         → TakesOne T.taken T.stand tokens.old tokens.new (end_token object)) }
-    ensures err { IfErr result (λ e. TokensFail (T.stand tokens.old) (T.stand tokens.new) e) }
+    ensures err { FailsWithTokens (T.stand tokens.old) (T.stand tokens.new) result }
 {
     if tokens.peek()? == TokenKind::EndObject {
         pass(tokens)?;

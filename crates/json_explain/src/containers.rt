@@ -4,7 +4,7 @@ ghost use Rattle.json_grammar.specs.declared.Kind.TheVariants.{Array as array, O
 ghost use Rattle.json_grammar.specs.Tree.{begin as begin_token};
 ghost use Rattle.json_io.specs.Errors.{no_memory};
 ghost use Rattle.json_data.specs.Pieces.{Says};
-ghost use Rattle.json_data.specs.Reader.{GivesUp};
+ghost use Rattle.json_data.specs.Reader.{GivesUp, GivesUpOnErr};
 ghost use Rattle.json_data.specs.Spots.{IsOpen, InArray, InObject};
 ghost use Rattle.json_data.specs.Stand.{WantsValue, TakesOne, Leaves};
 ghost use Rattle.json_explain.specs.Refused.{ObjectReading, list_refused, object_refused, refused_within as spec_within};
@@ -71,7 +71,7 @@ pub trait ExplainMembers<S: Lent>: Sized {
         ensures ok { IfOk result (λ o. Explains T.taken T.stand (reading.member name.now)
             tokens.old tokens.new (refused_in o)) }
         ensures seen { OnOk result (seen self.new ≡ reading.seen (seen self.old) name.now) }
-        ensures err { IfErr result (λ e. GivesUp (T.stand tokens.old) (T.stand tokens.new) e) };
+        ensures err { GivesUpOnErr (T.stand tokens.old) (T.stand tokens.new) result };
 
     /// Returns the refusal of the object in which no member is left, if a member is missing. Fails with
     /// `NoMemory` if memory runs out.
@@ -90,7 +90,7 @@ fn leave_within<S: Lent, T: Tokens<S>>(
     ensures leaves { OnOk result (Leaves T.taken T.stand tokens.old tokens.new) }
     ensures refused { IfOk result (λ o.
         refused_in o ≡ Some (spec_within (explained_step step) (refused_of refused))) }
-    ensures err { IfErr result (λ e. GivesUp (T.stand tokens.old) (T.stand tokens.new) e) }
+    ensures err { GivesUpOnErr (T.stand tokens.old) (T.stand tokens.new) result }
 {
     match tokens.leave() {
         Ok(()) => {}
@@ -186,7 +186,7 @@ pub fn explain_members<S: Lent, M: ExplainMembers<S>, T: Tokens<S>>(
     requires { WantsValue (T.stand tokens.old) }
     ensures ok { IfOk result (λ o. Explains T.taken T.stand
         (object_refused M.reading (M.seen members.old)) tokens.old tokens.new (refused_in o)) }
-    ensures err { IfErr result (λ e. GivesUp (T.stand tokens.old) (T.stand tokens.new) e) }
+    ensures err { GivesUpOnErr (T.stand tokens.old) (T.stand tokens.new) result }
 {
     match open(tokens, Kind::Object) {
         Ok(true) => explain_rest(alloc, members, tokens),

@@ -1,7 +1,7 @@
 // Values whose refusals can be explained.
-ghost use Rattle.std.specs.Prelude.{◌≡◌, Option, true, IfOk, IfErr};
+ghost use Rattle.std.specs.Prelude.{◌≡◌, Option, true, IfOk};
 ghost use Rattle.json_grammar.specs.Tree.{Tree};
-ghost use Rattle.json_data.specs.Reader.{GivesUp};
+ghost use Rattle.json_data.specs.Reader.{GivesUpOnErr};
 ghost use Rattle.json_data.specs.Stand.{WantsValue};
 ghost use Rattle.json_explain.specs.Refused.{Refused, whole_refused};
 ghost use Rattle.json_explain.specs.Explaining.{Explains, refused_in};
@@ -41,7 +41,7 @@ pub trait Explain<S: Lent>: DeserializeFrom<S> + Drop {
         requires { WantsValue (T.stand tokens.old) }
         ensures ok { IfOk result (λ o.
             Explains T.taken T.stand refused tokens.old tokens.new (refused_in o)) }
-        ensures err { IfErr result (λ e. GivesUp (T.stand tokens.old) (T.stand tokens.new) e) };
+        ensures err { GivesUpOnErr (T.stand tokens.old) (T.stand tokens.new) result };
 }
 
 /// Takes one tree and returns its refusal as a whole, or `None` if it is read: the body of
@@ -54,7 +54,7 @@ pub fn explain_whole<S: Lent, V: DeserializeFrom<S> + Drop, T: Tokens<S>>(
     requires { WantsValue (T.stand tokens.old) }
     ensures ok { IfOk result (λ o. Explains T.taken T.stand (whole_refused V.from_tree)
         tokens.old tokens.new (refused_in o)) }
-    ensures err { IfErr result (λ e. GivesUp (T.stand tokens.old) (T.stand tokens.new) e) }
+    ensures err { GivesUpOnErr (T.stand tokens.old) (T.stand tokens.new) result }
 {
     match V::deserialize(alloc, tokens) {
         Ok(_) => Ok(None),

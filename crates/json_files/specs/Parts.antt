@@ -1,5 +1,5 @@
 -- The parts of a document that are read by themselves: the whole document, or each of its lines.
-use Rattle.std.specs.Prelude.{ℕ, ◌+◌, ◌==◌, cond, List, [], ◌∷◌}
+use Rattle.std.specs.Prelude.{ℕ, ◌+◌, ◌==◌, cond, List, [], ◌∷◌, ◌<◌, ◌^◌, length}
 use Rattle.std.specs.List.{onto_first}
 use Rattle.json_files.specs.declared.part.Part as code
 use Rattle.json_files.specs.declared.part.Scope.{Scope}
@@ -37,3 +37,7 @@ lines_of (b ∷ bs) = cond (b == 10) ([] ∷ lines_of bs) (onto_first b (lines_o
 abbrev pub line_parts : List ℕ → ℕ → List (List ℕ) → List Part
 line_parts name n [] = []
 line_parts name n (line ∷ later) = line_part name n line ∷ line_parts name (n + 1) later
+
+-- its lines can be counted in 64 bits
+abbrev pub HasFewLines : Part → Type 0
+HasFewLines p = p.before + length p.bytes + 1 < 2 ^ 64

@@ -1,7 +1,7 @@
 // The reports of errors.
-ghost use Rattle.std.specs.Prelude.{◌≡◌, ◌≤◌, ◌<◌, ◌+◌, ◌^◌, ◌++◌, List, ℕ, Option, length, codes, decimal, IfOk, IfErr, OnOk, IfSome};
+ghost use Rattle.std.specs.Prelude.{◌≡◌, ◌≤◌, ◌+◌, ◌++◌, List, ℕ, Option, length, codes, decimal, IfOk, IfErr, OnOk, IfSome};
 ghost use Rattle.json_files.specs.Excerpts.{IsExcerpt};
-ghost use Rattle.json_files.specs.Parts.{part_view, whole_part as spec_whole_part};
+ghost use Rattle.json_files.specs.Parts.{part_view, whole_part as spec_whole_part, HasFewLines};
 ghost use Rattle.json_files.specs.Reports.{IsReport, IsHeadline, IsExcerptAt, location, place_position, error_place, document_error_name, change_name, report_offset, position_of};
 ghost use Rattle.json_io.specs.Errors.{no_memory, name_of};
 
@@ -192,7 +192,7 @@ fn find_offset(bytes: &[u8], place: Place) -> Option<usize>
 // Returns the line and the column of an offset.
 #[tactic(auto, unfolding(json_io::specs::Positions::place_at))]
 fn find_position(part: Part<'_>, offset: Option<usize>) -> Option<Position>
-    requires few { (part_view part).before + length (part_view part).bytes + 1 < 2 ^ 64 }
+    requires few { HasFewLines (part_view part) }
     requires within { IfSome offset (λ offset. offset ≤ length (part_view part).bytes) }
     ensures { result
         ≡ position_of (part_view part.entry).before (part_view part.entry).bytes offset }
@@ -265,7 +265,7 @@ pub(crate) fn document_report(
     error: &DocumentError,
     part_name: &str,
 ) -> Result<Vec<u8>>
-    requires few { (part_view part).before + length (part_view part).bytes + 1 < 2 ^ 64 }
+    requires few { HasFewLines (part_view part) }
     ensures ok { IfOk result (λ report. IsReport (part_view part.entry) error.now report.items) }
     ensures only { IfErr result (λ e. e ≡ no_memory) }
 {

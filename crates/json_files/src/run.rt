@@ -6,6 +6,8 @@ ghost use Rattle.json_files.specs.Documents.{DocumentsHave};
 ghost use Rattle.json_files.specs.Outcomes.{task_of};
 ghost use Rattle.json_files.specs.Running.{Handles, StopsRunning, PrintsAll, PrintsSome};
 ghost use Rattle.json_io.specs.FaultText.{text_of};
+ghost use Rattle.json_files.specs.Parts.{HasFewLines};
+ghost use Rattle.json_command.specs.Statuses.{ReturnsWriteStatus};
 
 use crate::change::Change;
 use crate::document::Document;
@@ -67,7 +69,7 @@ impl Tally {
         part_name: &str,
         errs: &mut E,
     ) -> Result<()>
-        requires few { (part_view part).before + length (part_view part).bytes + 1 < 2 ^ 64 }
+        requires few { HasFewLines (part_view part) }
         ensures ok { OnOk result (ReportsError (part_view part.entry) error.now self.old self.new
             (E.state errs.old) (E.state errs.new)) }
         ensures err { IfErr result (ReportingFails self.old self.new
@@ -91,7 +93,7 @@ impl Tally {
         sink: &mut K,
         errs: &mut E,
     ) -> Result<()>
-        requires few { (part_view part).before + length (part_view part).bytes + 1 < 2 ^ 64 }
+        requires few { HasFewLines (part_view part) }
         ensures ok { OnOk result (Handles
             (PartsHave true (HasPartOutcome (task_of C.changed job.now))
             (part_view part.entry ∷ []))
@@ -426,7 +428,7 @@ pub fn print_documents<C: Change, K: Sink, E: Sink>(
     ensures failed { 5 ≤ result → PrintsSome (task_of C.changed job.now) documents.now
         (K.state sink.old) (K.state sink.new) (E.state errs.old) (E.state errs.new) result }
     ensures known { (result < 5) ⊎ (result ≡ 5) ⊎ (result ≡ 6) }
-    ensures write_told { (K.state sink.old).faults < (K.state sink.new).faults → result ≡ 5 }
+    ensures write_told { ReturnsWriteStatus (K.state sink.old) (K.state sink.new) result }
 {
     let mut tally = Tally {
         status: 0,

@@ -1,7 +1,7 @@
 // From the bytes of a source to the bytes of a sink.
-ghost use Rattle.std.specs.Prelude.{◌≡◌, ◌+◌, ◌<◌, ◌^◌, length, map, OnOk, IfErr, None, false};
+ghost use Rattle.std.specs.Prelude.{◌≡◌, ◌<◌, ◌^◌, length, map, OnOk, IfErr, None, false};
 ghost use Rattle.json_print.specs.Styles.{indent_of, is_sorted};
-ghost use Rattle.json_io.specs.Transfer.{TakesAtMost};
+ghost use Rattle.json_io.specs.Transfer.{TakesOneBeyond};
 ghost use Rattle.json_command.specs.Input.{max_bytes};
 ghost use Rattle.json_command.specs.Printing.{ReturnsWriteError};
 ghost use Rattle.json_command.specs.Reading.{ReturnsReadError};
@@ -47,7 +47,7 @@ pub fn replay<S: Source, K: Sink>(
     ensures failed { IfErr result (λ e. ReplayFails (map call_of calls.items)
         (S.state source.old) (S.state source.new) (K.state sink.old) (K.state sink.new)
         e.code e.place) }
-    ensures taken { TakesAtMost (max_bytes + 1) (S.state source.old) (S.state source.new) }
+    ensures taken { TakesOneBeyond max_bytes (S.state source.old) (S.state source.new) }
     ensures read_told { ReturnsReadError (S.state source.old) (S.state source.new) result }
     ensures write_told { ReturnsWriteError (K.state sink.old) (K.state sink.new) result }
 {

@@ -3,7 +3,7 @@ ghost use Rattle.std.specs.Prelude.{◌≡◌, ◌⊎◌, ◌+◌, ◌-◌, ◌<
 ghost use Rattle.std.specs.Vec.{vec_len, vec_capacity};
 ghost use Rattle.json_grammar.specs.Tree.{list_pairs};
 ghost use Rattle.json_model.specs.Edit.{on_list, on_pairs};
-ghost use Rattle.json_value.specs.Denotes.{tree_of, pair_of, list_in, pairs_in};
+ghost use Rattle.json_value.specs.Denotes.{tree_of, pair_of, list_in, pairs_in, KeepsTreeOnErr};
 ghost use Rattle.json_value.specs.Edits.{Makes};
 ghost use Rattle.json_value.specs.Failures.{OnlyNoMemory};
 ghost use Rattle.json_value.specs.Places.{value_origin};
@@ -211,7 +211,7 @@ fn restore_in<V: Places>(target: &mut V, alloc: Global, change: &Change) -> Resu
     ensures ok { OnOk result
         (Makes (undone (tree_of (V.held target.old)) (tree_change_of change.now))
         (V.held target.new)) }
-    ensures kept { OnErr result (tree_of (V.held target.new) ≡ tree_of (V.held target.old)) }
+    ensures kept { KeepsTreeOnErr (V.held target.old) (V.held target.new) result }
     ensures children { OnOk result (Along (change_path change.now) (RestoresAt change.now)
         (V.held target.old) (V.held target.new)) }
     ensures kept_along { OnErr result (KeptAlong (change_path change.now) RestoreKeeps

@@ -1,6 +1,6 @@
 // The top call.
-ghost use Rattle.std.specs.Prelude.{ℕ, List, ◌+◌, ◌≡◌, ◌≢◌, ◌⊎◌, ◌<◌, OnOk, IfErr};
-ghost use Rattle.json_io.specs.Transfer.{TakesAtMost};
+ghost use Rattle.std.specs.Prelude.{ℕ, List, ◌≡◌, ◌≢◌, ◌⊎◌, OnOk, IfErr};
+ghost use Rattle.json_io.specs.Transfer.{TakesOneBeyond};
 ghost use Rattle.json_io.specs.declared.error.ErrorCode.{ErrorCode};
 ghost use Rattle.json_io.specs.declared.error.Place.{Place};
 ghost use Rattle.json_model.specs.Edit.{Refusal};
@@ -13,6 +13,7 @@ ghost use Rattle.json_history.specs.History.{TreeCall};
 ghost use Rattle.json_history.specs.Spelling.{AsksForCalls};
 ghost use Rattle.json_history.specs.Replay.{Replays};
 ghost use Rattle.json_history.specs.Run.{WithCalls, RunFails, RunSucceeds, RunReports, IsApplicable, IsInapplicable, IsInvalid};
+ghost use Rattle.json_command.specs.Statuses.{ReturnsReadStatus, ReturnsWriteStatus};
 
 use crate::engine::replay;
 use crate::words::asked;
@@ -32,7 +33,7 @@ fn execute<S: Source, K: Sink>(
     ensures failed { IfErr result (λ e. RunFails words.now
         (S.state source.old) (S.state source.new)
         (K.state sink.old) (K.state sink.new) e.code e.place) }
-    ensures taken { TakesAtMost (max_bytes + 1) (S.state source.old) (S.state source.new) }
+    ensures taken { TakesOneBeyond max_bytes (S.state source.old) (S.state source.new) }
     ensures read_told { ReturnsReadError (S.state source.old) (S.state source.new) result }
     ensures write_told { ReturnsWriteError (K.state sink.old) (K.state sink.new) result }
 {
@@ -67,9 +68,9 @@ pub fn run_history<S: Source, K: Sink, E: Sink>(
     ensures failed { result ≢ 0 → RunReports result words.now
         (S.state source.old) (S.state source.new)
         (K.state sink.old) (K.state sink.new) (E.state errs.old) (E.state errs.new) }
-    ensures taken { TakesAtMost (max_bytes + 1) (S.state source.old) (S.state source.new) }
-    ensures read_told { (S.state source.old).faults < (S.state source.new).faults → result ≡ 4 }
-    ensures write_told { (K.state sink.old).faults < (K.state sink.new).faults → result ≡ 5 }
+    ensures taken { TakesOneBeyond max_bytes (S.state source.old) (S.state source.new) }
+    ensures read_told { ReturnsReadStatus (S.state source.old) (S.state source.new) result }
+    ensures write_told { ReturnsWriteStatus (K.state sink.old) (K.state sink.new) result }
     ensures complete { IsApplicable words.now (S.state source.old) (S.state source.new)
         (K.state sink.old) (K.state sink.new) → (result ≡ 0) ⊎ (result ≡ 6) }
     ensures inapplicable { (number : ℕ) (why : Refusal)

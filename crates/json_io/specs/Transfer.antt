@@ -84,3 +84,7 @@ pub record FlushesAll (old new : SinkState) (result : Result (Unit {0}) Error) :
   pub cause : IfErr result (λ e. WritingCause old new e.code e.place)
   pub told : old.faults < new.faults → IsErrOf result writing_failed
   pub later : Later old new
+
+-- at most one byte more than the limit was taken
+abbrev pub TakesOneBeyond : ℕ → (old new : SourceState) → Type 0
+TakesOneBeyond limit old new = TakesAtMost (limit + 1) old new

@@ -11,7 +11,7 @@ ghost use Rattle.json_command.specs.Input.{max_bytes};
 ghost use Rattle.json_command.specs.Reporting.{Reports};
 ghost use Rattle.json_io.specs.FaultText.{text_of};
 ghost use Rattle.json_io.specs.Known.{Consumes};
-ghost use Rattle.json_io.specs.Outside.{Rose};
+ghost use Rattle.json_command.specs.Statuses.{ReturnsReadStatus, ReturnsWriteStatus, MeansReadFailed, MeansWriteFailed};
 
 use crate::asked::asked;
 use crate::run::{Tally, write_all_rows};
@@ -183,13 +183,13 @@ pub fn run_lines<S: Source, K: Sink, E: Sink>(
         (streams (S.state source.old) (K.state sink.old) (E.state errs.old))
         (streams (S.state source.new) (K.state sink.new) (E.state errs.new)) result }
     ensures known { (result ≤ 7) × (result ≢ 3) }
-    ensures reading { result ≡ 4 → Rose (S.state source.old).faults (S.state source.new).faults }
-    ensures writing { result ≡ 5 → Rose (K.state sink.old).faults (K.state sink.new).faults }
+    ensures reading { MeansReadFailed (S.state source.old) (S.state source.new) result }
+    ensures writing { MeansWriteFailed (K.state sink.old) (K.state sink.new) result }
     ensures large { result ≡ 7 → (bytes : List ℕ)
         × Consumes (S.state source.old).left (S.state source.new).left bytes
         × (max_bytes < length bytes) }
-    ensures read_told { (S.state source.old).faults < (S.state source.new).faults → result ≡ 4 }
-    ensures write_told { (K.state sink.old).faults < (K.state sink.new).faults → result ≡ 5 }
+    ensures read_told { ReturnsReadStatus (S.state source.old) (S.state source.new) result }
+    ensures write_told { ReturnsWriteStatus (K.state sink.old) (K.state sink.new) result }
     ensures unasked { ¬ (IsLinesRequest words.now) → (result ≡ 2) ⊎ (result ≡ 6) }
     ensures complete { NothingFails words.now
         (streams (S.state source.old) (K.state sink.old) (E.state errs.old))

@@ -4,7 +4,7 @@ ghost use Rattle.json_grammar.specs.Tree.{Tree};
 ghost use Rattle.json_model.specs.Print.{shown};
 ghost use Rattle.json_print.specs.Styles.{printed};
 ghost use Rattle.json_io.specs.Errors.{no_memory, bad_words, reading_failed, writing_failed};
-ghost use Rattle.json_io.specs.Transfer.{TakesAtMost};
+ghost use Rattle.json_io.specs.Transfer.{TakesOneBeyond};
 ghost use Rattle.json_value.specs.Denotes.{tree_of};
 ghost use Rattle.json_command.specs.Input.{max_bytes};
 ghost use Rattle.json_patch.specs.Errors.{PatchFails};
@@ -127,7 +127,7 @@ pub fn transfer<S: Source, K: Sink>(
         (S.state source.new) (K.state sink.old) (K.state sink.new)) }
     ensures refused { IfErr result (RequestFails (patch_request_of command.now) (S.state source.old)
         (S.state source.new) (K.state sink.old) (K.state sink.new)) }
-    ensures taken { TakesAtMost (max_bytes + 1) (S.state source.old) (S.state source.new) }
+    ensures taken { TakesOneBeyond max_bytes (S.state source.old) (S.state source.new) }
     ensures read_told { (S.state source.old).faults < (S.state source.new).faults
         → IsErrOf result (CommandError.Transfer reading_failed) }
     ensures write_told { (K.state sink.old).faults < (K.state sink.new).faults

@@ -1,13 +1,13 @@
 // The top call.
-ghost use Rattle.std.specs.Prelude.{◌≡◌, ◌≢◌, ◌⊎◌, ◌+◌, ◌<◌, ℕ, Option, IsErrOf, string_bytes, OnOk, IfOk, IfErr};
+ghost use Rattle.std.specs.Prelude.{◌≡◌, ◌≢◌, ◌⊎◌, ◌<◌, ℕ, Option, IsErrOf, string_bytes, OnOk, IfOk, IfErr};
 ghost use Rattle.json_io.specs.Errors.{reading_failed, writing_failed};
-ghost use Rattle.json_io.specs.Transfer.{TakesAtMost};
+ghost use Rattle.json_io.specs.Transfer.{TakesOneBeyond};
 ghost use Rattle.json_io.specs.declared.error.ErrorCode.{ErrorCode};
 ghost use Rattle.json_io.specs.declared.error.Place.{Place};
 ghost use Rattle.json_value.specs.Failures.{OnlyNoMemory};
 ghost use Rattle.json_command.specs.Input.{max_bytes};
 ghost use Rattle.json_command.specs.Reporting.{StatusReports};
-ghost use Rattle.json_command.specs.Statuses.{status_of};
+ghost use Rattle.json_command.specs.Statuses.{status_of, ReturnsReadStatus, ReturnsWriteStatus};
 ghost use Rattle.json_patch.specs.Patch.{PatchFailure};
 ghost use Rattle.json_patch.specs.Commands.{WithRequest, IsRequest, WritesOutcome, PatchRunFails, PatchSucceeds, ReportsPatchError, ReportsOr, IsFit, IsUnpatchable, IsFaulty, StatusReportsText, patch_status, patch_code_name, patch_text, code_of_failure};
 
@@ -77,7 +77,7 @@ fn carry_out<S: Source, K: Sink>(
     ensures refused { IfErr result
         (PatchRunFails arguments.now (S.state source.old) (S.state source.new)
         (K.state sink.old) (K.state sink.new)) }
-    ensures taken { TakesAtMost (max_bytes + 1) (S.state source.old) (S.state source.new) }
+    ensures taken { TakesOneBeyond max_bytes (S.state source.old) (S.state source.new) }
     ensures read_told { (S.state source.old).faults < (S.state source.new).faults
         → IsErrOf result (CommandError.Transfer reading_failed) }
     ensures write_told { (K.state sink.old).faults < (K.state sink.new).faults
@@ -135,9 +135,9 @@ pub fn run_patch<S: Source, K: Sink, E: Sink>(
     ensures refused { result ≢ 0 → ReportsPatchError result arguments.now
         (S.state source.old) (S.state source.new)
         (K.state sink.old) (K.state sink.new) (E.state errs.old) (E.state errs.new) }
-    ensures taken { TakesAtMost (max_bytes + 1) (S.state source.old) (S.state source.new) }
-    ensures read_told { (S.state source.old).faults < (S.state source.new).faults → result ≡ 4 }
-    ensures write_told { (K.state sink.old).faults < (K.state sink.new).faults → result ≡ 5 }
+    ensures taken { TakesOneBeyond max_bytes (S.state source.old) (S.state source.new) }
+    ensures read_told { ReturnsReadStatus (S.state source.old) (S.state source.new) result }
+    ensures write_told { ReturnsWriteStatus (K.state sink.old) (K.state sink.new) result }
     ensures complete { IsFit arguments.now (S.state source.old) (S.state source.new)
         (K.state sink.old) (K.state sink.new) → (result ≡ 0) ⊎ (result ≡ 6) }
     ensures exact { (code : ErrorCode) (place : Place)

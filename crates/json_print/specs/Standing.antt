@@ -1,11 +1,12 @@
 -- What may come next of the tokens of a tree.
-use Rattle.std.specs.Prelude.{List, [], ◌∷◌, true, false}
+use Rattle.std.specs.Prelude.{List, [], ◌∷◌, true, false, ◌≡◌, Option, None}
 use Rattle.json_grammar.specs.declared.Kind.{Kind}
 use Rattle.json_grammar.specs.Tree.{Token, null_token, boolean_token, num_token, text_token, begin, end, key_token}
 use Rattle.json_grammar.specs.declared.Kind.TheVariants.{Array as array, Object as object}
 use Rattle.json_grammar.specs.Place.{outside}
 use Rattle.json_print.specs.declared.events.Turn.{Turn}
 use Rattle.json_print.specs.declared.events.Turn.TheVariants.{Value as at_value, Element as at_element, Key as at_key, Member as at_member, Done as at_done}
+use Rattle.json_io.specs.declared.error.Error.{Error}
 
 -- what comes next, and the open containers, the innermost first
 pub record ExpectedTokens : Type 0 where
@@ -55,3 +56,23 @@ MayCome s (text_token t) = TurnTakesValue s.turn
 MayCome s (begin k) = TurnTakesValue s.turn
 MayCome s (end k) = TurnTakesEnd s.turn k
 MayCome s (key_token t) = TurnTakesKey s.turn
+
+-- a value may come, unless an error is kept
+abbrev pub AcceptsValue : Option Error → ExpectedTokens → Type 0
+AcceptsValue failed s = failed ≡ None → TurnTakesValue s.turn
+
+-- so may a key
+abbrev pub AcceptsKey : Option Error → ExpectedTokens → Type 0
+AcceptsKey failed s = failed ≡ None → TurnTakesKey s.turn
+
+-- so may the end of a container of the kind
+abbrev pub AcceptsEnd : Option Error → ExpectedTokens → Kind → Type 0
+AcceptsEnd failed s k = failed ≡ None → TurnTakesEnd s.turn k
+
+-- one tree is awaited, and nothing is open
+abbrev pub AwaitsTree : ExpectedTokens → Type 0
+AwaitsTree s = s ≡ record { turn = at_value; opened = [] }
+
+-- a later member of the one open object is awaited, or its end
+abbrev pub AwaitsMember : ExpectedTokens → Type 0
+AwaitsMember s = s ≡ record { turn = at_key false; opened = object ∷ [] }

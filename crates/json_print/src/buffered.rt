@@ -7,7 +7,7 @@ ghost use Rattle.std.specs.Prelude.{◌∷◌, [], IsTrue, Ok, Err, false};
 ghost use Rattle.json_grammar.specs.Given.{piece};
 ghost use Rattle.json_model.specs.Print.{quoted, shown_bytes};
 ghost use Rattle.json_print.specs.Adding.{Adds};
-ghost use Rattle.json_print.specs.Buffered.{held_behind};
+ghost use Rattle.json_print.specs.Buffered.{held_behind, StoresPiece};
 ghost use Rattle.json_print.specs.Calls.{comma};
 
 use crate::adding::{Added, send};
@@ -80,7 +80,7 @@ pub(crate) fn fill_by<const N: usize>(buffer: &mut [u8], at: usize, piece: &[u8]
     requires room { at + length piece.now ≤ length buffer.old }
     requires long { N ≤ length piece.now }
     requires short { length piece.now ≤ N + N }
-    ensures { take (at + length piece.now) buffer.new ≡ take at buffer.old ++ piece.now }
+    ensures { StoresPiece at piece.now buffer.old buffer.new }
 {
     let back = piece.len() - N;
     Simd::<u8, N>::from_slice(piece).copy_to_slice(&mut buffer[at..]);
@@ -90,7 +90,7 @@ pub(crate) fn fill_by<const N: usize>(buffer: &mut [u8], at: usize, piece: &[u8]
 #[inline(never)]
 fn fill_long(buffer: &mut [u8], at: usize, piece: &[u8])
     requires { at + length piece.now ≤ length buffer.old }
-    ensures { take (at + length piece.now) buffer.new ≡ take at buffer.old ++ piece.now }
+    ensures { StoresPiece at piece.now buffer.old buffer.new }
 {
     buffer[at..at + piece.len()].copy_from_slice(piece);
 }
@@ -99,7 +99,7 @@ fn fill_long(buffer: &mut [u8], at: usize, piece: &[u8])
 #[inline(always)]
 fn fill(buffer: &mut [u8], at: usize, piece: &[u8])
     requires { at + length piece.now ≤ length buffer.old }
-    ensures { take (at + length piece.now) buffer.new ≡ take at buffer.old ++ piece.now }
+    ensures { StoresPiece at piece.now buffer.old buffer.new }
 {
     match piece.len() {
         0 => {}

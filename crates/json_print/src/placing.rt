@@ -3,6 +3,7 @@ ghost use Rattle.std.specs.Prelude.{◌≡◌, ◌≤◌, ◌<◌, ◌+◌, ◌+
 ghost use Rattle.json_model.specs.Print.{quoted};
 ghost use Rattle.json_print.specs.Calls.{comma};
 ghost use Rattle.json_scan.specs.Runs.{plain};
+ghost use Rattle.json_print.specs.Buffered.{StoresPiece};
 
 use crate::buffered::fill_by;
 use crate::plain::{is_plain, is_plain_by};
@@ -30,7 +31,7 @@ fn place_by<const N: usize>(buffer: &mut [u8], at: usize, text: &[u8]) -> bool
     requires long { N ≤ length text.now }
     requires short { length text.now ≤ N + N }
     ensures plain { IsTrue result → plain text.now }
-    ensures placed { take (at + length text.now) buffer.new ≡ take at buffer.old ++ text.now }
+    ensures placed { StoresPiece at text.now buffer.old buffer.new }
 {
     let plain = is_plain_by::<N>(text);
     fill_by::<N>(buffer, at, text);
@@ -43,7 +44,7 @@ fn place_one(buffer: &mut [u8], at: usize, text: &[u8]) -> bool
     requires room { at < length buffer.old }
     requires one { length text.now ≡ 1 }
     ensures plain { IsTrue result → plain text.now }
-    ensures placed { take (at + length text.now) buffer.new ≡ take at buffer.old ++ text.now }
+    ensures placed { StoresPiece at text.now buffer.old buffer.new }
 {
     place_byte(buffer, at, text[0]);
     is_plain(text[0])
@@ -56,8 +57,7 @@ pub(crate) fn place_text(buffer: &mut [u8], at: usize, text: &[u8]) -> bool
     ensures plain { IsTrue result → plain text.now }
     ensures short { IsTrue result → length text.now ≤ 32 }
     ensures kept { take at buffer.new ≡ take at buffer.old }
-    ensures placed { IsTrue result
-        → take (at + length text.now) buffer.new ≡ take at buffer.old ++ text.now }
+    ensures placed { IsTrue result → StoresPiece at text.now buffer.old buffer.new }
 {
     match text.len() {
         4..8 => place_by::<4>(buffer, at, text),

@@ -1,7 +1,7 @@
 // What no clause says: that calls with ample memory succeed, and the texts of one small tree.
-ghost use Rattle.std.specs.Prelude.{◌≡◌, [], ◌∷◌, true, false, OnOk};
-ghost use Rattle.json_grammar.specs.declared.Kind.TheVariants.{Object as object};
-ghost use Rattle.json_print.specs.declared.events.Turn.TheVariants.{Value as at_value, Key as at_key, Done as at_done};
+ghost use Rattle.std.specs.Prelude.{◌≡◌, [], true, OnOk};
+ghost use Rattle.json_print.specs.declared.events.Turn.TheVariants.{Done as at_done};
+ghost use Rattle.json_print.specs.Standing.{AwaitsTree, AwaitsMember};
 
 use json_print::{
     Buffer, BufferedWriter, CompactFormatter, Events, Formatter, PrettyFormatter, Serializer, Style,
@@ -11,9 +11,8 @@ use std::alloc::Global;
 
 // `"b": [-25, 340282366920938463463374607431768211455, true]`
 fn list_member<E: Events>(out: &mut E) -> Result<()>
-    requires { E.stand (E.state out.old) ≡ record { turn = at_value; opened = [] } }
-    ensures { OnOk result (E.stand (E.state out.new) ≡
-        record { turn = at_key false; opened = object ∷ [] }) }
+    requires { AwaitsTree (E.stand (E.state out.old)) }
+    ensures { OnOk result (AwaitsMember (E.stand (E.state out.new))) }
 {
     out.begin_object(None)?;
     out.key("b")?;
@@ -26,9 +25,8 @@ fn list_member<E: Events>(out: &mut E) -> Result<()>
 
 // `"a": {"d": null, "c": "\"\\\n\u001fé"}`
 fn object_member<E: Events>(out: &mut E) -> Result<()>
-    requires { E.stand (E.state out.old) ≡ record { turn = at_key false; opened = object ∷ [] } }
-    ensures { OnOk result (E.stand (E.state out.new) ≡
-        record { turn = at_key false; opened = object ∷ [] }) }
+    requires { AwaitsMember (E.stand (E.state out.old)) }
+    ensures { OnOk result (AwaitsMember (E.stand (E.state out.new))) }
 {
     out.key("a")?;
     out.begin_object(None)?;
@@ -41,7 +39,7 @@ fn object_member<E: Events>(out: &mut E) -> Result<()>
 
 // `"a": {}, "": []`, and the end
 fn empty_members<E: Events>(out: &mut E) -> Result<()>
-    requires { E.stand (E.state out.old) ≡ record { turn = at_key false; opened = object ∷ [] } }
+    requires { AwaitsMember (E.stand (E.state out.old)) }
     ensures { OnOk result (E.stand (E.state out.new) ≡ record { turn = at_done; opened = [] }) }
 {
     out.key("a")?;
@@ -54,7 +52,7 @@ fn empty_members<E: Events>(out: &mut E) -> Result<()>
 }
 
 fn tree<E: Events>(out: &mut E) -> Result<()>
-    requires { E.stand (E.state out.old) ≡ record { turn = at_value; opened = [] } }
+    requires { AwaitsTree (E.stand (E.state out.old)) }
 {
     list_member(out)?;
     object_member(out)?;
@@ -63,7 +61,7 @@ fn tree<E: Events>(out: &mut E) -> Result<()>
 
 // `{"b": 1, "a": 2, "c": 3}`
 fn three_members<E: Events>(out: &mut E) -> Result<()>
-    requires { E.stand (E.state out.old) ≡ record { turn = at_value; opened = [] } }
+    requires { AwaitsTree (E.stand (E.state out.old)) }
 {
     out.begin_object(None)?;
     out.key("b")?;
@@ -77,7 +75,7 @@ fn three_members<E: Events>(out: &mut E) -> Result<()>
 
 // `{"a": [null, null]}`, with hints of the lengths
 fn two_elements<E: Events>(out: &mut E, told: Option<usize>) -> Result<()>
-    requires { E.stand (E.state out.old) ≡ record { turn = at_value; opened = [] } }
+    requires { AwaitsTree (E.stand (E.state out.old)) }
 {
     out.begin_object(told)?;
     out.key("a")?;
@@ -97,7 +95,7 @@ enum Piece {
 }
 
 fn write<E: Events>(out: &mut E, piece: Piece) -> Result<()>
-    requires { E.stand (E.state out.old) ≡ record { turn = at_value; opened = [] } }
+    requires { AwaitsTree (E.stand (E.state out.old)) }
 {
     match piece {
         Piece::Tree => tree(out),

@@ -6,7 +6,7 @@ ghost use Rattle.json_lines.specs.TopCall.{run_status as spec_run_status};
 ghost use Rattle.json_rpc.specs.RunResults.{service_streams, ReadsWholeSource, AppendsReplies, WritesAll, ServesAll, StopsRun, StopsBuffered, ServingRunFails, RefusesAnyWords, ReportsFailure, ServingResult, IsRunStatus, NothingFailsServing};
 ghost use Rattle.json_io.specs.Errors.{bad_words};
 ghost use Rattle.json_io.specs.Known.{Consumes};
-ghost use Rattle.json_io.specs.Outside.{Rose};
+ghost use Rattle.json_command.specs.Statuses.{ReturnsReadStatus, ReturnsWriteStatus, MeansReadFailed, MeansWriteFailed};
 
 use crate::lines::serve_lines;
 use crate::message::MAX_LINE_BYTES;
@@ -168,13 +168,13 @@ pub fn run_rpc<S: Source, K: Sink, E: Sink>(
         (service_streams (S.state source.new) (K.state sink.new)) bad_words }
     ensures words { words.now ≢ [] → result ≡ 2 }
     ensures known { IsRunStatus result }
-    ensures reading { result ≡ 4 → Rose (S.state source.old).faults (S.state source.new).faults }
-    ensures writing { result ≡ 5 → Rose (K.state sink.old).faults (K.state sink.new).faults }
+    ensures reading { MeansReadFailed (S.state source.old) (S.state source.new) result }
+    ensures writing { MeansWriteFailed (K.state sink.old) (K.state sink.new) result }
     ensures large { result ≡ 7 → (bytes : List ℕ)
         × Consumes (S.state source.old).left (S.state source.new).left bytes
         × (max_bytes < length bytes) }
-    ensures read_told { (S.state source.old).faults < (S.state source.new).faults → result ≡ 4 }
-    ensures write_told { (K.state sink.old).faults < (K.state sink.new).faults → result ≡ 5 }
+    ensures read_told { ReturnsReadStatus (S.state source.old) (S.state source.new) result }
+    ensures write_told { ReturnsWriteStatus (K.state sink.old) (K.state sink.new) result }
     ensures complete { NothingFailsServing words.now
         (service_streams (S.state source.old) (K.state sink.old))
         (service_streams (S.state source.new) (K.state sink.new)) → (result ≡ 0) ⊎ (result ≡ 6) }

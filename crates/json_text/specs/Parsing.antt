@@ -1,5 +1,5 @@
 -- What a clause sees of a parser.
-use Rattle.std.specs.Prelude.{◌≡◌, ℕ, ◌+◌, ◌-◌, ◌<◌, ◌≤◌, List, [], ◌∷◌, ◌++◌, length, get_or, take, drop, Bool, Option, Some, IfSome}
+use Rattle.std.specs.Prelude.{◌≡◌, ℕ, ◌+◌, ◌-◌, ◌<◌, ◌≤◌, List, [], ◌∷◌, ◌++◌, length, get_or, take, drop, Bool, Option, Some, IfSome, Result, OnOk, IfOk, IfErr, None}
 use Rattle.json_grammar.specs.declared.Kind.{Kind}
 use Rattle.json_grammar.specs.declared.Spot.{Spot}
 use Rattle.json_grammar.specs.declared.Spot.TheVariants as spot
@@ -117,3 +117,43 @@ pub record IsSound (rest : List ℕ) (s : ParserState) : Type 0 where
   pub order : s.start ≤ s.index
   pub within : s.index ≤ length s.text
   pub most : s.limit ≤ 1024
+
+-- if a value was returned and is whole, it was read
+abbrev pub ReadsWholeOnSome : {A : Type 0} → ParserState → Option A → Type 0
+ReadsWholeOnSome s result = IfSome result (λ _. IsWhole s → HasRead s)
+
+-- a whole value is still one that was read
+abbrev pub KeepsHasRead : (old new : ParserState) → Type 0
+KeepsHasRead old new = (IsWhole old → HasRead old) → IsWhole new → HasRead new
+
+-- a value that an event made whole was read
+abbrev pub ReadsWhenWhole : {A E : Type 0} → (old new : ParserState) → Result A E → Type 0
+ReadsWhenWhole old new result = OnOk result (¬ (IsWhole old) → IsWhole new → HasRead new)
+
+-- the event is read, and none was refused
+abbrev pub ReadsNextEvent : {E : Type 0} → (old new : ParserState) → Result Event E → Type 0
+ReadsNextEvent old new result = IfOk result (λ e. (old.failure ≡ None) × (new.failure ≡ None) × Goes old e new)
+
+-- the parser stands right behind the event's token
+abbrev pub StopsTight : {E : Type 0} → (old new : ParserState) → Result Event E → Type 0
+StopsTight old new result = IfOk result (λ e. IsTight old e new)
+
+-- what an event lends stands right before the parser's place
+abbrev pub LendsBefore : {E : Type 0} → ParserState → Result Event E → Type 0
+LendsBefore s result = IfOk result (λ e. IsLent e s)
+
+-- End comes behind a whole value only
+abbrev pub EndsWhole : {E : Type 0} → ParserState → Result Event E → Type 0
+EndsWhole s result = IfOk result (λ e. e ≡ event.End → IsWhole s)
+
+-- an error is the fault of the input, which is kept
+abbrev pub RefusesOnErr : {A : Type 0} → (old new : ParserState) → Result A Error → Type 0
+RefusesOnErr old new result = IfErr result (λ e. Refuses old e new)
+
+-- a first error is told at the event that needs the byte
+abbrev pub FailsWhenDue : {A : Type 0} → ParserState → Result A Error → Type 0
+FailsWhenDue s result = IfErr result (λ e. s.failure ≡ None → IsDue s e)
+
+-- while the value is not whole, an error is one of a value
+abbrev pub FailsInValue : {A : Type 0} → ParserState → Result A Error → Type 0
+FailsInValue s result = IfErr result (λ e. ¬ (IsWhole s) → IsInValue e.code)

@@ -6,8 +6,8 @@ ghost use Rattle.json_grammar.specs.Grammar.{IsWhitespace, ws};
 ghost use Rattle.json_grammar.specs.Given.{piece};
 ghost use Rattle.json_text.specs.Faults.{IsFault, IsInValue, ValueFaultFrom};
 ghost use Rattle.json_text.specs.Due.{NextNeeds};
-ghost use Rattle.json_text.specs.Parsing.{input, taken, HasGiven, SameInput, IsWhole, Goes, IsTight};
-ghost use Rattle.json_text.specs.Parsing.{IsLent, Refuses, IsDue, EventsBeginTexts, HasRead};
+ghost use Rattle.json_text.specs.Parsing.{input, taken, HasGiven, SameInput, IsWhole, Goes, ReadsWhenWhole, ReadsNextEvent, StopsTight, LendsBefore, EndsWhole, RefusesOnErr, FailsWhenDue, FailsInValue};
+ghost use Rattle.json_text.specs.Parsing.{Refuses, IsDue, EventsBeginTexts};
 ghost use Rattle.json_text.specs.Ends.{ComesNext, NothingLeft, IsNewAt, TrailsAt, ReadsEnd, LacksEnd, no_end as spec_no_end};
 ghost use Rattle.json_io.specs.Positions.{place_at};
 
@@ -226,8 +226,8 @@ impl<'a> Parser<'a> {
         ensures same { SameInput self.old self.new }
         ensures failure { self.new.failure ≡ self.old.failure }
         ensures ok { IfOk result (λ e. Goes self.old e self.new) }
-        ensures tight { IfOk result (λ e. IsTight self.old e self.new) }
-        ensures whole { IfOk result (λ e. e ≡ Event.End → IsWhole self.old) }
+        ensures tight { StopsTight self.old self.new result }
+        ensures whole { EndsWhole self.old result }
         ensures err { IfErr result (λ f.
             IsFault self.old.lossy self.old.limit (input self.old) f.code f.offset) }
         ensures needs { IfErr result (λ f.
@@ -293,18 +293,16 @@ impl<'a> Parser<'a> {
     #[inline(always)]
     pub fn next(&mut self) -> Result<Event<'a>>
         ensures same { SameInput self.old self.new }
-        ensures ok { IfOk result
-            (λ e. (self.old.failure ≡ None) × (self.new.failure ≡ None)
-            × Goes self.old e self.new) }
-        ensures tight { IfOk result (λ e. IsTight self.old e self.new) }
-        ensures between { IfOk result (λ e. IsLent e self.new) }
-        ensures err { IfErr result (λ e. Refuses self.old e self.new) }
-        ensures needs { IfErr result (λ e. self.old.failure ≡ None → IsDue self.old e) }
-        ensures inside { IfErr result (λ e. ¬ (IsWhole self.old) → IsInValue e.code) }
+        ensures ok { ReadsNextEvent self.old self.new result }
+        ensures tight { StopsTight self.old self.new result }
+        ensures between { LendsBefore self.new result }
+        ensures err { RefusesOnErr self.old self.new result }
+        ensures needs { FailsWhenDue self.old result }
+        ensures inside { FailsInValue self.old result }
         ensures in_value { IfErr result (λ e. ¬ (IsWhole self.old)
             → ValueFaultFrom self.old.lossy self.old.limit self.old.start self.old.text e.code e.place) }
-        ensures whole { IfOk result (λ e. e ≡ Event.End → IsWhole self.old) }
-        ensures reads { OnOk result (¬ (IsWhole self.old) → IsWhole self.new → HasRead self.new) }
+        ensures whole { EndsWhole self.old result }
+        ensures reads { ReadsWhenWhole self.old self.new result }
         ensures begins { EventsBeginTexts self.new }
     {
         self.next_by::<0>()
@@ -316,18 +314,16 @@ impl<'a> Parser<'a> {
     #[inline(always)]
     pub fn next_by<const USE: u8>(&mut self) -> Result<Event<'a>>
         ensures same { SameInput self.old self.new }
-        ensures ok { IfOk result
-            (λ e. (self.old.failure ≡ None) × (self.new.failure ≡ None)
-            × Goes self.old e self.new) }
-        ensures tight { IfOk result (λ e. IsTight self.old e self.new) }
-        ensures between { IfOk result (λ e. IsLent e self.new) }
-        ensures err { IfErr result (λ e. Refuses self.old e self.new) }
-        ensures needs { IfErr result (λ e. self.old.failure ≡ None → IsDue self.old e) }
-        ensures inside { IfErr result (λ e. ¬ (IsWhole self.old) → IsInValue e.code) }
+        ensures ok { ReadsNextEvent self.old self.new result }
+        ensures tight { StopsTight self.old self.new result }
+        ensures between { LendsBefore self.new result }
+        ensures err { RefusesOnErr self.old self.new result }
+        ensures needs { FailsWhenDue self.old result }
+        ensures inside { FailsInValue self.old result }
         ensures in_value { IfErr result (λ e. ¬ (IsWhole self.old)
             → ValueFaultFrom self.old.lossy self.old.limit self.old.start self.old.text e.code e.place) }
-        ensures whole { IfOk result (λ e. e ≡ Event.End → IsWhole self.old) }
-        ensures reads { OnOk result (¬ (IsWhole self.old) → IsWhole self.new → HasRead self.new) }
+        ensures whole { EndsWhole self.old result }
+        ensures reads { ReadsWhenWhole self.old self.new result }
         ensures begins { EventsBeginTexts self.new }
     {
         if self.failure.is_some() {

@@ -10,13 +10,12 @@ ghost use Rattle.json_grammar.specs.Place.{TakesValue, TakesKey, bracket as spec
 ghost use Rattle.json_scan.specs.Runs.{ByteAt};
 ghost use Rattle.json_text.specs.Numbers.{BeginsNumber};
 ghost use Rattle.json_text.specs.Faults.{IsFault, IsInValue};
-ghost use Rattle.json_text.specs.Due.{TokenNeeds};
 ghost use Rattle.json_text.specs.Standing.{Stood};
-ghost use Rattle.json_text.specs.Events.{From, Tight};
+ghost use Rattle.json_text.specs.Events.{From};
 ghost use Rattle.json_text.specs.Begins.{begin_of as spec_begin_of};
 ghost use Rattle.json_text.specs.Spelled.{Quoted, StringStops};
 ghost use Rattle.json_text.specs.Stack.{top};
-ghost use Rattle.json_text.specs.Tokens.{WordOf, NoEnd, no_key as spec_no_key, begin_event as spec_begin_event, end_event as spec_end_event};
+ghost use Rattle.json_text.specs.Tokens.{WordOf, NoEnd, no_key as spec_no_key, begin_event as spec_begin_event, end_event as spec_end_event, ReadsTight, FailsWhereNeeded, ReadsTightInBoth, FailsWhereNeededInBoth};
 
 use crate::event::Event;
 use crate::fault::Fault;
@@ -129,13 +128,12 @@ fn number<'a>(text: &'a str, at: usize) -> Result<Read<'a>, Fault>
     requires { (at < length text.now) × BeginsNumber (get_or text.now at 0) }
     ensures ok { (lossy : Bool) (limit : ℕ) (c : List Kind) (w : Spot) → TakesValue w
         → IfOk result (λ r. From lossy limit text.now at c w r.event r.end c r.spot) }
-    ensures tight { (lossy : Bool) → IfOk result (λ r. Tight lossy text.now at r.event r.end) }
+    ensures tight { ReadsTightInBoth text.now at result }
     ensures err { (lossy : Bool) (limit : ℕ) (c : List Kind) (w : Spot) (ts : List Token)
         → TakesValue w
         → Stood lossy limit text.now at c w ts
         → IfErr result (λ f. IsFault lossy limit text.now f.code f.offset) }
-    ensures needs { (lossy : Bool)
-        → IfErr result (λ f. TokenNeeds lossy text.now at f.code f.offset) }
+    ensures needs { FailsWhereNeededInBoth text.now at result }
     ensures inside { IfErr result (λ f. IsInValue f.code) }
 {
     let bytes = text.as_bytes();
@@ -156,13 +154,12 @@ fn literal<'a>(text: &'a str, at: usize, word: &[u8], event: Event<'a>) -> Resul
     requires word { WordOf event word.now }
     ensures ok { (lossy : Bool) (limit : ℕ) (c : List Kind) (w : Spot) → TakesValue w
         → IfOk result (λ r. From lossy limit text.now at c w r.event r.end c r.spot) }
-    ensures tight { (lossy : Bool) → IfOk result (λ r. Tight lossy text.now at r.event r.end) }
+    ensures tight { ReadsTightInBoth text.now at result }
     ensures err { (lossy : Bool) (limit : ℕ) (c : List Kind) (w : Spot) (ts : List Token)
         → TakesValue w
         → Stood lossy limit text.now at c w ts
         → IfErr result (λ f. IsFault lossy limit text.now f.code f.offset) }
-    ensures needs { (lossy : Bool)
-        → IfErr result (λ f. TokenNeeds lossy text.now at f.code f.offset) }
+    ensures needs { FailsWhereNeededInBoth text.now at result }
     ensures inside { IfErr result (λ f. IsInValue f.code) }
 {
     match word_end(text.as_bytes(), at, word) {
@@ -181,11 +178,11 @@ fn string<'a>(text: &'a str, at: usize, lossy: bool) -> Result<Read<'a>, Fault>
     requires { ByteAt text.now at 34 }
     ensures ok { (limit : ℕ) (c : List Kind) (w : Spot) → TakesValue w
         → IfOk result (λ r. From lossy limit text.now at c w r.event r.end c r.spot) }
-    ensures tight { IfOk result (λ r. Tight lossy text.now at r.event r.end) }
+    ensures tight { ReadsTight lossy text.now at result }
     ensures err { (limit : ℕ) (c : List Kind) (w : Spot) (ts : List Token) → TakesValue w
         → Stood lossy limit text.now at c w ts
         → IfErr result (λ f. IsFault lossy limit text.now f.code f.offset) }
-    ensures needs { IfErr result (λ f. TokenNeeds lossy text.now at f.code f.offset) }
+    ensures needs { FailsWhereNeeded lossy text.now at result }
     ensures inside { IfErr result (λ f. IsInValue f.code) }
 {
     match string_at(text, at, lossy) {
@@ -241,12 +238,11 @@ fn open<'a>(
     requires most { limit ≤ 1024 }
     ensures ok { (lossy : Bool) (w : Spot) → TakesValue w
         → IfOk result (λ r. From lossy limit text.now at kinds.old w r.event r.end kinds.new r.spot) }
-    ensures tight { (lossy : Bool) → IfOk result (λ r. Tight lossy text.now at r.event r.end) }
+    ensures tight { ReadsTightInBoth text.now at result }
     ensures err { (lossy : Bool) (w : Spot) (ts : List Token) → TakesValue w
         → Stood lossy limit text.now at kinds.old w ts
         → IfErr result (λ f. IsFault lossy limit text.now f.code f.offset) }
-    ensures needs { (lossy : Bool)
-        → IfErr result (λ f. TokenNeeds lossy text.now at f.code f.offset) }
+    ensures needs { FailsWhereNeededInBoth text.now at result }
     ensures inside { IfErr result (λ f. IsInValue f.code) }
     ensures kept { OnErr result (kinds.new ≡ kinds.old) }
 {
@@ -286,11 +282,11 @@ fn value<'a>(
     requires most { limit ≤ 1024 }
     ensures ok { (w : Spot) → TakesValue w
         → IfOk result (λ r. From lossy limit text.now at kinds.old w r.event r.end kinds.new r.spot) }
-    ensures tight { IfOk result (λ r. Tight lossy text.now at r.event r.end) }
+    ensures tight { ReadsTight lossy text.now at result }
     ensures err { (w : Spot) (ts : List Token) → TakesValue w → NoEnd text.now at kinds.old w
         → Stood lossy limit text.now at kinds.old w ts
         → IfErr result (λ f. IsFault lossy limit text.now f.code f.offset) }
-    ensures needs { IfErr result (λ f. TokenNeeds lossy text.now at f.code f.offset) }
+    ensures needs { FailsWhereNeeded lossy text.now at result }
     ensures inside { IfErr result (λ f. IsInValue f.code) }
     ensures kept { OnErr result (kinds.new ≡ kinds.old) }
 {
@@ -333,11 +329,11 @@ fn key<'a>(text: &'a str, at: usize, spot: Spot, lossy: bool) -> Result<Read<'a>
     requires spot { TakesKey spot }
     ensures ok { (limit : ℕ) (c : List Kind)
         → IfOk result (λ r. From lossy limit text.now at c spot r.event r.end c r.spot) }
-    ensures tight { IfOk result (λ r. Tight lossy text.now at r.event r.end) }
+    ensures tight { ReadsTight lossy text.now at result }
     ensures err { (limit : ℕ) (c : List Kind) (ts : List Token) → NoEnd text.now at c spot
         → Stood lossy limit text.now at c spot ts
         → IfErr result (λ f. IsFault lossy limit text.now f.code f.offset) }
-    ensures needs { IfErr result (λ f. TokenNeeds lossy text.now at f.code f.offset) }
+    ensures needs { FailsWhereNeeded lossy text.now at result }
     ensures inside { IfErr result (λ f. IsInValue f.code) }
 {
     let byte = byte_at(text, at);
@@ -389,10 +385,10 @@ fn first<'a>(
     requires most { limit ≤ 1024 }
     ensures ok { IfOk result
         (λ r. From lossy limit text.now at kinds.old Spot.First r.event r.end kinds.new r.spot) }
-    ensures tight { IfOk result (λ r. Tight lossy text.now at r.event r.end) }
+    ensures tight { ReadsTight lossy text.now at result }
     ensures err { (ts : List Token) → Stood lossy limit text.now at kinds.old Spot.First ts
         → IfErr result (λ f. IsFault lossy limit text.now f.code f.offset) }
-    ensures needs { IfErr result (λ f. TokenNeeds lossy text.now at f.code f.offset) }
+    ensures needs { FailsWhereNeeded lossy text.now at result }
     ensures inside { IfErr result (λ f. IsInValue f.code) }
     ensures kept { OnErr result (kinds.new ≡ kinds.old) }
 {
@@ -416,11 +412,11 @@ fn key_or_end<'a>(
     requires open { top kinds.old ≡ Some Kind.Object }
     ensures ok { (limit : ℕ)
         → IfOk result (λ r. From lossy limit text.now at kinds.old Spot.KeyOrEnd r.event r.end kinds.new r.spot) }
-    ensures tight { IfOk result (λ r. Tight lossy text.now at r.event r.end) }
+    ensures tight { ReadsTight lossy text.now at result }
     ensures err { (limit : ℕ) (ts : List Token)
         → Stood lossy limit text.now at kinds.old Spot.KeyOrEnd ts
         → IfErr result (λ f. IsFault lossy limit text.now f.code f.offset) }
-    ensures needs { IfErr result (λ f. TokenNeeds lossy text.now at f.code f.offset) }
+    ensures needs { FailsWhereNeeded lossy text.now at result }
     ensures inside { IfErr result (λ f. IsInValue f.code) }
     ensures kept { OnErr result (kinds.new ≡ kinds.old) }
 {
@@ -440,12 +436,11 @@ fn behind_value<'a>(text: &'a str, at: usize, kinds: &mut Kinds) -> Result<Read<
     requires apart { top kinds.old ≢ None → ¬ (ByteAt text.now at 44) }
     ensures ok { (lossy : Bool) (limit : ℕ)
         → IfOk result (λ r. From lossy limit text.now at kinds.old Spot.Done r.event r.end kinds.new r.spot) }
-    ensures tight { (lossy : Bool) → IfOk result (λ r. Tight lossy text.now at r.event r.end) }
+    ensures tight { ReadsTightInBoth text.now at result }
     ensures err { (lossy : Bool) (limit : ℕ) (ts : List Token)
         → Stood lossy limit text.now at kinds.old Spot.Done ts
         → IfErr result (λ f. IsFault lossy limit text.now f.code f.offset) }
-    ensures needs { (lossy : Bool)
-        → IfErr result (λ f. TokenNeeds lossy text.now at f.code f.offset) }
+    ensures needs { FailsWhereNeededInBoth text.now at result }
     ensures inside { IfErr result (λ f. top kinds.old ≢ None → IsInValue f.code) }
     ensures kept { OnErr result (kinds.new ≡ kinds.old) }
 {
@@ -482,14 +477,15 @@ pub fn take_event<'a>(
     requires spot { cursor.spot ≢ Spot.Colon }
     requires first { cursor.spot ≡ Spot.First → top kinds.old ≡ Some Kind.Array }
     requires key_or_end { cursor.spot ≡ Spot.KeyOrEnd → top kinds.old ≡ Some Kind.Object }
-    requires apart { cursor.spot ≡ Spot.Done → top kinds.old ≢ None → ¬ (ByteAt text.now cursor.at 44) }
+    requires apart { cursor.spot ≡ Spot.Done → top kinds.old ≢ None
+        → ¬ (ByteAt text.now cursor.at 44) }
     requires most { limit ≤ 1024 }
     ensures ok { IfOk result (λ r.
         From lossy limit text.now cursor.at kinds.old cursor.spot r.event r.end kinds.new r.spot) }
-    ensures tight { IfOk result (λ r. Tight lossy text.now cursor.at r.event r.end) }
+    ensures tight { ReadsTight lossy text.now cursor.at result }
     ensures err { (ts : List Token) → Stood lossy limit text.now cursor.at kinds.old cursor.spot ts
         → IfErr result (λ f. IsFault lossy limit text.now f.code f.offset) }
-    ensures needs { IfErr result (λ f. TokenNeeds lossy text.now cursor.at f.code f.offset) }
+    ensures needs { FailsWhereNeeded lossy text.now cursor.at result }
     ensures inside { IfErr result (λ f. (cursor.spot ≡ Spot.Done → top kinds.old ≢ None)
         → IsInValue f.code) }
     ensures kept { OnErr result (kinds.new ≡ kinds.old) }

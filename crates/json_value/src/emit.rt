@@ -1,7 +1,7 @@
 // The tokens of a value, from left to right.
-ghost use Rattle.std.specs.Prelude.{◌≡◌, map, None};
+ghost use Rattle.std.specs.Prelude.{map};
 ghost use Rattle.json_grammar.specs.Tree.{list, list_trees, pairs, list_pairs};
-ghost use Rattle.json_print.specs.Standing.{TurnTakesValue};
+ghost use Rattle.json_print.specs.Standing.{AcceptsValue};
 ghost use Rattle.json_value.specs.Denotes.{tree_of, pair_of};
 ghost use Rattle.json_value.specs.Emitting.{Walks, tree_given};
 
@@ -14,7 +14,7 @@ use json_print::Events;
 
 #[cycle(value)]
 pub(crate) fn emit_value<E: Events>(value: &Value, out: &mut E) -> Walked
-    requires { E.failed out.old ≡ None → TurnTakesValue (E.stand (E.state out.old)).turn }
+    requires { AcceptsValue (E.failed out.old) (E.stand (E.state out.old)) }
     ensures { Walks E.after E.stopped (E.state out.old) (E.state out.new)
         (E.failed out.old) (E.failed out.new) (tree_given (tree_of value.now)) result }
 {
@@ -39,7 +39,7 @@ pub(crate) fn emit_value<E: Events>(value: &Value, out: &mut E) -> Walked
 
 #[cycle(value)]
 fn emit_values<E: Events>(values: &Vec<Value>, out: &mut E) -> Walked
-    requires { E.failed out.old ≡ None → TurnTakesValue (E.stand (E.state out.old)).turn }
+    requires { AcceptsValue (E.failed out.old) (E.stand (E.state out.old)) }
     ensures { Walks E.after E.stopped (E.state out.old) (E.state out.new)
         (E.failed out.old) (E.failed out.new)
         (tree_given (list (list_trees (map tree_of values.now.items)))) result }
@@ -53,7 +53,7 @@ fn emit_values<E: Events>(values: &Vec<Value>, out: &mut E) -> Walked
 
 #[cycle(value)]
 fn emit_pairs<E: Events>(values: &Vec<Pair>, out: &mut E) -> Walked
-    requires { E.failed out.old ≡ None → TurnTakesValue (E.stand (E.state out.old)).turn }
+    requires { AcceptsValue (E.failed out.old) (E.stand (E.state out.old)) }
     ensures { Walks E.after E.stopped (E.state out.old) (E.state out.new)
         (E.failed out.old) (E.failed out.new)
         (tree_given (pairs (list_pairs (map pair_of values.now.items)))) result }

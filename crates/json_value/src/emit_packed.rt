@@ -1,11 +1,10 @@
 // The tokens of a document's tree, from left to right.
-ghost use Rattle.std.specs.Prelude.{◌≡◌, None};
 ghost use Rattle.json_grammar.specs.Tree.{num, list, no_trees, list_trees, pairs, no_pairs, list_pairs};
 ghost use Rattle.json_number.specs.Numbers.{text_of_number};
 ghost use Rattle.json_doc.specs.Left.{children_left, pairs_left};
 ghost use Rattle.json_doc.specs.Readings.{elements};
 ghost use Rattle.json_doc.specs.Seen.{view_tree};
-ghost use Rattle.json_print.specs.Standing.{TurnTakesValue};
+ghost use Rattle.json_print.specs.Standing.{AcceptsValue};
 ghost use Rattle.json_value.specs.Emitting.{Walks, tree_given};
 ghost use Rattle.json_value.specs.Readings.{members};
 
@@ -17,7 +16,7 @@ use json_print::Events;
 // Gives the tokens of the tree that is seen to `out`, up to the first that meets an error.
 #[cycle(document)]
 pub(crate) fn emit_document<E: Events>(view: DocView<'_>, out: &mut E) -> Walked
-    requires { E.failed out.old ≡ None → TurnTakesValue (E.stand (E.state out.old)).turn }
+    requires { AcceptsValue (E.failed out.old) (E.stand (E.state out.old)) }
     ensures { Walks E.after E.stopped (E.state out.old) (E.state out.new)
         (E.failed out.old) (E.failed out.new) (tree_given (view_tree view.entry)) result }
 {
@@ -34,7 +33,7 @@ pub(crate) fn emit_document<E: Events>(view: DocView<'_>, out: &mut E) -> Walked
 
 // Gives the token of an integer by value.
 pub(crate) fn emit_number<E: Events>(number: Number, out: &mut E) -> Walked
-    requires { E.failed out.old ≡ None → TurnTakesValue (E.stand (E.state out.old)).turn }
+    requires { AcceptsValue (E.failed out.old) (E.stand (E.state out.old)) }
     ensures { Walks E.after E.stopped (E.state out.old) (E.state out.new)
         (E.failed out.old) (E.failed out.new) (tree_given (num (text_of_number number))) result }
 {
@@ -47,7 +46,7 @@ pub(crate) fn emit_number<E: Events>(number: Number, out: &mut E) -> Walked
 // Gives the tokens of an array of these elements.
 #[cycle(document)]
 fn emit_children<E: Events>(children: DocChildren<'_>, out: &mut E) -> Walked
-    requires { E.failed out.old ≡ None → TurnTakesValue (E.stand (E.state out.old)).turn }
+    requires { AcceptsValue (E.failed out.old) (E.stand (E.state out.old)) }
     ensures { Walks E.after E.stopped (E.state out.old) (E.state out.new)
         (E.failed out.old) (E.failed out.new)
         (tree_given (list (list_trees (children_left children.entry)))) result }
@@ -62,7 +61,7 @@ fn emit_children<E: Events>(children: DocChildren<'_>, out: &mut E) -> Walked
 // Gives the tokens of an object of these members.
 #[cycle(document)]
 fn emit_pairs<E: Events>(members: DocPairs<'_>, out: &mut E) -> Walked
-    requires { E.failed out.old ≡ None → TurnTakesValue (E.stand (E.state out.old)).turn }
+    requires { AcceptsValue (E.failed out.old) (E.stand (E.state out.old)) }
     ensures { Walks E.after E.stopped (E.state out.old) (E.state out.new)
         (E.failed out.old) (E.failed out.new)
         (tree_given (pairs (list_pairs (pairs_left members.entry)))) result }
@@ -76,7 +75,7 @@ fn emit_pairs<E: Events>(members: DocPairs<'_>, out: &mut E) -> Walked
 }
 
 pub(crate) fn emit_no_values<E: Events>(out: &mut E) -> Walked
-    requires { E.failed out.old ≡ None → TurnTakesValue (E.stand (E.state out.old)).turn }
+    requires { AcceptsValue (E.failed out.old) (E.stand (E.state out.old)) }
     ensures { Walks E.after E.stopped (E.state out.old) (E.state out.new)
         (E.failed out.old) (E.failed out.new) (tree_given (list no_trees)) result }
 {
@@ -85,7 +84,7 @@ pub(crate) fn emit_no_values<E: Events>(out: &mut E) -> Walked
 }
 
 pub(crate) fn emit_no_pairs<E: Events>(out: &mut E) -> Walked
-    requires { E.failed out.old ≡ None → TurnTakesValue (E.stand (E.state out.old)).turn }
+    requires { AcceptsValue (E.failed out.old) (E.stand (E.state out.old)) }
     ensures { Walks E.after E.stopped (E.state out.old) (E.state out.new)
         (E.failed out.old) (E.failed out.new) (tree_given (pairs no_pairs)) result }
 {
@@ -95,7 +94,7 @@ pub(crate) fn emit_no_pairs<E: Events>(out: &mut E) -> Walked
 
 // Gives the tokens of the array of the elements that are seen.
 pub(crate) fn emit_elements<E: Events>(view: DocView<'_>, out: &mut E) -> Walked
-    requires { E.failed out.old ≡ None → TurnTakesValue (E.stand (E.state out.old)).turn }
+    requires { AcceptsValue (E.failed out.old) (E.stand (E.state out.old)) }
     ensures { Walks E.after E.stopped (E.state out.old) (E.state out.new)
         (E.failed out.old) (E.failed out.new)
         (tree_given (list (list_trees (elements (view_tree view.entry))))) result }
@@ -108,7 +107,7 @@ pub(crate) fn emit_elements<E: Events>(view: DocView<'_>, out: &mut E) -> Walked
 
 // Gives the tokens of the object of the members that are seen.
 pub(crate) fn emit_members<E: Events>(view: DocView<'_>, out: &mut E) -> Walked
-    requires { E.failed out.old ≡ None → TurnTakesValue (E.stand (E.state out.old)).turn }
+    requires { AcceptsValue (E.failed out.old) (E.stand (E.state out.old)) }
     ensures { Walks E.after E.stopped (E.state out.old) (E.state out.new)
         (E.failed out.old) (E.failed out.new)
         (tree_given (pairs (list_pairs (members (view_tree view.entry))))) result }

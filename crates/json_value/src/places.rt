@@ -4,7 +4,7 @@ ghost use Rattle.std.specs.Bool.{OnTrue, OnFalse};
 ghost use Rattle.std.specs.Borrow.{LendsSoOk, sem};
 ghost use Rattle.std.specs.Fn.{FnOnceReturnsAtMut};
 ghost use Rattle.json_model.specs.Edit.{set_at, edited_once};
-ghost use Rattle.json_value.specs.Denotes.{tree_of};
+ghost use Rattle.json_value.specs.Denotes.{tree_of, KeepsTreeOnErr};
 ghost use Rattle.json_value.specs.Edits.{step_of, steps_of, Makes, FailsAs, FailsAlong};
 ghost use Rattle.json_value.specs.Lending.{missing_as_none, PutsAtPath, PutsNothing, LeadsTo, LendsAlong, first_node, PutsAt};
 ghost use Rattle.json_value.specs.Rows.{value_row};
@@ -60,7 +60,7 @@ pub fn put<V: Places>(target: &mut V, alloc: Global, path: &[PointerNode], new: 
         (tree_of (V.held target.old))) (V.held target.new)) }
     ensures children { OnOk result (Along (steps_of path.now) (λ before after. after ≡ new)
         (V.held target.old) (V.held target.new)) }
-    ensures kept { OnErr result (tree_of (V.held target.new) ≡ tree_of (V.held target.old)) }
+    ensures kept { KeepsTreeOnErr (V.held target.old) (V.held target.new) result }
     ensures kept_along { OnErr result (KeptAlong (steps_of path.now) Same
         (V.held target.old) (V.held target.new)) }
     ensures refused { FailsAs (edited_once (set_at (steps_of path.now) (tree_of new))
@@ -83,7 +83,7 @@ pub fn update<V: Places, F: FnOnce(&mut Value)>(
         × (tree_at (steps_of path.now) (tree_of (V.held target.old)) ≡ Some (tree_of x))
         × (FnOnceReturnsAtMut F.FnOnce change x tt y)
         × PutsAtPath (steps_of path.now) x y (V.held target.old) (V.held target.new)) }
-    ensures kept { OnErr result (tree_of (V.held target.new) ≡ tree_of (V.held target.old)) }
+    ensures kept { KeepsTreeOnErr (V.held target.old) (V.held target.new) result }
     ensures kept_along { OnErr result (KeptAlong (steps_of path.now) Same
         (V.held target.old) (V.held target.new)) }
     ensures refused { FailsAlong (steps_of path.now) (tree_of (V.held target.old)) result }

@@ -19,7 +19,7 @@ ghost use Rattle.json_value.specs.Steps.{child, tree_at, tree_or_null};
 ghost use Rattle.json_doc.specs.Docs.{doc_cells, doc_tree};
 ghost use Rattle.json_model.specs.Print.{shown};
 ghost use Rattle.json_print.specs.Showing.{RanOut, Shows};
-ghost use Rattle.json_print.specs.Standing.{TurnTakesValue};
+ghost use Rattle.json_print.specs.Standing.{AcceptsValue};
 ghost use Rattle.json_print.specs.TextWriting.{WritesText};
 ghost use Rattle.json_print.specs.Given.{given_tokens};
 ghost use Rattle.json_value.specs.Emitting.{Emits, Walks, tree_given};
@@ -279,7 +279,7 @@ impl<'a> View<'a> {
     /// that meets an error, which is returned. Where the events had returned an error it is returned
     /// again, and nothing changes; else a value may come there.
     pub fn emit<E: Events>(self, out: &mut E) -> Result<()>
-        requires { E.failed out.old ≡ None → TurnTakesValue (E.stand (E.state out.old)).turn }
+        requires { AcceptsValue (E.failed out.old) (E.stand (E.state out.old)) }
         ensures given { Emits E.after E.stopped (E.state out.old) (E.state out.new)
             (E.failed out.old) (E.failed out.new) (tree_given (seen self.entry)) result }
         ensures tokens { given_tokens (tree_given (seen self.entry)) ≡ tokens (seen self.entry) }
@@ -354,7 +354,7 @@ fn show_sorted<W: Sink, L: Layout>(
 }
 
 fn walk<E: Events>(view: View<'_>, out: &mut E) -> Walked
-    requires { E.failed out.old ≡ None → TurnTakesValue (E.stand (E.state out.old)).turn }
+    requires { AcceptsValue (E.failed out.old) (E.stand (E.state out.old)) }
     ensures { Walks E.after E.stopped (E.state out.old) (E.state out.new)
         (E.failed out.old) (E.failed out.new) (tree_given (seen view.entry)) result }
 {

@@ -1,5 +1,5 @@
 -- A value that is built from what is given.
-use Rattle.std.specs.Prelude.{◌≡◌, ◌⊎◌, ℕ, ◌^◌, ℤ, pos, negsuc, List, [], ◌∷◌, ◌++◌, map, reverse, Bool, false, true, ◌&&◌, nat_lt, cond, Option, Some, None, Result}
+use Rattle.std.specs.Prelude.{◌≡◌, ◌⊎◌, ℕ, ◌^◌, ℤ, pos, negsuc, List, [], ◌∷◌, ◌++◌, map, reverse, Bool, false, true, ◌&&◌, nat_lt, cond, Option, Some, None, Result, IfErr}
 use Rattle.json_grammar.specs.declared.Kind.{Kind}
 use Rattle.json_grammar.specs.declared.Kind.TheVariants.{Array as array, Object as object}
 use Rattle.json_grammar.specs.Tree.{Tree, null, boolean, num, text, list, pairs, no_pairs, list_trees, Token, null_token, boolean_token, num_token, text_token, begin, end, key_token}
@@ -13,6 +13,7 @@ use Rattle.json_write.specs.declared.level.Level.{Level}
 use Rattle.json_print.specs.Given.{TokenOrInteger, given, given_integer, token_of}
 use Rattle.json_print.specs.Taking.{Takes}
 use Rattle.json_write.specs.Nesting.{nesting_stand, at_first}
+use Rattle.json_model.specs.Datum.{Datum, tree_of_datum}
 
 -- it lies in i64 or in u64
 abbrev pub is_inside : ℤ → Bool
@@ -114,3 +115,7 @@ first_refusal [] = None
 first_refusal (None ∷ ps) = Some key_refused
 first_refusal (Some (given t) ∷ ps) = first_refusal ps
 first_refusal (Some (given_integer n) ∷ ps) = cond (is_inside n) (first_refusal ps) (Some out_of_range)
+
+-- an error is want of memory, or that a key has no text
+abbrev pub FailsOnKeyText : {A : Type 0} → Datum → Result A Error → Type 0
+FailsOnKeyText d result = IfErr result (λ e. (e ≡ no_memory) ⊎ ((e ≡ key_refused) × (tree_of_datum d ≡ None)))

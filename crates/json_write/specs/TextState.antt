@@ -1,5 +1,5 @@
 -- What is written of a text without whitespace, and what comes next.
-use Rattle.std.specs.Prelude.{◌≡◌, ℕ, List, [], ◌∷◌, ◌++◌, take, reverse, Bool, true, false, Option, Some, None, Result}
+use Rattle.std.specs.Prelude.{◌≡◌, ℕ, List, [], ◌∷◌, ◌++◌, take, reverse, Bool, true, false, Option, Some, None, Result, IsTrue}
 use Rattle.json_grammar.specs.declared.Kind.{Kind}
 use Rattle.json_grammar.specs.Grammar.{null_bytes, boolean_bytes}
 use Rattle.json_grammar.specs.Place.{bracket, closing, outside}
@@ -85,3 +85,7 @@ text_state w = record { bytes = buffered w.buffer; lead = w.lead; opened = rever
 -- a call of a text writer: what is written goes on so, or memory runs out
 abbrev pub PutsText : {T : Type 0} → (TextState → T → TextState) → TextWriter → TextWriter → T → Result (Unit {0}) Error → Type 0
 PutsText next old new t result = Takes next StopsAtMemory (text_state old) (text_state new) (writer_error old) (writer_error new) t result
+
+-- a quoted text was put behind what stands before it
+abbrev pub PutsQuoted : Lead → List ℕ → (old new : TextBuffer) → Bool → Type 0
+PutsQuoted lead text old new put = IsTrue put → buffered new ≡ buffered old ++ (lead_bytes lead ++ quoted text)

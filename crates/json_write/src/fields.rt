@@ -2,7 +2,7 @@
 ghost use Rattle.std.specs.Prelude.{◌≡◌, None};
 ghost use Rattle.json_model.specs.Datum.{Rows, no_rows, row_and, rows_datum, text_datum};
 ghost use Rattle.json_print.specs.Data.{parts, rows_parts};
-ghost use Rattle.json_print.specs.Standing.{TurnTakesValue};
+ghost use Rattle.json_print.specs.Standing.{AcceptsValue};
 ghost use Rattle.json_write.specs.FieldRows.{rows_append, AtKey};
 ghost use Rattle.json_write.specs.Writing.{WritesDatumTokens};
 
@@ -77,7 +77,7 @@ impl<A: Fields, B: Fields> Fields for (A, B) {
 /// Fails if the events do.
 #[inline(always)]
 pub fn give_fields<F: Fields, E: Events>(fields: &F, out: &mut E) -> Result<()>
-    requires { E.failed out.old ≡ None → TurnTakesValue (E.stand (E.state out.old)).turn }
+    requires { AcceptsValue (E.failed out.old) (E.stand (E.state out.old)) }
     ensures { WritesDatumTokens E.after E.stopped (E.state out.old) (E.state out.new)
         (E.failed out.old) (E.failed out.new) (parts (rows_datum (F.rows fields.now))) result }
 {

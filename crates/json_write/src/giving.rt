@@ -1,10 +1,10 @@
 // What a body gives, one call each. An error that the events answer is answered; what was given is a clause.
-ghost use Rattle.std.specs.Prelude.{◌≡◌, None, Some, [], ◌∷◌, pos};
+ghost use Rattle.std.specs.Prelude.{Some, [], ◌∷◌, pos};
 ghost use Rattle.std.specs.Fmt.{decimal, signed_decimal};
 ghost use Rattle.json_grammar.specs.Grammar.{number};
 ghost use Rattle.json_grammar.specs.Tree.{null_token, boolean_token, num_token, text_token, begin, end, key_token};
 ghost use Rattle.json_grammar.specs.declared.Kind.TheVariants.{Array as array, Object as object};
-ghost use Rattle.json_print.specs.Standing.{TurnTakesValue, TurnTakesKey, TurnTakesEnd};
+ghost use Rattle.json_print.specs.Standing.{AcceptsValue, AcceptsKey, AcceptsEnd};
 ghost use Rattle.json_print.specs.Given.{given, given_integer};
 ghost use Rattle.json_write.specs.Writing.{WritesDatumTokens};
 
@@ -14,7 +14,7 @@ use json_text::Result;
 /// Gives a null. Fails if the events do.
 #[inline(always)]
 pub fn give_null<E: Events>(out: &mut E) -> Result<()>
-    requires { E.failed out.old ≡ None → TurnTakesValue (E.stand (E.state out.old)).turn }
+    requires { AcceptsValue (E.failed out.old) (E.stand (E.state out.old)) }
     ensures { WritesDatumTokens E.after E.stopped (E.state out.old) (E.state out.new)
         (E.failed out.old) (E.failed out.new) (Some (given null_token) ∷ []) result }
 {
@@ -24,7 +24,7 @@ pub fn give_null<E: Events>(out: &mut E) -> Result<()>
 /// Gives a truth value. Fails if the events do.
 #[inline(always)]
 pub fn give_boolean<E: Events>(b: bool, out: &mut E) -> Result<()>
-    requires { E.failed out.old ≡ None → TurnTakesValue (E.stand (E.state out.old)).turn }
+    requires { AcceptsValue (E.failed out.old) (E.stand (E.state out.old)) }
     ensures { WritesDatumTokens E.after E.stopped (E.state out.old) (E.state out.new)
         (E.failed out.old) (E.failed out.new) (Some (given (boolean_token b)) ∷ []) result }
 {
@@ -34,7 +34,7 @@ pub fn give_boolean<E: Events>(b: bool, out: &mut E) -> Result<()>
 /// Gives an integer. Fails if the events do.
 #[inline(always)]
 pub fn give_int<E: Events>(n: i128, out: &mut E) -> Result<()>
-    requires { E.failed out.old ≡ None → TurnTakesValue (E.stand (E.state out.old)).turn }
+    requires { AcceptsValue (E.failed out.old) (E.stand (E.state out.old)) }
     ensures { WritesDatumTokens E.after E.stopped (E.state out.old) (E.state out.new)
         (E.failed out.old) (E.failed out.new) (Some (given_integer n) ∷ []) result }
 {
@@ -44,7 +44,7 @@ pub fn give_int<E: Events>(n: i128, out: &mut E) -> Result<()>
 /// Gives an integer from zero on. Fails if the events do.
 #[inline(always)]
 pub fn give_uint<E: Events>(n: u128, out: &mut E) -> Result<()>
-    requires { E.failed out.old ≡ None → TurnTakesValue (E.stand (E.state out.old)).turn }
+    requires { AcceptsValue (E.failed out.old) (E.stand (E.state out.old)) }
     ensures { WritesDatumTokens E.after E.stopped (E.state out.old) (E.state out.new)
         (E.failed out.old) (E.failed out.new) (Some (given_integer (pos n)) ∷ []) result }
 {
@@ -55,7 +55,7 @@ pub fn give_uint<E: Events>(n: u128, out: &mut E) -> Result<()>
 #[inline(always)]
 pub fn give_literal<E: Events>(literal: &str, out: &mut E) -> Result<()>
     requires number { number literal.now }
-    requires turn { E.failed out.old ≡ None → TurnTakesValue (E.stand (E.state out.old)).turn }
+    requires turn { AcceptsValue (E.failed out.old) (E.stand (E.state out.old)) }
     ensures { WritesDatumTokens E.after E.stopped (E.state out.old) (E.state out.new)
         (E.failed out.old) (E.failed out.new) (Some (given (num_token literal.now)) ∷ []) result }
 {
@@ -65,7 +65,7 @@ pub fn give_literal<E: Events>(literal: &str, out: &mut E) -> Result<()>
 /// Gives a string, by its characters. Fails if the events do.
 #[inline(always)]
 pub fn give_text<E: Events>(s: &str, out: &mut E) -> Result<()>
-    requires { E.failed out.old ≡ None → TurnTakesValue (E.stand (E.state out.old)).turn }
+    requires { AcceptsValue (E.failed out.old) (E.stand (E.state out.old)) }
     ensures { WritesDatumTokens E.after E.stopped (E.state out.old) (E.state out.new)
         (E.failed out.old) (E.failed out.new) (Some (given (text_token s.now)) ∷ []) result }
 {
@@ -76,7 +76,7 @@ pub fn give_text<E: Events>(s: &str, out: &mut E) -> Result<()>
 /// that is given. Fails if the events do.
 #[inline(always)]
 pub fn begin_list<E: Events>(hint: Option<usize>, out: &mut E) -> Result<()>
-    requires { E.failed out.old ≡ None → TurnTakesValue (E.stand (E.state out.old)).turn }
+    requires { AcceptsValue (E.failed out.old) (E.stand (E.state out.old)) }
     ensures { WritesDatumTokens E.after E.stopped (E.state out.old) (E.state out.new)
         (E.failed out.old) (E.failed out.new) (Some (given (begin array)) ∷ []) result }
 {
@@ -86,7 +86,7 @@ pub fn begin_list<E: Events>(hint: Option<usize>, out: &mut E) -> Result<()>
 /// Ends the array that was begun last. Fails if the events do.
 #[inline(always)]
 pub fn end_list<E: Events>(out: &mut E) -> Result<()>
-    requires { E.failed out.old ≡ None → TurnTakesEnd (E.stand (E.state out.old)).turn array }
+    requires { AcceptsEnd (E.failed out.old) (E.stand (E.state out.old)) array }
     ensures { WritesDatumTokens E.after E.stopped (E.state out.old) (E.state out.new)
         (E.failed out.old) (E.failed out.new) (Some (given (end array)) ∷ []) result }
 {
@@ -97,7 +97,7 @@ pub fn end_list<E: Events>(out: &mut E) -> Result<()>
 /// that is given. Fails if the events do.
 #[inline(always)]
 pub fn begin_rows<E: Events>(hint: Option<usize>, out: &mut E) -> Result<()>
-    requires { E.failed out.old ≡ None → TurnTakesValue (E.stand (E.state out.old)).turn }
+    requires { AcceptsValue (E.failed out.old) (E.stand (E.state out.old)) }
     ensures { WritesDatumTokens E.after E.stopped (E.state out.old) (E.state out.new)
         (E.failed out.old) (E.failed out.new) (Some (given (begin object)) ∷ []) result }
 {
@@ -107,7 +107,7 @@ pub fn begin_rows<E: Events>(hint: Option<usize>, out: &mut E) -> Result<()>
 /// Gives the key of the next member, by its characters. Fails if the events do.
 #[inline(always)]
 pub fn give_key<E: Events>(s: &str, out: &mut E) -> Result<()>
-    requires { E.failed out.old ≡ None → TurnTakesKey (E.stand (E.state out.old)).turn }
+    requires { AcceptsKey (E.failed out.old) (E.stand (E.state out.old)) }
     ensures { WritesDatumTokens E.after E.stopped (E.state out.old) (E.state out.new)
         (E.failed out.old) (E.failed out.new) (Some (given (key_token s.now)) ∷ []) result }
 {
@@ -117,7 +117,7 @@ pub fn give_key<E: Events>(s: &str, out: &mut E) -> Result<()>
 /// Ends the object that was begun last. Fails if the events do.
 #[inline(always)]
 pub fn end_rows<E: Events>(out: &mut E) -> Result<()>
-    requires { E.failed out.old ≡ None → TurnTakesEnd (E.stand (E.state out.old)).turn object }
+    requires { AcceptsEnd (E.failed out.old) (E.stand (E.state out.old)) object }
     ensures { WritesDatumTokens E.after E.stopped (E.state out.old) (E.state out.new)
         (E.failed out.old) (E.failed out.new) (Some (given (end object)) ∷ []) result }
 {

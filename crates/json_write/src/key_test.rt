@@ -1,13 +1,13 @@
 // Events that write nothing: they tell whether each key has a text.
-ghost use Rattle.std.specs.Prelude.{◌≡◌, ◌⊎◌, None, Some, OnOk, IfErr, refl};
+ghost use Rattle.std.specs.Prelude.{◌≡◌, None, Some, OnOk, refl};
 ghost use Rattle.json_grammar.specs.Tree.{Tree, null_token, begin, end};
-ghost use Rattle.json_io.specs.Errors.{no_memory, key_refused};
 ghost use Rattle.json_model.specs.Datum.{tree_of_datum};
 ghost use Rattle.json_print.specs.Given.{given};
 ghost use Rattle.json_print.specs.Standing as standing;
 ghost use Rattle.json_write.specs.Nesting.{at_first};
 ghost use Rattle.json_write.specs.Testing as testing;
 ghost use Rattle.json_write.specs.Testing.{Tests, expected_in_test};
+ghost use Rattle.json_write.specs.Building.{FailsOnKeyText};
 
 use crate::Serialize;
 use crate::nesting::Nesting;
@@ -144,8 +144,7 @@ impl Events for KeyTest {
 // Whether each key of the value has a text.
 pub(crate) fn test_keys<T: Serialize>(alloc: Global, value: &T) -> Result<()>
     ensures ok { OnOk result ((t : Tree) × (tree_of_datum (T.datum value.now) ≡ Some t)) }
-    ensures err { IfErr result (λ e. (e ≡ no_memory)
-        ⊎ ((e ≡ key_refused) × (tree_of_datum (T.datum value.now) ≡ None))) }
+    ensures err { FailsOnKeyText (T.datum value.now) result }
 {
     let mut test = KeyTest::new(alloc);
     value.serialize(&mut test)

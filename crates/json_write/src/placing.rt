@@ -4,6 +4,7 @@ ghost use Rattle.std.specs.Fmt.{decimal};
 ghost use Rattle.json_model.specs.Print.{quoted};
 ghost use Rattle.json_scan.specs.Runs.{IsPlain, plain};
 ghost use Rattle.json_write.specs.Leads.{lead_bytes};
+ghost use Rattle.json_print.specs.Buffered.{StoresPiece};
 
 use crate::lead::Lead;
 use itoa::write_digits;
@@ -57,7 +58,7 @@ fn place_by<const N: usize>(buffer: &mut [u8], at: usize, text: &[u8]) -> bool
     requires long { N ≤ length text.now }
     requires short { length text.now ≤ N + N }
     ensures plain { IsTrue result → plain text.now }
-    ensures placed { take (at + length text.now) buffer.new ≡ take at buffer.old ++ text.now }
+    ensures placed { StoresPiece at text.now buffer.old buffer.new }
 {
     let back = text.len() - N;
     let first_plain = is_plain_block::<N>(text, 0);
@@ -74,7 +75,7 @@ fn place_one(buffer: &mut [u8], at: usize, text: &[u8]) -> bool
     requires room { at < length buffer.old }
     requires one { length text.now ≡ 1 }
     ensures plain { IsTrue result → plain text.now }
-    ensures placed { take (at + length text.now) buffer.new ≡ take at buffer.old ++ text.now }
+    ensures placed { StoresPiece at text.now buffer.old buffer.new }
 {
     place_byte(buffer, at, text[0]);
     text[0] > LAST_CONTROL && text[0] != b'"' && text[0] != b'\\'
@@ -87,8 +88,7 @@ fn place_text(buffer: &mut [u8], at: usize, text: &[u8]) -> bool
     ensures plain { IsTrue result → plain text.now }
     ensures short { IsTrue result → length text.now ≤ 32 }
     ensures kept { take at buffer.new ≡ take at buffer.old }
-    ensures placed { IsTrue result
-        → take (at + length text.now) buffer.new ≡ take at buffer.old ++ text.now }
+    ensures placed { IsTrue result → StoresPiece at text.now buffer.old buffer.new }
 {
     match text.len() {
         4..8 => place_by::<4>(buffer, at, text),
@@ -138,7 +138,7 @@ pub(crate) fn place_item(buffer: &mut [u8], end: usize, lead: Lead, text: &[u8])
 #[inline(always)]
 pub(crate) fn place_piece(buffer: &mut [u8], at: usize, piece: &[u8])
     requires { at + length piece.now ≤ length buffer.old }
-    ensures { take (at + length piece.now) buffer.new ≡ take at buffer.old ++ piece.now }
+    ensures { StoresPiece at piece.now buffer.old buffer.new }
 {
     buffer[at..at + piece.len()].copy_from_slice(piece);
 }

@@ -1,6 +1,6 @@
 // What can be written.
-ghost use Rattle.std.specs.Prelude.{◌≡◌, None, option_map};
-ghost use Rattle.json_print.specs.Standing.{TurnTakesValue};
+ghost use Rattle.std.specs.Prelude.{◌≡◌, option_map};
+ghost use Rattle.json_print.specs.Standing.{AcceptsValue};
 ghost use Rattle.json_model.specs.Datum.{Datum, key_of};
 ghost use Rattle.json_print.specs.Data.{parts};
 ghost use Rattle.json_write.specs.Writing.{WritesDatumTokens};
@@ -25,7 +25,7 @@ pub trait Serialize {
     /// key has no text, those before the first such key are given, and `SerExpectKeyIsStrOrNum` is answered. Where the
     /// events had answered an error it is answered again, and nothing changes; else a value may come there.
     fn serialize<E: Events>(&self, out: &mut E) -> Result<()>
-        requires { E.failed out.old ≡ None → TurnTakesValue (E.stand (E.state out.old)).turn }
+        requires { AcceptsValue (E.failed out.old) (E.stand (E.state out.old)) }
         ensures { WritesDatumTokens E.after E.stopped (E.state out.old) (E.state out.new)
             (E.failed out.old) (E.failed out.new)
             (parts (datum self.now)) result };

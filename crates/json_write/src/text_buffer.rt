@@ -4,6 +4,7 @@ ghost use Rattle.std.specs.Io.{WritesAtMost};
 ghost use Rattle.std.specs.Fmt.{decimal};
 ghost use Rattle.json_model.specs.Print.{quoted};
 ghost use Rattle.json_io.specs.Outside.{Writes, Flushes};
+ghost use Rattle.json_write.specs.TextState.{PutsQuoted};
 
 use crate::escaping::{ESCAPED, place_escaped};
 use crate::lead::Lead;
@@ -90,8 +91,7 @@ impl TextBuffer {
     // Where that cannot be done nothing is appended.
     #[inline(always)]
     fn put_short(&mut self, lead: Lead, text: &[u8]) -> bool
-        ensures put { IsTrue result → buffered self.new
-            ≡ buffered self.old ++ (lead_bytes lead ++ quoted text.now) }
+        ensures put { PutsQuoted lead text.now self.old self.new result }
         ensures kept { result ≡ false → buffered self.new ≡ buffered self.old }
     {
         if self.bytes.len() - self.end < ITEM {
@@ -111,8 +111,7 @@ impl TextBuffer {
     #[inline(always)]
     fn put_escaped(&mut self, lead: Lead, text: &[u8]) -> bool
         requires { length text.now ≤ 1024 }
-        ensures { IsTrue result → buffered self.new
-            ≡ buffered self.old ++ (lead_bytes lead ++ quoted text.now) }
+        ensures { PutsQuoted lead text.now self.old self.new result }
     {
         if !self.has_room(6 * text.len() + ESCAPED) {
             return false;
@@ -128,8 +127,7 @@ impl TextBuffer {
     // Appends a string that is not short or has to be escaped.
     #[inline(never)]
     fn put_long(&mut self, lead: Lead, text: &str) -> bool
-        ensures { IsTrue result → buffered self.new
-            ≡ buffered self.old ++ (lead_bytes lead ++ quoted text.now) }
+        ensures { PutsQuoted lead text.now self.old self.new result }
     {
         if text.len() <= LONG {
             return self.put_escaped(lead, text.as_bytes());
@@ -151,8 +149,7 @@ impl TextBuffer {
     /// The same in line, so that a short string that is known beforehand is tested beforehand.
     #[inline(always)]
     pub(crate) fn put_constant(&mut self, lead: Lead, text: &str) -> bool
-        ensures { IsTrue result → buffered self.new
-            ≡ buffered self.old ++ (lead_bytes lead ++ quoted text.now) }
+        ensures { PutsQuoted lead text.now self.old self.new result }
     {
         self.put_short(lead, text.as_bytes()) || self.put_long(lead, text)
     }

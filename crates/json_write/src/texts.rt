@@ -1,8 +1,7 @@
 // Texts in memory.
-ghost use Rattle.std.specs.Prelude.{◌≡◌, ◌⊎◌, None, Some, IfOk, IfErr, IsUtf8, string_bytes};
-ghost use Rattle.json_io.specs.Errors.{no_memory, key_refused};
-ghost use Rattle.json_model.specs.Datum.{tree_of_datum};
+ghost use Rattle.std.specs.Prelude.{◌≡◌, None, Some, IfOk, IsUtf8, string_bytes};
 ghost use Rattle.json_write.specs.Sending.{datum_text, two_spaces};
+ghost use Rattle.json_write.specs.Building.{FailsOnKeyText};
 
 use crate::Serialize;
 use crate::text_writer::TextWriter;
@@ -14,8 +13,7 @@ use std::alloc::Global;
 pub fn to_vec<T: Serialize>(alloc: Global, value: &T) -> Result<Vec<u8>>
     ensures ok { IfOk result (λ v. datum_text None (T.datum value.now) ≡ Some v.items) }
     ensures utf8 { IfOk result (λ v. IsUtf8 v.items) }
-    ensures err { IfErr result (λ e. (e ≡ no_memory)
-        ⊎ ((e ≡ key_refused) × (tree_of_datum (T.datum value.now) ≡ None))) }
+    ensures err { FailsOnKeyText (T.datum value.now) result }
 {
     let mut out = TextWriter::new(alloc);
     value.serialize(&mut out)?;
@@ -27,8 +25,7 @@ pub fn to_vec<T: Serialize>(alloc: Global, value: &T) -> Result<Vec<u8>>
 pub fn to_vec_pretty<T: Serialize>(alloc: Global, value: &T) -> Result<Vec<u8>>
     ensures ok { IfOk result (λ v. datum_text two_spaces (T.datum value.now) ≡ Some v.items) }
     ensures utf8 { IfOk result (λ v. IsUtf8 v.items) }
-    ensures err { IfErr result (λ e. (e ≡ no_memory)
-        ⊎ ((e ≡ key_refused) × (tree_of_datum (T.datum value.now) ≡ None))) }
+    ensures err { FailsOnKeyText (T.datum value.now) result }
 {
     let mut out = Serializer::pretty(alloc, VecSink::new(alloc));
     value.serialize(&mut out)?;
@@ -38,8 +35,7 @@ pub fn to_vec_pretty<T: Serialize>(alloc: Global, value: &T) -> Result<Vec<u8>>
 /// The compact text of the value's tree. A refusal comes exactly where a key has no text, but for `NoMemory`.
 pub fn to_string<T: Serialize>(alloc: Global, value: &T) -> Result<String>
     ensures ok { IfOk result (λ s. datum_text None (T.datum value.now) ≡ Some (string_bytes s)) }
-    ensures err { IfErr result (λ e. (e ≡ no_memory)
-        ⊎ ((e ≡ key_refused) × (tree_of_datum (T.datum value.now) ≡ None))) }
+    ensures err { FailsOnKeyText (T.datum value.now) result }
 {
     let bytes = to_vec(alloc, value)?;
     Ok(unsafe { String::from_utf8_unchecked(bytes) })
@@ -50,8 +46,7 @@ pub fn to_string<T: Serialize>(alloc: Global, value: &T) -> Result<String>
 pub fn to_string_pretty<T: Serialize>(alloc: Global, value: &T) -> Result<String>
     ensures ok { IfOk result (λ s.
         datum_text two_spaces (T.datum value.now) ≡ Some (string_bytes s)) }
-    ensures err { IfErr result (λ e. (e ≡ no_memory)
-        ⊎ ((e ≡ key_refused) × (tree_of_datum (T.datum value.now) ≡ None))) }
+    ensures err { FailsOnKeyText (T.datum value.now) result }
 {
     let bytes = to_vec_pretty(alloc, value)?;
     Ok(unsafe { String::from_utf8_unchecked(bytes) })

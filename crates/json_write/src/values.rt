@@ -1,6 +1,6 @@
 // Values and views.
-ghost use Rattle.std.specs.Prelude.{◌≡◌, None, map, option_map};
-ghost use Rattle.json_print.specs.Standing.{TurnTakesValue};
+ghost use Rattle.std.specs.Prelude.{map, option_map};
+ghost use Rattle.json_print.specs.Standing.{AcceptsValue};
 ghost use Rattle.json_number.specs.Numbers.{value_of};
 ghost use Rattle.json_value.specs.Denotes.{tree_of, list_in, pairs_in};
 ghost use Rattle.json_value.specs.Seen.{seen, elements_seen, members_seen};
@@ -61,7 +61,7 @@ impl Serialize for Value {
 }
 
 fn serialize_elements<E: Events>(view: ArrayView<'_>, out: &mut E) -> Result<()>
-    requires { E.failed out.old ≡ None → TurnTakesValue (E.stand (E.state out.old)).turn }
+    requires { AcceptsValue (E.failed out.old) (E.stand (E.state out.old)) }
     ensures { WritesDatumTokens E.after E.stopped (E.state out.old) (E.state out.new)
         (E.failed out.old) (E.failed out.new)
         (parts (list_datum (list_data (map tree_datum (elements_seen view.entry))))) result }
@@ -90,7 +90,7 @@ impl Serialize for Container<Value> {
 }
 
 fn serialize_members<E: Events>(view: ObjectView<'_>, out: &mut E) -> Result<()>
-    requires { E.failed out.old ≡ None → TurnTakesValue (E.stand (E.state out.old)).turn }
+    requires { AcceptsValue (E.failed out.old) (E.stand (E.state out.old)) }
     ensures { WritesDatumTokens E.after E.stopped (E.state out.old) (E.state out.new)
         (E.failed out.old) (E.failed out.new)
         (parts (rows_datum (list_rows

@@ -1,9 +1,9 @@
 // From the bytes of a source to the bytes of a sink.
-ghost use Rattle.std.specs.Prelude.{◌+◌, ◌<◌, ◌^◌, length, map, OnOk, IfErr, IsOkUnless};
+ghost use Rattle.std.specs.Prelude.{◌<◌, ◌^◌, length, map, OnOk, IfErr, IsOkUnless};
 ghost use Rattle.json_value.specs.Edits.{edit_of};
 ghost use Rattle.json_io.specs.Errors.{no_memory};
 ghost use Rattle.json_text.specs.Ruled.{rules_of, usual_rules};
-ghost use Rattle.json_io.specs.Transfer.{TakesAtMost};
+ghost use Rattle.json_io.specs.Transfer.{TakesOneBeyond};
 ghost use Rattle.json_command.specs.Input.{max_bytes};
 ghost use Rattle.reshape.specs.Reshape.{layout_of, Reshapes, ReshapingRefuses};
 ghost use Rattle.json_command.specs.Printing.{ReturnsWriteError};
@@ -33,7 +33,7 @@ fn pass<S: Source, K: Sink>(
     ensures refused { IfErr result (λ e. ReshapingRefuses (rules_of rules) (map edit_of edits.now)
         (layout_of style.entry) (S.state source.old) (S.state source.new)
         (K.state sink.old) (K.state sink.new) e.code e.place) }
-    ensures taken { TakesAtMost (max_bytes + 1) (S.state source.old) (S.state source.new) }
+    ensures taken { TakesOneBeyond max_bytes (S.state source.old) (S.state source.new) }
     ensures read_told { ReturnsReadError (S.state source.old) (S.state source.new) result }
     ensures write_told { ReturnsWriteError (K.state sink.old) (K.state sink.new) result }
 {
@@ -67,7 +67,7 @@ pub fn reshape_with<S: Source, K: Sink>(
     ensures refused { IfErr result (λ e. ReshapingRefuses (rules_of rules) (map edit_of edits.now)
         (layout_of style.entry) (S.state source.old) (S.state source.new)
         (K.state sink.old) (K.state sink.new) e.code e.place) }
-    ensures taken { TakesAtMost (max_bytes + 1) (S.state source.old) (S.state source.new) }
+    ensures taken { TakesOneBeyond max_bytes (S.state source.old) (S.state source.new) }
     ensures read_told { ReturnsReadError (S.state source.old) (S.state source.new) result }
     ensures write_told { ReturnsWriteError (K.state sink.old) (K.state sink.new) result }
     ensures complete { KnownFit (rules_of rules) (map edit_of edits.now)
@@ -97,7 +97,7 @@ pub fn reshape<S: Source, K: Sink>(
     ensures refused { IfErr result (λ e. ReshapingRefuses usual_rules (map edit_of edits.now)
         (layout_of style.entry) (S.state source.old) (S.state source.new)
         (K.state sink.old) (K.state sink.new) e.code e.place) }
-    ensures taken { TakesAtMost (max_bytes + 1) (S.state source.old) (S.state source.new) }
+    ensures taken { TakesOneBeyond max_bytes (S.state source.old) (S.state source.new) }
     ensures read_told { ReturnsReadError (S.state source.old) (S.state source.new) result }
     ensures write_told { ReturnsWriteError (K.state sink.old) (K.state sink.new) result }
     ensures complete { KnownFit usual_rules (map edit_of edits.now)

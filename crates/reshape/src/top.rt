@@ -1,8 +1,8 @@
 // The top call.
-ghost use Rattle.std.specs.Prelude.{ℕ, ◌+◌, ◌≡◌, ◌≢◌, ◌⊎◌, ◌<◌, OnOk, IfErr};
+ghost use Rattle.std.specs.Prelude.{ℕ, ◌≡◌, ◌≢◌, ◌⊎◌, OnOk, IfErr};
 ghost use Rattle.json_io.specs.declared.error.ErrorCode.{ErrorCode};
 ghost use Rattle.json_io.specs.declared.error.Place.{Place};
-ghost use Rattle.json_io.specs.Transfer.{TakesAtMost};
+ghost use Rattle.json_io.specs.Transfer.{TakesOneBeyond};
 ghost use Rattle.json_command.specs.Input.{max_bytes};
 ghost use Rattle.json_model.specs.Edit.{Refusal};
 ghost use Rattle.reshape.specs.Options.{IsAsked, IsMaking};
@@ -11,6 +11,7 @@ ghost use Rattle.json_command.specs.Reading.{ReturnsReadError};
 ghost use Rattle.json_command.specs.Reporting.{StatusReports};
 ghost use Rattle.reshape.specs.Run.{Did, Fails, Done, ReportsRunError, IsGood, IsBad, IsUnfit};
 ghost use Rattle.reshape.specs.Known.{edit_refused};
+ghost use Rattle.json_command.specs.Statuses.{ReturnsReadStatus, ReturnsWriteStatus};
 
 use crate::command::Asked;
 use crate::made::write_summary;
@@ -31,7 +32,7 @@ fn carry_out<S: Source, K: Sink>(
     ensures unread { IsMaking words.now → S.state source.new ≡ S.state source.old }
     ensures refused { IfErr result (λ e. Fails words.now (S.state source.old) (S.state source.new)
         (K.state sink.old) (K.state sink.new) e.code e.place) }
-    ensures taken { TakesAtMost (max_bytes + 1) (S.state source.old) (S.state source.new) }
+    ensures taken { TakesOneBeyond max_bytes (S.state source.old) (S.state source.new) }
     ensures read_told { ReturnsReadError (S.state source.old) (S.state source.new) result }
     ensures write_told { ReturnsWriteError (K.state sink.old) (K.state sink.new) result }
 {
@@ -61,9 +62,9 @@ pub fn run<S: Source, K: Sink, E: Sink>(
     ensures refused { result ≢ 0 → ReportsRunError result words.now
         (S.state source.old) (S.state source.new)
         (K.state sink.old) (K.state sink.new) (E.state errs.old) (E.state errs.new) }
-    ensures taken { TakesAtMost (max_bytes + 1) (S.state source.old) (S.state source.new) }
-    ensures read_told { (S.state source.old).faults < (S.state source.new).faults → result ≡ 4 }
-    ensures write_told { (K.state sink.old).faults < (K.state sink.new).faults → result ≡ 5 }
+    ensures taken { TakesOneBeyond max_bytes (S.state source.old) (S.state source.new) }
+    ensures read_told { ReturnsReadStatus (S.state source.old) (S.state source.new) result }
+    ensures write_told { ReturnsWriteStatus (K.state sink.old) (K.state sink.new) result }
     ensures complete { IsGood words.now (S.state source.old) (S.state source.new)
         (K.state sink.old) (K.state sink.new) → (result ≡ 0) ⊎ (result ≡ 6) }
     ensures unfit { (number : ℕ) (why : Refusal)

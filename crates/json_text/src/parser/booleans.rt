@@ -4,7 +4,7 @@ ghost use Rattle.json_grammar.specs.Grammar.{boolean_bytes};
 ghost use Rattle.json_text.specs.declared.event.Event.TheVariants as Event;
 ghost use Rattle.json_text.specs.Literals.{WordTo};
 ghost use Rattle.json_text.specs.NextLiterals.{LiteralNext};
-ghost use Rattle.json_text.specs.Parsing.{SameInput, IsWhole, Goes, IsTight, HasRead};
+ghost use Rattle.json_text.specs.Parsing.{SameInput, IsWhole, Goes, IsTight, ReadsWholeOnSome};
 
 use crate::parser::Parser;
 use crate::parser::expected::takes_value;
@@ -78,7 +78,7 @@ impl<'a> Parser<'a> {
         ensures failure { self.new.failure ≡ None }
         ensures ok { IfSome result (λ b. Goes self.old (Event.Bool b) self.new) }
         ensures tight { IfSome result (λ b. IsTight self.old (Event.Bool b) self.new) }
-        ensures reads { IfSome result (λ _. IsWhole self.new → HasRead self.new) }
+        ensures reads { ReadsWholeOnSome self.new result }
         ensures kept { result ≡ None → self.new ≡ self.old }
         ensures some { IfSome result (λ b. LiteralNext self.old (boolean_bytes b)) }
         ensures none { result ≡ None → (b : Bool) → ¬ (LiteralNext self.old (boolean_bytes b)) }

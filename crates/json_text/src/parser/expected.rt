@@ -3,7 +3,7 @@ ghost use Rattle.std.specs.Prelude.{◌≡◌, ◌≤◌, ◌↔◌, None, true,
 ghost use Rattle.std.specs.Str.{all_ascii_digits};
 ghost use Rattle.std.specs.Str.Parse.{digits_value};
 ghost use Rattle.json_text.specs.declared.event.Event.TheVariants as Event;
-ghost use Rattle.json_text.specs.Parsing.{SameInput, IsWhole, Goes, IsTight, HasRead};
+ghost use Rattle.json_text.specs.Parsing.{SameInput, IsWhole, Goes, IsTight, ReadsWholeOnSome};
 ghost use Rattle.json_text.specs.Nexts.{IntegerNext, TextNext, NameNext};
 ghost use Rattle.json_grammar.specs.Place.{TakesValue, TakesKey};
 
@@ -78,7 +78,7 @@ impl<'a> Parser<'a> {
             × (length n.literal.now ≤ 19)) }
         ensures value { IfSome result (λ n. n.value ≡ digits_value 10 n.literal.now) }
         ensures most { IfSome result (λ n. n.value ≤ most) }
-        ensures reads { IfSome result (λ _. IsWhole self.new → HasRead self.new) }
+        ensures reads { ReadsWholeOnSome self.new result }
         ensures kept { result ≡ None → self.new ≡ self.old }
         ensures some { OnSome result (IntegerNext self.old most) }
         ensures none { result ≡ None → ¬ (IntegerNext self.old most) }
@@ -116,7 +116,7 @@ impl<'a> Parser<'a> {
         ensures failure { self.new.failure ≡ None }
         ensures ok { IfSome result (λ s. Goes self.old (Event.Str s) self.new) }
         ensures tight { IfSome result (λ s. IsTight self.old (Event.Str s) self.new) }
-        ensures reads { IfSome result (λ _. IsWhole self.new → HasRead self.new) }
+        ensures reads { ReadsWholeOnSome self.new result }
         ensures kept { result ≡ None → self.new ≡ self.old }
         ensures some { OnSome result (TextNext self.old) }
         ensures none { result ≡ None → ¬ (TextNext self.old) }
@@ -148,7 +148,7 @@ impl<'a> Parser<'a> {
         ensures failure { self.new.failure ≡ None }
         ensures ok { IfSome result (λ s. Goes self.old (Event.Key s) self.new) }
         ensures tight { IfSome result (λ s. IsTight self.old (Event.Key s) self.new) }
-        ensures reads { IfSome result (λ _. IsWhole self.new → HasRead self.new) }
+        ensures reads { ReadsWholeOnSome self.new result }
         ensures kept { result ≡ None → self.new ≡ self.old }
         ensures some { OnSome result (NameNext self.old) }
         ensures none { result ≡ None → ¬ (NameNext self.old) }

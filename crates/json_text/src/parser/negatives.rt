@@ -4,7 +4,7 @@ ghost use Rattle.std.specs.Str.{all_ascii_digits};
 ghost use Rattle.std.specs.Str.Parse.{digits_value};
 ghost use Rattle.json_text.specs.declared.event.Event.TheVariants as Event;
 ghost use Rattle.json_text.specs.NextLiterals.{NegativeNext};
-ghost use Rattle.json_text.specs.Parsing.{SameInput, IsWhole, Goes, IsTight, HasRead};
+ghost use Rattle.json_text.specs.Parsing.{SameInput, IsWhole, Goes, IsTight, ReadsWholeOnSome};
 
 use crate::integer::negative_at;
 use crate::parser::Parser;
@@ -55,7 +55,7 @@ impl<'a> Parser<'a> {
         ensures magnitude { IfSome result (λ n. n.magnitude
             ≡ digits_value 10 (drop 1 n.literal.now)) }
         ensures least { IfSome result (λ n. (0 < n.magnitude) × (n.magnitude ≤ least)) }
-        ensures reads { IfSome result (λ _. IsWhole self.new → HasRead self.new) }
+        ensures reads { ReadsWholeOnSome self.new result }
         ensures kept { result ≡ None → self.new ≡ self.old }
         ensures some { OnSome result (NegativeNext self.old least) }
         ensures none { result ≡ None → ¬ (NegativeNext self.old least) }

@@ -1,7 +1,7 @@
 // Edits, applied.
 ghost use Rattle.std.specs.Prelude.{◌≡◌, OnOk, OnErr};
 ghost use Rattle.json_model.specs.Edit.{removed, edited_once};
-ghost use Rattle.json_value.specs.Denotes.{tree_of, text_bytes};
+ghost use Rattle.json_value.specs.Denotes.{tree_of, text_bytes, KeepsTreeOnErr};
 ghost use Rattle.json_value.specs.Edits.{step_of, edit_path, edit_of, change_of, Makes, FailsAs, inserted_in, pushed_in};
 ghost use Rattle.json_value.specs.Places.{value_origin};
 ghost use Rattle.json_value.specs.Touched.{ArrayTouched, ObjectTouched, Inserts, Pushes, RemovalTouches, ChangeTouches, Touches, Same, ArrayKept, ObjectKept, RemovalKeeps, ChangeKeeps, KeepsOnRefusal};
@@ -130,7 +130,7 @@ impl Value {
 fn apply_in<V: Places>(target: &mut V, alloc: Global, edit: &Edit) -> Result<()>
     ensures ok { OnOk result (Makes (edited_once (edit_of edit.now) (tree_of (V.held target.old)))
         (V.held target.new)) }
-    ensures kept { OnErr result (tree_of (V.held target.new) ≡ tree_of (V.held target.old)) }
+    ensures kept { KeepsTreeOnErr (V.held target.old) (V.held target.new) result }
     ensures refused { FailsAs (edited_once (edit_of edit.now) (tree_of (V.held target.old)))
         result }
     ensures children { OnOk result (Touches (edit_path edit.now) edit.now (V.held target.old)
