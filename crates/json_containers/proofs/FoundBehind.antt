@@ -6,7 +6,7 @@ use Rattle.json_model.specs.Edit.{has_key}
 use Rattle.json_model.specs.Sort.{values_of}
 use Rattle.json_model.proofs.Members.{values_of-inserted, other_values, has_key-without_key, pairs_list-without_key}
 use Rattle.json_value.specs.Seen.{first_of}
-use Rattle.json_value.proofs.Trees.{pairs_again}
+use Rattle.json_doc_print.proofs.Trees.{pairs_again}
 use Rattle.json_containers.specs.Laws.{InsertIsFound, RemoveLeavesNone}
 use Rattle.json_containers.specs.Members.{found}
 

@@ -15,7 +15,7 @@ use Rattle.json_value.specs.declared.value.Value.{Value}
 use Rattle.json_history.specs.ChangeTrees.{removed_member}
 use Rattle.json_value.specs.declared.path.Edit.TheVariants.{Set, Insert, Push, Remove}
 use Rattle.json_value.specs.declared.path.PointerNode.TheVariants.{Key, Index}
-use Rattle.json_value.proofs.Trees.{pairs_back, pairs_again}
+use Rattle.json_doc_print.proofs.Trees.{pairs_back, pairs_again}
 use Rattle.json_doc.proofs.Trees.{list_back}
 use Rattle.json_history.specs.Lookup.{lookup_step, lookup}
 use Rattle.json_history.specs.Change.{TreeChange, put, put_pairs, insert_change, change, members_named, put_back}

@@ -8,7 +8,7 @@ use Rattle.json_grammar.specs.Tree.{Tree, list_pairs}
 use Rattle.json_doc.specs.Seen.{view_tree}
 use Rattle.json_doc.specs.Readings.{elements}
 use Rattle.json_model.specs.Edit.{Step, key_step}
-use Rattle.json_value.specs.Readings.{members}
+use Rattle.json_doc_print.specs.Readings.{members}
 use Rattle.json_value.specs.Seen.{array_form_seen, elements_seen, first_of, members_seen, object_form_seen}
 use Rattle.json_value.specs.SightParts.{array_form_sights, elements_sights, sight_members, members_sights, object_form_sights, sight_after, sight_along}
 use Rattle.json_value.specs.Sights.{Sight}

@@ -7,7 +7,7 @@ use Rattle.json_grammar.specs.Sizes.{nodes, trees_nodes}
 use Rattle.json_grammar.specs.Tree.{Tree, null, boolean, num, text, list, pairs, Trees, tree_and, trees_list, list_trees, Pairs, list_pairs}
 use Rattle.json_model.specs.Edit.{has_key}
 use Rattle.json_model.specs.Same.{first_value, same}
-use Rattle.json_value.proofs.Trees.{list_again}
+use Rattle.json_doc_print.proofs.Trees.{list_again}
 use Rattle.json_patch.specs.Pointer.{ReferenceToken, slash, escaped_token}
 use Rattle.json_patch.specs.Patch.{Operation, add, remove, replace}
 use Rattle.json_patch.specs.Merge.{members_or_none}

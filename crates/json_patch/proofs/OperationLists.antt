@@ -2,7 +2,7 @@
 use Rattle.std.proofs.Common.{◌≡◌, ℕ, zero, suc, ◌+◌, ◌≤◌, List, [], ◌∷◌, ◌++◌, append_assoc, Option, Some, None, Result, Ok, Err, refl, sym, ap, ◌∙◌, drop, length, add-one, arith}
 use Rattle.std.specs.Prelude.{slice_get}
 use Rattle.json_grammar.specs.Tree.{Tree, list, list_trees}
-use Rattle.json_value.proofs.Trees.{list_again}
+use Rattle.json_doc_print.proofs.Trees.{list_again}
 use Rattle.json_patch.specs.Patch.{Operation, PatchFailure, applied, applied_from, operation_of, operations_from, bad_patch, patched}
 use Rattle.json_patch.specs.Errors.{with_number}
 

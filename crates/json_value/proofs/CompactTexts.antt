@@ -6,7 +6,7 @@ use Rattle.json_grammar.specs.Tree.{Tree, null, boolean, num, text, list, pairs,
 use Rattle.json_model.specs.Print.{shown, trees_shown, more_trees_shown, pairs_shown, more_pairs_shown, quoted}
 use Rattle.json_print.specs.Calls.{comma}
 use Rattle.json_value.specs.Seen.{list_of, object_pairs}
-use Rattle.json_value.proofs.Trees.{array_back, object_back}
+use Rattle.json_doc_print.proofs.Trees.{array_back, object_back}
 
 -- ---- with no indent a level is like the other
 

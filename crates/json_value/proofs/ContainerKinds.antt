@@ -7,7 +7,7 @@ use Rattle.json_value.specs.Seen.{list_of, object_pairs}
 use Rattle.json_value.specs.declared.container.Container.{Container}
 use Rattle.json_value.specs.declared.pair.Keyed.{Keyed}
 use Rattle.json_value.specs.declared.value.Value.{Value, Array, Object}
-use Rattle.json_value.proofs.Trees.{list_again, pairs_again}
+use Rattle.json_doc_print.proofs.Trees.{list_again, pairs_again}
 use Rattle.json_value.proofs.ValueLevels.{array_tree, object_tree}
 
 pub list_read : (v : Value) (a b : Container Value) → v ≡ Array a → list_in b ≡ list_in a → list_of (tree_of v) ≡ Some (list_in b)

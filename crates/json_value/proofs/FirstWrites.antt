@@ -13,7 +13,7 @@ use Rattle.json_doc.specs.declared.json_type.JsonType.TheVariants as kind
 use Rattle.json_value.specs.Denotes.{tree_of, pair_of, form_list, form_pairs}
 use Rattle.json_value.specs.Laws.{FirstElementsAreRead, FirstMembersAreRead, FirstElementsStay, FirstMembersStay, PackedArrayStands, PackedObjectStands, ArrayStandsAsPlace, ObjectStandsAsPlace, PlacesOfElements, PlacesOfMembers}
 use Rattle.json_value.specs.Places.{places_in, member_places}
-use Rattle.json_value.specs.Readings.{members}
+use Rattle.json_doc_print.specs.Readings.{members}
 use Rattle.json_value.specs.Rows.{owned_items, IsOwned}
 use Rattle.json_value.specs.Said.{place_tree}
 use Rattle.json_value.specs.Spots.{CellRef, spot_in, spot_tree, spot_of, spot_of_text, kind_spot, form_spot, kept_spot, IsPacked, FirstList, FirstPairs}

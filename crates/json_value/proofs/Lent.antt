@@ -15,7 +15,7 @@ use Rattle.json_doc.specs.Readings.{elements, type_of}
 use Rattle.json_doc.specs.declared.json_type.JsonType.TheVariants as kind
 use Rattle.json_model.specs.Edit.{Step, Changed, not_found, type_unmatched, within, at_path, at_key, at_index, on_list, on_pairs, inserted, pushed, has_key, key_step, index_step}
 use Rattle.json_model.proofs.Members.{at_key-absent}
-use Rattle.json_value.specs.Readings.{members}
+use Rattle.json_doc_print.specs.Readings.{members}
 use Rattle.json_value.specs.Denotes.{tree_of, pair_of, text_bytes}
 use Rattle.json_value.specs.Edits.{RefusesChange}
 use Rattle.json_value.specs.FirstMember.{IsFirstOf}
@@ -27,7 +27,7 @@ use Rattle.json_value.specs.declared.value.Value.{Value, Null, Object}
 use Rattle.json_value.specs.declared.pair.Keyed.{Keyed}
 use Rattle.json_value.specs.declared.text.Text.{Text}
 use Rattle.json_value.proofs.ValueLevels.{null_tree, object_tree}
-use Rattle.json_value.proofs.Trees.{list_again, pairs_again}
+use Rattle.json_doc_print.proofs.Trees.{list_again, pairs_again}
 use Rattle.json_value.proofs.TreeEdits.{split_front, same_key, inserted-beside}
 use Rattle.json_value.proofs.AppliedTrees.{element_got, element_changed, element_missed, element_pushed, pair_got, pair_changed, insert_over}
 

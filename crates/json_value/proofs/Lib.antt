@@ -1,4 +1,3 @@
-pub mod Trees
 pub mod HasLists
 pub mod ValueLevels
 pub mod PlacesRead
@@ -7,8 +6,6 @@ pub mod Integers
 pub mod Copies
 pub mod PlacesKept
 pub mod CompactTexts
-pub mod TokenStands
-pub mod TokensGiven
 pub mod WholeTrees
 pub mod ProperValues
 pub mod GivenTrees
@@ -38,9 +35,6 @@ pub mod FirstWrites
 pub mod WhereStepsLead
 pub mod RefusedCalls
 pub mod EditsAlong
-pub mod KeyOrders
-pub mod KeyFronts
-pub mod Walking
-pub mod ShownTrees
-pub mod SortedTrees
+pub mod OwnedOrders
+pub mod OwnedEntries
 pub mod PrintedTexts

@@ -11,7 +11,7 @@ use Rattle.json_value.specs.declared.container.Form.{Form}
 use Rattle.json_value.specs.declared.container.Form.TheVariants.{Packed}
 use Rattle.json_value.specs.declared.pair.Keyed.{Keyed}
 use Rattle.json_value.specs.declared.value.Value.{Value, Array, Object}
-use Rattle.json_value.proofs.Trees.{array_back, object_back}
+use Rattle.json_doc_print.proofs.Trees.{array_back, object_back}
 use Rattle.json_value.proofs.ValueLevels.{array_tree, object_tree}
 
 -- an array that is a place of one

@@ -1,23 +1,24 @@
 -- Values that are read at places of documents.
-use Rattle.std.proofs.Common.{◌≡◌, ℕ, ◌+◌, ◌-◌, List, [], ◌∷◌, Option, Some, None, length, refl, sym, ap, ◌∙◌, arith}
+use Rattle.std.proofs.Common.{◌≡◌, ℕ, ◌+◌, ◌-◌, List, [], ◌∷◌, Option, Some, None, length, refl, sym, ap, ◌∙◌, arith, ℤ}
 use Rattle.std.specs.Prelude.{slice_get}
-use Rattle.json_grammar.specs.Tree.{Tree, text, list, pairs, no_trees, tree_and, no_pairs, pair_and, list_trees, list_pairs}
+use Rattle.json_grammar.specs.Tree.{Tree, text, list, pairs, no_trees, tree_and, no_pairs, pair_and, list_trees, list_pairs, num}
 use Rattle.json_doc.specs.Docs.{doc_tree}
 use Rattle.json_doc.specs.Seen.{view_doc, view_place, view_tree}
 use Rattle.json_doc.specs.Readings.{type_of, elements, children}
 use Rattle.json_doc.specs.declared.doc.Doc.{Doc}
 use Rattle.json_doc.specs.declared.view.DocView.{DocView}
 use Rattle.json_doc.specs.declared.json_type.JsonType.TheVariants as kind
-use Rattle.json_value.specs.Readings.{members, text_said}
+use Rattle.json_doc_print.specs.Readings.{members, text_said}
 use Rattle.json_value.specs.Denotes.{tree_of, pair_of, text_bytes}
 use Rattle.json_value.specs.Said.{place_tree}
-use Rattle.json_value.specs.Spots.{CellRef, spot_in, spot_of, spot_of_text, kept_spot, read_spot, member_spots, read_member_spots}
+use Rattle.json_value.specs.Spots.{CellRef, spot_in, spot_of, spot_of_text, kept_spot, read_spot, member_spots, read_member_spots, kept_number}
 use Rattle.json_value.specs.declared.place.Place.{Place}
 use Rattle.json_value.specs.declared.pair.Keyed.{Keyed}
 use Rattle.json_value.specs.declared.container.Form.TheVariants.{Empty, Packed}
 use Rattle.json_value.specs.declared.value.Value.{Value, Array, Object}
-use Rattle.json_value.proofs.Trees.{array_back, object_back, no_array, no_object}
+use Rattle.json_doc_print.proofs.Trees.{array_back, object_back, no_array, no_object}
 use Rattle.json_value.proofs.ValueLevels.{array_tree, object_tree}
+use Rattle.json_number.specs.Integers.{integer_in}
 
 -- the tree at a place of the same document
 pub same_place : (p : Place) (d : Doc) (at : ℕ) → p.doc.value ≡ d → p.at ≡ at → place_tree p ≡ doc_tree d at
@@ -60,3 +61,7 @@ member_stands d at key_at m rest places e f g h =
     let next : at ≡ key_at + 1 = cc in
     let before : key_at ≡ at - 1 = omega arith in
     ap (λ (s : Option CellRef). (s, spot_of m.value)) (g ∙ ap (λ (n : ℕ). Some (spot_in d n)) before) ∙ ap (λ (s : Option CellRef). (Some (spot_in d (at - 1)), s)) h
+
+-- which numbers are kept as places
+pub integer_kept : (l : List ℕ) (n : ℤ) (s : CellRef) → integer_in l ≡ Some n → kept_spot (num l) s ≡ None
+integer_kept l n s e = ap (λ (o : Option ℤ). kept_number o s) e

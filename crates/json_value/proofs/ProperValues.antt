@@ -6,7 +6,7 @@ use Rattle.json_number.proofs.Forms.{reads}
 use Rattle.json_doc.specs.Readings.{elements}
 use Rattle.json_doc.proofs.Properness.{doc_proper}
 use Rattle.json_value.specs.Denotes.{tree_of, pair_of, list_in, pairs_in, literal_bytes}
-use Rattle.json_value.specs.Readings.{members}
+use Rattle.json_doc_print.specs.Readings.{members}
 use Rattle.json_value.specs.Rows.{keyed_so}
 use Rattle.json_value.specs.Said.{place_tree}
 use Rattle.json_value.specs.declared.container.Form.{Form}
@@ -18,7 +18,7 @@ use Rattle.json_value.specs.declared.value.Value.TheOpen.{Value-F}
 use Rattle.json_value.specs.declared.value.Value.TheVariants.{rolls-Null, rolls-Bool, rolls-Number, rolls-Raw, rolls-Text, rolls-Array, rolls-Object}
 use Rattle.json_value.proofs.StoredTexts.{literal_number, text_utf8}
 use Rattle.json_doc.proofs.Trees.{list_back}
-use Rattle.json_value.proofs.Trees.{pairs_back}
+use Rattle.json_doc_print.proofs.Trees.{pairs_back}
 use Rattle.json_value.proofs.ValueLevels.{null_tree, bool_tree, number_tree, literal_tree, text_tree, array_tree, object_tree}
 
 abbrev Proper : Value → Type 0

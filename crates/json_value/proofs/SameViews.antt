@@ -14,7 +14,7 @@ use Rattle.json_model.proofs.Equality.{first_agree}
 use Rattle.json_value.specs.SameMembers.{value_at, keys_in, agree_at}
 use Rattle.json_value.specs.Seen.{list_of, object_pairs, first_of}
 use Rattle.json_doc.proofs.Trees.{list_back}
-use Rattle.json_value.proofs.Trees.{pairs_back, pairs_again}
+use Rattle.json_doc_print.proofs.Trees.{pairs_back, pairs_again}
 
 -- ---- what is seen
 

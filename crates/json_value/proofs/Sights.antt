@@ -15,7 +15,7 @@ use Rattle.json_value.specs.declared.packed_view.PackedView.{PackedView}
 use Rattle.json_value.specs.declared.pair.Keyed.{Keyed}
 use Rattle.json_value.specs.declared.value.Value.{Value}
 use Rattle.json_value.specs.declared.view.ViewForm.TheVariants as whole
-use Rattle.json_value.proofs.WholeTrees.{map_there}
+use Rattle.json_doc_print.proofs.Items.{map_there}
 
 -- what stands in a row, seen with its number
 got_numbered : {X Y : Type 0} (f : ℕ × X → Y) (xs : List X) (n i : ℕ) (x : X) → slice_get xs i ≡ Some x → slice_get (map f (enumerate_from n xs)) i ≡ Some (f (n + i, x))

@@ -1,4 +1,3 @@
-pub mod Readings
 pub mod Said
 pub mod Denotes
 pub mod Edits
@@ -8,8 +7,7 @@ pub mod Rows
 pub mod Room
 pub mod OwnLists
 pub mod Written
-pub mod Emitting
-pub mod KeyOrder
+pub mod OwnedKeys
 pub mod Seen
 pub mod Sights
 pub mod SightParts
@@ -26,5 +24,3 @@ pub mod Lending
 pub mod Laws
 pub mod Failures
 pub mod EditTrees
-pub mod ShownNodes
-pub mod ShowingSorted

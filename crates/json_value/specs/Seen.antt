@@ -5,7 +5,7 @@ use Rattle.json_grammar.specs.Tree.{Tree, list, pairs, trees_list, pairs_list}
 use Rattle.json_doc.specs.Seen.{view_tree}
 use Rattle.json_doc.specs.Readings.{elements}
 use Rattle.json_value.specs.Denotes.{tree_of, pair_of}
-use Rattle.json_value.specs.Readings.{members}
+use Rattle.json_doc_print.specs.Readings.{members}
 use Rattle.json_value.specs.Sights.{sight_tree, form_sight, sight_of}
 use Rattle.json_value.specs.declared.view.View.{View}
 use Rattle.json_value.specs.declared.view.ViewForm.{ViewForm}

@@ -9,7 +9,7 @@ use Rattle.json_doc.specs.Readings.{elements}
 use Rattle.json_doc.specs.Seen.{child_place, view_doc, view_place, view_tree}
 use Rattle.json_doc.specs.declared.doc.Doc.{Doc}
 use Rattle.json_value.specs.Denotes.{text_bytes}
-use Rattle.json_value.specs.Readings.{members}
+use Rattle.json_doc_print.specs.Readings.{members}
 use Rattle.json_value.specs.Said.{place_tree}
 use Rattle.json_value.specs.Seen.{first_of, list_of, object_pairs}
 use Rattle.json_value.specs.Sights.{Sight, whole_value, place_of, nowhere, doc_held, sight_of}

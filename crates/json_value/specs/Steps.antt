@@ -3,7 +3,7 @@ use Rattle.std.specs.Prelude.{ℕ, List, [], ◌∷◌, Option, None, Some, opti
 use Rattle.json_grammar.specs.Tree.{Tree, null}
 use Rattle.json_model.specs.Edit.{Step, key_step, index_step}
 use Rattle.json_doc.specs.Readings.{elements}
-use Rattle.json_value.specs.Readings.{members}
+use Rattle.json_doc_print.specs.Readings.{members}
 use Rattle.json_value.specs.Seen.{first_of}
 
 -- the key of a key step

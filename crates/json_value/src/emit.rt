@@ -3,13 +3,14 @@ ghost use Rattle.std.specs.Prelude.{map};
 ghost use Rattle.json_grammar.specs.Tree.{list, list_trees, pairs, list_pairs};
 ghost use Rattle.json_print.specs.Standing.{AcceptsValue};
 ghost use Rattle.json_value.specs.Denotes.{tree_of, pair_of};
-ghost use Rattle.json_value.specs.Emitting.{Walks, tree_given};
+ghost use Rattle.json_doc_print.specs.Emitting.{Walks, tree_given};
 
 use crate::container::Form;
-use crate::emit_packed::{emit_elements, emit_members, emit_no_pairs, emit_no_values, emit_number};
 use crate::pair::Pair;
 use crate::value::Value;
-use crate::walk::{Walked, taken};
+use json_doc_print::{
+    Walked, emit_elements, emit_members, emit_no_pairs, emit_no_values, emit_number, taken,
+};
 use json_print::Events;
 
 #[cycle(value)]

@@ -6,7 +6,7 @@ ghost use Rattle.json_model.specs.Print.{shown};
 ghost use Rattle.json_doc.specs.Left.{pairs_doc, places_of_pairs, pairs_left};
 ghost use Rattle.json_value.specs.Denotes.{tree_of, pair_of, pairs_in};
 ghost use Rattle.json_value.specs.Said.{place_tree};
-ghost use Rattle.json_value.specs.Readings.{members};
+ghost use Rattle.json_doc_print.specs.Readings.{members};
 ghost use Rattle.json_value.specs.Rows.{object_row, pair_row, vec_row, owned, owned_items, owned_items_of, IsOwned, OwnsList};
 ghost use Rattle.json_value.specs.Room.{spare_in};
 ghost use Rattle.json_value.specs.Spots.{IsPlace, FirstPairs, PlaceMembers, member_spots, read_member_spots};

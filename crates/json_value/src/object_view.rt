@@ -4,7 +4,7 @@ ghost use Rattle.std.proofs.Props.{props};
 ghost use Rattle.json_doc.specs.Left.{pairs_doc, pairs_left};
 ghost use Rattle.json_doc.specs.Seen.{view_doc, view_place, view_tree};
 ghost use Rattle.json_value.specs.Denotes.{tree_of, pair_of};
-ghost use Rattle.json_value.specs.Readings.{members};
+ghost use Rattle.json_doc_print.specs.Readings.{members};
 ghost use Rattle.json_value.specs.Seen.{seen, members_seen, object_pairs, first_of, member_seen};
 ghost use Rattle.json_value.specs.SightParts.{members_at, member_sight, pair_sight, sight_members, members_sights};
 ghost use Rattle.json_value.specs.Sights.{whole_value, place_of, doc_held, sight_of};

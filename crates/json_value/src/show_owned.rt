@@ -8,9 +8,9 @@ ghost use Rattle.json_value.specs.Denotes.{tree_of, pair_of, text_bytes};
 
 use crate::container::Form;
 use crate::pair::Pair;
-use crate::show_packed::{Showed, show_bool, show_elements, show_members, show_number};
 use crate::text::Text;
 use crate::value::Value;
+use json_doc_print::{Showed, show_bool, show_elements, show_members, show_number};
 use json_print::{BufferedWriter, Layout, show_piece, show_text};
 use json_text::{Sink, SinkError};
 

@@ -5,15 +5,14 @@ ghost use Rattle.json_model.specs.Print.{shown};
 ghost use Rattle.json_model.specs.Sort.{sorted, NeverFall};
 ghost use Rattle.json_print.specs.Showing.{lead};
 ghost use Rattle.json_value.specs.Denotes.{tree_of, pair_of};
-ghost use Rattle.json_value.specs.ShowingSorted.{ShowsOrRunsOut};
+ghost use Rattle.json_doc_print.specs.ShowingSorted.{ShowsOrRunsOut};
 
 use crate::container::Form;
 use crate::key_order::{owned_in_order, owned_never_fall};
 use crate::pair::Pair;
 use crate::show_owned::show_key;
-use crate::show_packed::{Showed, show_bool, show_number};
-use crate::show_sorted_packed::{show_sorted_elements, show_sorted_members};
 use crate::value::Value;
+use json_doc_print::{Showed, show_bool, show_number, show_sorted_elements, show_sorted_members};
 use json_print::{BufferedWriter, Layout, show_piece, show_text};
 use json_text::{Sink, SinkError};
 use std::alloc::Global;

@@ -10,7 +10,7 @@ use crate::array::Array;
 use crate::container::Form;
 use crate::object::Object;
 use crate::show_owned::{show_owned_pairs, show_values};
-use crate::show_packed::{Showed, show_elements, show_members};
+use json_doc_print::{Showed, show_elements, show_members};
 use json_print::{BufferedWriter, OneLine, show_piece};
 use json_text::{Result, Sink, VecSink, flush_all};
 use std::alloc::Global;

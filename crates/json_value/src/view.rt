@@ -22,24 +22,23 @@ ghost use Rattle.json_print.specs.Showing.{RanOut, Shows};
 ghost use Rattle.json_print.specs.Standing.{AcceptsValue};
 ghost use Rattle.json_print.specs.TextWriting.{WritesText};
 ghost use Rattle.json_print.specs.Given.{given_tokens};
-ghost use Rattle.json_value.specs.Emitting.{Emits, Walks, tree_given};
-ghost use Rattle.json_value.specs.ShowingSorted.{ShowsOrRunsOut};
+ghost use Rattle.json_doc_print.specs.Emitting.{Emits, Walks, tree_given};
+ghost use Rattle.json_doc_print.specs.ShowingSorted.{ShowsOrRunsOut};
 ghost use Rattle.json_value.specs.Failures.{OnlyNoMemory};
 
 use crate::array_view::ArrayView;
 use crate::emit::emit_value;
-use crate::emit_packed::emit_document;
 use crate::index::Index;
 use crate::object_view::ObjectView;
 use crate::packed_view::PackedView;
 use crate::path::PointerNode;
 use crate::show_owned::show_value;
-use crate::show_packed::{Showed, show_document};
 use crate::show_sorted::show_sorted_value;
-use crate::show_sorted_packed::show_sorted_document;
 use crate::value::Value;
-use crate::walk::{Stopped, Walked, taken};
 use json_doc::{Doc, DocView, JsonType};
+use json_doc_print::{
+    Showed, Stopped, Walked, emit_document, show_document, show_sorted_document, taken,
+};
 use json_number::Number;
 use json_print::{BufferedWriter, Events, Layout, answered, show_piece};
 use json_text::{Result, Sink};

@@ -10,7 +10,7 @@ use Rattle.json_number.proofs.Integers.{prints_its_literal}
 use Rattle.json_print.specs.Data.{parts, data_parts, rows_parts, before_gap, is_whole}
 use Rattle.json_print.specs.Given.{TokenOrInteger, given}
 use Rattle.json_print.specs.Taking.{after_all}
-use Rattle.json_value.specs.Emitting.{Emits, number_given, tree_given, trees_given, pairs_given}
+use Rattle.json_doc_print.specs.Emitting.{Emits, number_given, tree_given, trees_given, pairs_given}
 use Rattle.json_write.specs.TreeDatum.{number_datum, tree_datum, tree_list_data, tree_member_rows}
 use Rattle.json_write.specs.Writing.{WritesDatumTokens, AreTokensProper}
 

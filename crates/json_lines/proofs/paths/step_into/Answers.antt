@@ -1,7 +1,7 @@
 use Rattle.std.proofs.Common.{sym, ap, ◌∙◌}
 use Rattle.json_doc.specs.Seen.{view_tree}
 use Rattle.json_value.specs.Edits.{step_of}
-use Rattle.json_value.specs.Readings.{members}
+use Rattle.json_doc_print.specs.Readings.{members}
 use Rattle.json_lines.proofs.PathSteps.{key_child}
 use Rattle.json_lines.proofs.paths.step_into.Goals as goal
 

@@ -3,9 +3,8 @@ use Rattle.std.proofs.Output.{has_written_append, has_written_of_eq}
 use Rattle.json_grammar.specs.Sizes.{nodes}
 use Rattle.json_model.specs.Print.{shown}
 use Rattle.json_value.specs.Left.{elements_left, members_left}
-use Rattle.json_value.specs.Seen.{member_seen}
-use Rattle.json_value.specs.Seen.{seen, elements_seen, members_seen}
-use Rattle.json_value.proofs.TokensGiven.{element_within}
+use Rattle.json_value.specs.Seen.{member_seen, seen, elements_seen, members_seen}
+use Rattle.json_doc_print.proofs.TokensGiven.{element_within}
 use Rattle.json_value.proofs.Iterations.{next_got}
 use Rattle.json_value.proofs.CompactTexts.{list_itself, element_shown, pairs_itself, member_shown, member_within, past_end}
 use Rattle.json_value.proofs.display.+text.Goals.{show_elements-in-Some+in_ok-write_str-2+in_ok-show, show_elements-in_default, show_members-in-Some+in_ok-write+in_ok-show, show_members-in_default}

@@ -5,12 +5,13 @@ use Rattle.json_grammar.specs.Tree.{begin, end, key_token, num_token, text_token
 use Rattle.json_grammar.specs.Sizes.{nodes}
 use Rattle.json_value.specs.Denotes.{tree_of, pair_of}
 use Rattle.json_print.specs.Given.{given}
-use Rattle.json_value.specs.Emitting.{tree_given}
-use Rattle.json_value.proofs.TokenStands.{after_append}
-use Rattle.json_value.proofs.TokensGiven.{emits_none, emits_refused, emits_last, stops_one, stops_within, array_given, array_around, array_whole, array_front, array_stand, array_step, object_given, object_around, object_whole, object_front, object_stand, object_step, member_stand, value_within, element_within}
+use Rattle.json_doc_print.specs.Emitting.{tree_given}
+use Rattle.json_doc_print.proofs.TokenStands.{after_append}
+use Rattle.json_doc_print.proofs.TokensGiven.{emits_none, emits_refused, emits_last, stops_one, stops_within, array_given, array_around, array_whole, array_front, array_stand, array_step, object_given, object_around, object_whole, object_front, object_stand, object_step, member_stand, value_within, element_within}
 use Rattle.json_value.proofs.GivenTrees.{literal_given}
-use Rattle.json_value.proofs.Walking.{took, not_taken, told, walks_one, walks_same, halts}
-use Rattle.json_value.proofs.WholeTrees.{null_in, bool_in, number_in, text_in, array_there, object_there, item_there, items_end, key_of_item, tree_of_item}
+use Rattle.json_doc_print.proofs.Walking.{took, not_taken, told, walks_one, walks_same, halts}
+use Rattle.json_value.proofs.WholeTrees.{null_in, bool_in, number_in, text_in, array_there, object_there, key_of_item, tree_of_item}
+use Rattle.json_doc_print.proofs.Items.{item_there, items_end}
 use Rattle.json_value.proofs.emit.+value.Goals as goal
 
 pub emit_value-returns-in-Null : goal.emit_value-returns-in-Null

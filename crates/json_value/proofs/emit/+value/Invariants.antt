@@ -3,7 +3,7 @@ use Rattle.json_grammar.specs.Sizes.{nodes, trees_nodes, pairs_nodes}
 use Rattle.json_grammar.specs.Tree.{list_trees, list_pairs}
 use Rattle.json_print.specs.Taking.{after_all}
 use Rattle.json_value.specs.Denotes.{tree_of, pair_of}
-use Rattle.json_value.proofs.TokensGiven.{array_front, object_front}
+use Rattle.json_doc_print.proofs.TokensGiven.{array_front, object_front}
 use Rattle.json_value.proofs.emit.+value.Given as goal
 
 abbrev pub decreases-emit_value : goal.decreases-emit_value

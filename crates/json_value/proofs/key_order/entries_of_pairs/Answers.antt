@@ -1,7 +1,8 @@
 use Rattle.std.proofs.Common.{◌∷◌, [], ◌++◌, sym, ap, subst, ◌∙◌}
-use Rattle.json_value.specs.KeyOrder.{AreEntries, numbers_in, owned_key}
-use Rattle.json_value.proofs.KeyOrders.{numbers_more}
-use Rattle.json_value.proofs.KeyFronts.{one_more_entry, one_more_number}
+use Rattle.json_doc_print.specs.KeyOrder.{AreEntries, numbers_in}
+use Rattle.json_value.specs.OwnedKeys.{owned_key}
+use Rattle.json_value.proofs.OwnedOrders.{numbers_more}
+use Rattle.json_doc_print.proofs.KeyFronts.{one_more_entry, one_more_number}
 use Rattle.json_value.proofs.key_order.entries_of_pairs.Goals as goal
 
 pub loop-number-preserved : goal.loop-number-preserved

@@ -1,5 +1,6 @@
 use Rattle.std.proofs.Common.{◌≡◌}
-use Rattle.json_value.specs.KeyOrder.{AreEntries, numbers_from, numbers_in, owned_key}
+use Rattle.json_doc_print.specs.KeyOrder.{AreEntries, numbers_in}
+use Rattle.json_value.specs.OwnedKeys.{numbers_from, owned_key}
 use Rattle.json_value.proofs.key_order.entries_of_pairs.Given as goal
 
 abbrev pub invariant-loop-number : goal.invariant-loop-number

@@ -1,7 +1,8 @@
 use Rattle.std.proofs.Common.{length, map, sym, ap, subst, ◌∙◌}
 use Rattle.json_print.specs.Orders.{Rise}
-use Rattle.json_value.specs.KeyOrder.{key_and_number, AreEntries, numbers_in, owned_key}
-use Rattle.json_value.proofs.KeyOrders.{numbers_rise}
+use Rattle.json_doc_print.specs.KeyOrder.{key_and_number, AreEntries, numbers_in}
+use Rattle.json_value.specs.OwnedKeys.{owned_key}
+use Rattle.json_value.proofs.OwnedOrders.{numbers_rise}
 use Rattle.json_value.proofs.key_order.owned_in_order.Goals as goal
 
 pub sort_by_key-requires-clause-entries : goal.sort_by_key-requires-clause-entries

@@ -1,8 +1,8 @@
 use Rattle.std.proofs.Common.{map, sym, ap, subst, ◌∙◌, ◌+◌, drop}
 use Rattle.json_model.specs.Sort.{bytes_less}
 use Rattle.json_value.specs.Denotes.{pair_of}
-use Rattle.json_value.proofs.KeyOrders.{NoneFalls, none_fell, left_at}
-use Rattle.json_value.proofs.WholeTrees.{item_there}
+use Rattle.json_doc_print.proofs.KeyOrders.{NoneFalls, none_fell, left_at}
+use Rattle.json_doc_print.proofs.Items.{item_there}
 use Rattle.json_value.proofs.key_order.owned_never_fall.Goals as goal
 
 pub loop-pair-init : goal.loop-pair-init

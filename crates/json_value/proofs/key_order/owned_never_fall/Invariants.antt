@@ -2,7 +2,7 @@ use Rattle.std.proofs.Common.{drop, map}
 use Rattle.json_grammar.specs.Tree.{list_pairs}
 use Rattle.json_model.specs.Sort.{NeverFall}
 use Rattle.json_value.specs.Denotes.{pair_of}
-use Rattle.json_value.proofs.KeyOrders.{NoneFalls}
+use Rattle.json_doc_print.proofs.KeyOrders.{NoneFalls}
 use Rattle.json_value.proofs.key_order.owned_never_fall.Given as goal
 
 abbrev pub invariant-loop-pair : goal.invariant-loop-pair

@@ -5,7 +5,7 @@ use Rattle.json_doc.specs.Docs.{doc_tree}
 use Rattle.json_doc.specs.Left.{pairs_doc, places_of_pairs, pairs_left, doc_pair}
 use Rattle.json_doc.specs.Seen.{view_doc, view_place, view_tree}
 use Rattle.json_value.specs.Denotes.{tree_of, pair_of, text_bytes}
-use Rattle.json_value.specs.Readings.{text_said}
+use Rattle.json_doc_print.specs.Readings.{text_said}
 use Rattle.json_value.specs.Spots.{spot_in, spot_of, spot_of_text, read_spot, member_spots, read_member_spots}
 use Rattle.json_value.specs.declared.pair.Keyed.{Keyed}
 use Rattle.json_value.specs.declared.value.Value.{Value}

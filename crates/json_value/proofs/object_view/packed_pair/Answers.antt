@@ -1,11 +1,11 @@
 use Rattle.std.proofs.Common.{List, ℕ, Some, sym, ap, ◌∙◌}
 use Rattle.json_grammar.specs.Tree.{Tree}
 use Rattle.json_doc.specs.Seen.{view_doc, view_place, view_tree}
-use Rattle.json_value.specs.Readings.{members}
+use Rattle.json_doc_print.specs.Readings.{members}
 use Rattle.json_value.specs.Sights.{doc_held}
-use Rattle.json_value.proofs.TokensGiven.{key_there, value_there}
+use Rattle.json_doc_print.proofs.TokensGiven.{key_there, value_there}
 use Rattle.json_value.proofs.Sights.{member_got, no_member_got, child_shown}
-use Rattle.json_value.proofs.WholeTrees.{member_there, no_item}
+use Rattle.json_doc_print.proofs.Items.{member_there, no_item}
 use Rattle.json_value.proofs.object_view.packed_pair.Goals as goal
 
 pub returns-in-Some-pair_value-clause-tree : goal.returns-in-Some-pair_value-clause-tree

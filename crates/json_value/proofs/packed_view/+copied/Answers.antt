@@ -6,7 +6,7 @@ use Rattle.json_doc.specs.Seen.{view_tree}
 use Rattle.json_value.specs.Denotes.{tree_of, pair_of}
 use Rattle.json_value.specs.declared.container.Form.TheVariants.{Owned}
 use Rattle.json_value.proofs.ValueLevels.{array_tree, object_tree}
-use Rattle.json_value.proofs.TokensGiven.{list_seen, pairs_seen, tree_among, value_among}
+use Rattle.json_doc_print.proofs.TokensGiven.{list_seen, pairs_seen, tree_among, value_among}
 use Rattle.json_value.proofs.packed_view.+copied.Goals as goal
 
 pub copy_document-copy_children-requires : goal.copy_document-copy_children-requires

@@ -4,9 +4,10 @@ use Rattle.json_grammar.specs.Sizes.{nodes}
 use Rattle.json_model.specs.Print.{shown}
 use Rattle.json_print.proofs.ShownParts.{added_shows, Shows-first, Shows-then, Shows-same}
 use Rattle.json_value.specs.Denotes.{tree_of, pair_of, text_bytes}
-use Rattle.json_value.proofs.ShownTrees.{elements_left, members_left, array_is, object_is, goes_first, goes_last, element_on, element_failed, member_on, key_failed, value_failed, there, none_there}
-use Rattle.json_value.proofs.TokensGiven.{element_within, value_within}
-use Rattle.json_value.proofs.WholeTrees.{object_there, item_there, items_end, tree_of_item}
+use Rattle.json_doc_print.proofs.ShownTrees.{elements_left, members_left, array_is, object_is, goes_first, goes_last, element_on, element_failed, member_on, key_failed, value_failed, there, none_there}
+use Rattle.json_doc_print.proofs.TokensGiven.{element_within, value_within}
+use Rattle.json_value.proofs.WholeTrees.{object_there, tree_of_item}
+use Rattle.json_doc_print.proofs.Items.{item_there, items_end}
 use Rattle.json_value.proofs.show_owned.+shown_value.Goals as goal
 
 pub show_owned_element-returns-in_err-lead : goal.show_owned_element-returns-in_err-lead

@@ -3,7 +3,7 @@ use Rattle.json_grammar.specs.Sizes.{nodes, trees_nodes, pairs_nodes}
 use Rattle.json_grammar.specs.Tree.{list, list_trees, pairs, list_pairs}
 use Rattle.json_model.specs.Print.{shown}
 use Rattle.json_value.specs.Denotes.{tree_of, pair_of}
-use Rattle.json_value.proofs.ShownTrees.{Goes, held, elements_left, members_left}
+use Rattle.json_doc_print.proofs.ShownTrees.{Goes, held, elements_left, members_left}
 use Rattle.json_value.proofs.show_owned.+shown_value.Given as goal
 
 abbrev pub decreases-show_value : goal.decreases-show_value

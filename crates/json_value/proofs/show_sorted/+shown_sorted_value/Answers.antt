@@ -7,16 +7,20 @@ use Rattle.json_model.specs.Sort.{sorted}
 use Rattle.json_print.specs.Showing.{key_shown}
 use Rattle.json_print.proofs.ShownParts.{added_shows, Adds-same, Shows-first, Shows-then, Shows-same}
 use Rattle.json_value.specs.Denotes.{tree_of, pair_of, text_bytes}
-use Rattle.json_value.specs.KeyOrder.{IsKeyOrder, numbers_in, numbers_from, owned_key}
-use Rattle.json_value.specs.declared.key_order.Entry.{Entry}
+use Rattle.json_doc_print.specs.KeyOrder.{IsKeyOrder, numbers_in}
+use Rattle.json_value.specs.OwnedKeys.{numbers_from, owned_key}
+use Rattle.json_doc_print.specs.declared.key_order.Entry.{Entry}
 use Rattle.json_value.specs.declared.pair.Keyed.{Keyed}
 use Rattle.json_value.specs.declared.value.Value.{Value}
-use Rattle.json_value.proofs.KeyFronts.{number_of, entry_there, entries_end, entry_within, entry_value}
-use Rattle.json_value.proofs.KeyOrders.{paired, sorted_at, sorted_pair, owned_tree, in_place, item_at, numbers_sorted}
-use Rattle.json_value.proofs.ShownTrees.{elements_left, members_left, goes_from, goes_last, element_on, element_failed, member_on, key_failed, value_failed, there, none_there}
-use Rattle.json_value.proofs.SortedTrees.{sorted_array_is, sorted_object_is}
-use Rattle.json_value.proofs.TokensGiven.{value_within, element_within}
-use Rattle.json_value.proofs.WholeTrees.{array_there, object_there, item_there, items_end, tree_of_item}
+use Rattle.json_doc_print.proofs.KeyFronts.{number_of, entry_there, entries_end}
+use Rattle.json_value.proofs.OwnedEntries.{entry_within, entry_value}
+use Rattle.json_doc_print.proofs.KeyOrders.{paired, sorted_at, sorted_pair, in_place}
+use Rattle.json_value.proofs.OwnedOrders.{owned_tree, item_at, numbers_sorted}
+use Rattle.json_doc_print.proofs.ShownTrees.{elements_left, members_left, goes_from, goes_last, element_on, element_failed, member_on, key_failed, value_failed, there, none_there}
+use Rattle.json_doc_print.proofs.SortedTrees.{sorted_array_is, sorted_object_is}
+use Rattle.json_doc_print.proofs.TokensGiven.{value_within, element_within}
+use Rattle.json_value.proofs.WholeTrees.{array_there, object_there, tree_of_item}
+use Rattle.json_doc_print.proofs.Items.{item_there, items_end}
 use Rattle.json_value.proofs.show_sorted.+shown_sorted_value.Goals as goal
 
 -- the member of a number, with its value sorted

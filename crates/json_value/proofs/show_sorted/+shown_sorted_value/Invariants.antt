@@ -4,10 +4,12 @@ use Rattle.json_grammar.specs.Tree.{list, list_trees, pairs, list_pairs}
 use Rattle.json_model.specs.Print.{shown}
 use Rattle.json_model.specs.Sort.{sorted}
 use Rattle.json_value.specs.Denotes.{tree_of, pair_of}
-use Rattle.json_value.specs.KeyOrder.{numbers_in, owned_key}
-use Rattle.json_value.proofs.KeyOrders.{owned_tree, paired, sorted_at, sorted_pair}
-use Rattle.json_value.proofs.ShownTrees.{held, elements_left, members_left}
-use Rattle.json_value.proofs.SortedTrees.{GoesSorted}
+use Rattle.json_doc_print.specs.KeyOrder.{numbers_in}
+use Rattle.json_value.specs.OwnedKeys.{owned_key}
+use Rattle.json_value.proofs.OwnedOrders.{owned_tree}
+use Rattle.json_doc_print.proofs.KeyOrders.{paired, sorted_at, sorted_pair}
+use Rattle.json_doc_print.proofs.ShownTrees.{held, elements_left, members_left}
+use Rattle.json_doc_print.proofs.SortedTrees.{GoesSorted}
 use Rattle.json_value.proofs.show_sorted.+shown_sorted_value.Given as goal
 
 abbrev pub decreases-show_sorted_value : goal.decreases-show_sorted_value

@@ -1,6 +1,6 @@
 use Rattle.std.proofs.Common.{Some, sym, ap, ◌∙◌}
 use Rattle.json_value.specs.Seen.{list_of}
-use Rattle.json_value.proofs.Trees.{list_again}
+use Rattle.json_doc_print.proofs.Trees.{list_again}
 use Rattle.json_value.proofs.WholeTrees.{array_in}
 use Rattle.json_value.proofs.array_view.ArrayView.of_value.Goals as goal
 

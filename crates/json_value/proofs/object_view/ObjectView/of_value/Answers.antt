@@ -1,6 +1,6 @@
 use Rattle.std.proofs.Common.{Some, sym, ap, ◌∙◌}
 use Rattle.json_value.specs.Seen.{object_pairs}
-use Rattle.json_value.proofs.Trees.{pairs_again}
+use Rattle.json_doc_print.proofs.Trees.{pairs_again}
 use Rattle.json_value.proofs.WholeTrees.{object_in}
 use Rattle.json_value.proofs.object_view.ObjectView.of_value.Goals as goal
 

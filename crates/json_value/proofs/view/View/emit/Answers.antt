@@ -1,6 +1,7 @@
 use Rattle.json_value.specs.Seen.{seen}
-use Rattle.json_value.proofs.GivenTrees.{seen_proper, tokens_given}
-use Rattle.json_value.proofs.Walking.{answered}
+use Rattle.json_value.proofs.GivenTrees.{seen_proper}
+use Rattle.json_doc_print.proofs.GivenTokens.{tokens_given}
+use Rattle.json_doc_print.proofs.Walking.{answered}
 use Rattle.json_value.proofs.view.View.emit.Goals as goal
 
 pub null-requires : goal.null-requires

@@ -2,7 +2,7 @@ use Rattle.std.proofs.Common.{subst}
 use Rattle.json_grammar.specs.Tree.{Tree}
 use Rattle.json_value.proofs.ProperValues.{value_proper}
 use Rattle.json_value.specs.Denotes.{tree_of}
-use Rattle.json_value.specs.Emitting.{Emits, tree_given}
+use Rattle.json_doc_print.specs.Emitting.{Emits, tree_given}
 use Rattle.json_write.proofs.TreeData.{tree_written}
 use Rattle.json_write.proofs.values.ValueSerialize.serialize.Goals as goal
 

@@ -1,0 +1,10 @@
+pub mod Trees
+pub mod TokenStands
+pub mod TokensGiven
+pub mod Items
+pub mod GivenTokens
+pub mod KeyOrders
+pub mod KeyFronts
+pub mod Walking
+pub mod ShownTrees
+pub mod SortedTrees

@@ -1,0 +1,141 @@
+// The members of an object of a document in the order of their keys, by the places of their values.
+ghost use Rattle.std.specs.Prelude.{◌≡◌, ℕ, List, IfOk, IsTrue, map, IfErr};
+ghost use Rattle.std.specs.Cmp.Lexicographic.{slice_cmp};
+ghost use Rattle.std.specs.Ordering.{nat_cmp, ordering_then};
+ghost use Rattle.json_grammar.specs.Tree.{list_pairs};
+ghost use Rattle.json_model.specs.Sort.{bytes_less, NeverFall};
+ghost use Rattle.json_doc.specs.Left.{pairs_doc, pairs_left, places_of_pairs};
+ghost use Rattle.json_print.specs.Orders.{Rise};
+ghost use Rattle.json_doc_print.specs.KeyOrder.{key_and_number, AreEntries, IsEntry, IsKeyOrder, place_key, numbers_in};
+ghost use Rattle.json_io.specs.Errors.{no_memory};
+
+use json_doc::{Doc, DocPairs, front_number};
+use json_io::Result;
+use std::alloc::Global;
+use std::cmp::Ordering;
+
+/// A member in an index. Most keys differ in their first eight bytes, whose number is kept here: then no look is needed at
+/// the keys, which lie far apart in memory.
+#[derive(Clone, Copy)]
+pub struct Entry {
+    front: u64,
+    /// The number of the member.
+    pub number: usize,
+}
+
+/// What has the keys of members, which are known by numbers.
+pub trait Keys {
+    /// The key of the member of each number.
+    ghost key_of: { Self → ℕ → List ℕ };
+
+    /// Returns the key of the member of a number; an empty one where no member has it.
+    fn key(&self, number: usize) -> &str
+        ensures { result.now ≡ key_of self.now number };
+}
+
+impl Keys for Doc {
+    ghost key_of = { place_key };
+
+    #[inline]
+    fn key(&self, number: usize) -> &str {
+        let at = number.saturating_sub(1);
+        if at >= self.cells().len() {
+            return "";
+        }
+        match self.view_at(at as u32).text() {
+            Some(key) => key,
+            None => "",
+        }
+    }
+}
+
+/// Returns whether the bytes of `a` come before those of `b`.
+pub fn is_less(a: &[u8], b: &[u8]) -> bool
+    ensures { result ≡ bytes_less a.now b.now }
+{
+    a < b
+}
+
+/// Returns the entry of the member of a number.
+pub fn entry_of<K: Keys>(keys: &K, number: usize) -> Entry
+    ensures number { result.number ≡ number }
+    ensures entry { IsEntry (K.key_of keys.now) result }
+{
+    let key = keys.key(number);
+    Entry {
+        front: front_number(key),
+        number,
+    }
+}
+
+// By the bytes of the keys, and then by the numbers.
+#[inline]
+fn compare_keys<K: Keys>(keys: &K, a: usize, b: usize) -> Ordering
+    ensures { result ≡ ordering_then
+        (slice_cmp nat_cmp (K.key_of keys.now a) (K.key_of keys.now b)) (nat_cmp a b) }
+{
+    match keys.key(a).as_bytes().cmp(&keys.key(b).as_bytes()) {
+        Ordering::Equal => a.cmp(&b),
+        unequal => unequal,
+    }
+}
+
+// By the first bytes of the keys, and where these are the same by all of them.
+#[inline]
+fn compare<K: Keys>(keys: &K, a: Entry, b: Entry) -> Ordering
+    ensures { result ≡ ordering_then (nat_cmp a.front b.front) (ordering_then
+        (slice_cmp nat_cmp (K.key_of keys.now a.number) (K.key_of keys.now b.number))
+        (nat_cmp a.number b.number)) }
+{
+    match a.front.cmp(&b.front) {
+        Ordering::Equal => compare_keys(keys, a.number, b.number),
+        unequal => unequal,
+    }
+}
+
+/// Sorts entries by the keys of their members, and those of one key by their numbers.
+pub fn sort_by_key<K: Keys>(keys: &K, entries: &mut [Entry])
+    requires entries { AreEntries (K.key_of keys.now) entries.old }
+    requires rise { Rise (map (key_and_number (K.key_of keys.now)) (numbers_in entries.old)) }
+    ensures { IsKeyOrder (K.key_of keys.now) (numbers_in entries.old) (numbers_in entries.new) }
+{
+    entries.sort_unstable_by(|a, b| compare(keys, *a, *b));
+}
+
+// Whether no key is smaller than the key before it.
+pub(crate) fn packed_never_fall(pairs: DocPairs<'_>) -> bool
+    ensures { IsTrue result → NeverFall (list_pairs (pairs_left pairs.entry)) }
+{
+    let mut last: &[u8] = &[];
+    for (key, _) in pairs {
+        if is_less(key.as_bytes(), last) {
+            return false;
+        }
+        last = key.as_bytes();
+    }
+    true
+}
+
+fn entries_of_doc(alloc: Global, doc: &Doc, pairs: DocPairs<'_>) -> Result<Vec<Entry>>
+    ensures places { IfOk result (λ v. numbers_in v.items ≡ places_of_pairs pairs.entry) }
+    ensures entries { IfOk result (λ v. AreEntries (place_key doc.now) v.items) }
+    ensures only { IfErr result (λ e. e ≡ no_memory) }
+{
+    let mut entries = Vec::with_capacity(alloc, pairs.len())?;
+    for (_, value) in pairs {
+        entries.push(entry_of(doc, value.place() as usize))?;
+    }
+    Ok(entries)
+}
+
+// The entries of the values of the pairs, which are of the document, in the order of their keys.
+pub(crate) fn packed_in_order(alloc: Global, doc: &Doc, pairs: DocPairs<'_>) -> Result<Vec<Entry>>
+    requires { pairs_doc pairs ≡ doc.now }
+    ensures order { IfOk result (λ order. IsKeyOrder (place_key doc.now)
+        (places_of_pairs pairs.entry) (numbers_in order.items)) }
+    ensures only { IfErr result (λ e. e ≡ no_memory) }
+{
+    let mut entries = entries_of_doc(alloc, doc, pairs)?;
+    sort_by_key(doc, &mut entries);
+    Ok(entries)
+}

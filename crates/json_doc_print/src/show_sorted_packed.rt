@@ -1,0 +1,234 @@
+// The text of a document's tree with the members of each object in the order of their keys, written from left to right.
+ghost use Rattle.std.specs.Prelude.{◌≡◌, ◌++◌, IsTrue};
+ghost use Rattle.json_grammar.specs.Tree.{list, list_trees, pairs, list_pairs};
+ghost use Rattle.json_model.specs.Print.{shown};
+ghost use Rattle.json_model.specs.Sort.{sorted, NeverFall};
+ghost use Rattle.json_doc.specs.Left.{children_left, pairs_doc, pairs_left};
+ghost use Rattle.json_doc.specs.Readings.{elements};
+ghost use Rattle.json_doc.specs.Seen.{view_tree};
+ghost use Rattle.json_print.specs.Showing.{lead};
+ghost use Rattle.json_doc_print.specs.Readings.{members};
+ghost use Rattle.json_doc_print.specs.ShowingSorted.{ShowsOrRunsOut};
+
+use crate::key_order::{Keys, packed_in_order, packed_never_fall};
+use crate::show_packed::{Showed, show_element, show_member};
+use json_doc::{Doc, DocChildren, DocNode, DocPairs, DocView};
+use json_io::{Sink, SinkError};
+use json_print::{BufferedWriter, Layout, show_piece};
+use std::alloc::Global;
+
+/// Writes the text of the tree that is seen, sorted, with `level` containers around it. Fails with the sink's error, and with `NoMemory` if memory
+/// runs out for an index of members, or at 2^64 - 1 levels.
+pub fn show_sorted_document<W: Sink, L: Layout>(
+    view: DocView<'_>,
+    alloc: Global,
+    layout: L,
+    level: usize,
+    out: &mut BufferedWriter<W>,
+) -> Showed
+    ensures { ShowsOrRunsOut (⟦<BufferedWriter<W> as Sink>⟧.state out.old)
+        (⟦<BufferedWriter<W> as Sink>⟧.state out.new)
+        (shown (L.indent layout) level (sorted (view_tree view.entry))) result }
+{
+    show_sorted_member(view, alloc, layout, level, out)
+}
+
+// The value of a member.
+#[cycle(shown_sorted)]
+#[inline(always)]
+fn show_sorted_member<W: Sink, L: Layout>(
+    view: DocView<'_>,
+    alloc: Global,
+    layout: L,
+    level: usize,
+    out: &mut BufferedWriter<W>,
+) -> Showed
+    ensures { ShowsOrRunsOut (⟦<BufferedWriter<W> as Sink>⟧.state out.old)
+        (⟦<BufferedWriter<W> as Sink>⟧.state out.new)
+        (shown (L.indent layout) level (sorted (view_tree view.entry))) result }
+{
+    match view.node() {
+        DocNode::Array(children) => show_sorted_children(children, alloc, layout, level, out),
+        DocNode::Object(_) => show_sorted_members(view, alloc, layout, level, out),
+        scalar => show_member(scalar, layout, level, out),
+    }
+}
+
+// An element, and what is written before it.
+#[cycle(shown_sorted)]
+#[inline(always)]
+fn show_sorted_element<W: Sink, L: Layout>(
+    view: DocView<'_>,
+    alloc: Global,
+    layout: L,
+    level: usize,
+    first: bool,
+    out: &mut BufferedWriter<W>,
+) -> Showed
+    ensures { ShowsOrRunsOut (⟦<BufferedWriter<W> as Sink>⟧.state out.old)
+        (⟦<BufferedWriter<W> as Sink>⟧.state out.new)
+        (lead (L.indent layout) level first ++ shown (L.indent layout) level
+        (sorted (view_tree view.entry))) result }
+{
+    match view.node() {
+        DocNode::Array(children) => {
+            layout.lead(out, level, first)?;
+            show_sorted_children(children, alloc, layout, level, out)
+        }
+        DocNode::Object(_) => {
+            layout.lead(out, level, first)?;
+            show_sorted_members(view, alloc, layout, level, out)
+        }
+        scalar => show_element(scalar, layout, level, first, out),
+    }
+}
+
+// An array of these elements.
+#[cycle(shown_sorted)]
+fn show_sorted_children<W: Sink, L: Layout>(
+    children: DocChildren<'_>,
+    alloc: Global,
+    layout: L,
+    level: usize,
+    out: &mut BufferedWriter<W>,
+) -> Showed
+    ensures { ShowsOrRunsOut (⟦<BufferedWriter<W> as Sink>⟧.state out.old)
+        (⟦<BufferedWriter<W> as Sink>⟧.state out.new)
+        (shown (L.indent layout) level
+        (sorted (list (list_trees (children_left children.entry))))) result }
+{
+    if level == usize::MAX {
+        return Err(SinkError::NoMemory);
+    }
+    show_piece(out, b"[")?;
+    let mut first = true;
+    for child in children {
+        show_sorted_element(child, alloc, layout, level + 1, first, out)?;
+        first = false;
+    }
+    layout.close(out, level, first, b']')
+}
+
+// Whether no key of the object that is seen is smaller than the key before it.
+fn keys_in_order(view: DocView<'_>) -> bool
+    ensures { IsTrue result → NeverFall (list_pairs (members (view_tree view.entry))) }
+{
+    match view.node() {
+        DocNode::Object(members) => packed_never_fall(members),
+        _ => true,
+    }
+}
+
+/// Writes the object of the members that are seen, sorted. Fails with the sink's error, and with `NoMemory` if memory
+/// runs out for an index of members, or at 2^64 - 1 levels.
+#[cycle(shown_sorted)]
+pub fn show_sorted_members<W: Sink, L: Layout>(
+    view: DocView<'_>,
+    alloc: Global,
+    layout: L,
+    level: usize,
+    out: &mut BufferedWriter<W>,
+) -> Showed
+    ensures { ShowsOrRunsOut (⟦<BufferedWriter<W> as Sink>⟧.state out.old)
+        (⟦<BufferedWriter<W> as Sink>⟧.state out.new)
+        (shown (L.indent layout) level
+        (sorted (pairs (list_pairs (members (view_tree view.entry)))))) result }
+{
+    match view.node() {
+        DocNode::Object(members) => {
+            if keys_in_order(view) {
+                show_in_place(members, alloc, layout, level, out)
+            } else {
+                show_by_places(view.doc(), members, alloc, layout, level, out)
+            }
+        }
+        _ => show_piece(out, b"{}"),
+    }
+}
+
+// An object whose keys stand in order.
+#[cycle(shown_sorted)]
+fn show_in_place<W: Sink, L: Layout>(
+    members: DocPairs<'_>,
+    alloc: Global,
+    layout: L,
+    level: usize,
+    out: &mut BufferedWriter<W>,
+) -> Showed
+    requires { NeverFall (list_pairs (pairs_left members)) }
+    ensures { ShowsOrRunsOut (⟦<BufferedWriter<W> as Sink>⟧.state out.old)
+        (⟦<BufferedWriter<W> as Sink>⟧.state out.new)
+        (shown (L.indent layout) level
+        (sorted (pairs (list_pairs (pairs_left members.entry))))) result }
+{
+    if level == usize::MAX {
+        return Err(SinkError::NoMemory);
+    }
+    show_piece(out, b"{")?;
+    let mut first = true;
+    for (key, value) in members {
+        layout.key(out, level + 1, first, key)?;
+        show_sorted_member(value, alloc, layout, level + 1, out)?;
+        first = false;
+    }
+    layout.close(out, level, first, b'}')
+}
+
+// An object of the document, by an index of its members.
+#[cycle(shown_sorted)]
+fn show_by_places<W: Sink, L: Layout>(
+    doc: &Doc,
+    members: DocPairs<'_>,
+    alloc: Global,
+    layout: L,
+    level: usize,
+    out: &mut BufferedWriter<W>,
+) -> Showed
+    requires { pairs_doc members ≡ doc.now }
+    ensures { ShowsOrRunsOut (⟦<BufferedWriter<W> as Sink>⟧.state out.old)
+        (⟦<BufferedWriter<W> as Sink>⟧.state out.new)
+        (shown (L.indent layout) level
+        (sorted (pairs (list_pairs (pairs_left members.entry))))) result }
+{
+    if level == usize::MAX {
+        return Err(SinkError::NoMemory);
+    }
+    let Ok(order) = packed_in_order(alloc, doc, members) else {
+        return Err(SinkError::NoMemory);
+    };
+    show_piece(out, b"{")?;
+    let mut first = true;
+    for entry in &order {
+        let key = doc.key(entry.number);
+        layout.key(out, level + 1, first, key)?;
+        show_sorted_member(
+            doc.view_at(entry.number as u32),
+            alloc,
+            layout,
+            level + 1,
+            out,
+        )?;
+        first = false;
+    }
+    layout.close(out, level, first, b'}')
+}
+
+/// Writes the array of the elements that are seen, sorted. Fails with the sink's error, and with `NoMemory` if memory
+/// runs out for an index of members, or at 2^64 - 1 levels.
+pub fn show_sorted_elements<W: Sink, L: Layout>(
+    view: DocView<'_>,
+    alloc: Global,
+    layout: L,
+    level: usize,
+    out: &mut BufferedWriter<W>,
+) -> Showed
+    ensures { ShowsOrRunsOut (⟦<BufferedWriter<W> as Sink>⟧.state out.old)
+        (⟦<BufferedWriter<W> as Sink>⟧.state out.new)
+        (shown (L.indent layout) level
+        (sorted (list (list_trees (elements (view_tree view.entry)))))) result }
+{
+    match view.node() {
+        DocNode::Array(children) => show_sorted_children(children, alloc, layout, level, out),
+        _ => show_piece(out, b"[]"),
+    }
+}
