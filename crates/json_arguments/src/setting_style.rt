@@ -2,7 +2,7 @@
 ghost use Rattle.std.specs.Prelude.{◌≡◌, option_map, MatchOption};
 ghost use Rattle.json_arguments.specs.Styles.{spaces_up_to_8, indent_text, command_layout, command_rules};
 ghost use Rattle.json_arguments.specs.declared.verb.Verb.TheVariants as Verb;
-ghost use Rattle.json_print.specs.Styles.{indent_of, is_sorted};
+ghost use Rattle.json_layout.specs.Styles.{indent_of, is_sorted};
 ghost use Rattle.json_text.specs.Ruled.{rules_of};
 
 use crate::setting::{Layout, Settings};

@@ -13,11 +13,10 @@ use Rattle.json_io.proofs.Known.{known-append, known-nil}
 use Rattle.json_io.specs.Lending.{lent_as, ComesBack}
 use Rattle.json_io.specs.Outside.{SinkState, Rose}
 use Rattle.json_io.specs.Transfer.{AppendsFront, FlushesAll, WritingCause}
-use Rattle.json_print.specs.Buffered.{held_behind}
-use Rattle.json_print.specs.Calls.{holds_any}
-use Rattle.json_print.specs.Printer.{StopCause}
-use Rattle.json_print.specs.Shown.{shown_as}
-use Rattle.json_print.specs.TextWriting.{WritesText}
+use Rattle.json_layout.specs.Buffered.{held_behind}
+use Rattle.json_layout.specs.Pieces.{holds_any}
+use Rattle.json_layout.specs.TextWriting.{StopCause, WritesText}
+use Rattle.json_layout.specs.Shown.{shown_as}
 use Rattle.json_print.proofs.TextWriting.{front_gained, same_name, grown, sent_back}
 use Rattle.json_command.specs.Printing.{HasRunOut, PrintingFails, Prints, RunsOutOnlyWith, WritesFlushed}
 

@@ -9,7 +9,7 @@ use Rattle.json_io.specs.Errors.{no_memory, writing_failed}
 use Rattle.json_io.specs.Known.{Appends, append_known}
 use Rattle.json_io.specs.Outside.{SinkState, Rose}
 use Rattle.json_io.specs.Transfer.{AppendsFront}
-use Rattle.json_print.specs.Printer.{Begins, StopCause}
+use Rattle.json_layout.specs.TextWriting.{Begins, StopCause}
 
 -- the text was written and flushed, or what was gained is a prefix of the old bytes and the text
 pub record WritesFlushed (old new : SinkState) (text : List ℕ) (result : Result (Unit {0}) Error) : Type 0 where

@@ -1,8 +1,8 @@
 // The text of a value's tree, written to a sink.
 ghost use Rattle.std.specs.Prelude.{◌≡◌, ℕ, List, length, false, IsErrOf};
-ghost use Rattle.json_print.specs.Shown.{shown_as};
-ghost use Rattle.json_print.specs.Styles.{is_sorted, printed};
-ghost use Rattle.json_print.specs.TextWriting.{WritesText};
+ghost use Rattle.json_layout.specs.Shown.{shown_as};
+ghost use Rattle.json_layout.specs.Styles.{is_sorted, printed};
+ghost use Rattle.json_layout.specs.TextWriting.{WritesText};
 ghost use Rattle.json_io.specs.Errors.{no_memory};
 ghost use Rattle.json_io.specs.Outside.{SinkState, Rose};
 ghost use Rattle.json_value.specs.Denotes.{tree_of};

@@ -11,11 +11,11 @@ use Rattle.json_doc.specs.Nodes.{NodeOf}
 use Rattle.json_doc.specs.Left.{children_left, pairs_left}
 use Rattle.json_doc.specs.declared.node.DocNode.{DocNode}
 use Rattle.json_doc.specs.declared.node.DocNode.TheVariants as node
-use Rattle.json_print.specs.Adding.{Adds}
-use Rattle.json_print.specs.Buffered.{held_behind}
-use Rattle.json_print.specs.declared.buffered.BufferedWriter.{BufferedWriter}
-use Rattle.json_print.specs.Showing.{Shows, lead, closed_by, key_shown}
-use Rattle.json_print.proofs.ShownParts.{added_shows, Shows-first, Shows-within, Shows-then, Shows-same}
+use Rattle.json_layout.specs.Adding.{Adds}
+use Rattle.json_layout.specs.Buffered.{held_behind}
+use Rattle.json_layout.specs.declared.buffered.BufferedWriter.{BufferedWriter}
+use Rattle.json_layout.specs.Showing.{Shows, lead, closed_by, key_shown}
+use Rattle.json_layout.proofs.ShownParts.{added_shows, Shows-first, Shows-within, Shows-then, Shows-same}
 use Rattle.json_doc_print.specs.ShownNodes.{node_tree}
 use Rattle.json_doc_print.proofs.TokensGiven.{list_seen, pairs_seen}
 

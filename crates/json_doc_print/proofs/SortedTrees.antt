@@ -10,7 +10,7 @@ use Rattle.json_doc.specs.declared.children.DocChildren.{DocChildren}
 use Rattle.json_doc.specs.declared.node.DocNode.{DocNode}
 use Rattle.json_doc.specs.declared.node.DocNode.TheVariants as node
 use Rattle.json_doc.specs.declared.pairs.DocPairs.{DocPairs}
-use Rattle.json_print.specs.Showing.{Shows}
+use Rattle.json_layout.specs.Showing.{Shows}
 use Rattle.json_doc_print.specs.ShowingSorted.{greatest_level, ShowsOrRunsOut}
 use Rattle.json_doc_print.specs.ShownNodes.{node_tree}
 use Rattle.json_doc_print.proofs.KeyOrders.{elements_sorted}

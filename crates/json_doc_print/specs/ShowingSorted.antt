@@ -2,7 +2,7 @@
 use Rattle.std.specs.Prelude.{ℕ, ◌-◌, ◌^◌, List, Result}
 use Rattle.json_io.specs.declared.sink.SinkError.{SinkError}
 use Rattle.json_io.specs.Outside.{SinkState}
-use Rattle.json_print.specs.Showing.{Shows}
+use Rattle.json_layout.specs.Showing.{Shows}
 
 -- the greatest level: memory may run out at any text that has so many containers around it
 abbrev pub greatest_level : ℕ

@@ -8,8 +8,8 @@ ghost use Rattle.json_doc.specs.Readings.{elements};
 ghost use Rattle.json_doc.specs.Seen.{view_tree};
 ghost use Rattle.json_doc_print.specs.Readings.{members};
 ghost use Rattle.std.specs.Prelude.{◌++◌};
-ghost use Rattle.json_print.specs.Adding.{Adds};
-ghost use Rattle.json_print.specs.Showing.{Shows, lead};
+ghost use Rattle.json_layout.specs.Adding.{Adds};
+ghost use Rattle.json_layout.specs.Showing.{Shows, lead};
 ghost use Rattle.json_doc_print.specs.ShownNodes.{node_tree};
 
 use json_doc::{DocChildren, DocNode, DocPairs, DocView};

@@ -6,7 +6,7 @@ ghost use Rattle.json_model.specs.Sort.{sorted, NeverFall};
 ghost use Rattle.json_doc.specs.Left.{children_left, pairs_doc, pairs_left};
 ghost use Rattle.json_doc.specs.Readings.{elements};
 ghost use Rattle.json_doc.specs.Seen.{view_tree};
-ghost use Rattle.json_print.specs.Showing.{lead};
+ghost use Rattle.json_layout.specs.Showing.{lead};
 ghost use Rattle.json_doc_print.specs.Readings.{members};
 ghost use Rattle.json_doc_print.specs.ShowingSorted.{ShowsOrRunsOut};
 

@@ -13,8 +13,8 @@ use Rattle.json_io.specs.declared.error.Place.TheVariants.{None as nowhere}
 use Rattle.json_io.specs.Errors.{reading_failed}
 use Rattle.json_text.specs.Ruled.{rules_of}
 use Rattle.json_doc.specs.Readings.{string_of}
-use Rattle.json_print.specs.Styles.{printed}
-use Rattle.json_print.specs.declared.style.Style.{Style}
+use Rattle.json_layout.specs.Styles.{printed}
+use Rattle.json_layout.specs.declared.style.Style.{Style}
 use Rattle.json_command.specs.Input.{IsInput, InputFault}
 use Rattle.json_command.specs.Statuses.{status_of}
 use Rattle.json_files.specs.Parts.{Part, whole_part, line_parts, lines_of}

@@ -21,9 +21,9 @@ use Rattle.json_io.specs.Outside.{SourceState, SinkState}
 use Rattle.json_command.proofs.Inputs.{no_io, no_not_found, no_type_unmatched}
 use Rattle.json_command.specs.Printing.{PrintingFails, Prints}
 use Rattle.json_command.specs.Reading.{ReadsInput, InputFails}
-use Rattle.json_print.specs.Styles.{indent_of, is_sorted, printed}
-use Rattle.json_print.specs.Shown.{shown_as}
-use Rattle.json_print.specs.declared.style.Style.{Style}
+use Rattle.json_layout.specs.Styles.{indent_of, is_sorted, printed}
+use Rattle.json_layout.specs.Shown.{shown_as}
+use Rattle.json_layout.specs.declared.style.Style.{Style}
 use Rattle.json_history.specs.Calls.{CallsFail}
 use Rattle.json_history.specs.History.{TreeHistory, TreeCall, run_calls, run_calls_from, new_history}
 use Rattle.json_history.specs.Replay.{compact, Replays, ReplayFails}

@@ -4,7 +4,7 @@ use Rattle.std.specs.Prelude.{◌≡◌, ◌⊎◌, ℕ, ◌+◌, ◌<◌, List,
 use Rattle.json_grammar.specs.Tree.{Tree}
 use Rattle.json_grammar.specs.Grammar.{is_text}
 use Rattle.json_model.specs.Edit.{Refusal, not_found, type_unmatched}
-use Rattle.json_print.specs.Shown.{shown_as}
+use Rattle.json_layout.specs.Shown.{shown_as}
 use Rattle.json_io.specs.Known.{Appends}
 use Rattle.json_io.specs.Outside.{SourceState, SinkState, Rose, RoseBy}
 use Rattle.json_text.specs.Ruled.{usual_rules}

@@ -1,6 +1,6 @@
 // From the bytes of a source to the bytes of a sink.
 ghost use Rattle.std.specs.Prelude.{◌≡◌, ◌<◌, ◌^◌, length, map, OnOk, IfErr, None, false};
-ghost use Rattle.json_print.specs.Styles.{indent_of, is_sorted};
+ghost use Rattle.json_layout.specs.Styles.{indent_of, is_sorted};
 ghost use Rattle.json_io.specs.Transfer.{TakesOneBeyond};
 ghost use Rattle.json_command.specs.Input.{max_bytes};
 ghost use Rattle.json_command.specs.Printing.{ReturnsWriteError};

@@ -7,7 +7,7 @@ use Rattle.std.proofs.lemmas.List.{map-append}
 use Rattle.json_grammar.specs.Tree.{Tree}
 use Rattle.json_io.specs.Outside.{SinkState}
 use Rattle.json_io.specs.declared.error.Error.{Error}
-use Rattle.json_print.specs.TextWriting.{WritesText}
+use Rattle.json_layout.specs.TextWriting.{WritesText}
 use Rattle.json_lines.specs.Cells.{Column, LinesCommand, cell, cell_where, cells, table_row, row_where}
 use Rattle.json_model.specs.Edit.{Step}
 use Rattle.json_value.specs.Steps.{tree_at}

@@ -8,8 +8,8 @@ use Rattle.json_io.specs.declared.error.Error.{Error}
 use Rattle.json_io.specs.Errors.{no_memory}
 use Rattle.json_io.proofs.Known.{known-append, known-nil, Consumes-nil}
 use Rattle.json_io.proofs.Putting.{Puts-nil}
-use Rattle.json_print.specs.Buffered.{held_behind}
-use Rattle.json_print.specs.Calls.{holds_any}
+use Rattle.json_layout.specs.Buffered.{held_behind}
+use Rattle.json_layout.specs.Pieces.{holds_any}
 use Rattle.json_print.proofs.TextWriting.{front_gained}
 use Rattle.json_command.proofs.Printing.{none_held}
 use Rattle.json_command.specs.Reporting.{ReportsUnlessMuted}

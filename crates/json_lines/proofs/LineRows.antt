@@ -20,7 +20,7 @@ use Rattle.json_doc.specs.Docs.{IsDocOf, doc_root, doc_tree}
 use Rattle.json_doc.specs.Reading.{ReadingFailsWith}
 use Rattle.json_doc.specs.declared.doc.Doc.{Doc}
 use Rattle.json_command.proofs.Documents.{root_is}
-use Rattle.json_print.specs.TextWriting.{WritesText}
+use Rattle.json_layout.specs.TextWriting.{WritesText}
 use Rattle.json_command.specs.Input.{InputFault, not_utf8, no_text, BlankTest}
 use Rattle.json_lines.specs.Cells.{LinesCommand, table_row}
 use Rattle.json_lines.specs.Outcomes.{max_line, HasOutcome, blank, good, faulty}

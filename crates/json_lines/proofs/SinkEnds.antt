@@ -6,7 +6,7 @@ use Rattle.json_io.specs.declared.error.Error.{Error}
 use Rattle.json_io.specs.Known.{Grows}
 use Rattle.json_io.specs.Lending.{lent_as, ComesBack}
 use Rattle.json_io.specs.Outside.{SinkState}
-use Rattle.json_print.specs.Buffered.{held_behind}
+use Rattle.json_layout.specs.Buffered.{held_behind}
 use Rattle.json_print.proofs.TextWriting.{same_name, grown, sent_back}
 
 pub same_faults : (a b : ℕ) → a ≤ b → (a < b → ⊥) → b ≡ a

@@ -4,8 +4,7 @@ use Rattle.json_io.specs.Known.{append_known}
 use Rattle.json_io.specs.Outside.{SinkState}
 use Rattle.json_io.specs.declared.error.Error.{Error}
 use Rattle.json_io.proofs.Known.{known-append, Appends-nil, Appends-trans}
-use Rattle.json_print.specs.Printer.{Begins, StopCause}
-use Rattle.json_print.specs.TextWriting.{WritesText}
+use Rattle.json_layout.specs.TextWriting.{Begins, StopCause, WritesText}
 
 pub WritesText-nil : (s : SinkState) → WritesText s s [] (Ok tt)
 WritesText-nil s = record { ok = Appends-nil s.gained; calm = refl; prefix = tt; cause = tt; told = λ l. absurd (omega (arith, l)); same_loan = refl }

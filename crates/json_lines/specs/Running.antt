@@ -2,8 +2,7 @@
 use Rattle.std.specs.Prelude.{◌≡◌, ℕ, ◌<◌, ◌≤◌, Bool, false, List, [], ◌++◌, None, IfSome, Ok, ◌⊎◌, ⊤}
 use Rattle.json_io.specs.Known.{told_as, append_known}
 use Rattle.json_io.specs.Outside.{SinkState, SourceState, Rose}
-use Rattle.json_print.specs.Printer.{Begins as BeginsWith}
-use Rattle.json_print.specs.TextWriting.{WritesText}
+use Rattle.json_layout.specs.TextWriting.{Begins as BeginsWith, WritesText}
 use Rattle.json_io.specs.declared.error.Error.{Error}
 use Rattle.json_io.specs.declared.error.ErrorCode.{ErrorCode}
 use Rattle.json_io.specs.declared.error.ErrorCode.TheVariants.{NoMemory, Io}

@@ -3,8 +3,8 @@ ghost use Rattle.std.specs.Prelude.{◌≡◌, ◌++◌, option_map};
 ghost use Rattle.json_grammar.specs.Grammar.{boolean_bytes};
 ghost use Rattle.json_doc.specs.Seen.{view_tree};
 ghost use Rattle.json_number.specs.Numbers.{text_of_number};
-ghost use Rattle.json_print.specs.Adding.{Adds};
-ghost use Rattle.json_print.specs.TextWriting.{WritesText};
+ghost use Rattle.json_layout.specs.Adding.{Adds};
+ghost use Rattle.json_layout.specs.TextWriting.{WritesText};
 ghost use Rattle.json_lines.specs.Cells.{cell_of, cell_where};
 ghost use Rattle.json_lines.specs.Tables.{cell_kind, cell_separator, string_cell, integer_column, boolean_cell};
 

@@ -1,6 +1,6 @@
 // A table of columns, which writes the rows of lines.
 ghost use Rattle.std.specs.Prelude.{◌≡◌, ◌≢◌, ◌≤◌, None, Some, Err, ◌<◌, ◌∷◌, ◌++◌, [], List, ℕ, length, map, IfOk, IfErr, OnOk, Ok, option_map};
-ghost use Rattle.json_print.specs.TextWriting.{WritesText};
+ghost use Rattle.json_layout.specs.TextWriting.{WritesText};
 ghost use Rattle.json_doc.specs.Seen.{view_tree};
 ghost use Rattle.json_lines.specs.Cells.{cells, table_row};
 ghost use Rattle.json_grammar.specs.Grammar.{ws};

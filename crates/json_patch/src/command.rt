@@ -2,7 +2,7 @@
 ghost use Rattle.std.specs.Prelude.{◌≡◌, ◌≢◌, ◌⊎◌, ◌+◌, ◌<◌, ◌++◌, ℕ, List, None, OnOk, IfOk, IfErr, IsErrOf, MatchOption};
 ghost use Rattle.json_grammar.specs.Tree.{Tree};
 ghost use Rattle.json_model.specs.Print.{shown};
-ghost use Rattle.json_print.specs.Styles.{printed};
+ghost use Rattle.json_layout.specs.Styles.{printed};
 ghost use Rattle.json_io.specs.Errors.{no_memory, bad_words, reading_failed, writing_failed};
 ghost use Rattle.json_io.specs.Transfer.{TakesOneBeyond};
 ghost use Rattle.json_value.specs.Denotes.{tree_of};

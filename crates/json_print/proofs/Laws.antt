@@ -5,8 +5,9 @@ use Rattle.json_io.specs.declared.error.Error.{Error}
 use Rattle.json_io.specs.Known.{append_known}
 use Rattle.json_io.specs.Outside.{SinkState}
 use Rattle.json_print.specs.Layouts.{Form}
-use Rattle.json_print.specs.Printer.{Out, Begins, Stops, StopCause, start}
-use Rattle.json_print.specs.Shown.{shown_as}
+use Rattle.json_layout.specs.TextWriting.{Begins, StopCause}
+use Rattle.json_print.specs.Printer.{Out, Stops, start}
+use Rattle.json_layout.specs.Shown.{shown_as}
 use Rattle.json_print.specs.Written.{StopsWriter, Written}
 use Rattle.json_print.proofs.Asked.{as_asked, asked}
 use Rattle.json_print.proofs.Calms.{all_calm}

@@ -1,8 +1,10 @@
 -- The layouts of the two formatters.
 use Rattle.std.proofs.Common.{◌≡◌, ℕ, List, [], ◌∷◌, ◌++◌, ◌∙◌, sym, ap, ap₂, refl, Bool, true, false, Some, None}
 use Rattle.std.specs.Fmt.{decimal}
+use Rattle.json_layout.specs.IndentBytes.{indent_bytes}
 use Rattle.json_grammar.specs.Place.{closing}
-use Rattle.json_print.specs.Calls.{Call, null_call, boolean_call, number_call, string_call, bytes_call, begin_string, end_string, begin_call, end_call, begin_element, end_element, begin_key, end_key, begin_member, end_member, raw_call, piece_of, level_after, flag_after, closing_line, byte_elements, comma, up, down, holds_any}
+use Rattle.json_layout.specs.Pieces.{closing_line, byte_elements, comma, holds_any}
+use Rattle.json_print.specs.Calls.{Call, null_call, boolean_call, number_call, string_call, bytes_call, begin_string, end_string, begin_call, end_call, begin_element, end_element, begin_key, end_key, begin_member, end_member, raw_call, piece_of, level_after, flag_after, up, down}
 use Rattle.json_print.specs.declared.pretty.PrettyFormatter.{PrettyFormatter}
 use Rattle.json_print.specs.Layouts.{LaidOut, plain_form, pretty_form, pieces, pieces_of}
 
@@ -41,6 +43,6 @@ plain_from f d b (c ∷ cs) = ap₂ (λ x xs. x ∷ xs) (plain_piece d b c) (pla
 pub plain_laid : {F : Type 0} (f : F) → LaidOut plain_form f None 0 false
 plain_laid f = plain_from f 0 false
 
-pub pretty_from : (s : PrettyFormatter) (cs : List Call) → pieces pretty_form s cs ≡ pieces_of (Some s.indent.bytes.now) s.level s.flag cs
+pub pretty_from : (s : PrettyFormatter) (cs : List Call) → pieces pretty_form s cs ≡ pieces_of (Some (indent_bytes s.indent)) s.level s.flag cs
 pretty_from s [] = refl
-pretty_from s (c ∷ cs) = ap (λ xs. piece_of (Some s.indent.bytes.now) s.level s.flag c ∷ xs) (pretty_from (record s { level = level_after s.level c; flag = flag_after s.flag c }) cs)
+pretty_from s (c ∷ cs) = ap (λ xs. piece_of (Some (indent_bytes s.indent)) s.level s.flag c ∷ xs) (pretty_from (record s { level = level_after s.level c; flag = flag_after s.flag c }) cs)

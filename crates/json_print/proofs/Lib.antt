@@ -1,11 +1,4 @@
-pub mod Pieces
-pub mod ShownParts
-pub mod Escapes
-pub mod Breaks
-pub mod Elements
 pub mod Layouts
-pub mod Spaces
-pub mod Sending
 pub mod Stopping
 pub mod Answering
 pub mod Taking
@@ -24,10 +17,3 @@ pub mod Numbering
 pub mod RowPieces
 pub mod Layers
 pub mod Emptying
-pub mod Overlapping
-pub mod PlacedItems
-pub mod PlainBlocks
-pub mod Decimals
-pub mod ShownBytes
-pub mod StoredBlocks
-pub mod QuotedParts

@@ -8,7 +8,8 @@ use Rattle.json_io.specs.Known.{append_known}
 use Rattle.json_io.specs.Outside.{SinkState}
 use Rattle.json_print.specs.Calls.{Call, null_call, boolean_call, number_call, string_call, begin_call, end_call, begin_key, end_key}
 use Rattle.json_print.specs.Layouts.{Form}
-use Rattle.json_print.specs.Printer.{Out, Begins, StopsAtToken, after, call, value_begun, took_scalar, emptied, is_first, start}
+use Rattle.json_layout.specs.TextWriting.{Begins}
+use Rattle.json_print.specs.Printer.{Out, StopsAtToken, after, call, value_begun, took_scalar, emptied, is_first, start}
 use Rattle.json_print.specs.Layouts.{LaidOut}
 use Rattle.json_print.specs.Taking.{after_all}
 use Rattle.json_print.proofs.Ideals.{Level, ideal, ideal_laid, after_in}

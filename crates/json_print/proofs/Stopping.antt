@@ -12,7 +12,8 @@ use Rattle.json_print.specs.declared.events.Turn.{Turn}
 use Rattle.json_print.specs.declared.events.Turn.TheVariants.{Value as at_value, Element as at_element, Key as at_key, Member as at_member, Done as at_done}
 use Rattle.json_print.specs.Calls.{Call, string_call, begin_element, end_element, begin_key, end_key, begin_member, end_member}
 use Rattle.json_print.specs.Layouts.{Form}
-use Rattle.json_print.specs.Printer.{Out, Layer, MemberText, Begins, Stops, StopCause, gained_put, call, put, filed_in, lead_in, follow_on, value_begun, value_ended, took_scalar, row_put, rows_put, rows_sorted, top_rows, below, emptied, emptied_in}
+use Rattle.json_layout.specs.TextWriting.{Begins, StopCause}
+use Rattle.json_print.specs.Printer.{Out, Layer, MemberText, Stops, gained_put, call, put, filed_in, lead_in, follow_on, value_begun, value_ended, took_scalar, row_put, rows_put, rows_sorted, top_rows, below, emptied, emptied_in}
 use Rattle.json_print.specs.declared.serializer.Halted.{Halted}
 use Rattle.json_print.specs.Steps.{Steps, Stopped}
 

@@ -11,9 +11,9 @@ use Rattle.json_io.specs.Transfer.{AppendsFront}
 use Rattle.json_print.specs.Given.{TokenOrInteger, token_of, given_tokens}
 use Rattle.json_print.specs.Layouts.{Form, LaidOut}
 use Rattle.json_print.specs.Printer.{Out, StopsAtToken, StopsTaking, after, took, start}
-use Rattle.json_print.specs.Shown.{shown_as}
+use Rattle.json_layout.specs.Shown.{shown_as}
 use Rattle.json_print.specs.Taking.{after_all, StopsAmong}
-use Rattle.json_print.specs.TextWriting.{WritesText}
+use Rattle.json_layout.specs.TextWriting.{WritesText}
 use Rattle.json_print.specs.Written.{Written}
 use Rattle.json_print.proofs.Taking.{took_all, tokens_append}
 

@@ -9,7 +9,8 @@ use Rattle.json_model.specs.Print.{shown, more_trees_shown, pairs_shown, more_pa
 use Rattle.json_io.proofs.Known.{known-append, known-nil}
 use Rattle.json_print.specs.declared.events.Turn.{Turn}
 use Rattle.json_print.specs.declared.events.Turn.TheVariants.{Element as at_element, Key as at_key, Member as at_member}
-use Rattle.json_print.specs.Calls.{Call, null_call, boolean_call, number_call, string_call, begin_call, end_call, begin_element, end_element, begin_key, end_key, begin_member, end_member, piece_of, flag_after, comma, closing_line}
+use Rattle.json_layout.specs.Pieces.{comma, closing_line}
+use Rattle.json_print.specs.Calls.{Call, null_call, boolean_call, number_call, string_call, begin_call, end_call, begin_element, end_element, begin_key, end_key, begin_member, end_member, piece_of, flag_after}
 use Rattle.json_print.specs.Taking.{after_all}
 use Rattle.json_print.specs.Layouts.{Form}
 use Rattle.json_print.specs.Printer.{Out, Layer, MemberText, put, gained_put, layers_put, call, follow_on, value_begun, value_ended, turned, filed, took_end, took_key, row_put, rows_put, row_in, rows_sorted}

@@ -1,5 +1,6 @@
 -- What a formatter writes, call by call, and in which layout.
 use Rattle.std.specs.Prelude.{◌≡◌, ℕ, List, [], ◌∷◌, Bool, false, Option, Some, None}
+use Rattle.json_layout.specs.IndentBytes.{indent_bytes}
 use Rattle.json_print.specs.declared.pretty.PrettyFormatter.{PrettyFormatter}
 use Rattle.json_print.specs.Calls.{Call, piece_of, level_after, flag_after}
 
@@ -14,7 +15,7 @@ plain_form = record { piece = λ _ c. piece_of None 0 false c; next = λ f _. f 
 
 -- its indent at its level
 abbrev pub pretty_form : Form PrettyFormatter
-pretty_form = record { piece = λ s c. piece_of (Some s.indent.bytes.now) s.level s.flag c; next = λ s c. record s { level = level_after s.level c; flag = flag_after s.flag c } }
+pretty_form = record { piece = λ s c. piece_of (Some (indent_bytes s.indent)) s.level s.flag c; next = λ s c. record s { level = level_after s.level c; flag = flag_after s.flag c } }
 
 -- the pieces of calls in a row
 abbrev pub pieces : {F : Type 0} → Form F → F → List Call → List (List ℕ)

@@ -1,11 +1,5 @@
 pub mod Calls
 pub mod Layouts
-pub mod Indents
-pub mod Shown
-pub mod Showing
-pub mod Styles
-pub mod Adding
-pub mod Buffered
 pub mod Standing
 pub mod Given
 pub mod Data
@@ -15,7 +9,6 @@ pub mod Parts
 pub mod Steps
 pub mod Stands
 pub mod Written
-pub mod TextWriting
 pub mod Serializing
 pub mod Orders
 pub mod Members

@@ -6,13 +6,9 @@ use Rattle.json_grammar.specs.declared.Kind.TheVariants.{Array as array, Object 
 use Rattle.json_grammar.specs.Place.{outside}
 use Rattle.json_model.specs.Sort.{bytes_less}
 use Rattle.json_io.specs.declared.error.Error.{Error}
-use Rattle.json_io.specs.declared.error.ErrorCode.{ErrorCode}
-use Rattle.json_io.specs.declared.error.ErrorCode.TheVariants.{NoMemory, Io}
-use Rattle.json_io.specs.declared.error.Place.{Place}
-use Rattle.json_io.specs.declared.error.Place.TheVariants.{None as nowhere, Writing}
 use Rattle.json_io.specs.Errors.{writing_failed}
 use Rattle.json_io.specs.Known.{append_known}
-use Rattle.json_io.specs.Outside.{Rose, Loan, SinkState}
+use Rattle.json_io.specs.Outside.{Loan, SinkState}
 use Rattle.json_print.specs.declared.events.Turn.{Turn}
 use Rattle.json_print.specs.declared.events.Turn.TheVariants.{Value as at_value, Element as at_element, Key as at_key, Member as at_member, Done as at_done}
 use Rattle.json_print.specs.Calls.{Call, null_call, boolean_call, number_call, string_call, begin_call, end_call, begin_element, end_element, begin_key, end_key, begin_member, end_member}
@@ -212,16 +208,6 @@ abbrev pub expected_tokens_of : {F : Type 0} → Out F → ExpectedTokens
 expected_tokens_of s = record { turn = s.turn; opened = s.opened }
 
 -- ---- refusals
-
--- the second has all told bytes of the first, and maybe more
-pub record Begins (a b : Option (List ℕ)) : Type 0 where
-  pub back : List ℕ
-  pub whole : b ≡ append_known a back
-
-abbrev pub StopCause : ℕ → ℕ → ErrorCode → Place → Type 0
-StopCause faults faults' NoMemory nowhere = Unit {0}
-StopCause faults faults' Io Writing = Rose faults faults'
-StopCause faults faults' code place = ⊥
 
 -- what a step may leave that meets this error on the way to its aim: some of what was to be written is
 pub record Stops {F : Type 0} (old new aim : Out F) (e : Error) : Type 0 where

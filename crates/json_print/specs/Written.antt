@@ -6,8 +6,9 @@ use Rattle.json_io.specs.Errors.{writing_failed}
 use Rattle.json_io.specs.Known.{append_known}
 use Rattle.json_io.specs.Outside.{SinkState}
 use Rattle.json_print.specs.Layouts.{Form, LaidOut}
-use Rattle.json_print.specs.Printer.{Out, Begins, StopCause, StopsAtToken, after, start}
-use Rattle.json_print.specs.Shown.{shown_as}
+use Rattle.json_layout.specs.TextWriting.{Begins, StopCause}
+use Rattle.json_print.specs.Printer.{Out, StopsAtToken, after, start}
+use Rattle.json_layout.specs.Shown.{shown_as}
 use Rattle.json_print.specs.Taking.{after_all}
 
 -- what the writer had, and then the text of the tree

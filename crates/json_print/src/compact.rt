@@ -2,10 +2,8 @@
 ghost use Rattle.json_print.specs.Layouts.{plain_form};
 
 use crate::Formatter;
-use crate::adding::{add, told};
-use crate::escape::{add_number, add_string, add_unsigned};
-use crate::layout::add_byte_array;
 use json_io::{Result, Sink};
+use json_layout::{add, add_byte_array, add_number, add_string, add_unsigned, told};
 
 /// A formatter that writes no whitespace between the tokens.
 ///

@@ -1,4 +1,5 @@
-//! Writes JSON (RFC 8259, section 10) from its parts to any sink: compact, indented or sorted, through a buffer where that serves.
+//! Writes JSON (RFC 8259, section 10) from its parts to any sink: compact, indented or sorted, through
+//! a buffer where that serves. It also exports layouts, styles and the buffered writer of `json_layout`.
 //!
 //! ```
 //! use json_print::{Events, Serializer};
@@ -14,36 +15,22 @@
 //! ```
 #![tactic(auto)]
 
-mod adding;
-mod blocks;
-mod buffered;
 mod compact;
 pub mod data_laws;
-mod escape;
 mod events;
 mod formatter;
-mod indent;
-mod layout;
 mod order;
 mod part;
-mod placing;
-mod plain;
 mod pretty;
-mod quoted;
 mod serializer;
-mod showing;
-mod shown;
 mod sorted;
-mod style;
 
-pub use buffered::{Buffer, BufferedWriter};
 pub use compact::CompactFormatter;
 pub use events::{Events, Turn};
 pub use formatter::Formatter;
-pub use pretty::PrettyFormatter;
-pub use quoted::Quoted;
-pub use serializer::Serializer;
-pub use showing::{
-    Layout, ManyLines, OneLine, answered, show_piece, show_signed, show_text, show_unsigned,
+pub use json_layout::{
+    Buffer, BufferedWriter, Layout, ManyLines, OneLine, Quoted, Style, answered, show_piece,
+    show_signed, show_text, show_unsigned,
 };
-pub use style::Style;
+pub use pretty::PrettyFormatter;
+pub use serializer::Serializer;

@@ -3,11 +3,10 @@ ghost use Rattle.std.specs.Prelude.{◌≡◌, false, Some, codes};
 ghost use Rattle.json_print.specs.Layouts.{LaidOut, pretty_form};
 
 use crate::Formatter;
-use crate::adding::{add, told};
-use crate::escape::{add_number, add_string, add_unsigned};
-use crate::indent::Indent;
-use crate::layout::{add_byte_array, add_end, add_start};
 use json_io::{Result, Sink};
+use json_layout::{
+    Indent, add, add_byte_array, add_end, add_number, add_start, add_string, add_unsigned, told,
+};
 
 /// A formatter that writes each element and each key on a line of its own, after one indent for each
 /// container around it. An empty container is `[]` or `{}`, and `: ` follows a key.

@@ -14,9 +14,9 @@ use Rattle.json_io.specs.Lending.{lent_as, ComesBack}
 use Rattle.json_io.specs.Outside.{SinkState, SourceState, Rose, counted}
 use Rattle.json_io.specs.Transfer.{FlushesAll, WritingCause}
 use Rattle.json_io.proofs.Known.{known-nil, known-append, Consumes-nil}
-use Rattle.json_print.specs.Buffered.{held_behind}
-use Rattle.json_print.specs.Calls.{holds_any}
-use Rattle.json_print.specs.Printer.{Begins as BeginsWith, StopCause}
+use Rattle.json_layout.specs.Buffered.{held_behind}
+use Rattle.json_layout.specs.Pieces.{holds_any}
+use Rattle.json_layout.specs.TextWriting.{Begins as BeginsWith, StopCause}
 use Rattle.json_print.proofs.TextWriting.{front_gained}
 use Rattle.json_command.proofs.Printing.{none_held}
 use Rattle.json_command.specs.Input.{max_bytes}

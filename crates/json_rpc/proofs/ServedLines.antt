@@ -6,8 +6,7 @@ use Rattle.json_model.specs.Print.{shown}
 use Rattle.json_io.specs.Known.{append_known}
 use Rattle.json_io.specs.declared.error.Error.{Error}
 use Rattle.json_io.specs.Errors.{writing_failed, no_memory}
-use Rattle.json_print.specs.Printer.{Begins as BeginsWith, StopCause}
-use Rattle.json_print.specs.TextWriting.{WritesText}
+use Rattle.json_layout.specs.TextWriting.{Begins as BeginsWith, StopCause, WritesText}
 use Rattle.json_lines.specs.declared.line_reader.Line.{Line}
 use Rattle.json_lines.specs.declared.line_reader.Line.TheVariants.{Whole, TooLong}
 use Rattle.json_lines.specs.Lines.{lines}

@@ -9,7 +9,7 @@ use Rattle.json_io.specs.FaultText.{text_of}
 use Rattle.json_io.specs.Known.{Appends, Consumes, append_known, told_as}
 use Rattle.json_io.specs.Outside.{SourceState, SinkState, Rose, counted}
 use Rattle.json_io.specs.Transfer.{AppendsFront}
-use Rattle.json_print.specs.Printer.{Begins as BeginsWith}
+use Rattle.json_layout.specs.TextWriting.{Begins as BeginsWith}
 use Rattle.json_command.specs.Input.{max_bytes}
 use Rattle.json_command.specs.Reporting.{Reports}
 use Rattle.json_lines.specs.Lines.{lines}

@@ -5,8 +5,7 @@ use Rattle.json_io.specs.declared.error.Error.{Error}
 use Rattle.json_io.specs.Errors.{reading_failed, writing_failed}
 use Rattle.json_io.specs.Known.{append_known, told_as}
 use Rattle.json_io.specs.Outside.{SinkState, SourceState}
-use Rattle.json_print.specs.Printer.{Begins as BeginsWith, StopCause}
-use Rattle.json_print.specs.TextWriting.{WritesText}
+use Rattle.json_layout.specs.TextWriting.{Begins as BeginsWith, StopCause, WritesText}
 use Rattle.json_command.specs.Input.{max_bytes}
 use Rattle.json_lines.specs.declared.line_reader.Line.{Line}
 use Rattle.json_lines.specs.Lines.{lines}

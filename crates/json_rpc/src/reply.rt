@@ -1,7 +1,7 @@
 // Serves a line and writes its reply.
 ghost use Rattle.std.specs.Prelude.{◌≡◌, ◌∷◌, [], ◌++◌, None, OnOk, IfErr};
 ghost use Rattle.json_model.specs.Print.{shown};
-ghost use Rattle.json_print.specs.TextWriting.{WritesText};
+ghost use Rattle.json_layout.specs.TextWriting.{WritesText};
 ghost use Rattle.json_value.specs.Denotes.{tree_of};
 ghost use Rattle.json_rpc.specs.Sessions.{ServesLine, ServingFails};
 ghost use Rattle.json_rpc.specs.Denoted.{document_of, reply_tree};

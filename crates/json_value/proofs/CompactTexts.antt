@@ -4,7 +4,7 @@ use Rattle.std.proofs.lemmas.Bool.{ne_eqb}
 use Rattle.json_grammar.specs.Sizes.{nodes, pairs_nodes}
 use Rattle.json_grammar.specs.Tree.{Tree, null, boolean, num, text, list, pairs, Trees, no_trees, tree_and, Pairs, no_pairs, pair_and, list_trees, list_pairs, trees_list, pairs_list}
 use Rattle.json_model.specs.Print.{shown, trees_shown, more_trees_shown, pairs_shown, more_pairs_shown, quoted}
-use Rattle.json_print.specs.Calls.{comma}
+use Rattle.json_layout.specs.Pieces.{comma}
 use Rattle.json_value.specs.Seen.{list_of, object_pairs}
 use Rattle.json_doc_print.proofs.Trees.{array_back, object_back}
 

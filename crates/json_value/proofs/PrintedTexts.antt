@@ -15,10 +15,9 @@ use Rattle.json_io.specs.Errors.{no_memory}
 use Rattle.json_io.specs.Known.{Appends, append_known}
 use Rattle.json_io.specs.Outside.{SinkState}
 use Rattle.json_io.specs.Transfer.{FlushesAll, WritingCause}
-use Rattle.json_print.specs.Buffered.{held_behind}
-use Rattle.json_print.specs.Calls.{holds_any}
-use Rattle.json_print.specs.Printer.{StopCause}
-use Rattle.json_print.specs.TextWriting.{WritesText}
+use Rattle.json_layout.specs.Buffered.{held_behind}
+use Rattle.json_layout.specs.Pieces.{holds_any}
+use Rattle.json_layout.specs.TextWriting.{StopCause, WritesText}
 use Rattle.json_value.specs.Denotes.{list_in, pairs_in}
 use Rattle.json_value.specs.declared.container.Container.{Container}
 use Rattle.json_value.specs.declared.pair.Keyed.{Keyed}

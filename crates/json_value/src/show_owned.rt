@@ -2,8 +2,8 @@
 ghost use Rattle.std.specs.Prelude.{map, ◌++◌};
 ghost use Rattle.json_grammar.specs.Tree.{list, list_trees, pairs, list_pairs};
 ghost use Rattle.json_model.specs.Print.{shown};
-ghost use Rattle.json_print.specs.Adding.{Adds};
-ghost use Rattle.json_print.specs.Showing.{Shows, lead, key_shown};
+ghost use Rattle.json_layout.specs.Adding.{Adds};
+ghost use Rattle.json_layout.specs.Showing.{Shows, lead, key_shown};
 ghost use Rattle.json_value.specs.Denotes.{tree_of, pair_of, text_bytes};
 
 use crate::container::Form;

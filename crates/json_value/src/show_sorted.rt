@@ -3,7 +3,7 @@ ghost use Rattle.std.specs.Prelude.{map, ◌++◌};
 ghost use Rattle.json_grammar.specs.Tree.{list, list_trees, pairs, list_pairs};
 ghost use Rattle.json_model.specs.Print.{shown};
 ghost use Rattle.json_model.specs.Sort.{sorted, NeverFall};
-ghost use Rattle.json_print.specs.Showing.{lead};
+ghost use Rattle.json_layout.specs.Showing.{lead};
 ghost use Rattle.json_value.specs.Denotes.{tree_of, pair_of};
 ghost use Rattle.json_doc_print.specs.ShowingSorted.{ShowsOrRunsOut};
 

@@ -2,7 +2,7 @@
 ghost use Rattle.std.specs.Prelude.{◌≡◌, None, Some, IfOk, IfSome, IsUtf8, string_bytes, [], false};
 ghost use Rattle.json_grammar.specs.Tree.{list, list_trees, pairs, list_pairs};
 ghost use Rattle.json_model.specs.Print.{shown};
-ghost use Rattle.json_print.specs.Showing.{Shows};
+ghost use Rattle.json_layout.specs.Showing.{Shows};
 ghost use Rattle.json_value.specs.Denotes.{list_in, pairs_in};
 ghost use Rattle.json_value.specs.Failures.{OnlyNoMemory};
 

@@ -7,9 +7,9 @@ use lib.Lanes.{chunk, put_chunk}
 use Rattle.json_grammar.specs.Given.{piece}
 use Rattle.json_model.specs.Print.{quoted, shown_byte, shown_bytes}
 use Rattle.json_scan.specs.Runs.{plain}
-use Rattle.json_print.proofs.Escapes.{plain_all, run_shown, byte_shown}
-use Rattle.json_print.proofs.Overlapping.{before_back}
-use Rattle.json_print.proofs.PlacedItems.{front_stays}
+use Rattle.json_layout.proofs.Escapes.{plain_all, run_shown, byte_shown}
+use Rattle.json_layout.proofs.Overlapping.{before_back}
+use Rattle.json_layout.proofs.PlacedItems.{front_stays}
 
 -- fewer of what stays
 pub front_same : (old new : List ℕ) (n m : ℕ) → n ≤ m → take m new ≡ take m old → take n new ≡ take n old

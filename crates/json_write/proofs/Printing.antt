@@ -13,7 +13,8 @@ use Rattle.json_io.specs.Known.{append_known}
 use Rattle.json_io.specs.Outside.{SinkState}
 use Rattle.json_print.specs.Data.{parts, before_gap}
 use Rattle.json_print.specs.Layouts.{Form, LaidOut}
-use Rattle.json_print.specs.Printer.{Out, StopCause, StopsTaking, took, start}
+use Rattle.json_layout.specs.TextWriting.{StopCause}
+use Rattle.json_print.specs.Printer.{Out, StopsTaking, took, start}
 use Rattle.json_print.specs.Taking.{after_all}
 use Rattle.json_print.specs.Written.{Written}
 use Rattle.json_print.proofs.Data.{whole_tree, gap_tree, tree_spelled}

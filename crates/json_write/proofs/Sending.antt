@@ -12,7 +12,7 @@ use Rattle.json_model.specs.Print.{shown}
 use Rattle.json_print.specs.Data.{parts, before_gap}
 use Rattle.json_print.specs.Layouts.{Form, LaidOut}
 use Rattle.json_print.specs.Printer.{Out, StopsTaking, took, start}
-use Rattle.json_print.specs.TextWriting.{WritesText}
+use Rattle.json_layout.specs.TextWriting.{WritesText}
 use Rattle.json_print.specs.Written.{Written}
 use Rattle.json_print.proofs.Data.{tree_spelled, gap_tree}
 use Rattle.json_print.proofs.TextWriting.{all_written, stopped_written, front_gained, same_name, grown, sent_back}

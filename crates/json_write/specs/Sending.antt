@@ -8,7 +8,7 @@ use Rattle.json_io.specs.Outside.{SinkState}
 use Rattle.json_io.specs.Transfer.{AppendsFront}
 use Rattle.json_model.specs.Datum.{Datum, tree_of_datum}
 use Rattle.json_model.specs.Print.{shown}
-use Rattle.json_print.specs.Printer.{StopCause}
+use Rattle.json_layout.specs.TextWriting.{StopCause}
 
 -- the indent of the calls that ask for none
 abbrev pub two_spaces : Option (List ℕ)

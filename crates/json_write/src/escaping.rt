@@ -16,7 +16,7 @@ const BLOCK: usize = 16;
 pub(crate) const ESCAPED: usize = BLOCK + 3;
 
 // The letter after the backslash of a byte's escape, where two characters do.
-#[tactic(auto, using(json_print::proofs::Escapes::control_shown), unfolding(json_model::specs::Print::shown_byte))]
+#[tactic(auto, using(json_layout::proofs::Escapes::control_shown), unfolding(json_model::specs::Print::shown_byte))]
 fn escape_letter(byte: u8) -> Option<u8>
     requires { ¬ (IsPlain byte) }
     ensures { MatchOption result (shown_byte byte ≡ unit_escape byte)

@@ -4,7 +4,7 @@ ghost use Rattle.std.specs.Fmt.{decimal};
 ghost use Rattle.json_model.specs.Print.{quoted};
 ghost use Rattle.json_scan.specs.Runs.{IsPlain, plain};
 ghost use Rattle.json_write.specs.Leads.{lead_bytes};
-ghost use Rattle.json_print.specs.Buffered.{StoresPiece};
+ghost use Rattle.json_layout.specs.Buffered.{StoresPiece};
 
 use crate::lead::Lead;
 use itoa::write_digits;

@@ -4,7 +4,7 @@ ghost use Rattle.json_grammar.specs.Tree.{Tree};
 ghost use Rattle.json_model.specs.Print.{shown};
 ghost use Rattle.json_print.specs.Layouts.{LaidOut};
 ghost use Rattle.json_model.specs.Datum.{tree_of_datum};
-ghost use Rattle.json_print.specs.TextWriting.{WritesText};
+ghost use Rattle.json_layout.specs.TextWriting.{WritesText};
 ghost use Rattle.json_write.specs.Sending.{WritesDatum, two_spaces};
 
 use crate::Serialize;

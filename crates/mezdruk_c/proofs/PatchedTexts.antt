@@ -14,8 +14,8 @@ use Rattle.json_patch.specs.Pointer.{ReferenceToken, pointer_of, value_at_pointe
 use Rattle.json_patch.specs.declared.error.PatchCode.{PatchCode}
 use Rattle.json_patch.specs.declared.error.PatchCode.TheVariants.{NoMemory, BadPointer}
 use Rattle.json_patch.specs.declared.error.PatchError.{PatchError}
-use Rattle.json_print.specs.Styles.{printed}
-use Rattle.json_print.specs.declared.style.Style.{Style}
+use Rattle.json_layout.specs.Styles.{printed}
+use Rattle.json_layout.specs.declared.style.Style.{Style}
 use Rattle.json_io.specs.Errors.{no_memory as no_memory_for_text}
 use Rattle.json_text.specs.Ruled.{usual_rules}
 use Rattle.mezdruk_c.specs.declared.failure.Failure.{Failure}

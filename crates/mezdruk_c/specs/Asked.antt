@@ -2,7 +2,7 @@
 use Rattle.std.specs.Prelude.{ℕ, List, ◌≤◌, ◌==◌, not, Bool, Option, option_map, IsSome}
 use Rattle.json_grammar.specs.Rules.{Rules}
 use Rattle.json_grammar.specs.Tree.{Tree}
-use Rattle.json_print.specs.Shown.{shown_as}
+use Rattle.json_layout.specs.Shown.{shown_as}
 use Rattle.mezdruk_c.specs.declared.options.Options.{Options}
 use Rattle.mezdruk_c.specs.Layouts.{indent_asked}
 

@@ -1,8 +1,8 @@
 -- What printing a node returns.
 use Rattle.std.specs.Prelude.{◌≡◌, ◌⊎◌, ℕ, List, Option, Some, None}
 use Rattle.json_grammar.specs.Tree.{Tree}
-use Rattle.json_print.specs.Styles.{printed}
-use Rattle.json_print.specs.declared.style.Style.{Style}
+use Rattle.json_layout.specs.Styles.{printed}
+use Rattle.json_layout.specs.declared.style.Style.{Style}
 use Rattle.json_io.specs.Errors.{no_memory, not_found}
 use Rattle.mezdruk_c.specs.declared.failure.Failure.{Failure}
 use Rattle.mezdruk_c.specs.declared.failure.Failure.TheVariants.{Options as bad_options, Text}

@@ -4,7 +4,7 @@ ghost use Rattle.json_model.specs.Edit.{Edit as TreeEdit};
 ghost use Rattle.json_text.specs.Ruled.{rules_of};
 ghost use Rattle.json_io.specs.declared.error.ErrorCode.TheVariants.{NoMemory};
 ghost use Rattle.json_value.specs.Edits.{edit_of};
-ghost use Rattle.json_print.specs.Styles.{printed};
+ghost use Rattle.json_layout.specs.Styles.{printed};
 ghost use Rattle.reshape.specs.Words.{SpellsEdits};
 ghost use Rattle.mezdruk_c.specs.Buffers.{buffer_bytes};
 ghost use Rattle.mezdruk_c.specs.Editing.{EditedText, EditingFails, EditsText, EditFails};

@@ -1,7 +1,7 @@
 // How a text is read and laid out.
 ghost use Rattle.std.specs.Prelude.{◌≡◌, option_map};
 ghost use Rattle.json_model.specs.Print.{IsIndent};
-ghost use Rattle.json_print.specs.Styles.{indent_of, is_sorted};
+ghost use Rattle.json_layout.specs.Styles.{indent_of, is_sorted};
 ghost use Rattle.mezdruk_c.specs.Layouts.{indent_asked};
 
 use json_print::Style;
@@ -66,7 +66,7 @@ fn style_of(indent: Option<&'static str>, sorted: bool) -> Style<'static>
 impl Options {
     ghost use Rattle.std.specs.Prelude.{MatchOption, None, Some};
     ghost use Rattle.json_grammar.specs.Tree.{Tree};
-    ghost use Rattle.json_print.specs.Styles.{printed};
+    ghost use Rattle.json_layout.specs.Styles.{printed};
     ghost use Rattle.json_text.specs.Ruled.{rules_of};
     ghost use Rattle.mezdruk_c.specs.Asked.{AreOptions, HasRules, rules_of_options, sorts_asked, text_by_options};
 

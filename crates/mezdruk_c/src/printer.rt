@@ -1,7 +1,7 @@
 // The text of a node of a document.
 ghost use Rattle.std.specs.Prelude.{◌≡◌, ◌≢◌, ◌<◌, length, IfOk, IfErr};
 ghost use Rattle.json_doc.specs.Docs.{doc_cells, doc_tree};
-ghost use Rattle.json_print.specs.Styles.{printed};
+ghost use Rattle.json_layout.specs.Styles.{printed};
 ghost use Rattle.json_io.specs.Errors.{no_memory};
 ghost use Rattle.mezdruk_c.specs.Buffers.{buffer_bytes};
 ghost use Rattle.mezdruk_c.specs.Documents.{document_node_tree};

@@ -1,6 +1,6 @@
 // The text of a value, for C.
 ghost use Rattle.std.specs.Prelude.{◌≡◌, IfOk, IfErr};
-ghost use Rattle.json_print.specs.Styles.{printed};
+ghost use Rattle.json_layout.specs.Styles.{printed};
 ghost use Rattle.json_io.specs.Errors.{no_memory};
 ghost use Rattle.json_value.specs.Denotes.{tree_of};
 ghost use Rattle.mezdruk_c.specs.Buffers.{buffer_bytes};

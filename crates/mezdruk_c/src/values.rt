@@ -2,7 +2,7 @@
 ghost use Rattle.std.specs.Prelude.{◌≡◌, IfOk, IfErr};
 ghost use Rattle.json_command.specs.Input.{IsInput};
 ghost use Rattle.json_doc.specs.Docs.{doc_root, doc_tree};
-ghost use Rattle.json_print.specs.Styles.{printed};
+ghost use Rattle.json_layout.specs.Styles.{printed};
 ghost use Rattle.json_io.specs.Errors.{no_memory};
 ghost use Rattle.json_text.specs.Ruled.{rules_of, usual_rules};
 ghost use Rattle.json_value.specs.Denotes.{tree_of};

@@ -6,9 +6,9 @@ use Rattle.json_grammar.specs.Rules.{Rules}
 use Rattle.json_model.specs.Sort.{sorted}
 use Rattle.json_model.specs.Edit.{Edit, edited, Refusal, not_found, type_unmatched}
 use Rattle.json_io.specs.Known.{Appends}
-use Rattle.json_print.specs.Shown.{shown_as}
-use Rattle.json_print.specs.Styles.{indent_of, is_sorted}
-use Rattle.json_print.specs.declared.style.Style.{Style}
+use Rattle.json_layout.specs.Shown.{shown_as}
+use Rattle.json_layout.specs.Styles.{indent_of, is_sorted}
+use Rattle.json_layout.specs.declared.style.Style.{Style}
 use Rattle.json_io.specs.Outside.{SourceState, SinkState, Rose, RoseBy}
 use Rattle.json_io.specs.Transfer.{AppendsFront}
 use Rattle.json_io.specs.declared.error.ErrorCode.{ErrorCode}

@@ -1,6 +1,6 @@
 use Rattle.std.proofs.Common.{◌≡◌, ◌∙◌, false, rules}
 use Rattle.json_io.specs.Outside.{SinkState}
-use Rattle.json_print.specs.Styles.{is_sorted, printed}
+use Rattle.json_layout.specs.Styles.{is_sorted, printed}
 use Rattle.json_value.specs.Denotes.{tree_of}
 use Rattle.json_command.proofs.Printing.{same_sink, printed_through, lent_ran_out}
 use Rattle.json_command.proofs.output.print_value.Goals as goal

@@ -6,7 +6,7 @@ use Rattle.json_doc.specs.Left.{children_left, pairs_left}
 use Rattle.json_doc.specs.Seen.{view_tree}
 use Rattle.json_doc.specs.declared.children.DocChildren.{DocChildren}
 use Rattle.json_doc.specs.declared.pairs.DocPairs.{DocPairs}
-use Rattle.json_print.proofs.ShownParts.{added_shows, Shows-first, Shows-then, Shows-same}
+use Rattle.json_layout.proofs.ShownParts.{added_shows, Shows-first, Shows-then, Shows-same}
 use Rattle.json_doc_print.specs.ShownNodes.{node_tree}
 use Rattle.json_doc_print.proofs.ShownTrees.{node_is, elements_left, members_left, array_is, object_is, goes_first, goes_last, element_on, element_failed, element_bound, member_on, key_failed, value_failed, member_bound}
 use Rattle.json_doc_print.proofs.show_packed.+shown.Goals as goal

@@ -1,7 +1,7 @@
 use Rattle.std.proofs.Common.{ap}
 use Rattle.json_model.specs.Print.{shown}
 use Rattle.json_doc.specs.Seen.{view_tree}
-use Rattle.json_print.proofs.ShownParts.{Shows-same}
+use Rattle.json_layout.proofs.ShownParts.{Shows-same}
 use Rattle.json_doc_print.proofs.ShownTrees.{node_is}
 use Rattle.json_doc_print.proofs.show_packed.show_document.Goals as goal
 

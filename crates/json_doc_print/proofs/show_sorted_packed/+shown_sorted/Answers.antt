@@ -10,8 +10,8 @@ use Rattle.json_doc.specs.Seen.{view_tree}
 use Rattle.json_doc.specs.declared.children.DocChildren.{DocChildren}
 use Rattle.json_doc.specs.declared.doc.Doc.{Doc}
 use Rattle.json_doc.specs.declared.pairs.DocPairs.{DocPairs}
-use Rattle.json_print.specs.Showing.{lead, key_shown}
-use Rattle.json_print.proofs.ShownParts.{added_shows, Adds-same, Shows-first, Shows-then, Shows-same}
+use Rattle.json_layout.specs.Showing.{lead, key_shown}
+use Rattle.json_layout.proofs.ShownParts.{added_shows, Adds-same, Shows-first, Shows-then, Shows-same}
 use Rattle.json_doc_print.specs.Readings.{members}
 use Rattle.json_doc_print.specs.KeyOrder.{IsKeyOrder, numbers_in, place_key}
 use Rattle.json_doc_print.proofs.KeyFronts.{number_of, entry_there, entries_end, entry_in, entry_tree}

@@ -1,6 +1,6 @@
 use Rattle.std.proofs.Common.{ap}
 use Rattle.json_doc.specs.Seen.{view_tree}
-use Rattle.json_print.proofs.ShownParts.{added_shows, Adds-same}
+use Rattle.json_layout.proofs.ShownParts.{added_shows, Adds-same}
 use Rattle.json_lines.specs.Tables.{cell_kind}
 use Rattle.json_lines.proofs.CellTexts.{string_cell_is, integer_cell_is, boolean_cell_is, any_cell_is}
 use Rattle.json_lines.proofs.TextWriting.{WritesText-is}

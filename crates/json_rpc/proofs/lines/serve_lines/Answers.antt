@@ -1,5 +1,5 @@
 use Rattle.std.proofs.Common.{drop, take, subst}
-use Rattle.json_print.specs.Buffered.{held_behind}
+use Rattle.json_layout.specs.Buffered.{held_behind}
 use Rattle.json_rpc.specs.Denoted.{serving_state}
 use Rattle.json_rpc.specs.Steps.{ServingStepResult}
 use Rattle.json_rpc.proofs.ServedLines.{ServedLines-start, ServedLines-more, ServedLines-smaller, FinishesServing-from, StopsServing-from}

@@ -1,5 +1,5 @@
 use Rattle.std.proofs.Common.{◌+◌, ◌-◌, length, drop, take}
-use Rattle.json_print.specs.Buffered.{held_behind}
+use Rattle.json_layout.specs.Buffered.{held_behind}
 use Rattle.json_lines.specs.Reading.{held_bytes}
 use Rattle.json_rpc.specs.Denoted.{serving_state}
 use Rattle.json_rpc.proofs.ServedLines.{ServedLines}

@@ -1,4 +1,4 @@
-use Rattle.json_print.proofs.ShownParts.{added_shows}
+use Rattle.json_layout.proofs.ShownParts.{added_shows}
 use Rattle.json_rpc.proofs.reply.write_bytes.Goals as goal
 
 pub returns : goal.returns

@@ -1,5 +1,5 @@
 use Rattle.std.proofs.Common.{drop, take}
-use Rattle.json_print.specs.Buffered.{held_behind}
+use Rattle.json_layout.specs.Buffered.{held_behind}
 use Rattle.json_rpc.specs.Denoted.{serving_state}
 use Rattle.json_rpc.proofs.RunResults.{fresh_run, flushed_ok, flushed_err, loop_stops}
 use Rattle.json_rpc.proofs.run.serve_buffered.Goals as goal

@@ -2,7 +2,7 @@ use Rattle.std.proofs.Common.{◌+◌, [], ◌∷◌, map, drop, refl, sym, ap, 
 use Rattle.std.proofs.lemmas.Result.{err_from_is_err_and}
 use Rattle.json_grammar.specs.Sizes.{nodes}
 use Rattle.json_model.specs.Print.{shown}
-use Rattle.json_print.proofs.ShownParts.{added_shows, Shows-first, Shows-then, Shows-same}
+use Rattle.json_layout.proofs.ShownParts.{added_shows, Shows-first, Shows-then, Shows-same}
 use Rattle.json_value.specs.Denotes.{tree_of, pair_of, text_bytes}
 use Rattle.json_doc_print.proofs.ShownTrees.{elements_left, members_left, array_is, object_is, goes_first, goes_last, element_on, element_failed, member_on, key_failed, value_failed, there, none_there}
 use Rattle.json_doc_print.proofs.TokensGiven.{element_within, value_within}

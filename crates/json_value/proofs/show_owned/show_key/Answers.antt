@@ -1,8 +1,8 @@
 use Rattle.std.proofs.Common.{ap}
 use Rattle.std.proofs.lemmas.Result.{err_from_is_err_and}
 use Rattle.json_model.specs.Print.{quoted, colon_bytes}
-use Rattle.json_print.proofs.Pieces.{Adds-first, Adds-then}
-use Rattle.json_print.proofs.ShownParts.{Adds-same}
+use Rattle.json_layout.proofs.Pieces.{Adds-first, Adds-then}
+use Rattle.json_layout.proofs.ShownParts.{Adds-same}
 use Rattle.json_value.specs.Denotes.{text_bytes}
 use Rattle.json_value.proofs.show_owned.show_key.Goals as goal
 

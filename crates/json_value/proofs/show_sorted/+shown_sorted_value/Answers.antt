@@ -4,8 +4,8 @@ use Rattle.json_grammar.specs.Sizes.{nodes}
 use Rattle.json_grammar.specs.Tree.{Tree}
 use Rattle.json_model.specs.Print.{shown}
 use Rattle.json_model.specs.Sort.{sorted}
-use Rattle.json_print.specs.Showing.{key_shown}
-use Rattle.json_print.proofs.ShownParts.{added_shows, Adds-same, Shows-first, Shows-then, Shows-same}
+use Rattle.json_layout.specs.Showing.{key_shown}
+use Rattle.json_layout.proofs.ShownParts.{added_shows, Adds-same, Shows-first, Shows-then, Shows-same}
 use Rattle.json_value.specs.Denotes.{tree_of, pair_of, text_bytes}
 use Rattle.json_doc_print.specs.KeyOrder.{IsKeyOrder, numbers_in}
 use Rattle.json_value.specs.OwnedKeys.{numbers_from, owned_key}

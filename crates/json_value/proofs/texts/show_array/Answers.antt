@@ -1,7 +1,7 @@
 use Rattle.std.proofs.Common.{sym, ap, None}
 use Rattle.json_grammar.specs.Tree.{list, list_trees}
 use Rattle.json_model.specs.Print.{shown}
-use Rattle.json_print.proofs.ShownParts.{added_shows, Shows-same}
+use Rattle.json_layout.proofs.ShownParts.{added_shows, Shows-same}
 use Rattle.json_value.specs.Denotes.{form_list}
 use Rattle.json_value.proofs.texts.show_array.Goals as goal
 

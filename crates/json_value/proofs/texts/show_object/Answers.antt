@@ -1,7 +1,7 @@
 use Rattle.std.proofs.Common.{sym, ap, None}
 use Rattle.json_grammar.specs.Tree.{pairs, list_pairs}
 use Rattle.json_model.specs.Print.{shown}
-use Rattle.json_print.proofs.ShownParts.{added_shows, Shows-same}
+use Rattle.json_layout.proofs.ShownParts.{added_shows, Shows-same}
 use Rattle.json_value.specs.Denotes.{form_pairs}
 use Rattle.json_value.proofs.texts.show_object.Goals as goal
 

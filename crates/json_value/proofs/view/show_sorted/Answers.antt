@@ -1,7 +1,7 @@
 use Rattle.std.proofs.Common.{sym, ap}
 use Rattle.json_model.specs.Print.{shown}
 use Rattle.json_model.specs.Sort.{sorted}
-use Rattle.json_print.proofs.ShownParts.{added_shows, Shows-same}
+use Rattle.json_layout.proofs.ShownParts.{added_shows, Shows-same}
 use Rattle.json_value.specs.Seen.{form_seen}
 use Rattle.json_value.proofs.view.show_sorted.Goals as goal
 

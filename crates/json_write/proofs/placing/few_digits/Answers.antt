@@ -1,6 +1,6 @@
 use Rattle.std.proofs.Common.{sym, ap, length}
 use Rattle.std.proofs.lemmas.Fmt.{decimal_digit}
-use Rattle.json_print.proofs.Decimals.{two_digits, three_digits, four_digits}
+use Rattle.json_layout.proofs.Decimals.{two_digits, three_digits, four_digits}
 use Rattle.json_write.proofs.placing.few_digits.Goals as goal
 
 pub returns-then-number-lt10 : goal.returns-then-number-lt10

@@ -2,7 +2,7 @@ use Rattle.std.proofs.Common.{refl}
 use Rattle.std.proofs.lemmas.Simd.{zip2_splat, length-chunk}
 use lib.Lanes.{chunk}
 use Rattle.json_scan.proofs.Masks.{joined, counted_in, plain_decided}
-use Rattle.json_print.proofs.PlainBlocks.{plain_each}
+use Rattle.json_layout.proofs.PlainBlocks.{plain_each}
 use Rattle.json_write.proofs.placing.is_plain_block.Goals as goal
 
 pub returns : goal.returns

@@ -1,7 +1,7 @@
 use Rattle.std.proofs.Common.{◌-◌, length, arith}
 use Rattle.std.proofs.lemmas.Bool.{and_parts}
-use Rattle.json_print.proofs.Overlapping.{stored}
-use Rattle.json_print.proofs.PlainBlocks.{plain_both}
+use Rattle.json_layout.proofs.Overlapping.{stored}
+use Rattle.json_layout.proofs.PlainBlocks.{plain_both}
 use Rattle.json_write.proofs.placing.place_by.Goals as goal
 
 pub returns-clause-plain : goal.returns-clause-plain

@@ -1,5 +1,5 @@
 use Rattle.std.proofs.Common.{arith}
-use Rattle.json_print.proofs.PlacedItems.{front_stays}
+use Rattle.json_layout.proofs.PlacedItems.{front_stays}
 use Rattle.json_write.proofs.Placed.{quoted_placed, quoted_kept}
 use Rattle.json_write.proofs.placing.place_item.Goals as goal
 

@@ -1,5 +1,5 @@
 use Rattle.std.proofs.Common.{map, take, drop}
-use Rattle.json_print.specs.Buffered.{held_behind}
+use Rattle.json_layout.specs.Buffered.{held_behind}
 use Rattle.json_doc.specs.Seen.{view_tree}
 use Rattle.json_lines.specs.Tables.{table_column}
 use Rattle.json_lines.proofs.CellWriting.{WritesCells}

@@ -1,0 +1,14 @@
+pub mod Pieces
+pub mod ShownParts
+pub mod Escapes
+pub mod Breaks
+pub mod Elements
+pub mod Spaces
+pub mod Sending
+pub mod Overlapping
+pub mod PlacedItems
+pub mod PlainBlocks
+pub mod Decimals
+pub mod ShownBytes
+pub mod StoredBlocks
+pub mod QuotedParts

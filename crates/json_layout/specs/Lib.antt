@@ -1,0 +1,9 @@
+pub mod Pieces
+pub mod IndentBytes
+pub mod Indents
+pub mod Shown
+pub mod Showing
+pub mod Styles
+pub mod Adding
+pub mod Buffered
+pub mod TextWriting

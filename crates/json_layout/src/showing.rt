@@ -1,0 +1,305 @@
+// The parts of a text whose places are known where they are written, so that nothing of them is kept.
+ghost use Rattle.std.specs.Prelude.{◌≡◌, ◌+◌, ◌∷◌, ◌++◌, [], ℕ, List, Option, None, Some, length, IsErrOf};
+ghost use Rattle.std.specs.Fmt.{decimal, signed_decimal};
+ghost use Rattle.json_model.specs.Print.{quoted, colon_bytes};
+ghost use Rattle.json_io.specs.Errors.{no_memory};
+ghost use Rattle.json_io.specs.Outside.{SinkState};
+ghost use Rattle.json_layout.specs.Adding.{Adds};
+ghost use Rattle.json_layout.specs.Pieces.{comma};
+ghost use Rattle.json_layout.specs.Showing.{RanOut, Shows, lead, closed_by, key_shown, text_shown};
+ghost use Rattle.json_layout.specs.TextWriting.{WritesText};
+
+use crate::BufferedWriter;
+use crate::adding::{Added, add, refusal};
+use crate::escape::{add_number, add_unsigned};
+use crate::indent::{Indent, add_break};
+use json_io::{Result, Sink};
+
+/// How the parts of a text are laid out: what comes before elements and keys, after keys, and before
+/// closing brackets.
+///
+/// ```
+/// use json_layout::{BufferedWriter, Layout, ManyLines, answered, show_unsigned};
+/// use json_io::{VecSink, flush_all};
+/// let mut out = BufferedWriter::new(alloc, VecSink::new(alloc))?;
+/// let lines = ManyLines::new(b"  ");
+/// answered(lines.key(&mut out, 1, true, "born"))?;
+/// answered(show_unsigned(&mut out, 1815))?;
+/// answered(lines.element(&mut out, 1, false, "Ada"))?;
+/// flush_all(&mut out)?;
+/// assert_eq!(rt; out.into_inner().as_slice(), b"\n  \"born\": 1815,\n  \"Ada\"".as_slice());
+/// ```
+pub trait Layout: Copy {
+    /// The indent, or none for no whitespace.
+    ghost indent: { Self → Option (List ℕ) };
+
+    /// Writes what comes before an element that is no string.
+    fn lead<W: Sink>(self, out: &mut BufferedWriter<W>, level: usize, first: bool) -> Added
+        ensures { Adds (⟦<BufferedWriter<W> as Sink>⟧.state out.old)
+            (⟦<BufferedWriter<W> as Sink>⟧.state out.new) (lead (indent self) level first) result };
+
+    /// Writes an element that is a string, and what comes before it.
+    fn element<W: Sink>(
+        self,
+        out: &mut BufferedWriter<W>,
+        level: usize,
+        first: bool,
+        text: &str,
+    ) -> Added
+        ensures { Adds (⟦<BufferedWriter<W> as Sink>⟧.state out.old)
+            (⟦<BufferedWriter<W> as Sink>⟧.state out.new)
+            (text_shown (indent self) level first text.now) result };
+
+    /// Writes a key, and what comes before and after it.
+    fn key<W: Sink>(
+        self,
+        out: &mut BufferedWriter<W>,
+        level: usize,
+        first: bool,
+        key: &str,
+    ) -> Added
+        ensures { Adds (⟦<BufferedWriter<W> as Sink>⟧.state out.old)
+            (⟦<BufferedWriter<W> as Sink>⟧.state out.new)
+            (key_shown (indent self) level first key.now) result };
+
+    /// Writes what comes after a key.
+    fn colon<W: Sink>(self, out: &mut BufferedWriter<W>) -> Added
+        ensures { Adds (⟦<BufferedWriter<W> as Sink>⟧.state out.old)
+            (⟦<BufferedWriter<W> as Sink>⟧.state out.new) (colon_bytes (indent self)) result };
+
+    /// Writes a closing bracket, and what comes before it. `empty` says that no element and no member
+    /// came.
+    fn close<W: Sink>(
+        self,
+        out: &mut BufferedWriter<W>,
+        level: usize,
+        empty: bool,
+        bracket: u8,
+    ) -> Added
+        ensures { Adds (⟦<BufferedWriter<W> as Sink>⟧.state out.old)
+            (⟦<BufferedWriter<W> as Sink>⟧.state out.new)
+            (closed_by (indent self) level empty bracket) result };
+}
+
+// Writes a key and a colon, and a comma before them unless it is the first.
+#[inline(never)]
+fn add_key<W: Sink>(out: &mut BufferedWriter<W>, first: bool, key: &[u8]) -> Added
+    ensures { Adds (⟦<BufferedWriter<W> as Sink>⟧.state out.old)
+        (⟦<BufferedWriter<W> as Sink>⟧.state out.new)
+        (comma first ++ (quoted key.now ++ 58 ∷ [])) result }
+{
+    out.put_quoted(first, key)?;
+    add(out, b":")
+}
+
+// Writes a string, and a comma before it unless it is the first. A short one without escapes takes
+// no call.
+#[inline(always)]
+fn add_item<W: Sink>(out: &mut BufferedWriter<W>, first: bool, text: &[u8]) -> Added
+    ensures { Adds (⟦<BufferedWriter<W> as Sink>⟧.state out.old)
+        (⟦<BufferedWriter<W> as Sink>⟧.state out.new) (comma first ++ quoted text.now) result }
+{
+    if out.put_item(first, text) {
+        return Ok(());
+    }
+    out.put_quoted(first, text)
+}
+
+/// No whitespace between the tokens.
+///
+/// ```
+/// use json_layout::{BufferedWriter, Layout, OneLine, answered};
+/// use json_io::{VecSink, flush_all};
+/// let mut out = BufferedWriter::new(alloc, VecSink::new(alloc))?;
+/// answered(OneLine.element(&mut out, 0, true, "Ada"))?;
+/// answered(OneLine.element(&mut out, 0, false, "Grace"))?;
+/// flush_all(&mut out)?;
+/// assert_eq!(rt; out.into_inner().as_slice(), b"\"Ada\",\"Grace\"".as_slice());
+/// ```
+#[derive(Clone, Copy, Debug)]
+pub struct OneLine;
+
+impl Layout for OneLine {
+    ghost indent = { λ _. None };
+
+    #[inline(always)]
+    fn lead<W: Sink>(self, out: &mut BufferedWriter<W>, level: usize, first: bool) -> Added {
+        let _ = level;
+        if first { Ok(()) } else { add(out, b",") }
+    }
+
+    #[inline(always)]
+    fn element<W: Sink>(
+        self,
+        out: &mut BufferedWriter<W>,
+        level: usize,
+        first: bool,
+        text: &str,
+    ) -> Added {
+        let _ = level;
+        add_item(out, first, text.as_bytes())
+    }
+
+    #[inline(always)]
+    fn key<W: Sink>(
+        self,
+        out: &mut BufferedWriter<W>,
+        level: usize,
+        first: bool,
+        key: &str,
+    ) -> Added {
+        let _ = level;
+        if out.put_key(first, key.as_bytes()) {
+            return Ok(());
+        }
+        add_key(out, first, key.as_bytes())
+    }
+
+    #[inline(always)]
+    fn colon<W: Sink>(self, out: &mut BufferedWriter<W>) -> Added {
+        add(out, b":")
+    }
+
+    #[inline(always)]
+    fn close<W: Sink>(
+        self,
+        out: &mut BufferedWriter<W>,
+        level: usize,
+        empty: bool,
+        bracket: u8,
+    ) -> Added {
+        let _ = (level, empty);
+        add(out, &[bracket])
+    }
+}
+
+/// Each element and each member on a line of its own, after one indent for each container around it.
+///
+/// ```
+/// use json_layout::{BufferedWriter, Layout, ManyLines, answered};
+/// use json_io::{VecSink, flush_all};
+/// let mut out = BufferedWriter::new(alloc, VecSink::new(alloc))?;
+/// answered(ManyLines::new(b"\t").element(&mut out, 1, true, "Ada"))?;
+/// flush_all(&mut out)?;
+/// assert_eq!(rt; out.into_inner().as_slice(), b"\n\t\"Ada\"".as_slice());
+/// ```
+#[derive(Clone, Copy, Debug)]
+pub struct ManyLines<'a> {
+    indent: Indent<'a>,
+}
+
+impl<'a> ManyLines<'a> {
+    /// With an indent of these bytes.
+    pub fn new(indent: &'a [u8]) -> ManyLines<'a>
+        ensures { ⟦<ManyLines<'a> as Layout>⟧.indent result ≡ Some indent.now }
+    {
+        ManyLines {
+            indent: Indent::new(indent),
+        }
+    }
+}
+
+impl Layout for ManyLines<'_> {
+    ghost indent = { λ s. Some s.indent.bytes.now };
+
+    #[inline(always)]
+    fn lead<W: Sink>(self, out: &mut BufferedWriter<W>, level: usize, first: bool) -> Added {
+        add_break(out, self.indent, level, first)
+    }
+
+    #[inline(always)]
+    fn element<W: Sink>(
+        self,
+        out: &mut BufferedWriter<W>,
+        level: usize,
+        first: bool,
+        text: &str,
+    ) -> Added {
+        add_break(out, self.indent, level, first)?;
+        add_item(out, true, text.as_bytes())
+    }
+
+    #[inline(always)]
+    fn key<W: Sink>(
+        self,
+        out: &mut BufferedWriter<W>,
+        level: usize,
+        first: bool,
+        key: &str,
+    ) -> Added {
+        add_break(out, self.indent, level, first)?;
+        add_item(out, true, key.as_bytes())?;
+        add(out, b": ")
+    }
+
+    #[inline(always)]
+    fn colon<W: Sink>(self, out: &mut BufferedWriter<W>) -> Added {
+        add(out, b": ")
+    }
+
+    #[inline(always)]
+    fn close<W: Sink>(
+        self,
+        out: &mut BufferedWriter<W>,
+        level: usize,
+        empty: bool,
+        bracket: u8,
+    ) -> Added {
+        if empty {
+            return add(out, &[bracket]);
+        }
+        add_break(out, self.indent, level, true)?;
+        add(out, &[bracket])
+    }
+}
+
+/// Writes a piece of the text as it is.
+#[inline(always)]
+pub fn show_piece<W: Sink>(out: &mut BufferedWriter<W>, piece: &[u8]) -> Added
+    ensures { Adds (⟦<BufferedWriter<W> as Sink>⟧.state out.old)
+        (⟦<BufferedWriter<W> as Sink>⟧.state out.new) piece.now result }
+{
+    add(out, piece)
+}
+
+/// Writes a string, between quotes and escaped.
+#[inline(always)]
+pub fn show_text<W: Sink>(out: &mut BufferedWriter<W>, text: &str) -> Added
+    ensures { Adds (⟦<BufferedWriter<W> as Sink>⟧.state out.old)
+        (⟦<BufferedWriter<W> as Sink>⟧.state out.new) (quoted text.now) result }
+{
+    add_item(out, true, text.as_bytes())
+}
+
+/// Writes an integer from zero on.
+#[inline(always)]
+pub fn show_unsigned<W: Sink>(out: &mut BufferedWriter<W>, number: u64) -> Added
+    ensures { Adds (⟦<BufferedWriter<W> as Sink>⟧.state out.old)
+        (⟦<BufferedWriter<W> as Sink>⟧.state out.new) (decimal number) result }
+{
+    add_unsigned(out, number)
+}
+
+/// Writes an integer.
+#[inline(always)]
+pub fn show_signed<W: Sink>(out: &mut BufferedWriter<W>, number: i64) -> Added
+    ensures { Adds (⟦<BufferedWriter<W> as Sink>⟧.state out.old)
+        (⟦<BufferedWriter<W> as Sink>⟧.state out.new) (signed_decimal number) result }
+{
+    add_number(out, number)
+}
+
+/// Returns the error of a write: `Io` at `Writing` where a call of the sink failed, and `NoMemory` where
+/// memory ran out.
+pub fn answered(shown: Added) -> Result<()>
+    ensures text { (level : ℕ) (old new : SinkState) (text : List ℕ)
+        → Shows level old new text shown → WritesText old new text result }
+    ensures ran_out { (level : ℕ) (old new : SinkState) (text : List ℕ)
+        → Shows level old new text shown → IsErrOf result no_memory
+        → RanOut old new (level + length text) }
+{
+    match shown {
+        Ok(()) => Ok(()),
+        Err(error) => Err(refusal(error)),
+    }
+}

@@ -1,0 +1,55 @@
+// How a text is laid out.
+ghost use Rattle.std.specs.Prelude.{option_map};
+ghost use Rattle.json_model.specs.Print.{IsIndent};
+ghost use Rattle.json_layout.specs.Indents.{indent_is_prop};
+
+use json_scan::ws_run;
+
+/// How a JSON text is laid out: an indent of whitespace, or none for no whitespace between the tokens,
+/// and whether the members of each object are sorted by their keys.
+///
+/// ```
+/// use json_layout::Style;
+/// let style = Style::new(Some("  "), true).ok_or("no indent")?;
+/// assert_eq!(rt; style.indent(), Some("  "));
+/// assert!(rt; style.sorted());
+/// assert!(rt; Style::new(Some("--"), false).is_none());
+/// ```
+#[derive(Clone, Copy, Debug)]
+pub struct Style<'a> {
+    indent: Option<&'a str>,
+    sorted: bool,
+    ghost whitespace: { IsIndent (option_map (λ s. s.now) indent) } by { indent_is_prop (option_map (λ s. s.now) indent) },
+}
+
+impl<'a> Style<'a> {
+    ghost use Rattle.std.specs.Prelude.{◌≡◌, MatchOption};
+    ghost use Rattle.json_layout.specs.Styles.{indent_of, is_sorted};
+
+    /// A style of this indent, which is sorted or not. `None` comes exactly where a byte of the indent is no whitespace (RFC 8259,
+    /// section 2).
+    pub fn new(indent: Option<&'a str>, sorted: bool) -> Option<Style<'a>>
+        ensures { let i = option_map (λ s. s.now) indent.entry in
+            MatchOption result (¬ (IsIndent i)) (λ s. (indent_of s ≡ i) × (is_sorted s ≡ sorted)) }
+    {
+        match indent {
+            Some(spaces) if ws_run(spaces.as_bytes(), 0) < spaces.len() => None,
+            _ => Some(Style { indent, sorted }),
+        }
+    }
+
+    /// The indent that it was made with.
+    pub fn indent(self) -> Option<&'a str>
+        ensures same { option_map (λ s. s.now) result ≡ indent_of self.entry }
+        ensures whitespace { IsIndent (option_map (λ s. s.now) result) }
+    {
+        self.indent
+    }
+
+    /// Whether it is sorted.
+    pub fn sorted(self) -> bool
+        ensures { result ≡ is_sorted self.entry }
+    {
+        self.sorted
+    }
+}

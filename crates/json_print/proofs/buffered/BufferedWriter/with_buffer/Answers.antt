@@ -1,5 +1,0 @@
-use Rattle.json_print.proofs.Sending.{held_none}
-use Rattle.json_print.proofs.buffered.BufferedWriter.with_buffer.Goals as goal
-
-pub returns : goal.returns
-returns g c = record { starts = held_none _ }

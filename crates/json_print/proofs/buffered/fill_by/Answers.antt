@@ -1,5 +1,0 @@
-use Rattle.json_print.proofs.Overlapping.{stored}
-use Rattle.json_print.proofs.buffered.fill_by.Goals as goal
-
-pub returns : goal.returns
-returns g c = stored c.args.buffer.now c.args.piece.now c.args.at g.row.N c.requires.room c.requires.long c.requires.short

@@ -1,9 +1,0 @@
-use Rattle.std.proofs.Common.{◌-◌, ◌≤◌, length, option_map}
-use Rattle.json_print.proofs.Elements.{HasAddedElements}
-use Rattle.json_print.proofs.layout.add_byte_elements.Given as goal
-
-abbrev pub invariant-each : goal.invariant-each
-invariant-each g l = (l.at ≤ length l.bytes) × HasAddedElements (g.W.Sink.state l.fn.writer) (g.W.Sink.state l.writer) (option_map (λ s. s.bytes.now) l.indent) l.level l.at l.bytes
-
-abbrev pub decreases-each : goal.decreases-each
-decreases-each g l = length l.bytes - l.at
