@@ -14,7 +14,7 @@ use Rattle.json_value.specs.Edits.{edit_of}
 use Rattle.json_value.specs.EditTrees.{path_in, edits_in}
 use Rattle.json_data.specs.Reading.{Reading, gives, refuses, read_list}
 use Rattle.json_data.specs.ReadingValues.{spelled, path_datum, read_path, edit_datum, read_edit}
-use Rattle.json_data.specs.Refusals.{is_refusal}
+use Rattle.json_tokens.specs.Refusals.{is_refusal}
 use Rattle.json_data.specs.ValueCalls.{TreeReadingFails}
 use Rattle.json_data.proofs.ValueData.{list_edits, list_none}
 use Rattle.json_arguments.specs.Operands.{path_formed, edits_formed}

@@ -10,7 +10,7 @@ use Rattle.json_model.specs.Datum.{text_datum}
 use Rattle.json_io.specs.declared.error.Error.{Error}
 use Rattle.json_io.specs.declared.error.ErrorCode.TheVariants.{TypeUnmatched}
 use Rattle.json_data.specs.Reader.{KeyReadingFails}
-use Rattle.json_data.specs.Refusals.{refusal}
+use Rattle.json_tokens.specs.Refusals.{refusal}
 use Rattle.json_data.specs.Reading.{Reading, gives, refuses, one_character, read_character}
 
 -- nothing is left behind it

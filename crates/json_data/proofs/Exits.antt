@@ -3,16 +3,15 @@ use Rattle.std.proofs.Common.{◌≡◌, List, [], ◌∷◌, ◌++◌, Bool, tr
 use Rattle.json_io.specs.declared.error.Error.{Error}
 use Rattle.json_io.specs.declared.error.ErrorCode.{ErrorCode}
 use Rattle.json_io.specs.declared.error.ErrorCode.TheVariants.{TypeUnmatched, NumberOutOfRange}
-use Rattle.json_data.specs.declared.token.TokenKind.{TokenKind}
-use Rattle.json_data.specs.declared.token.TokenKind.TheVariants.{EndArray}
+use Rattle.json_tokens.specs.declared.token.TokenKind.{TokenKind}
+use Rattle.json_tokens.specs.declared.token.TokenKind.TheVariants.{EndArray}
 use Rattle.json_grammar.specs.Tree.{Tree, Trees, Token as Tok, null, boolean, num, text, list, pairs, no_trees, tree_and, trees_tokens, end}
 use Rattle.json_grammar.specs.declared.Kind.TheVariants.{Array as array}
 use Rattle.json_model.specs.Datum.{Datum}
 use Rattle.json_data.specs.Reading.{Reading, gives, refuses, two, as_list, read_option}
-use Rattle.json_data.specs.Stand.{TokensState, TakesTokens, Peeks, TakesTree, Leaves, FirstIs}
+use Rattle.json_tokens.specs.Stand.{TokensState, TakesTokens, Peeks, TakesTree, Leaves, FirstIs, TokensFail}
 use Rattle.json_data.specs.Reader.{ReadsTree, StopsReading, Misses, GivesUp}
-use Rattle.json_data.specs.Stand.{TokensFail}
-use Rattle.json_data.specs.Refusals.{refusal, is_refusal}
+use Rattle.json_tokens.specs.Refusals.{refusal, is_refusal}
 use Rattle.json_data.proofs.Lists.{InList, join, one_more, leaves, peeks_on}
 
 pub join-join : (ts us vs : Trees) → join (join ts us) vs ≡ join ts (join us vs)

@@ -2,10 +2,10 @@
 use Rattle.std.proofs.Common.{◌≡◌, ◌∙◌, ◌&&◌, List, [], ◌∷◌, ◌++◌, Bool, true, false, refl, sym, ap, subst, append_assoc, append-nil}
 use Rattle.json_grammar.specs.Tree.{Tree, Token as Tok, tokens}
 use Rattle.json_grammar.proofs.TokensUnique.{same}
-use Rattle.json_data.specs.Kinds.{kind_of}
-use Rattle.json_data.specs.Spots.{Spot, top, spot_after, spot_after_all, behind_value, may_come, KindMayCome, allowed}
-use Rattle.json_data.specs.Stand.{TakesTokens}
-use Rattle.json_data.proofs.Places.{after_append, after_tree, allowed_tree, at_top}
+use Rattle.json_tokens.specs.Kinds.{kind_of}
+use Rattle.json_tokens.specs.Spots.{Spot, top, spot_after, spot_after_all, behind_value, may_come, KindMayCome, allowed}
+use Rattle.json_tokens.specs.Stand.{TakesTokens}
+use Rattle.json_tokens.proofs.Places.{after_append, after_tree, allowed_tree, at_top}
 
 -- at the spot p the tokens `rest` of the tree are left
 pub record LeftOf (tree : Tree) (p : Spot) (rest : List Tok) : Type 0 where

@@ -1,14 +1,5 @@
-pub mod Steps
 pub mod Lists
 pub mod Exits
-pub mod Told
-pub mod Places
-pub mod ValueFaults
-pub mod Events
-pub mod TextSteps
-pub mod Waiting
-pub mod AtOnce
-pub mod Passing
 pub mod TextCalls
 pub mod Pairs
 pub mod Rows
@@ -18,12 +9,7 @@ pub mod RuledCalls
 pub mod NumberKeys
 pub mod CharTexts
 pub mod Objects
-pub mod ValueViews
-pub mod ValueSteps
-pub mod Placed
 pub mod ValueCalls
-pub mod TextValues
 pub mod Spelling
 pub mod ValueData
-pub mod TakenRows
 pub mod Complete

@@ -1,16 +1,16 @@
 -- The elements of a list, taken one after another.
 use Rattle.std.proofs.Common.{◌≡◌, ◌<◌, List, [], ◌∷◌, ◌++◌, refl, sym, ◌∙◌, ap, subst, append_assoc, arith}
 use Rattle.std.proofs.lemmas.List.{append-nil}
-use Rattle.json_data.specs.declared.token.TokenKind.{TokenKind}
-use Rattle.json_data.specs.declared.token.TokenKind.TheVariants.{BeginArray, EndArray}
+use Rattle.json_tokens.specs.declared.token.TokenKind.{TokenKind}
+use Rattle.json_tokens.specs.declared.token.TokenKind.TheVariants.{BeginArray, EndArray}
 use Rattle.json_io.specs.declared.error.ErrorCode.{ErrorCode}
 use Rattle.json_grammar.specs.Tree.{Tree, Trees, Token as Tok, list, no_trees, tree_and, tokens, trees_tokens, begin, end}
 use Rattle.json_grammar.specs.declared.Kind.TheVariants.{Array as array}
 use Rattle.json_model.specs.Datum.{Datum}
 use Rattle.json_data.specs.Reading.{Reading, gives, refuses, Series, gives_all, stops, prepend_reading, each}
-use Rattle.json_data.specs.Spots.{Spot, top, over, element, key_or_end, member, behind_value, spot_after, around, spot_after_begin, InArray}
-use Rattle.json_data.specs.Stand.{TokensState, TakesTokens, Peeks, AsTold, TakesTree, TakesOne, Leaves, Rest}
-use Rattle.json_data.proofs.Steps.{joins, is_begin, is_end}
+use Rattle.json_tokens.specs.Spots.{Spot, top, over, element, key_or_end, member, behind_value, spot_after, around, spot_after_begin, InArray}
+use Rattle.json_tokens.specs.Stand.{TokensState, TakesTokens, Peeks, AsTold, TakesTree, TakesOne, Leaves, Rest}
+use Rattle.json_tokens.proofs.Steps.{joins, is_begin, is_end}
 
 abbrev pub join : Trees → Trees → Trees
 join no_trees us = us

@@ -8,7 +8,7 @@ use Rattle.json_io.specs.Errors.{no_memory}
 use Rattle.json_data.specs.Keys.{integer_key}
 use Rattle.json_data.specs.Reader.{KeyReadingFails}
 use Rattle.json_data.specs.Reading.{Reading, refuses, in_range}
-use Rattle.json_data.specs.Refusals.{refusal, is_refusal}
+use Rattle.json_tokens.specs.Refusals.{refusal, is_refusal}
 
 pub key_in : (fits : ℤ → Bool) (r : Reading) (s : List ℕ) → is_number s ≡ true → in_range fits (whole_in s) ≡ r → integer_key fits s ≡ r
 key_in fits r s e h = rw e h

@@ -7,7 +7,7 @@ use Rattle.json_io.specs.declared.error.ErrorCode.{ErrorCode}
 use Rattle.json_data.specs.Members.{reading_then, members_from}
 use Rattle.json_data.specs.Reader.{ReadsTree, ReadsNonNull, StopsReading, Misses}
 use Rattle.json_data.specs.Reading.{Reading, gives, refuses}
-use Rattle.json_data.specs.Stand.{TokensState}
+use Rattle.json_tokens.specs.Stand.{TokensState}
 use Rattle.json_data.proofs.Pairs.{join_pairs}
 
 then_join : (a : Reading) (k l : Datum → Reading) (e : Datum) (x : Reading) → reading_then a k ≡ gives e → ((d : Datum) → k d ≡ gives e → l d ≡ x) → reading_then a l ≡ x

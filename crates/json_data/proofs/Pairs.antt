@@ -1,20 +1,18 @@
 -- The pairs of an object, taken one after another.
-use Rattle.std.proofs.Common.{◌≡◌, ◌<◌, ◌⊎◌, inl, inr, ℕ, ℤ, Bool, true, false, List, [], ◌∷◌, ◌++◌, Option, Some, None, refl, sym, ◌∙◌, ap, subst, append_assoc, arith}
+use Rattle.std.proofs.Common.{◌≡◌, ◌<◌, ◌⊎◌, inl, inr, ℕ, Bool, true, false, List, [], ◌∷◌, ◌++◌, refl, sym, ◌∙◌, ap, subst, append_assoc, arith}
 use Rattle.std.proofs.lemmas.List.{append-nil}
-use Rattle.json_grammar.specs.declared.Kind.TheVariants.{Array as array, Object as object}
-use Rattle.json_grammar.specs.Tree.{Tree, Pairs, pairs, no_pairs, pair_and, tokens, pairs_tokens, Token as Tok, null_token, boolean_token, num_token, text_token, begin, end, key_token}
-use Rattle.json_number.specs.Integers.{integer_in}
+use Rattle.json_grammar.specs.declared.Kind.TheVariants.{Object as object}
+use Rattle.json_grammar.specs.Tree.{Tree, Pairs, pairs, no_pairs, pair_and, tokens, pairs_tokens, Token as Tok, begin, end, key_token}
 use Rattle.json_io.specs.declared.error.Error.{Error}
 use Rattle.json_io.specs.declared.error.ErrorCode.{ErrorCode}
-use Rattle.json_data.specs.declared.token.TokenKind.{TokenKind}
-use Rattle.json_data.specs.declared.token.TokenKind.TheVariants.{BeginObject, EndObject}
-use Rattle.json_data.specs.Kinds.{kind_of, number_kind}
+use Rattle.json_tokens.specs.declared.token.TokenKind.{TokenKind}
+use Rattle.json_tokens.specs.declared.token.TokenKind.TheVariants.{BeginObject, EndObject}
 use Rattle.json_data.specs.Reading.{Reading, refuses}
-use Rattle.json_data.specs.Refusals.{refusal, is_refusal}
+use Rattle.json_tokens.specs.Refusals.{refusal, is_refusal}
 use Rattle.json_data.specs.Reader.{ReadsTree, StopsReading, KeyReadingFails}
-use Rattle.json_data.specs.Spots.{Spot, top, over, element, key_or_end, member, opened_of, behind_value, spot_after_begin, around, spot_after, InObject}
-use Rattle.json_data.specs.Stand.{TokensState, TakesTokens, Peeks, AsTold, TakesTree, TakesOne, Leaves, Rest, TokensFail}
-use Rattle.json_data.proofs.Steps.{joins}
+use Rattle.json_tokens.specs.Spots.{Spot, top, over, element, key_or_end, member, opened_of, behind_value, spot_after_begin, around, spot_after, InObject}
+use Rattle.json_tokens.specs.Stand.{TokensState, TakesTokens, Peeks, AsTold, TakesTree, TakesOne, Leaves, Rest, TokensFail}
+use Rattle.json_tokens.proofs.Steps.{joins, is_begin_object as is_begin, is_end_object as is_end}
 use Rattle.json_data.proofs.Exits.{refusing, giving_up}
 
 abbrev pub join_pairs : Pairs → Pairs → Pairs
@@ -28,34 +26,6 @@ tokens-join_pairs (pair_and k t ps) qs = ap (λ (xs : List Tok). key_token k ∷
 pub join-join_pairs : (ps qs rs : Pairs) → join_pairs (join_pairs ps qs) rs ≡ join_pairs ps (join_pairs qs rs)
 join-join_pairs no_pairs qs rs = refl
 join-join_pairs (pair_and k t ps) qs rs = ap (λ (us : Pairs). pair_and k t us) (join-join_pairs ps qs rs)
-
-no_brace : (o : Option ℤ) (k : TokenKind) → number_kind o ≡ k → (k ≡ BeginObject) ⊎ (k ≡ EndObject) → ⊥
-no_brace None k e (inl h) = cc
-no_brace None k e (inr h) = cc
-no_brace (Some n) k e (inl h) = cc
-no_brace (Some n) k e (inr h) = cc
-
-pub is_begin : (x : Tok) → kind_of x ≡ BeginObject → x ≡ begin object
-is_begin null_token e = cc
-is_begin (boolean_token b) e = cc
-is_begin (num_token l) e = absurd (no_brace (integer_in l) BeginObject e (inl refl))
-is_begin (text_token s) e = cc
-is_begin (key_token s) e = cc
-is_begin (begin array) e = cc
-is_begin (begin object) e = refl
-is_begin (end array) e = cc
-is_begin (end object) e = cc
-
-is_end : (x : Tok) → kind_of x ≡ EndObject → x ≡ end object
-is_end null_token e = cc
-is_end (boolean_token b) e = cc
-is_end (num_token l) e = absurd (no_brace (integer_in l) EndObject e (inr refl))
-is_end (text_token s) e = cc
-is_end (key_token s) e = cc
-is_end (begin array) e = cc
-is_end (begin object) e = cc
-is_end (end array) e = cc
-is_end (end object) e = refl
 
 -- the source stands in an object, behind the pairs ps
 pub record InPairs {S : Type 0} (taken : S → List Tok → Type 0) (stand : S → TokensState) (a b : S) (ps : Pairs) : Type 0 where

@@ -9,10 +9,10 @@ use Rattle.json_model.specs.Datum.{Datum}
 use Rattle.json_value.specs.EditTrees.{both, each_in, step_in, path_in, edit_named, edit_in}
 use Rattle.json_value.specs.Seen.{list_of}
 use Rattle.json_data.specs.Reader.{StopsReading}
-use Rattle.json_data.specs.Refusals.{is_refusal}
+use Rattle.json_tokens.specs.Refusals.{is_refusal}
 use Rattle.json_data.specs.ReadingValues.{spelled}
 use Rattle.json_data.specs.Spelled.{Unspelled}
-use Rattle.json_data.specs.Stand.{TokensState, TakesTree}
+use Rattle.json_tokens.specs.Stand.{TokensState, TakesTree}
 use Rattle.json_data.proofs.Exits.{mismatch, giving_up}
 
 none_some : {A : Type 0} {x : A} → None ≡ Some x → ⊥

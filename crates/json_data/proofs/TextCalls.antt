@@ -11,13 +11,13 @@ use Rattle.json_io.specs.declared.error.ErrorCode.{ErrorCode}
 use Rattle.json_io.specs.declared.error.ErrorCode.TheVariants as code
 use Rattle.json_io.specs.declared.error.Place.{Place}
 use Rattle.json_io.specs.Errors.{no_memory}
-use Rattle.json_data.specs.Refusals.{is_refusal}
+use Rattle.json_tokens.specs.Refusals.{is_refusal}
 use Rattle.json_text.specs.Faults.{FaultFrom}
 use Rattle.json_text.specs.Parsing.{input}
 use Rattle.json_text.proofs.NoText.{fault_at}
 use Rattle.json_data.specs.Reading.{Reading, refuses}
-use Rattle.json_data.specs.Stand.{over_text, TakesTree}
-use Rattle.json_data.specs.Text.{TextTokensState, TextFails, text_taken, text_tokens_state}
+use Rattle.json_tokens.specs.Stand.{over_text, TakesTree}
+use Rattle.json_tokens.specs.Text.{TextTokensState, TextFails, text_taken, text_tokens_state}
 use Rattle.json_data.specs.Calls.{ReadsTypedText, TypedReadingFails, ValueBegins}
 
 -- what is read is the same text

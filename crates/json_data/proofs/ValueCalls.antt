@@ -7,13 +7,13 @@ use Rattle.json_io.specs.declared.error.ErrorCode.{ErrorCode}
 use Rattle.json_io.specs.declared.error.ErrorCode.TheVariants as code
 use Rattle.json_io.specs.declared.error.Place.{Place}
 use Rattle.json_io.specs.declared.error.Place.TheVariants as place
-use Rattle.json_data.specs.declared.value_tokens.ValueTokens.{ValueTokens}
+use Rattle.json_tokens.specs.declared.value_tokens.ValueTokens.{ValueTokens}
 use Rattle.json_data.specs.Reading.{Reading, refuses}
 use Rattle.json_data.specs.Reader.{ReadsTree, StopsReading}
-use Rattle.json_data.specs.Refusals.{is_refusal}
-use Rattle.json_data.specs.Stand.{WantsValue, over_tree}
+use Rattle.json_tokens.specs.Refusals.{is_refusal}
+use Rattle.json_tokens.specs.Stand.{WantsValue, over_tree}
 use Rattle.json_data.specs.ValueCalls.{TreeReadingFails}
-use Rattle.json_data.specs.Values.{ValueState, value_state, value_taken, value_stand, state_taken, state_stand, rest_of, at_begin}
+use Rattle.json_tokens.specs.Values.{ValueState, value_state, value_taken, value_stand, state_taken, state_stand, rest_of, at_begin}
 use Rattle.json_data.proofs.Left.{whole_left}
 
 pub wants_value : (a : ValueTokens) (t : Tree) → value_state a ≡ at_begin t → WantsValue (value_stand a)

@@ -5,10 +5,10 @@ use Rattle.json_grammar.specs.Tree.{Tree, Token as Tok, null, begin}
 use Rattle.json_io.specs.declared.error.Error.{Error}
 use Rattle.json_io.specs.declared.error.ErrorCode.TheVariants.{TypeUnmatched}
 use Rattle.json_io.specs.Errors.{no_memory}
-use Rattle.json_data.specs.Kinds.{kind_of, first_kind}
-use Rattle.json_data.specs.Refusals.{is_refusal, refusal}
+use Rattle.json_tokens.specs.Kinds.{kind_of, first_kind}
+use Rattle.json_tokens.specs.Refusals.{is_refusal, refusal}
 use Rattle.json_data.specs.Reading.{Reading, refuses}
-use Rattle.json_data.specs.Stand.{TokensState, TakesTree}
+use Rattle.json_tokens.specs.Stand.{TokensState, TakesTree}
 
 -- one tree was taken, and the answer r is its reading
 pub record ReadsTree {S : Type 0} (taken : S → List Tok → Type 0) (stand : S → TokensState) (f : Tree → Reading) (a b : S) (r : Reading) : Type 0 where

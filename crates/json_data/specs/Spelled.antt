@@ -3,7 +3,7 @@ use Rattle.std.specs.Prelude.{◌≡◌, ◌⊎◌, Option, None}
 use Rattle.json_io.specs.declared.error.Error.{Error}
 use Rattle.json_io.specs.declared.error.ErrorCode.TheVariants.{TypeUnmatched}
 use Rattle.json_io.specs.Errors.{no_memory}
-use Rattle.json_data.specs.Refusals.{refusal}
+use Rattle.json_tokens.specs.Refusals.{refusal}
 
 -- memory ran out, or the tree spells none
 abbrev pub Unspelled : {A : Type 0} → Option A → Error → Type 0

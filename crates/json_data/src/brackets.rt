@@ -1,28 +1,13 @@
 // Brackets of lists and objects.
-ghost use Rattle.std.specs.Prelude.{◌≡◌, OnOk, IfErr};
+ghost use Rattle.std.specs.Prelude.{OnOk, IfErr};
 ghost use Rattle.json_grammar.specs.Tree.{Tree, Token as Tok, begin as begin_token};
-ghost use Rattle.json_data.specs.Kinds.{kind_of};
 ghost use Rattle.json_data.specs.Reader.{StopsReading, RefusesOthers};
 ghost use Rattle.json_data.specs.Reading.{Reading};
-ghost use Rattle.json_data.specs.Stand.{NotWhole, WantsValue, TakesOne, FailsWithTokens};
+ghost use Rattle.json_tokens.specs.Stand.{NotWhole, WantsValue, TakesOne, FailsWithTokens};
 
-use crate::lent::Lent;
-use crate::refusals::refusal;
-use crate::token::TokenKind;
-use crate::tokens::Tokens;
 use json_grammar::Kind;
 use json_text::{ErrorCode, Result};
-
-/// The kind of the token that opens a container of the kind.
-#[inline(always)]
-pub(crate) fn begin_kind(kind: Kind) -> TokenKind
-    ensures { result ≡ kind_of (begin_token kind) }
-{
-    match kind {
-        Kind::Array => TokenKind::BeginArray,
-        Kind::Object => TokenKind::BeginObject,
-    }
-}
+use json_tokens::{Lent, Tokens, begin_kind, refusal};
 
 /// Takes the next token.
 #[inline(never)]

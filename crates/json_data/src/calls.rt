@@ -5,16 +5,15 @@ ghost use Rattle.json_text.specs.Ruled.{rules_of};
 ghost use Rattle.json_io.specs.Transfer.{ReadsWithin, ReadingCause, TakesOneBeyond};
 ghost use Rattle.json_data.specs.Reading.{gives};
 ghost use Rattle.json_data.specs.Calls.{most, BytesRefused, RefusesTooLarge, ReadsTypedValue, FailsTypedReading, ReadsUnlessNoMemory};
-ghost use Rattle.json_data.specs.TextValues.{IsPackedAtRoot};
+ghost use Rattle.json_tokens.specs.TextValues.{IsPackedAtRoot};
 ghost use Rattle.json_data.specs.Calls.{ReadsTypedText, TypedReadingFails, HasDatum, ReadsTextWith, TypedReadingFailsWith, ReadsSource, SourceFails};
 
 use crate::deserialize::{Deserialize, DeserializeFrom};
-use crate::refusals::is_refusal;
-use crate::text_tokens::TextTokens;
 use json_doc::read_document_with;
 use json_text::{
     Error, ErrorCode, Place, Result, Rules, Source, check_utf8, place_of, read_all, ws_run,
 };
+use json_tokens::{TextTokens, is_refusal};
 use std::alloc::Global;
 use std::str::from_utf8_unchecked;
 

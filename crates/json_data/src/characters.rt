@@ -8,13 +8,9 @@ ghost use Rattle.json_data.specs.Reading.{one_character, read_character};
 
 use crate::deserialize::DeserializeFrom;
 use crate::keys::FromKey;
-use crate::lent::Lent;
-use crate::piece::Piece;
 use crate::readers::next_text;
-use crate::refusals::refusal;
-use crate::token::TokenKind;
-use crate::tokens::Tokens;
 use json_text::{ErrorCode, Result};
+use json_tokens::{Lent, Piece, TokenKind, Tokens, refusal};
 use std::alloc::Global;
 
 // The character of a text that has one alone.

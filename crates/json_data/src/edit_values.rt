@@ -8,10 +8,9 @@ ghost use Rattle.json_data.specs.ReadingValues.{path_datum, edit_datum, read_pat
 ghost use Rattle.json_data.specs.Spelled.{Unspelled};
 
 use crate::deserialize::DeserializeFrom;
-use crate::lent::Lent;
 use crate::path_values::{read_path, read_step, unspelled};
-use crate::tokens::Tokens;
 use json_text::Result;
+use json_tokens::{Lent, Tokens};
 use json_value::{ArrayView, Edit, Path, Text, View};
 use std::alloc::Global;
 

@@ -5,20 +5,18 @@ ghost use Rattle.json_number.specs.Tests.{is_number as spec_is_number};
 ghost use Rattle.json_io.specs.Errors.{no_memory};
 ghost use Rattle.json_io.specs.declared.error.ErrorCode.TheVariants.{ExpectedNumericKey};
 ghost use Rattle.json_data.specs.Keys.{integer_key, integer_named, unsigned_orders};
-ghost use Rattle.json_data.specs.Pieces.{Says};
+ghost use Rattle.json_tokens.specs.Pieces.{Says};
 ghost use Rattle.json_data.specs.Reader.{KeyReadingFails};
 ghost use Rattle.json_data.specs.Reading.{gives, between, ReturnsBetween};
-ghost use Rattle.json_data.specs.Refusals.{refusal as spec_refusal};
+ghost use Rattle.json_tokens.specs.Refusals.{refusal as spec_refusal};
 ghost use Rattle.json_number.specs.IntegerLiterals.{IsIntegerLiteral};
 ghost use Rattle.json_number.specs.Integers.{whole_in};
 
 use crate::keys::FromKey;
-use crate::lent::Lent;
-use crate::piece::Piece;
-use crate::refusals::refusal;
 use crate::whole::{fit, fit_unsigned};
 use json_number::{IntegerLiteral, integer_literal};
 use json_text::{ErrorCode, Result, is_number};
+use json_tokens::{Lent, Piece, refusal};
 use std::alloc::Global;
 
 // The integer of a key that is a number.

@@ -4,22 +4,18 @@ ghost use Rattle.std.specs.Cow.{cow_str_bytes};
 ghost use Rattle.json_grammar.specs.declared.Kind.TheVariants.{Object as object};
 ghost use Rattle.json_grammar.specs.Tree.{key_token, end as end_token};
 ghost use Rattle.json_model.specs.Datum.{Datum, boolean_datum, text_datum, option_datum};
-ghost use Rattle.json_data.specs.declared.token.TokenKind.TheVariants as TokenKind;
+ghost use Rattle.json_tokens.specs.declared.token.TokenKind.TheVariants as TokenKind;
 ghost use Rattle.json_data.specs.Keys.{text_key, boolean_key, IsNamed, boolean_named, option_orders};
-ghost use Rattle.json_data.specs.Pieces.{Says};
+ghost use Rattle.json_tokens.specs.Pieces.{Says};
 ghost use Rattle.json_data.specs.Reading.{Reading, gives, key_cmp};
 ghost use Rattle.json_data.specs.Reader.{KeyReadingFails};
-ghost use Rattle.json_data.specs.Spots.{InObject};
-ghost use Rattle.json_data.specs.Stand.{NotWhole, TakesOne, TakesKeyPiece, FailsWithTokens};
+ghost use Rattle.json_tokens.specs.Spots.{InObject};
+ghost use Rattle.json_tokens.specs.Stand.{NotWhole, TakesOne, TakesKeyPiece, FailsWithTokens};
 
 use crate::brackets::pass;
-use crate::lent::Lent;
-use crate::piece::{Piece, lend};
-use crate::refusals::refusal;
-use crate::token::{Token, TokenKind};
-use crate::tokens::Tokens;
 use json_grammar::Kind;
 use json_text::{ErrorCode, Result};
+use json_tokens::{Lent, Piece, Token, TokenKind, Tokens, lend, refusal};
 use std::alloc::Global;
 use std::borrow::CowStr;
 

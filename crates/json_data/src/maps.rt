@@ -5,18 +5,16 @@ ghost use Rattle.json_grammar.specs.Tree.{begin as begin_token};
 ghost use Rattle.json_model.specs.Datum.{rows_datum, list_rows, row_of};
 ghost use Rattle.json_data.specs.Reader.{ReadsNonNull, Misses};
 ghost use Rattle.json_data.specs.Reading.{gives, read_map};
-ghost use Rattle.json_data.specs.Spots.{InObject};
-ghost use Rattle.json_data.specs.Stand.{TakesOne};
+ghost use Rattle.json_tokens.specs.Spots.{InObject};
+ghost use Rattle.json_tokens.specs.Stand.{TakesOne};
 
 use crate::brackets::open;
 use crate::deserialize::DeserializeFrom;
 use crate::keys::{FromKey, next_name};
-use crate::lent::Lent;
 use crate::readers::leave_after;
-use crate::refusals::refusal;
-use crate::tokens::Tokens;
 use json_grammar::Kind;
 use json_text::{ErrorCode, Result};
+use json_tokens::{Lent, Tokens, refusal};
 use std::alloc::Global;
 use std::collections::BTreeMap;
 

@@ -4,20 +4,18 @@ ghost use Rattle.json_grammar.specs.declared.Kind.TheVariants.{Object as object}
 ghost use Rattle.json_grammar.specs.Tree.{Tree, begin as begin_token};
 ghost use Rattle.json_model.specs.Datum.{Datum};
 ghost use Rattle.json_data.specs.Members.{read_members as spec_read_members};
-ghost use Rattle.json_data.specs.Pieces.{Says};
+ghost use Rattle.json_tokens.specs.Pieces.{Says};
 ghost use Rattle.json_data.specs.Reader.{ReadsTree, ReadsNonNull, Misses, StopsReading};
 ghost use Rattle.json_data.specs.Reading.{Reading, gives};
-ghost use Rattle.json_data.specs.Spots.{InObject};
-ghost use Rattle.json_data.specs.Stand.{NotWhole, WantsValue, TakesOne};
+ghost use Rattle.json_tokens.specs.Spots.{InObject};
+ghost use Rattle.json_tokens.specs.Stand.{NotWhole, WantsValue, TakesOne};
 
 use crate::brackets::open;
 use crate::keys::next_name;
-use crate::lent::Lent;
-use crate::piece::Piece;
 use crate::readers::leave_after;
-use crate::tokens::Tokens;
 use json_grammar::Kind;
 use json_text::Result;
+use json_tokens::{Lent, Piece, Tokens};
 use std::alloc::Global;
 
 /// What is read so far of the members of an object.

@@ -5,12 +5,12 @@ ghost use Rattle.json_io.specs.declared.error.ErrorCode.TheVariants as ErrorCode
 ghost use Rattle.json_value.specs.Edits.{step_of, path_steps};
 ghost use Rattle.json_value.specs.EditTrees.{each_in, index_of, step_in, path_in};
 ghost use Rattle.json_value.specs.Seen.{seen, elements_seen};
-ghost use Rattle.json_data.specs.Refusals.{refusal as spec_refusal};
+ghost use Rattle.json_tokens.specs.Refusals.{refusal as spec_refusal};
 ghost use Rattle.json_data.specs.Spelled.{Unspelled};
 
-use crate::refusals::refusal;
 use json_number::{JsonNumberTrait, Number};
 use json_text::{Error, ErrorCode, Result};
+use json_tokens::refusal;
 use json_value::{ArrayView, Path, PointerNode, Text, View};
 use std::alloc::Global;
 

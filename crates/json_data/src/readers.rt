@@ -3,24 +3,20 @@ ghost use Rattle.std.specs.Prelude.{◌≡◌, ℕ, List, [], ◌∷◌, ◌⊎�
 ghost use Rattle.std.specs.Cow.{cow_str_bytes};
 ghost use Rattle.json_grammar.specs.declared.Kind.TheVariants.{Array as array};
 ghost use Rattle.json_grammar.specs.Tree.{text, begin as begin_token, end as end_token};
-ghost use Rattle.json_data.specs.declared.token.TokenKind.TheVariants as TokenKind;
-ghost use Rattle.json_data.specs.Pieces.{Says};
+ghost use Rattle.json_tokens.specs.declared.token.TokenKind.TheVariants as TokenKind;
+ghost use Rattle.json_tokens.specs.Pieces.{Says};
 ghost use Rattle.json_model.specs.Datum.{null_datum, boolean_datum, text_datum, list_datum, list_data, option_datum};
 ghost use Rattle.json_data.specs.Reading.{gives, read_boolean, read_unit, read_text, read_option, read_list, read_pair, read_any};
-ghost use Rattle.json_data.specs.Refusals.{is_refusal as spec_is_refusal};
-ghost use Rattle.json_data.specs.Spots.{IsOpen, InArray};
-ghost use Rattle.json_data.specs.Stand.{NotWhole, WantsValue, TakesOne, TakesTree, TakesText, Leaves, TokensFail, FailsWithTokens};
+ghost use Rattle.json_tokens.specs.Refusals.{is_refusal as spec_is_refusal};
+ghost use Rattle.json_tokens.specs.Spots.{IsOpen, InArray};
+ghost use Rattle.json_tokens.specs.Stand.{NotWhole, WantsValue, TakesOne, TakesTree, TakesText, Leaves, TokensFail, FailsWithTokens};
 ghost use Rattle.json_data.specs.Reader.{ReadsTree, ReadsNonNull, Misses, StopsReading};
 
 use crate::brackets::{open, pass};
 use crate::deserialize::DeserializeFrom;
-use crate::lent::Lent;
-use crate::piece::{Piece, lend};
-use crate::refusals::{is_refusal, refusal};
-use crate::token::{Token, TokenKind};
-use crate::tokens::Tokens;
 use json_grammar::Kind;
 use json_text::{Error, ErrorCode, Result};
+use json_tokens::{Lent, Piece, Token, TokenKind, Tokens, is_refusal, lend, refusal};
 use std::alloc::Global;
 use std::borrow::CowStr;
 

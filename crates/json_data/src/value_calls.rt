@@ -4,11 +4,11 @@ ghost use Rattle.json_value.specs.Denotes.{tree_of};
 ghost use Rattle.json_value.specs.Sights.{whole_value};
 ghost use Rattle.json_data.specs.Reading.{gives};
 ghost use Rattle.json_data.specs.ValueCalls.{TreeReadingFails};
-ghost use Rattle.json_data.specs.Values.{IsMadeOf};
+ghost use Rattle.json_tokens.specs.Values.{IsMadeOf};
 
 use crate::deserialize::{Deserialize, DeserializeFrom};
-use crate::value_tokens::ValueTokens;
 use json_text::Result;
+use json_tokens::ValueTokens;
 use json_value::Value;
 use std::alloc::Global;
 

@@ -5,11 +5,8 @@ ghost use Rattle.json_value.specs.declared.value.Value.{Array as ArrayValue, Obj
 ghost use Rattle.json_data.specs.ReadingValues.{value_datum, read_value, read_array, read_object_value};
 
 use crate::deserialize::DeserializeFrom;
-use crate::lent::Lent;
-use crate::refusals::refusal;
-use crate::token::TokenKind;
-use crate::tokens::Tokens;
 use json_text::{ErrorCode, Result};
+use json_tokens::{Lent, TokenKind, Tokens, refusal};
 use json_value::{Array, Object, Value};
 use std::alloc::Global;
 

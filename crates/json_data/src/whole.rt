@@ -6,18 +6,15 @@ ghost use Rattle.json_model.specs.Datum.{integer_datum};
 ghost use Rattle.json_number.specs.IntegerLiterals.{IsIntegerLiteral};
 ghost use Rattle.json_number.specs.Integers.{integer_in};
 ghost use Rattle.json_number.specs.Numbers.{value_of, text_of_number};
-ghost use Rattle.json_data.specs.declared.token.TokenKind.TheVariants as TokenKind;
+ghost use Rattle.json_tokens.specs.declared.token.TokenKind.TheVariants as TokenKind;
 ghost use Rattle.json_data.specs.Reading.{gives, tree_integer, between, in_range, refuses, read_integer, ReturnsBetween};
-ghost use Rattle.json_data.specs.Refusals.{is_refusal as spec_is_refusal, refusal as spec_refusal};
+ghost use Rattle.json_tokens.specs.Refusals.{is_refusal as spec_is_refusal, refusal as spec_refusal};
 ghost use Rattle.json_data.specs.Reader.{ReadsTree, ReadsNonNull, StopsReading};
-ghost use Rattle.json_data.specs.Stand.{NotWhole, WantsValue, TakesTree, FailsWithTokens};
+ghost use Rattle.json_tokens.specs.Stand.{NotWhole, WantsValue, TakesTree, FailsWithTokens};
 
-use crate::lent::Lent;
-use crate::refusals::refusal;
-use crate::token::{Token, TokenKind};
-use crate::tokens::Tokens;
 use json_number::{Integer, IntegerLiteral, Number, integer_literal};
 use json_text::{ErrorCode, Result};
+use json_tokens::{Lent, Token, TokenKind, Tokens, refusal};
 
 /// A number by value.
 #[inline(always)]

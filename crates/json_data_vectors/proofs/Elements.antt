@@ -2,10 +2,10 @@
 use Rattle.std.proofs.Common.{◌≡◌, ◌≢◌, ◌^◌, Bool, true, not, refl, sym, ap, rules}
 use denote.Enum.Bare.{sameb}
 use Rattle.json_grammar.specs.Tree.{Tree, null, boolean, num, text, list, pairs, Trees, no_trees, tree_and}
-use Rattle.json_data.specs.contracts.token.TokenKind.{the_type}
-use Rattle.json_data.specs.declared.token.TokenKind.{TokenKind}
-use Rattle.json_data.specs.declared.token.TokenKind.TheVariants.{BeginArray}
-use Rattle.json_data.specs.Kinds.{first_kind}
+use Rattle.json_tokens.specs.contracts.token.TokenKind.{the_type}
+use Rattle.json_tokens.specs.declared.token.TokenKind.{TokenKind}
+use Rattle.json_tokens.specs.declared.token.TokenKind.TheVariants.{BeginArray}
+use Rattle.json_tokens.specs.Kinds.{first_kind}
 use Rattle.json_data.specs.Reading.{Reading, Series, each, prepend_reading, read_integer, between}
 use Rattle.json_data_vectors.specs.Nested.{read_nested, each_nested}
 

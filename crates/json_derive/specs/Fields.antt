@@ -7,7 +7,7 @@ use Rattle.json_io.specs.declared.error.Error.{Error}
 use Rattle.json_io.specs.declared.error.ErrorCode.TheVariants.{TypeUnmatched}
 use Rattle.json_data.specs.Members.{read_object, reading_then}
 use Rattle.json_data.specs.Reading.{Reading, gives, refuses, Series, gives_all, stops, prepend_reading, as_list}
-use Rattle.json_data.specs.Refusals.{is_refusal, refusal}
+use Rattle.json_tokens.specs.Refusals.{is_refusal, refusal}
 
 -- a field: the name of its member, what is read of the member's value, and what the field is where the member is missing
 pub record Field : Type 0 where

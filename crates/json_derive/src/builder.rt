@@ -4,8 +4,8 @@ ghost use Rattle.json_model.specs.Datum.{Datum, Data, list_datum};
 ghost use Rattle.json_io.specs.declared.error.ErrorCode.TheVariants as ErrorCode;
 ghost use Rattle.json_data.specs.Reader.{ReadsTree, ReadsNonNull, Misses, StopsReading};
 ghost use Rattle.json_data.specs.Reading.{gives};
-ghost use Rattle.json_data.specs.Refusals.{refusal as spec_refusal};
-ghost use Rattle.json_data.specs.Stand.{NotWhole, WantsValue};
+ghost use Rattle.json_tokens.specs.Refusals.{refusal as spec_refusal};
+ghost use Rattle.json_tokens.specs.Stand.{NotWhole, WantsValue};
 ghost use Rattle.json_derive.specs.Fields.{Struct, struct_step, no_members, made_struct, struct_datum, read_struct as spec_read_struct, BuildFails};
 
 use json_data::{Lent, Members, Tokens, find_members, read_members, refusal};

@@ -3,7 +3,7 @@ use Rattle.std.proofs.Common.{◌≡◌, ◌∙◌, ℕ, List, Bool, Option, Som
 use Rattle.json_grammar.specs.declared.Kind.TheVariants.{Object as object}
 use Rattle.json_grammar.specs.Tree.{Tree, Trees, no_trees, tree_and, Pairs, no_pairs, pair_and, list, pairs, Token as Tok, end}
 use Rattle.json_model.specs.Edit.{key_step, index_step}
-use Rattle.json_data.specs.Stand.{TokensState, TakesTree, TakesOne, Leaves}
+use Rattle.json_tokens.specs.Stand.{TokensState, TakesTree, TakesOne, Leaves}
 use Rattle.json_data.proofs.Exits.{join-join}
 use Rattle.json_data.proofs.Lists.{InList, join, one_more, leaves}
 use Rattle.json_data.proofs.Pairs.{InPairs, InMember, join_pairs, join-join_pairs, one_member, leaves_pairs, ended_pairs}

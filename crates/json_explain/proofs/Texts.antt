@@ -11,9 +11,9 @@ use Rattle.json_io.specs.declared.error.Place.{Place}
 use Rattle.json_text.specs.Parsing.{input, taken}
 use Rattle.json_data.specs.Calls.{TypedReadingFails}
 use Rattle.json_data.specs.Reading.{Reading}
-use Rattle.json_data.specs.Refusals.{is_refusal}
-use Rattle.json_data.specs.Stand.{over_text, TakesTree}
-use Rattle.json_data.specs.Text.{TextTokensState, text_taken, text_tokens_state, HasReadValue}
+use Rattle.json_tokens.specs.Refusals.{is_refusal}
+use Rattle.json_tokens.specs.Stand.{over_text, TakesTree}
+use Rattle.json_tokens.specs.Text.{TextTokensState, text_taken, text_tokens_state, HasReadValue}
 use Rattle.json_io.specs.Errors.{no_memory}
 use Rattle.json_io.specs.declared.error.Error.{Error}
 use Rattle.json_explain.specs.Refused.{Refused}

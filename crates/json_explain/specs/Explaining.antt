@@ -8,7 +8,7 @@ use Rattle.json_io.specs.declared.error.Place.{Place}
 use Rattle.json_io.specs.Positions.{place_at}
 use Rattle.json_doc.specs.declared.json_type.JsonType.{JsonType}
 use Rattle.json_doc.specs.Readings.{type_of}
-use Rattle.json_data.specs.Stand.{TokensState, TakesTree}
+use Rattle.json_tokens.specs.Stand.{TokensState, TakesTree}
 use Rattle.json_explain.specs.Refused.{Refused}
 use Rattle.json_explain.specs.Paths.{LeadsToOffset}
 use Rattle.json_explain.specs.declared.refusal.Step.{Step}

@@ -2,11 +2,11 @@
 ghost use Rattle.std.specs.Prelude.{◌≡◌, ◌≢◌, ℕ, List, true, false, None, Some, OnOk, IfOk, IfSome};
 ghost use Rattle.json_grammar.specs.declared.Kind.TheVariants.{Object as object};
 ghost use Rattle.json_grammar.specs.Tree.{Tree, Token as Tok, begin as begin_token, end as end_token, key_token};
-ghost use Rattle.json_data.specs.declared.token.TokenKind.TheVariants as TokenKind;
-ghost use Rattle.json_data.specs.Kinds.{kind_of, first_kind};
-ghost use Rattle.json_data.specs.Pieces.{Says};
-ghost use Rattle.json_data.specs.Spots.{InObject};
-ghost use Rattle.json_data.specs.Stand.{NotWhole, WantsValue, TakesOne, TakesTree, TakesKeyPiece, FailsWithTokens};
+ghost use Rattle.json_tokens.specs.declared.token.TokenKind.TheVariants as TokenKind;
+ghost use Rattle.json_tokens.specs.Kinds.{kind_of, first_kind};
+ghost use Rattle.json_tokens.specs.Pieces.{Says};
+ghost use Rattle.json_tokens.specs.Spots.{InObject};
+ghost use Rattle.json_tokens.specs.Stand.{NotWhole, WantsValue, TakesOne, TakesTree, TakesKeyPiece, FailsWithTokens};
 
 use json_data::{Lent, Piece, Token, TokenKind, Tokens};
 use json_grammar::Kind;

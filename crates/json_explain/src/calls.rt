@@ -5,10 +5,10 @@ ghost use Rattle.json_grammar.specs.Fault.{reads};
 ghost use Rattle.json_grammar.specs.Tree.{Tree};
 ghost use Rattle.json_io.specs.Errors.{no_memory, line_of, column_of};
 ghost use Rattle.json_data.specs.Calls.{ReadsTypedText, TypedReadingFails};
-ghost use Rattle.json_data.specs.Kinds.{first_kind};
+ghost use Rattle.json_tokens.specs.Kinds.{first_kind};
 ghost use Rattle.json_data.specs.Reading.{gives};
-ghost use Rattle.json_data.specs.Refusals.{is_refusal as spec_is_refusal};
-ghost use Rattle.json_data.specs.TextValues.{IsPackedAtRoot};
+ghost use Rattle.json_tokens.specs.Refusals.{is_refusal as spec_is_refusal};
+ghost use Rattle.json_tokens.specs.TextValues.{IsPackedAtRoot};
 ghost use Rattle.json_explain.specs.Explaining.{explained_step, refusal_steps, refused_of, refused_in, TextRefused, FoundAt};
 
 use crate::explain::Explain;

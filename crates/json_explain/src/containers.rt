@@ -3,10 +3,10 @@ ghost use Rattle.std.specs.Prelude.{◌≡◌, ℕ, List, Bool, Some, true, OnOk
 ghost use Rattle.json_grammar.specs.declared.Kind.TheVariants.{Array as array, Object as object};
 ghost use Rattle.json_grammar.specs.Tree.{begin as begin_token};
 ghost use Rattle.json_io.specs.Errors.{no_memory};
-ghost use Rattle.json_data.specs.Pieces.{Says};
+ghost use Rattle.json_tokens.specs.Pieces.{Says};
 ghost use Rattle.json_data.specs.Reader.{GivesUp, GivesUpOnErr};
-ghost use Rattle.json_data.specs.Spots.{IsOpen, InArray, InObject};
-ghost use Rattle.json_data.specs.Stand.{WantsValue, TakesOne, Leaves};
+ghost use Rattle.json_tokens.specs.Spots.{IsOpen, InArray, InObject};
+ghost use Rattle.json_tokens.specs.Stand.{WantsValue, TakesOne, Leaves};
 ghost use Rattle.json_explain.specs.Refused.{ObjectReading, list_refused, object_refused, refused_within as spec_within};
 ghost use Rattle.json_explain.specs.Explaining.{Explains, refused_in, refused_of, explained_step};
 

@@ -2,7 +2,7 @@
 ghost use Rattle.std.specs.Prelude.{◌≡◌, Option, true, IfOk};
 ghost use Rattle.json_grammar.specs.Tree.{Tree};
 ghost use Rattle.json_data.specs.Reader.{GivesUpOnErr};
-ghost use Rattle.json_data.specs.Stand.{WantsValue};
+ghost use Rattle.json_tokens.specs.Stand.{WantsValue};
 ghost use Rattle.json_explain.specs.Refused.{Refused, whole_refused};
 ghost use Rattle.json_explain.specs.Explaining.{Explains, refused_in};
 

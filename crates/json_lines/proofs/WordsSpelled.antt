@@ -20,7 +20,7 @@ use Rattle.json_value.specs.EditTrees.{path_in, each_in}
 use Rattle.json_value.specs.Seen.{list_of}
 use Rattle.json_data.specs.Reading.{gives, refuses}
 use Rattle.json_data.specs.ReadingValues.{path_datum, spelled, read_path}
-use Rattle.json_data.specs.Refusals.{refusal}
+use Rattle.json_tokens.specs.Refusals.{refusal}
 use Rattle.json_data.specs.Spelled.{Unspelled}
 use Rattle.json_data.specs.ValueCalls.{TreeReadingFails}
 use Rattle.json_data.proofs.ValueData.{same_edit}

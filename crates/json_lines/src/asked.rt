@@ -2,7 +2,7 @@
 ghost use Rattle.std.specs.Prelude.{◌≡◌, ◌≢◌, ◌⊎◌, ◌≤◌, List, ℕ, [], ◌∷◌, length, map, drop, cond, Some, None, IfOk, IfErr, MatchOption, option_map};
 ghost use Rattle.json_io.specs.Errors.{no_memory, bad_words};
 ghost use Rattle.json_io.specs.declared.error.ErrorCode.TheVariants.{NoMemory, TypeUnmatched};
-ghost use Rattle.json_data.specs.Refusals.{refusal as spec_refusal};
+ghost use Rattle.json_tokens.specs.Refusals.{refusal as spec_refusal};
 ghost use Rattle.json_data.specs.Spelled.{Unspelled};
 ghost use Rattle.json_model.specs.Edit.{Step};
 ghost use Rattle.json_value.specs.Denotes.{tree_of};

@@ -29,9 +29,9 @@ use Rattle.json_scan.specs.Runs.{ByteAt}
 use Rattle.json_io.specs.Utf8.{Utf8Cause}
 use Rattle.json_text.proofs.OneFaultAt.{stands}
 use Rattle.json_data.specs.Reading.{Reading}
-use Rattle.json_data.specs.Refusals.{is_refusal}
-use Rattle.json_data.specs.Stand.{over_text, TakesTree}
-use Rattle.json_data.specs.Text.{TextTokensState, TextFails, HasReadValue, text_taken, text_tokens_state}
+use Rattle.json_tokens.specs.Refusals.{is_refusal}
+use Rattle.json_tokens.specs.Stand.{over_text, TakesTree}
+use Rattle.json_tokens.specs.Text.{TextTokensState, TextFails, HasReadValue, text_taken, text_tokens_state}
 use Rattle.json_text.specs.Repaired.{RepairedText}
 use Rattle.json_stream.specs.Streams.{InputState, stands_at, in_input, PlaceIsWithin, TakesNextValue, RefusesNextValue, FaultIsLeft, NextValueFails, IsTextAt}
 

@@ -2,7 +2,7 @@
 ghost use Rattle.std.specs.Prelude.{◌≡◌, ◌<◌, ◌^◌, length, true, false, IfSome, IfOk, IfErr, OnOk, OnErr, IsUtf8, option_copied};
 ghost use Rattle.json_grammar.specs.declared.Kind.TheVariants as Kind;
 ghost use Rattle.json_data.specs.Reading.{gives};
-ghost use Rattle.json_data.specs.TextValues.{IsPackedAtRoot};
+ghost use Rattle.json_tokens.specs.TextValues.{IsPackedAtRoot};
 ghost use Rattle.json_text.specs.Ends.{NothingLeft, TrailsAt, LacksEnd};
 ghost use Rattle.json_stream.specs.Streams.{InputState, standing, stands_at, offset_in, TakesNextValue, NextValueFails, PassesEnd, EndFails};
 

@@ -2,8 +2,8 @@
 ghost use Rattle.std.specs.Prelude.{◌≡◌, IfSome, IfOk, IfErr, option_copied};
 ghost use Rattle.std.specs.Str.{IsCharBoundary};
 ghost use Rattle.json_data.specs.Reading.{gives};
-ghost use Rattle.json_data.specs.Text.{IsFreshReader};
-ghost use Rattle.json_data.specs.TextValues.{IsPackedAtRoot};
+ghost use Rattle.json_tokens.specs.Text.{IsFreshReader};
+ghost use Rattle.json_tokens.specs.TextValues.{IsPackedAtRoot};
 ghost use Rattle.json_stream.specs.Streams.{stands_at, TakesNextValue, NextValueFails};
 
 use crate::told::told;

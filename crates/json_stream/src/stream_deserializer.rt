@@ -2,7 +2,7 @@
 ghost use Rattle.std.specs.Prelude.{◌≡◌, true, false, IfSome, IfOk, IfErr, IsErrAnd, MatchOption, IsUtf8};
 ghost use Rattle.json_text.specs.Ends.{NothingLeft};
 ghost use Rattle.json_data.specs.Reading.{gives};
-ghost use Rattle.json_data.specs.TextValues.{IsPackedAtRoot};
+ghost use Rattle.json_tokens.specs.TextValues.{IsPackedAtRoot};
 ghost use Rattle.json_stream.specs.Streams.{standing, TakesNextValue, NextValueFails, TellsEnd};
 
 use crate::deserializer::Deserializer;

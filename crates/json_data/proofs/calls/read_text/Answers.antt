@@ -1,5 +1,5 @@
 use Rattle.std.proofs.Common.{◌≡◌, ◌∙◌, true, sym}
-use Rattle.json_data.specs.Refusals.{is_refusal}
+use Rattle.json_tokens.specs.Refusals.{is_refusal}
 use Rattle.json_data.specs.Calls.{ValueBegins}
 use Rattle.json_data.proofs.TextCalls.{same_text, read_whole, text_fails, failed_fails, refused_fails, value_begins, err_is}
 use Rattle.json_data.proofs.calls.read_text.Goals as goal

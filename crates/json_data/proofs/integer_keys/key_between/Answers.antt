@@ -1,7 +1,7 @@
 use Rattle.std.proofs.Common.{◌∙◌, ℕ, ℤ, List, ap, sym, SFits, to_z-of_z, rules}
 use Rattle.std.specs.Int.{w128}
 use Rattle.json_model.specs.Datum.{integer_datum}
-use Rattle.json_data.specs.Pieces.{Says}
+use Rattle.json_tokens.specs.Pieces.{Says}
 use Rattle.json_number.specs.Integers.{whole_in}
 use Rattle.json_data.specs.Reading.{gives, between}
 use Rattle.json_data.proofs.Digits.{fits_in}

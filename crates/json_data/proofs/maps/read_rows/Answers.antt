@@ -6,7 +6,7 @@ use Rattle.json_data.specs.Reading.{gives}
 use Rattle.json_data.proofs.Pairs.{join_pairs, begun_pairs, ended_pairs, one_key, one_member, stop_key_of, stop_member, in_object_again}
 use Rattle.json_data.proofs.Rows.{rows_of, OfText, OfTexts, put-texts, rows-more, rows-stop_key, rows-stop_value, rows-put}
 use Rattle.json_data.proofs.Exits.{missed}
-use Rattle.json_data.proofs.Told.{known}
+use Rattle.json_tokens.proofs.Told.{known}
 use Rattle.json_data.proofs.maps.read_rows.Goals as goal
 
 pub each-init : goal.each-init

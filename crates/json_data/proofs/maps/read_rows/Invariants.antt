@@ -3,8 +3,8 @@ use Rattle.json_grammar.specs.declared.Kind.TheVariants.{Object as object}
 use Rattle.json_grammar.specs.Tree.{Pairs, begin}
 use Rattle.json_model.specs.Datum.{rows_datum, no_rows}
 use Rattle.json_data.specs.Reading.{gives, rows_from}
-use Rattle.json_data.specs.Spots.{InObject}
-use Rattle.json_data.specs.Stand.{TakesOne}
+use Rattle.json_tokens.specs.Spots.{InObject}
+use Rattle.json_tokens.specs.Stand.{TakesOne}
 use Rattle.json_data.proofs.Pairs.{InPairs}
 use Rattle.json_data.proofs.Rows.{rows_of, OfTexts}
 use Rattle.json_data.proofs.maps.read_rows.Given as goal

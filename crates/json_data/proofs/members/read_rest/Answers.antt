@@ -3,7 +3,7 @@ use Rattle.json_grammar.specs.Tree.{pairs, no_pairs, pair_and}
 use Rattle.json_data.proofs.Exits.{missed}
 use Rattle.json_data.proofs.Objects.{members-more, members-stop}
 use Rattle.json_data.proofs.Pairs.{join_pairs, begun_pairs, ended_pairs, one_key, one_member, stop_member, in_object_again}
-use Rattle.json_data.proofs.Told.{known}
+use Rattle.json_tokens.proofs.Told.{known}
 use Rattle.json_data.proofs.members.read_rest.Goals as goal
 
 pub each-init : goal.each-init

@@ -3,8 +3,8 @@ use Rattle.json_grammar.specs.declared.Kind.TheVariants.{Object as object}
 use Rattle.json_grammar.specs.Tree.{Pairs, begin}
 use Rattle.json_data.specs.Members.{members_from}
 use Rattle.json_data.specs.Reading.{gives}
-use Rattle.json_data.specs.Spots.{InObject}
-use Rattle.json_data.specs.Stand.{TakesOne}
+use Rattle.json_tokens.specs.Spots.{InObject}
+use Rattle.json_tokens.specs.Stand.{TakesOne}
 use Rattle.json_data.proofs.Pairs.{InPairs}
 use Rattle.json_data.proofs.members.read_rest.Given as goal
 

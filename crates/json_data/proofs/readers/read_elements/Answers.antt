@@ -4,7 +4,7 @@ use Rattle.json_grammar.specs.Tree.{list, no_trees, tree_and}
 use Rattle.json_data.specs.Reading.{gives_all, as_list}
 use Rattle.json_data.proofs.Lists.{begun, ended, still_in, one_more, join, more-gives, stopped, in_array_again, still_array}
 use Rattle.json_data.proofs.Exits.{missed, stop_in, misses_stop}
-use Rattle.json_data.proofs.Told.{known}
+use Rattle.json_tokens.proofs.Told.{known}
 use Rattle.json_data.proofs.readers.read_elements.Goals as goal
 
 pub each-init : goal.each-init

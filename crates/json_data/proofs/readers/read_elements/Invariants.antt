@@ -2,8 +2,8 @@ use Rattle.std.proofs.Common.{◌≡◌, map}
 use Rattle.json_grammar.specs.declared.Kind.TheVariants.{Array as array}
 use Rattle.json_grammar.specs.Tree.{Trees, begin}
 use Rattle.json_data.specs.Reading.{gives_all, each}
-use Rattle.json_data.specs.Spots.{InArray}
-use Rattle.json_data.specs.Stand.{TakesOne}
+use Rattle.json_tokens.specs.Spots.{InArray}
+use Rattle.json_tokens.specs.Stand.{TakesOne}
 use Rattle.json_data.proofs.Lists.{InList}
 use Rattle.json_data.proofs.readers.read_elements.Given as goal
 

@@ -2,7 +2,7 @@ use Rattle.std.proofs.Common.{refl}
 use Rattle.json_grammar.specs.Tree.{list, no_trees, tree_and}
 use Rattle.json_data.proofs.Lists.{begun, ended, still_in, one_more, closes}
 use Rattle.json_data.proofs.Exits.{missed, stop_in, mismatch, longer, pair-first, pair-second}
-use Rattle.json_data.proofs.Told.{known, is_kind-ne, no_end-kind}
+use Rattle.json_tokens.proofs.Told.{known, is_kind-ne, no_end-kind}
 use Rattle.json_data.proofs.readers.read_two.Goals as goal
 
 pub returns-in-Ok-None-clause-err : goal.returns-in-Ok-None-clause-err

@@ -2,7 +2,7 @@ use Rattle.std.proofs.Common.{◌∙◌, Option, Some, IfSome, ap, subst}
 use Rattle.std.specs.Result.{IfOk}
 use Rattle.std.proofs.lemmas.Result.{MatchResult-weaker}
 use Rattle.json_value.specs.Sights.{Sight}
-use Rattle.json_data.specs.Values.{at_begin, IsMadeOf}
+use Rattle.json_tokens.specs.Values.{at_begin, IsMadeOf}
 use Rattle.json_data.proofs.ValueCalls.{wants_value, read_value, value_fails}
 use Rattle.json_data.proofs.value_calls.from_value.Goals as goal
 

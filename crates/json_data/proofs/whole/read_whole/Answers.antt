@@ -4,7 +4,7 @@ use Rattle.json_number.specs.Numbers.{value_of, text_of_number}
 use Rattle.json_number.specs.IntegerLiterals.{IsIntegerLiteral}
 use Rattle.json_number.specs.Integers.{whole_in}
 use Rattle.json_number.proofs.Widths.{whole_by_value}
-use Rattle.json_data.proofs.Steps.{peek_tree}
+use Rattle.json_tokens.proofs.Steps.{peek_tree}
 use Rattle.json_data.proofs.whole.read_whole.Goals as goal
 
 pub returns-then-eq-clause-ok : goal.returns-then-eq-clause-ok

@@ -1,7 +1,7 @@
 use Rattle.std.proofs.Common.{◌≡◌, ℕ, List, subst}
 use Rattle.json_grammar.specs.Tree.{Token as Tok, key_token}
-use Rattle.json_data.specs.Pieces.{Says}
-use Rattle.json_data.specs.Stand.{TakesOne}
+use Rattle.json_tokens.specs.Pieces.{Says}
+use Rattle.json_tokens.specs.Stand.{TakesOne}
 use Rattle.json_explain.proofs.brackets.next_key.Goals as goal
 
 pub returns-clause-ok : goal.returns-clause-ok

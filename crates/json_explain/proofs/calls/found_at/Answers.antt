@@ -1,4 +1,4 @@
-use Rattle.json_data.proofs.Steps.{peek_kind, peek_tree}
+use Rattle.json_tokens.proofs.Steps.{peek_kind, peek_tree}
 use Rattle.json_explain.proofs.Texts.{reads_tree}
 use Rattle.json_explain.proofs.calls.found_at.Goals as goal
 

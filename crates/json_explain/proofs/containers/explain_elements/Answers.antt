@@ -1,8 +1,8 @@
 use Rattle.std.proofs.Common.{◌≡◌, ℕ, suc, Option, refl, sym, subst, arith}
 use Rattle.json_grammar.specs.Tree.{no_trees, tree_and}
-use Rattle.json_data.specs.Spots.{Spot, InArray}
+use Rattle.json_tokens.specs.Spots.{Spot, InArray}
 use Rattle.json_data.proofs.Lists.{begun, closes, join, one_more, peeks_on, in_array_again}
-use Rattle.json_data.proofs.Told.{is_kind}
+use Rattle.json_tokens.proofs.Told.{is_kind}
 use Rattle.json_explain.specs.Explaining.{Explains, refused_in}
 use Rattle.json_explain.specs.declared.refusal.Refusal.{Refusal}
 use Rattle.json_explain.proofs.Parts.{Passed, passed-more}

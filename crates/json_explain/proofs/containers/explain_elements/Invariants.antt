@@ -1,7 +1,7 @@
 use Rattle.json_grammar.specs.declared.Kind.TheVariants.{Array as array}
 use Rattle.json_grammar.specs.Tree.{Trees, begin}
-use Rattle.json_data.specs.Spots.{InArray}
-use Rattle.json_data.specs.Stand.{TakesOne}
+use Rattle.json_tokens.specs.Spots.{InArray}
+use Rattle.json_tokens.specs.Stand.{TakesOne}
 use Rattle.json_data.proofs.Lists.{InList}
 use Rattle.json_explain.proofs.Parts.{Passed}
 use Rattle.json_explain.proofs.containers.explain_elements.Given as goal

@@ -1,7 +1,7 @@
 use Rattle.std.proofs.Common.{◌≡◌, ◌∙◌, ℕ, List, Option, Some, refl, sym, subst}
 use Rattle.json_grammar.specs.Tree.{no_pairs, pair_and}
 use Rattle.json_data.proofs.Pairs.{InMember, begun_pairs, join_pairs, one_key, one_member, in_object_again}
-use Rattle.json_data.proofs.Told.{known}
+use Rattle.json_tokens.proofs.Told.{known}
 use Rattle.json_explain.specs.Explaining.{Explains, refused_in}
 use Rattle.json_explain.specs.declared.refusal.Refusal.{Refusal}
 use Rattle.json_explain.proofs.Parts.{members-more}

@@ -1,7 +1,7 @@
 use Rattle.json_grammar.specs.declared.Kind.TheVariants.{Object as object}
 use Rattle.json_grammar.specs.Tree.{Pairs, begin}
-use Rattle.json_data.specs.Spots.{InObject}
-use Rattle.json_data.specs.Stand.{TakesOne}
+use Rattle.json_tokens.specs.Spots.{InObject}
+use Rattle.json_tokens.specs.Stand.{TakesOne}
 use Rattle.json_data.proofs.Pairs.{InPairs}
 use Rattle.json_explain.proofs.Parts.{PassedMembers}
 use Rattle.json_explain.proofs.containers.explain_rest.Given as goal

@@ -3,7 +3,7 @@ use Rattle.std.specs.Prelude.{option_copied}
 use Rattle.json_io.specs.declared.error.Error.{Error}
 use Rattle.json_io.specs.Positions.{place_at}
 use Rattle.json_data.specs.Reading.{gives, refuses}
-use Rattle.json_data.specs.Refusals.{is_refusal}
+use Rattle.json_tokens.specs.Refusals.{is_refusal}
 use Rattle.json_stream.specs.Streams.{standing, stands_at, in_input, PlaceIsWithin, TakesNextValue, NextValueFails}
 use Rattle.json_stream.proofs.Values.{reads_from, takes_value, boundary_behind, met, met_within, gave_up, tree_fails, comes_next, place_within, within_same}
 use Rattle.json_stream.proofs.read_value.read_value.Goals as goal

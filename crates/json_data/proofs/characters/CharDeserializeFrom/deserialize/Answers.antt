@@ -3,7 +3,7 @@ use Rattle.std.specs.Str.{chars}
 use Rattle.json_grammar.specs.Tree.{text}
 use Rattle.json_data.proofs.CharTexts.{one_read, none_read}
 use Rattle.json_data.proofs.Exits.{mismatch}
-use Rattle.json_data.proofs.Steps.{peek_tree}
+use Rattle.json_tokens.proofs.Steps.{peek_tree}
 use Rattle.json_data.proofs.characters.CharDeserializeFrom.deserialize.Goals as goal
 
 pub returns-in-Some-clause-ok : goal.returns-in-Some-clause-ok

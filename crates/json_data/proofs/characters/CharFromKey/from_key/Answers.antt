@@ -1,6 +1,6 @@
 use Rattle.std.proofs.Common.{◌≡◌, ◌≢◌, ◌∙◌, ℕ, List, length, sym, subst}
 use Rattle.std.specs.Str.{chars}
-use Rattle.json_data.specs.Pieces.{Says}
+use Rattle.json_tokens.specs.Pieces.{Says}
 use Rattle.json_data.specs.Reading.{one_character}
 use Rattle.json_data.proofs.CharTexts.{one_read, none_read, no_key}
 use Rattle.json_data.proofs.characters.CharFromKey.from_key.Goals as goal

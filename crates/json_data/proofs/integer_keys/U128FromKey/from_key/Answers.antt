@@ -1,5 +1,5 @@
 use Rattle.std.proofs.Common.{◌^◌, ℕ, List, pos}
-use Rattle.json_data.specs.Pieces.{Says}
+use Rattle.json_tokens.specs.Pieces.{Says}
 use Rattle.json_number.specs.Integers.{whole_in}
 use Rattle.json_data.specs.Reading.{between}
 use Rattle.json_data.proofs.Digits.{fits_in, low_enough}

@@ -4,7 +4,7 @@ use Rattle.json_number.specs.Numbers.{text_of_number}
 use Rattle.json_number.specs.IntegerLiterals.{IsIntegerLiteral}
 use Rattle.json_number.specs.Integers.{whole_in}
 use Rattle.json_number.specs.declared.any_width.IntegerLiteral.{IntegerLiteral}
-use Rattle.json_data.proofs.Steps.{peek_tree}
+use Rattle.json_tokens.proofs.Steps.{peek_tree}
 use Rattle.json_data.proofs.Exits.{mismatch, out_of_range}
 use Rattle.json_data.proofs.Digits.{beyond, no_integer}
 use Rattle.json_data.proofs.integers.NumberDeserializeFrom.deserialize.Goals as goal

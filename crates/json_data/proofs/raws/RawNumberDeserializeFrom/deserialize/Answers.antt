@@ -11,7 +11,7 @@ use Rattle.json_number.proofs.Literals.{number_from_test}
 use Rattle.json_io.specs.declared.error.Error.{Error}
 use Rattle.json_io.specs.declared.error.ErrorCode.TheVariants.{TypeUnmatched}
 use Rattle.json_data.specs.Reading.{gives, refuses, read_literal}
-use Rattle.json_data.proofs.Steps.{peek_tree}
+use Rattle.json_tokens.proofs.Steps.{peek_tree}
 use Rattle.json_data.proofs.Exits.{mismatch}
 use Rattle.json_data.proofs.raws.RawNumberDeserializeFrom.deserialize.Goals as goal
 

@@ -1,6 +1,6 @@
 use Rattle.std.proofs.Common.{subst}
 use Rattle.json_value.specs.Denotes.{tree_of, pairs_in}
-use Rattle.json_data.proofs.Steps.{peek_tree}
+use Rattle.json_tokens.proofs.Steps.{peek_tree}
 use Rattle.json_data.proofs.ValueData.{object_read}
 use Rattle.json_data.proofs.value_readers.ObjectDeserializeFrom.deserialize.Goals as goal
 

@@ -1,13 +1,13 @@
 use Rattle.std.proofs.Common.{◌≡◌, ◌≢◌, ap, sym, ◌∙◌, List, map, ◌++◌, ◌∷◌, [], subst, rules}
 use Rattle.std.proofs.lemmas.List.{map-append}
-use Rattle.json_data.specs.declared.token.TokenKind.{TokenKind}
-use Rattle.json_data.specs.declared.token.TokenKind.TheVariants.{BeginArray, EndArray}
+use Rattle.json_tokens.specs.declared.token.TokenKind.{TokenKind}
+use Rattle.json_tokens.specs.declared.token.TokenKind.TheVariants.{BeginArray, EndArray}
 use Rattle.json_grammar.specs.Tree.{list, no_trees, tree_and}
 use Rattle.json_data.specs.Reading.{gives, gives_all, as_list}
 use Rattle.json_data.proofs.Lists.{opens, peeks_on, one_more, closes, join, more-gives, stopped}
 use Rattle.json_data.proofs.Exits.{stop_in}
-use Rattle.json_data.proofs.Steps.{peek_tree, peek_kind}
-use Rattle.json_data.proofs.Told.{is_kind-ne}
+use Rattle.json_tokens.proofs.Steps.{peek_tree, peek_kind}
+use Rattle.json_tokens.proofs.Told.{is_kind-ne}
 use Rattle.json_model.specs.Datum.{Datum, list_datum, list_data}
 use Rattle.json_data_vectors.specs.declared.nested.Nested.{Nested, fold-roll-Nested}
 use Rattle.json_data_vectors.specs.declared.nested.Nested.TheOpen.{Nested-F}

@@ -1,5 +1,0 @@
-use Rattle.json_data.proofs.TakenRows as proof
-use Rattle.json_data.proofs.laws.one_text_row.Goals as goal
-
-pub returns : goal.returns
-returns c = proof.text_one

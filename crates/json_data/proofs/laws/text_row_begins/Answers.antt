@@ -1,5 +1,0 @@
-use Rattle.json_data.proofs.TakenRows as proof
-use Rattle.json_data.proofs.laws.text_row_begins.Goals as goal
-
-pub returns : goal.returns
-returns c = proof.text_begins

@@ -1,0 +1,15 @@
+pub mod Steps
+pub mod Told
+pub mod Places
+pub mod ValueFaults
+pub mod Events
+pub mod TextSteps
+pub mod Waiting
+pub mod AtOnce
+pub mod Passing
+pub mod Digits
+pub mod ValueViews
+pub mod ValueSteps
+pub mod Placed
+pub mod TextValues
+pub mod TakenRows

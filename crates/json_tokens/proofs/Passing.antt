@@ -1,0 +1,318 @@
+-- Tokens that are passed over, up to the end of a container.
+use Rattle.std.proofs.Common.{◌≡◌, ◌≢◌, ◌∙◌, ◌⊎◌, inl, inr, ℕ, ℤ, ◌≤◌, List, [], ◌∷◌, ◌++◌, true, Option, Some, None, refl, sym, ap, subst, append_assoc, arith}
+use Rattle.std.proofs.lemmas.List.{append-nil}
+use Rattle.json_grammar.specs.declared.Kind.{Kind}
+use Rattle.json_grammar.specs.declared.Kind.TheVariants.{Array as array, Object as object}
+use Rattle.json_grammar.specs.Tree.{Tree, null, boolean, num, text, list, pairs, Trees, no_trees, tree_and, Pairs, no_pairs, pair_and, Token as Tok, null_token, boolean_token, num_token, text_token, begin, end, key_token, tokens, trees_tokens, pairs_tokens}
+use Rattle.json_number.specs.Integers.{integer_in}
+use Rattle.json_tokens.specs.declared.token.TokenKind.{TokenKind}
+use Rattle.json_tokens.specs.declared.token.TokenKind.TheVariants as kind
+use Rattle.json_tokens.specs.Kinds.{kind_of, first_kind, number_kind}
+use Rattle.json_tokens.specs.Spots.{Spot, top, over, element, key_or_end, member, behind_value, around, spot_after, KindMayCome, begins_value, IsOpen}
+use Rattle.json_tokens.specs.Stand.{TokensState, TakesTokens, Peeks, TakesTree, TakesOne, Leaves, Rest, FirstIs, WantsValueAt}
+use Rattle.json_tokens.proofs.Steps.{joins, scalar}
+
+-- from p the tokens lead to a spot in the same container
+pub data Passing (p : Spot) : List Tok → Spot → Type 0 where
+  here : Passing p [] p
+  one_element : {xs : List Tok} {c : List Kind} → Passing p xs (element c) → (t : Tree) → Passing p (xs ++ tokens t) (element c)
+  one_key : {xs : List Tok} {c : List Kind} → Passing p xs (key_or_end c) → (k : List ℕ) → Passing p (xs ++ key_token k ∷ []) (member c)
+  one_member : {xs : List Tok} {c : List Kind} → Passing p xs (member c) → (t : Tree) → Passing p (xs ++ tokens t) (key_or_end c)
+
+pub rest_of : {p : Spot} {xs : List Tok} {q : Spot} → Passing p xs q → (ys : List Tok) → Rest q ys → Rest p (xs ++ ys)
+rest_of here ys r = r
+rest_of {p} (one_element {xs = xs} h t) ys (ts, e) =
+    subst (Rest p) (sym (append_assoc xs (tokens t) ys))
+    (rest_of h (tokens t ++ ys) (tree_and t ts, ap (λ (zs : List Tok). tokens t ++ zs) e ∙ sym (append_assoc (tokens t) (trees_tokens ts) (end array ∷ []))))
+rest_of {p} (one_key {xs = xs} h k) ys (t, ps, e) =
+    subst (Rest p) (sym (append_assoc xs (key_token k ∷ []) ys)) (rest_of h (key_token k ∷ ys) (pair_and k t ps, ap (λ (zs : List Tok). key_token k ∷ zs) e))
+rest_of {p} (one_member {xs = xs} h t) ys (ps, e) =
+    subst (Rest p) (sym (append_assoc xs (tokens t) ys))
+    (rest_of h (tokens t ++ ys) (t, ps, ap (λ (zs : List Tok). tokens t ++ zs) e ∙ sym (append_assoc (tokens t) (pairs_tokens ps) (end object ∷ []))))
+
+around_same : {p : Spot} {xs : List Tok} {q : Spot} → Passing p xs q → around q ≡ around p
+around_same here = refl
+around_same (one_element h t) = around_same h
+around_same (one_key h k) = around_same h
+around_same (one_member h t) = around_same h
+
+-- the first of them has the kind k, or where there is none it was told
+abbrev pub First : List Tok → Option TokenKind → TokenKind → Type 0
+First [] o k = o ≡ Some k
+First (x ∷ xs) o k = kind_of x ≡ k
+
+-- what was passed between a and b
+pub record Passed {S : Type 0} (taken : S → List Tok → Type 0) (stand : S → TokensState) (a b : S) : Type 0 where
+  pub xs : List Tok
+  pub path : Passing (stand a).spot xs (stand b).spot
+  pub open_there : IsOpen (stand b).spot
+  pub takes : TakesTokens taken a xs b
+  pub input : (stand b).input ≡ (stand a).input
+  pub unfailed : (stand b).failed ≡ None
+  pub left : (stand b).left ≤ (stand a).left
+  pub first : (k : TokenKind) → (stand a).told ≡ Some k → First xs (stand b).told k
+
+pub passed_none : {S : Type 0} {taken : S → List Tok → Type 0} {stand : S → TokensState} (a : S) → IsOpen (stand a).spot → (stand a).failed ≡ None → Passed taken stand a a
+passed_none {taken = taken} a o u = record {
+  xs = [];
+  path = here;
+  open_there = o;
+  takes = record { on = λ ts t. subst (taken a) (sym (append-nil ts)) t };
+  input = refl;
+  unfailed = u;
+  left = omega arith;
+  first = λ k e. e;
+}
+
+-- a told token is taken
+pub peek_one : {S : Type 0} {taken : S → List Tok → Type 0} {stand : S → TokensState} {a b c : S} {k : TokenKind} {x : Tok}
+    → Peeks (stand a) (stand b) k → TakesTokens taken a [] b → TakesOne taken stand b c x → TakesOne taken stand a c x × (kind_of x ≡ k)
+peek_one {taken = taken} {stand = stand} {a = a} {b = b} {c = c} {k = k} {x = x} h z r =
+    let e : kind_of x ≡ k = r.as_told.told k h.told in
+    let m = r.moves in (
+      record {
+        takes = joins z r.takes;
+        moves = record { input = m.input ∙ h.input; spot = m.spot ∙ ap (λ (p : Spot). spot_after p x) h.spot; told = m.told; left = omega (arith, h.left, m.left) };
+        as_told = record { may = subst (λ (i : TokenKind). KindMayCome (stand a).spot i) (sym e) h.may; told = λ i t. e ∙ h.again i t };
+      },
+      e,
+    )
+
+first_append : (xs ys : List Tok) (o : Option TokenKind) (k : TokenKind) → First xs o k → (o ≡ Some k → FirstIs ys k) → FirstIs (xs ++ ys) k
+first_append [] ys o k f g = g f
+first_append (x ∷ xs) ys o k f g = f
+
+first_more : (zs : List Tok) (o : Option TokenKind) (k : TokenKind) → FirstIs zs k → First zs o k
+first_more [] o k f = absurd f
+first_more (z ∷ zs) o k f = f
+
+pub first_tree : (t : Tree) → FirstIs (tokens t) (first_kind t)
+first_tree null = refl
+first_tree (boolean b) = refl
+first_tree (num l) = refl
+first_tree (text s) = refl
+first_tree (list ts) = refl
+first_tree (pairs ps) = refl
+
+value_first : (t : Tree) → (first_kind t ≢ kind.Key) × (first_kind t ≢ kind.EndObject)
+value_first null = (λ e. cc, λ e. cc)
+value_first (boolean b) = (λ e. cc, λ e. cc)
+value_first (num l) = by (integer_in l)
+  where
+    by : (o : Option ℤ) → (number_kind o ≢ kind.Key) × (number_kind o ≢ kind.EndObject)
+    by None = (λ e. cc, λ e. cc)
+    by (Some n) = (λ e. cc, λ e. cc)
+value_first (text s) = (λ e. cc, λ e. cc)
+value_first (list ts) = (λ e. cc, λ e. cc)
+value_first (pairs ps) = (λ e. cc, λ e. cc)
+
+key_kinds : (c : List Kind) (k : TokenKind) → KindMayCome (key_or_end c) k → (k ≡ kind.Key) ⊎ (k ≡ kind.EndObject)
+key_kinds c kind.Key e = inl refl
+key_kinds c kind.EndObject e = inr refl
+key_kinds c kind.Null e = absurd (cc)
+key_kinds c kind.Bool e = absurd (cc)
+key_kinds c kind.Int e = absurd (cc)
+key_kinds c kind.Raw e = absurd (cc)
+key_kinds c kind.Text e = absurd (cc)
+key_kinds c kind.BeginArray e = absurd (cc)
+key_kinds c kind.EndArray e = absurd (cc)
+key_kinds c kind.BeginObject e = absurd (cc)
+
+value_path : {p : Spot} {xs : List Tok} (q : Spot) → Passing p xs q → IsOpen q → (t : Tree) → KindMayCome q (first_kind t) → Passing p (xs ++ tokens t) (behind_value q) × IsOpen (behind_value q)
+value_path top h o t m = absurd o
+value_path over h o t m = absurd o
+value_path (element c) h o t m = (one_element h t, tt)
+value_path (key_or_end c) h o t m = absurd (no_value (key_kinds c (first_kind t) m))
+  where
+    no_value : (first_kind t ≡ kind.Key) ⊎ (first_kind t ≡ kind.EndObject) → ⊥
+    no_value (inl e) = (value_first t).0 e
+    no_value (inr e) = (value_first t).1 e
+value_path (member c) h o t m = (one_member h t, tt)
+
+-- a tree more
+pub passed_tree : {S : Type 0} {taken : S → List Tok → Type 0} {stand : S → TokensState} {a b c : S} {t : Tree} → Passed taken stand a b → TakesTree taken stand b c t → (stand c).failed ≡ None → Passed taken stand a c
+passed_tree {taken = taken} {stand = stand} {a = a} {b = b} {c = c} {t = t} w r u =
+    let m = r.moves in
+    let h = value_path (stand b).spot w.path w.open_there t r.as_told.may in
+    record {
+      xs = w.xs ++ tokens t;
+      path = subst (λ (q : Spot). Passing (stand a).spot (w.xs ++ tokens t) q) (sym m.spot) h.0;
+      open_there = subst IsOpen (sym m.spot) h.1;
+      takes = joins w.takes r.takes;
+      input = m.input ∙ w.input;
+      unfailed = u;
+      left = omega (arith, w.left, m.left);
+      first = λ k e. first_more (w.xs ++ tokens t) (stand c).told k (first_append w.xs (tokens t) (stand b).told k (w.first k e) (λ f. subst (FirstIs (tokens t)) (r.as_told.told k f) (first_tree t)));
+    }
+
+key_path : {p : Spot} {xs : List Tok} (q : Spot) → Passing p xs q → (s : List ℕ) → KindMayCome q kind.Key → Passing p (xs ++ key_token s ∷ []) (spot_after q (key_token s)) × IsOpen (spot_after q (key_token s))
+key_path top h s m = absurd (cc)
+key_path over h s m = absurd (cc)
+key_path (element c) h s m = absurd (cc)
+key_path (key_or_end c) h s m = (one_key h s, tt)
+key_path (member c) h s m = absurd (cc)
+
+-- a key more
+passed_key : {S : Type 0} {taken : S → List Tok → Type 0} {stand : S → TokensState} {a b c : S} {s : List ℕ} → Passed taken stand a b → TakesOne taken stand b c (key_token s) → (stand c).failed ≡ None → Passed taken stand a c
+passed_key {taken = taken} {stand = stand} {a = a} {b = b} {c = c} {s = s} w r u =
+    let m = r.moves in
+    let h = key_path (stand b).spot w.path s r.as_told.may in
+    record {
+      xs = w.xs ++ key_token s ∷ [];
+      path = subst (λ (q : Spot). Passing (stand a).spot (w.xs ++ key_token s ∷ []) q) (sym m.spot) h.0;
+      open_there = subst IsOpen (sym m.spot) h.1;
+      takes = joins w.takes r.takes;
+      input = m.input ∙ w.input;
+      unfailed = u;
+      left = omega (arith, w.left, m.left);
+      first = λ k e. first_more (w.xs ++ key_token s ∷ []) (stand c).told k (first_append w.xs (key_token s ∷ []) (stand b).told k (w.first k e) (λ f. r.as_told.told k f));
+    }
+
+-- a token that is no bracket
+pub passed_one : {S : Type 0} {taken : S → List Tok → Type 0} {stand : S → TokensState} {a b c : S} (x : Tok) → Passed taken stand a b → TakesOne taken stand b c x
+    → kind_of x ≢ kind.BeginArray → kind_of x ≢ kind.BeginObject → kind_of x ≢ kind.EndArray → kind_of x ≢ kind.EndObject → (stand c).failed ≡ None → Passed taken stand a c
+passed_one null_token w r f g i j u = passed_tree w (scalar null null_token refl refl refl refl r) u
+passed_one (boolean_token b) w r f g i j u = passed_tree w (scalar (boolean b) (boolean_token b) refl refl refl refl r) u
+passed_one (num_token l) w r f g i j u = passed_tree w (scalar (num l) (num_token l) refl refl refl refl r) u
+passed_one (text_token s) w r f g i j u = passed_tree w (scalar (text s) (text_token s) refl refl refl refl r) u
+passed_one (begin array) w r f g i j u = absurd (f refl)
+passed_one (begin object) w r f g i j u = absurd (g refl)
+passed_one (end array) w r f g i j u = absurd (i refl)
+passed_one (end object) w r f g i j u = absurd (j refl)
+passed_one (key_token s) w r f g i j u = passed_key w r u
+
+-- a container, whole
+pub whole_container : {S : Type 0} {taken : S → List Tok → Type 0} {stand : S → TokensState} {a b c : S} (x : Tok) → (kind_of x ≡ kind.BeginArray) ⊎ (kind_of x ≡ kind.BeginObject) → TakesOne taken stand a b x → Leaves taken stand b c
+    → (t : Tree) × TakesTree taken stand a c t
+whole_container {taken = taken} {stand = stand} {a = a} {b = b} {c = c} (begin array) e r l =
+    let m = r.moves in
+    let n = l.moves in
+    let i : (ts : Trees) × (l.rest ≡ trees_tokens ts ++ end array ∷ []) = subst (λ (p : Spot). Rest p l.rest) m.spot l.is_rest in (
+      list i.0,
+      record {
+        takes = subst (λ (ys : List Tok). TakesTokens taken a (begin array ∷ ys) c) i.1 (joins r.takes l.takes);
+        moves = record { input = n.input ∙ m.input; spot = n.spot ∙ ap around m.spot; told = n.told; left = omega (arith, m.left, n.left) };
+        as_told = r.as_told;
+      },
+    )
+whole_container {taken = taken} {stand = stand} {a = a} {b = b} {c = c} (begin object) e r l =
+    let m = r.moves in
+    let n = l.moves in
+    let i : (ps : Pairs) × (l.rest ≡ pairs_tokens ps ++ end object ∷ []) = subst (λ (p : Spot). Rest p l.rest) m.spot l.is_rest in (
+      pairs i.0,
+      record {
+        takes = subst (λ (ys : List Tok). TakesTokens taken a (begin object ∷ ys) c) i.1 (joins r.takes l.takes);
+        moves = record { input = n.input ∙ m.input; spot = n.spot ∙ ap around m.spot; told = n.told; left = omega (arith, m.left, n.left) };
+        as_told = r.as_told;
+      },
+    )
+whole_container null_token (inl e) r l = absurd (cc)
+whole_container null_token (inr e) r l = absurd (cc)
+whole_container (boolean_token b) (inl e) r l = absurd (cc)
+whole_container (boolean_token b) (inr e) r l = absurd (cc)
+whole_container (num_token n) e r l = absurd (no_begin (integer_in n) e)
+  where
+    no_begin : (o : Option ℤ) → (number_kind o ≡ kind.BeginArray) ⊎ (number_kind o ≡ kind.BeginObject) → ⊥
+    no_begin None (inl e) = cc
+    no_begin None (inr e) = cc
+    no_begin (Some n) (inl e) = cc
+    no_begin (Some n) (inr e) = cc
+whole_container (text_token s) (inl e) r l = absurd (cc)
+whole_container (text_token s) (inr e) r l = absurd (cc)
+whole_container (end array) (inl e) r l = absurd (cc)
+whole_container (end array) (inr e) r l = absurd (cc)
+whole_container (end object) (inl e) r l = absurd (cc)
+whole_container (end object) (inr e) r l = absurd (cc)
+whole_container (key_token s) (inl e) r l = absurd (cc)
+whole_container (key_token s) (inr e) r l = absurd (cc)
+
+-- a bracket that opens leads within
+pub begun_open : (x : Tok) (p : Spot) → (kind_of x ≡ kind.BeginArray) ⊎ (kind_of x ≡ kind.BeginObject) → IsOpen (spot_after p x)
+begun_open (begin array) p e = tt
+begun_open (begin object) p e = tt
+begun_open null_token p (inl e) = absurd (cc)
+begun_open null_token p (inr e) = absurd (cc)
+begun_open (boolean_token b) p (inl e) = absurd (cc)
+begun_open (boolean_token b) p (inr e) = absurd (cc)
+begun_open (num_token n) p e = absurd (no_begin (integer_in n) e)
+  where
+    no_begin : (o : Option ℤ) → (number_kind o ≡ kind.BeginArray) ⊎ (number_kind o ≡ kind.BeginObject) → ⊥
+    no_begin None (inl e) = cc
+    no_begin None (inr e) = cc
+    no_begin (Some n) (inl e) = cc
+    no_begin (Some n) (inr e) = cc
+begun_open (text_token s) p (inl e) = absurd (cc)
+begun_open (text_token s) p (inr e) = absurd (cc)
+begun_open (end array) p (inl e) = absurd (cc)
+begun_open (end array) p (inr e) = absurd (cc)
+begun_open (end object) p (inl e) = absurd (cc)
+begun_open (end object) p (inr e) = absurd (cc)
+begun_open (key_token s) p (inl e) = absurd (cc)
+begun_open (key_token s) p (inr e) = absurd (cc)
+
+-- the end comes
+end_rest : (q : Spot) (x : Tok) → (kind_of x ≡ kind.EndArray) ⊎ (kind_of x ≡ kind.EndObject) → KindMayCome q (kind_of x) → Rest q (x ∷ []) × (spot_after q x ≡ around q)
+end_rest (element c) (end array) e m = ((no_trees, refl), refl)
+end_rest (key_or_end c) (end object) e m = ((no_pairs, refl), refl)
+end_rest top (end array) e m = absurd (cc)
+end_rest over (end array) e m = absurd (cc)
+end_rest (key_or_end c) (end array) e m = absurd (cc)
+end_rest (member c) (end array) e m = absurd (cc)
+end_rest top (end object) e m = absurd (cc)
+end_rest over (end object) e m = absurd (cc)
+end_rest (element c) (end object) e m = absurd (cc)
+end_rest (member c) (end object) e m = absurd (cc)
+end_rest q null_token (inl e) m = absurd (cc)
+end_rest q null_token (inr e) m = absurd (cc)
+end_rest q (boolean_token b) (inl e) m = absurd (cc)
+end_rest q (boolean_token b) (inr e) m = absurd (cc)
+end_rest q (num_token n) e m = absurd (no_end (integer_in n) e)
+  where
+    no_end : (o : Option ℤ) → (number_kind o ≡ kind.EndArray) ⊎ (number_kind o ≡ kind.EndObject) → ⊥
+    no_end None (inl e) = cc
+    no_end None (inr e) = cc
+    no_end (Some n) (inl e) = cc
+    no_end (Some n) (inr e) = cc
+end_rest q (text_token s) (inl e) m = absurd (cc)
+end_rest q (text_token s) (inr e) m = absurd (cc)
+end_rest q (begin array) (inl e) m = absurd (cc)
+end_rest q (begin array) (inr e) m = absurd (cc)
+end_rest q (begin object) (inl e) m = absurd (cc)
+end_rest q (begin object) (inr e) m = absurd (cc)
+end_rest q (key_token s) (inl e) m = absurd (cc)
+end_rest q (key_token s) (inr e) m = absurd (cc)
+
+pub passed_end : {S : Type 0} {taken : S → List Tok → Type 0} {stand : S → TokensState} {a b c : S} (x : Tok) → (kind_of x ≡ kind.EndArray) ⊎ (kind_of x ≡ kind.EndObject) → Passed taken stand a b → TakesOne taken stand b c x
+    → Leaves taken stand a c
+passed_end {taken = taken} {stand = stand} {a = a} {b = b} {c = c} x e w r =
+    let m = r.moves in
+    let h = end_rest (stand b).spot x e r.as_told.may in
+    record {
+      rest = w.xs ++ x ∷ [];
+      is_rest = rest_of w.path (x ∷ []) h.0;
+      as_told = λ k f. first_append w.xs (x ∷ []) (stand b).told k (w.first k f) (λ i. r.as_told.told k i);
+      takes = joins w.takes r.takes;
+      moves = record { input = m.input ∙ w.input; spot = m.spot ∙ h.1 ∙ around_same w.path; told = m.told; left = omega (arith, w.left, m.left) };
+    }
+
+-- ---- one value
+
+pub wants : (p : Spot) (o : Option TokenKind) (k : TokenKind) → WantsValueAt p o → KindMayCome p k → ((j : TokenKind) → o ≡ Some j → k ≡ j) → begins_value k ≡ true
+wants top o k w m t = m
+wants over o k w m t = absurd w
+wants (element c) (Some j) k w m t = subst (λ (i : TokenKind). begins_value i ≡ true) (sym (t j refl)) w
+wants (element c) None k w m t = absurd w
+wants (key_or_end c) o k w m t = absurd w
+wants (member c) o k w m t = m
+
+pub whole_scalar : {S : Type 0} {taken : S → List Tok → Type 0} {stand : S → TokensState} {a c : S} (x : Tok) → TakesOne taken stand a c x
+    → kind_of x ≢ kind.BeginArray → kind_of x ≢ kind.BeginObject → begins_value (kind_of x) ≡ true → (t : Tree) × TakesTree taken stand a c t
+whole_scalar null_token r f g b = (null, scalar null null_token refl refl refl refl r)
+whole_scalar (boolean_token v) r f g b = (boolean v, scalar (boolean v) (boolean_token v) refl refl refl refl r)
+whole_scalar (num_token l) r f g b = (num l, scalar (num l) (num_token l) refl refl refl refl r)
+whole_scalar (text_token s) r f g b = (text s, scalar (text s) (text_token s) refl refl refl refl r)
+whole_scalar (begin array) r f g b = absurd (f refl)
+whole_scalar (begin object) r f g b = absurd (g refl)
+whole_scalar (end array) r f g b = absurd (cc)
+whole_scalar (end object) r f g b = absurd (cc)
+whole_scalar (key_token s) r f g b = absurd (cc)

@@ -1,0 +1,124 @@
+-- Steps of a source, one after another.
+use Rattle.json_grammar.proofs.StringsUnique.{chars_same}
+use Rattle.json_tokens.specs.Pieces.{Says}
+use Rattle.std.proofs.Common.{◌≡◌, ℕ, ℤ, Bool, List, [], ◌∷◌, ◌++◌, Option, Some, None, refl, sym, ◌∙◌, subst, append_assoc, arith, inl, inr, ◌⊎◌}
+use Rattle.json_tokens.specs.declared.token.TokenKind.{TokenKind}
+use Rattle.json_tokens.specs.declared.token.TokenKind.TheVariants.{BeginArray, EndArray, BeginObject, EndObject}
+use Rattle.json_grammar.specs.Tree.{Tree, Token as Tok, tokens, begin, end, null_token, boolean_token, num_token, text_token, key_token}
+use Rattle.json_grammar.specs.declared.Kind.TheVariants.{Array as array, Object as object}
+use Rattle.json_tokens.specs.Kinds.{kind_of, first_kind, number_kind}
+use Rattle.json_number.specs.Integers.{integer_in}
+use Rattle.json_tokens.specs.Spots.{Spot, behind_value, spot_after, KindMayCome}
+use Rattle.json_tokens.specs.Stand.{TokensState, TakesTokens, Peeks, Moves, AsTold, TakesTree, TakesOne}
+
+pub joins : {S : Type 0} {taken : S → List Tok → Type 0} {a b c : S} {xs ys : List Tok} → TakesTokens taken a xs b → TakesTokens taken b ys c → TakesTokens taken a (xs ++ ys) c
+joins {taken = taken} {c = c} {xs = xs} {ys = ys} h k = record { on = λ ts p. subst (λ (zs : List Tok). taken c zs) (append_assoc ts xs ys) (k.on (ts ++ xs) (h.on ts p)) }
+
+pub told_before : {a b : TokensState} {k j : TokenKind} → Peeks a b k → AsTold b j → AsTold a j
+told_before {a = a} {k = k} {j = j} p q = let e : j ≡ k = q.told k p.told in record {
+  may = subst (λ (i : TokenKind). KindMayCome a.spot i) (sym e) p.may;
+  told = λ i h. e ∙ p.again i h;
+}
+
+pub peek_moves : {a b c : TokensState} {k : TokenKind} {p : Spot} → Peeks a b k → Moves b c p → Moves a c p
+peek_moves h m = record { input = m.input ∙ h.input; spot = m.spot; told = m.told; left = omega (arith, h.left, m.left) }
+
+-- a kind was told, and then a tree was taken
+pub peek_tree : {S : Type 0} {taken : S → List Tok → Type 0} {stand : S → TokensState} {a b c : S} {k : TokenKind} {t : Tree}
+    → Peeks (stand a) (stand b) k → TakesTokens taken a [] b → TakesTree taken stand b c t → TakesTree taken stand a c t
+peek_tree {taken = taken} {stand = stand} {a = a} {b = b} {c = c} {t = t} h z r = record {
+  takes = joins z r.takes;
+  moves = subst (λ (p : Spot). Moves (stand a) (stand c) (behind_value p)) h.spot (peek_moves h r.moves);
+  as_told = told_before h r.as_told;
+}
+
+-- and then one token
+pub peek_one : {S : Type 0} {taken : S → List Tok → Type 0} {stand : S → TokensState} {a b c : S} {k : TokenKind} {x : Tok}
+    → Peeks (stand a) (stand b) k → TakesTokens taken a [] b → TakesOne taken stand b c x → TakesOne taken stand a c x
+peek_one {stand = stand} {a = a} {c = c} {x = x} h z r = record {
+  takes = joins z r.takes;
+  moves = subst (λ (p : Spot). Moves (stand a) (stand c) (spot_after p x)) h.spot (peek_moves h r.moves);
+  as_told = told_before h r.as_told;
+}
+
+-- nothing was taken before
+pub from_same : {S : Type 0} {taken : S → List Tok → Type 0} {stand : S → TokensState} {a b c : S} {t : Tree}
+    → b ≡ a → TakesTree taken stand b c t → TakesTree taken stand a c t
+from_same {S = S} {taken = taken} {stand = stand} {c = c} {t = t} e r = subst (λ (s : S). TakesTree taken stand s c t) e r
+
+-- the tree that was taken begins as was told
+pub peek_kind : {S : Type 0} {taken : S → List Tok → Type 0} {stand : S → TokensState} {b c : S} {a : TokensState} {k : TokenKind} {t : Tree}
+    → Peeks a (stand b) k → TakesTree taken stand b c t → first_kind t ≡ k
+peek_kind {k = k} h r = r.as_told.told k h.told
+
+-- a tree of one token
+pub scalar : {S : Type 0} {taken : S → List Tok → Type 0} {stand : S → TokensState} {b c : S} {x : Tok} (t : Tree) (y : Tok)
+    → x ≡ y → tokens t ≡ y ∷ [] → kind_of y ≡ first_kind t → spot_after (stand b).spot y ≡ behind_value (stand b).spot
+    → TakesOne taken stand b c x → TakesTree taken stand b c t
+scalar {taken = taken} {stand = stand} {b = b} {c = c} t y i e k p q =
+    let r = subst (λ (z : Tok). TakesOne taken stand b c z) i q in
+    record {
+      takes = subst (λ (xs : List Tok). TakesTokens taken b xs c) (sym e) r.takes;
+      moves = subst (λ (q : Spot). Moves (stand b) (stand c) q) p r.moves;
+      as_told = subst (λ (j : TokenKind). AsTold (stand b) j) k r.as_told;
+    }
+
+-- bytes say one text
+pub says_one : (e : Option Bool) (s r b : List ℕ) → Says s e b → Says r e b → s ≡ r
+says_one (Some lossy) s r b h k = (chars_same lossy [] [] h k refl).0
+says_one None s r b h k = h ∙ sym k
+
+-- by its kind
+no_bracket : (o : Option ℤ) (k : TokenKind) → number_kind o ≡ k → (k ≡ BeginArray) ⊎ ((k ≡ EndArray) ⊎ ((k ≡ BeginObject) ⊎ (k ≡ EndObject))) → ⊥
+no_bracket None k e (inl h) = cc
+no_bracket None k e (inr (inl h)) = cc
+no_bracket None k e (inr (inr (inl h))) = cc
+no_bracket None k e (inr (inr (inr h))) = cc
+no_bracket (Some n) k e (inl h) = cc
+no_bracket (Some n) k e (inr (inl h)) = cc
+no_bracket (Some n) k e (inr (inr (inl h))) = cc
+no_bracket (Some n) k e (inr (inr (inr h))) = cc
+
+pub is_begin : (x : Tok) → kind_of x ≡ BeginArray → x ≡ begin array
+is_begin null_token e = cc
+is_begin (boolean_token b) e = cc
+is_begin (num_token l) e = absurd (no_bracket (integer_in l) BeginArray e (inl refl))
+is_begin (text_token s) e = cc
+is_begin (key_token s) e = cc
+is_begin (begin array) e = refl
+is_begin (begin object) e = cc
+is_begin (end array) e = cc
+is_begin (end object) e = cc
+
+pub is_end : (x : Tok) → kind_of x ≡ EndArray → x ≡ end array
+is_end null_token e = cc
+is_end (boolean_token b) e = cc
+is_end (num_token l) e = absurd (no_bracket (integer_in l) EndArray e (inr (inl refl)))
+is_end (text_token s) e = cc
+is_end (key_token s) e = cc
+is_end (begin array) e = cc
+is_end (begin object) e = cc
+is_end (end array) e = refl
+is_end (end object) e = cc
+
+pub is_begin_object : (x : Tok) → kind_of x ≡ BeginObject → x ≡ begin object
+is_begin_object null_token e = cc
+is_begin_object (boolean_token b) e = cc
+is_begin_object (num_token l) e = absurd (no_bracket (integer_in l) BeginObject e (inr (inr (inl refl))))
+is_begin_object (text_token s) e = cc
+is_begin_object (key_token s) e = cc
+is_begin_object (begin array) e = cc
+is_begin_object (begin object) e = refl
+is_begin_object (end array) e = cc
+is_begin_object (end object) e = cc
+
+is_end_object : (x : Tok) → kind_of x ≡ EndObject → x ≡ end object
+is_end_object null_token e = cc
+is_end_object (boolean_token b) e = cc
+is_end_object (num_token l) e = absurd (no_bracket (integer_in l) EndObject e (inr (inr (inr refl))))
+is_end_object (text_token s) e = cc
+is_end_object (key_token s) e = cc
+is_end_object (begin array) e = cc
+is_end_object (begin object) e = cc
+is_end_object (end array) e = cc
+is_end_object (end object) e = refl

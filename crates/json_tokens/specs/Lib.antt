@@ -1,0 +1,9 @@
+pub mod Pieces
+pub mod Kinds
+pub mod Refusals
+pub mod Spots
+pub mod Stand
+pub mod Text
+pub mod Values
+pub mod TextValues
+pub mod Laws

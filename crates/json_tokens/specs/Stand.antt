@@ -1,0 +1,144 @@
+-- What a call of a source of tokens takes.
+use Rattle.std.specs.Prelude.{◌≡◌, ◌<◌, ◌≤◌, ℕ, pos, neg_ℤ, List, [], ◌∷◌, ◌++◌, Bool, Option, Some, None, true, false, Result, Err, IfErr, IfSome}
+use Rattle.json_grammar.specs.declared.Kind.TheVariants.{Array as array, Object as object}
+use Rattle.json_grammar.specs.Tree.{Tree, num, text as text_tree, Trees, Pairs, tokens, trees_tokens, pairs_tokens, Token as Tok, key_token, end}
+use Rattle.json_number.specs.Integers.{integer_in}
+use Rattle.json_io.specs.declared.error.Error.{Error}
+use Rattle.json_tokens.specs.declared.token.TokenKind.{TokenKind}
+use Rattle.json_tokens.specs.Kinds.{kind_of, first_kind}
+use Rattle.json_tokens.specs.Refusals.{is_refusal}
+use Rattle.json_tokens.specs.Spots.{Spot, top, over, element, key_or_end, member, KindMayCome, begins_value, behind_value, around, spot_after}
+
+-- what is read: a text from a place on, lossy or not, with so many levels at most, or a tree
+pub data Input : Type 0 where
+  over_text : List ℕ → ℕ → Bool → ℕ → Input
+  over_tree : Tree → Input
+
+pub record TokensState : Type 0 where
+  pub input : Input
+  pub spot : Spot
+  -- the kind that was told since the last token was taken
+  pub told : Option TokenKind
+  -- falls with each token that is taken
+  pub left : ℕ
+  -- what was answered in the place of a token
+  pub failed : Option Error
+
+-- the tokens taken so far are not those of a whole tree
+abbrev pub NotWhole : TokensState → Type 0
+NotWhole s = ¬ (s.spot ≡ over)
+
+abbrev pub ToldValue : Option TokenKind → Type 0
+ToldValue (Some k) = begins_value k ≡ true
+ToldValue None = ⊥
+
+-- the next token is no key and no end
+abbrev pub WantsValueAt : Spot → Option TokenKind → Type 0
+WantsValueAt top o = Unit {0}
+WantsValueAt over o = ⊥
+WantsValueAt (element c) o = ToldValue o
+WantsValueAt (key_or_end c) o = ⊥
+WantsValueAt (member c) o = Unit {0}
+
+abbrev pub WantsValue : TokensState → Type 0
+WantsValue s = WantsValueAt s.spot s.told
+
+-- the tokens xs were taken between a and b
+pub record TakesTokens {S : Type 0} (taken : S → List Tok → Type 0) (a : S) (xs : List Tok) (b : S) : Type 0 where
+  pub on : (ts : List Tok) → taken a ts → taken b (ts ++ xs)
+
+-- the kind k was told
+pub record Peeks (a b : TokensState) (k : TokenKind) : Type 0 where
+  pub input : b.input ≡ a.input
+  pub spot : b.spot ≡ a.spot
+  pub told : b.told ≡ Some k
+  pub left : b.left ≤ a.left
+  pub may : KindMayCome a.spot k
+  pub again : (j : TokenKind) → a.told ≡ Some j → k ≡ j
+
+-- tokens were taken, and it stands at p
+pub record Moves (a b : TokensState) (p : Spot) : Type 0 where
+  pub input : b.input ≡ a.input
+  pub spot : b.spot ≡ p
+  pub told : b.told ≡ None
+  pub left : b.left < a.left
+
+-- the kind told was that of the token taken
+pub record AsTold (a : TokensState) (k : TokenKind) : Type 0 where
+  pub may : KindMayCome a.spot k
+  pub told : (j : TokenKind) → a.told ≡ Some j → k ≡ j
+
+-- the tokens of a tree were taken
+pub record TakesTree {S : Type 0} (taken : S → List Tok → Type 0) (stand : S → TokensState) (a b : S) (t : Tree) : Type 0 where
+  pub takes : TakesTokens taken a (tokens t) b
+  pub moves : Moves (stand a) (stand b) (behind_value (stand a).spot)
+  pub as_told : AsTold (stand a) (first_kind t)
+
+-- an integer by value from 0 on was taken
+pub record TakesInteger {S : Type 0} (taken : S → List Tok → Type 0) (stand : S → TokensState) (a b : S) (n : ℕ) : Type 0 where
+  pub literal : List ℕ
+  pub value : integer_in literal ≡ Some (pos n)
+  pub takes : TakesTree taken stand a b (num literal)
+
+-- an integer by value below 0 was taken, of this magnitude
+pub record TakesNegative {S : Type 0} (taken : S → List Tok → Type 0) (stand : S → TokensState) (a b : S) (n : ℕ) : Type 0 where
+  pub literal : List ℕ
+  pub value : integer_in literal ≡ Some (neg_ℤ (pos n))
+  pub takes : TakesTree taken stand a b (num literal)
+
+-- a text of which a piece says what it is was taken
+pub record TakesText {S : Type 0} (taken : S → List Tok → Type 0) (stand : S → TokensState) (says : List ℕ → Type 0) (a b : S) : Type 0 where
+  pub text : List ℕ
+  pub said : says text
+  pub takes : TakesTree taken stand a b (text_tree text)
+
+-- what is left of the innermost open container, its end included
+abbrev pub Rest : Spot → List Tok → Type 0
+Rest top xs = ⊥
+Rest over xs = ⊥
+Rest (element c) xs = (ts : Trees) × (xs ≡ trees_tokens ts ++ end array ∷ [])
+Rest (key_or_end c) xs = (ps : Pairs) × (xs ≡ pairs_tokens ps ++ end object ∷ [])
+Rest (member c) xs = (t : Tree) × (ps : Pairs) × (xs ≡ (tokens t ++ pairs_tokens ps) ++ end object ∷ [])
+
+-- the first of them has the kind k
+abbrev pub FirstIs : List Tok → TokenKind → Type 0
+FirstIs [] k = ⊥
+FirstIs (x ∷ xs) k = kind_of x ≡ k
+
+-- what is left of the innermost container was taken
+pub record Leaves {S : Type 0} (taken : S → List Tok → Type 0) (stand : S → TokensState) (a b : S) : Type 0 where
+  pub rest : List Tok
+  pub is_rest : Rest (stand a).spot rest
+  pub as_told : (k : TokenKind) → (stand a).told ≡ Some k → FirstIs rest k
+  pub takes : TakesTokens taken a rest b
+  pub moves : Moves (stand a) (stand b) (around (stand a).spot)
+
+-- one token was taken
+pub record TakesOne {S : Type 0} (taken : S → List Tok → Type 0) (stand : S → TokensState) (a b : S) (x : Tok) : Type 0 where
+  pub takes : TakesTokens taken a (x ∷ []) b
+  pub moves : Moves (stand a) (stand b) (spot_after (stand a).spot x)
+  pub as_told : AsTold (stand a) (kind_of x)
+
+-- a name of which a piece says what it is was taken
+pub record TakesKeyPiece {S : Type 0} (taken : S → List Tok → Type 0) (stand : S → TokensState) (says : List ℕ → Type 0) (a b : S) : Type 0 where
+  pub name : List ℕ
+  pub said : says name
+  pub takes : TakesOne taken stand a b (key_token name)
+
+-- it answered e, which is no refusal of a tree
+pub record TokensFail (a b : TokensState) (e : Error) : Type 0 where
+  pub input : b.input ≡ a.input
+  pub no_refusal : is_refusal e.code ≡ false
+  pub failed : b.failed ≡ Some e
+
+-- an error is one that the source of tokens answered
+abbrev pub FailsWithTokens : {A : Type 0} → (a b : TokensState) → Result A Error → Type 0
+FailsWithTokens a b result = IfErr result (λ e. TokensFail a b e)
+
+-- a first error has one of the causes
+abbrev pub FailsForCause : {A : Type 0} → TokensState → (Error → Type 0) → Result A Error → Type 0
+FailsForCause s causes result = s.failed ≡ None → IfErr result causes
+
+-- an error that is kept is returned again
+abbrev pub ReturnsAgain : {A : Type 0} → Option Error → Result A Error → Type 0
+ReturnsAgain failed result = IfSome failed (λ e. result ≡ Err e)

@@ -1,0 +1,148 @@
+-- What the tokens of a text are.
+use Rattle.std.specs.Prelude.{◌≡◌, ◌⊎◌, ℕ, ℤ, ◌+◌, ◌-◌, ◌<◌, ◌≤◌, List, [], ◌∷◌, ◌++◌, length, false, Option, Some, None, IfSome, option_map}
+use Rattle.json_grammar.specs.declared.Kind.{Kind}
+use Rattle.json_grammar.specs.declared.Kind.TheVariants.{Array as array, Object as object}
+use Rattle.json_grammar.specs.declared.Spot.{Spot as Place}
+use Rattle.json_grammar.specs.declared.Spot.TheVariants.{Colon as colon, Done as done, Value as at_value}
+use Rattle.json_grammar.specs.Fault.{reads}
+use Rattle.json_grammar.specs.Tree.{Tree, Token as Tok, tokens, depth}
+use Rattle.json_grammar.specs.Place.{outside}
+use Rattle.json_number.specs.Integers.{integer_in}
+use Rattle.json_io.specs.declared.error.Error.{Error}
+use Rattle.json_text.specs.declared.event.Event.{Event}
+use Rattle.json_text.specs.declared.event.Event.TheVariants as event
+use Rattle.json_io.specs.Errors.{no_memory}
+use Rattle.json_text.specs.Events.{Means}
+use Rattle.json_text.specs.Due.{NextNeeds}
+use Rattle.json_text.specs.Faults.{IsFault, IsValueFault}
+use Rattle.json_io.specs.Positions.{place_at}
+use Rattle.json_text.specs.Parsing.{ParserState, input, taken, HasGiven, SameInput, IsWhole, HasRead}
+use Rattle.json_tokens.specs.declared.token.TokenKind.{TokenKind}
+use Rattle.json_tokens.specs.declared.token.TokenKind.TheVariants as kind
+use Rattle.json_tokens.specs.Kinds.{number_kind}
+use Rattle.json_tokens.specs.Refusals.{is_refusal}
+use Rattle.json_tokens.specs.Spots.{Spot, top, over, element, key_or_end, member, KindMayCome}
+use Rattle.json_tokens.specs.Stand.{TokensState, over_text}
+
+-- the spot of a place in a text, within the open containers
+abbrev pub spot_at_place : Place → List Kind → Spot
+spot_at_place done [] = over
+spot_at_place _ [] = top
+spot_at_place w (array ∷ c) = element c
+spot_at_place at_value (object ∷ c) = member c
+spot_at_place colon (object ∷ c) = member c
+spot_at_place _ (object ∷ c) = key_or_end c
+
+-- where a value may come, within the open containers
+abbrev pub value_spot : List Kind → Spot
+value_spot [] = top
+value_spot (array ∷ c) = element c
+value_spot (object ∷ c) = member c
+
+-- the spot before a token of the kind, by the containers that are open behind it
+abbrev pub before : TokenKind → List Kind → Spot
+before kind.Key c = key_or_end (outside c)
+before kind.BeginArray c = value_spot (outside c)
+before kind.BeginObject c = value_spot (outside c)
+before kind.EndArray c = element c
+before kind.EndObject c = key_or_end c
+before _ c = value_spot c
+
+-- ---- events
+
+-- the kind of an event's token; there is none at the end
+abbrev pub event_kind : Event → TokenKind
+event_kind event.Null = kind.Null
+event_kind (event.Bool b) = kind.Bool
+event_kind (event.Number l) = number_kind (integer_in l.now)
+event_kind (event.Str s) = kind.Text
+event_kind (event.Key s) = kind.Key
+event_kind event.BeginArray = kind.BeginArray
+event_kind event.EndArray = kind.EndArray
+event_kind event.BeginObject = kind.BeginObject
+event_kind event.EndObject = kind.EndObject
+event_kind event.End = kind.Null
+
+-- the integer by value of an event that is a number
+abbrev pub event_integer : Event → Option ℤ
+event_integer (event.Number l) = integer_in l.now
+event_integer _ = None
+
+abbrev pub parser_spot : ParserState → Spot
+parser_spot p = spot_at_place p.spot p.open_kinds
+
+-- one event was read, of a token that may come there
+pub record ReadsAhead (old : ParserState) (e : Event) (new : ParserState) : Type 0 where
+  pub same : SameInput old new
+  pub goes : (ts : List Tok) → HasGiven old ts → (x : Tok) × Means e x × HasGiven new (ts ++ x ∷ [])
+  pub forward : old.index < new.index
+  pub inside : new.index ≤ length new.text
+  pub spot : before (event_kind e) new.open_kinds ≡ parser_spot old
+  pub may : KindMayCome (parser_spot old) (event_kind e)
+  pub fresh : new.failure ≡ None
+
+-- the value that is read has a fault, which is one of the text too, and is told at the token that needs the byte at its offset
+pub record HasFault (p : ParserState) (e : Error) : Type 0 where
+  pub offset : ℕ
+  pub place : e.place ≡ place_at p.text (p.start + offset)
+  pub in_text : IsFault p.lossy p.limit (input p) e.code offset
+  pub in_value : IsValueFault p.lossy p.limit (input p) e.code offset
+  pub needs : NextNeeds p.lossy (input p) (taken p) e.code offset
+  pub no_refusal : is_refusal e.code ≡ false
+
+-- ---- sources
+
+-- the reader of the text, an event that was read and not taken yet, and what was answered in the place of a token
+pub record TextTokensState : Type 0 where
+  pub parser : ParserState
+  pub ahead : Option Event
+  pub failed : Option Error
+
+-- the tokens that were taken, before an event that was not
+abbrev pub TakenBefore : Option Event → ParserState → List Tok → Type 0
+TakenBefore None p ts = HasGiven p ts
+TakenBefore (Some e) p ts = (x : Tok) × Means e x × HasGiven p (ts ++ x ∷ [])
+
+abbrev pub text_taken : TextTokensState → List Tok → Type 0
+text_taken s ts = TakenBefore s.ahead s.parser ts
+
+abbrev pub spot_before : Option Event → ParserState → Spot
+spot_before None p = parser_spot p
+spot_before (Some e) p = before (event_kind e) p.open_kinds
+
+abbrev pub waiting : Option Event → ℕ
+waiting None = 0
+waiting (Some e) = 1
+
+abbrev pub text_tokens_state : TextTokensState → TokensState
+text_tokens_state s = record {
+  input = over_text s.parser.text s.parser.start s.parser.lossy s.parser.limit;
+  spot = spot_before s.ahead s.parser;
+  told = option_map event_kind s.ahead;
+  left = (length s.parser.text - s.parser.index) + waiting s.ahead;
+  failed = s.failed;
+}
+
+-- no token was told, taken or refused
+pub record IsFreshReader (s : TextTokensState) : Type 0 where
+  pub none : HasGiven s.parser []
+  pub taken : text_taken s []
+  pub spot : (text_tokens_state s).spot ≡ top
+  pub ahead : s.ahead ≡ None
+  pub failed : s.failed ≡ None
+
+-- the tokens that were taken are those of the value that is read there, whatever follows it
+abbrev pub HasReadValue : TextTokensState → Type 0
+HasReadValue s = (ts : List Tok) → text_taken s ts → (t : Tree) × reads s.parser.lossy (input s.parser) t (taken s.parser) × (ts ≡ tokens t) × (depth t ≤ s.parser.limit)
+
+-- why a source of a text answered an error: memory ran out, or the value has this fault
+abbrev pub TextFails : ParserState → Error → Type 0
+TextFails p e = (e ≡ no_memory) ⊎ HasFault p e
+
+-- what is true of each source
+pub record IsReading (s : TextTokensState) : Type 0 where
+  pub given : (ts : List Tok) × text_taken s ts
+  pub failed : IfSome s.failed (TextFails s.parser)
+  pub fresh : s.failed ≡ None → s.parser.failure ≡ None
+  pub order : s.parser.start ≤ s.parser.index
+  pub read : IsWhole s.parser → HasRead s.parser

@@ -1,0 +1,33 @@
+//! Sources of tokens: the tokens of a text or of a value, one after another, and the pieces of text that they lend. Contracts say which
+//! tokens a call takes, and why it fails.
+//!
+//! ```
+//! use json_tokens::{TextTokens, Token, TokenKind, Tokens};
+//! let mut tokens = TextTokens::new("[true, {\"a\": 1}]");
+//! assert!(rt; matches!(tokens.next()?, Token::BeginArray));
+//! assert!(rt; matches!(tokens.next()?, Token::Bool(true)));
+//! tokens.skip()?;
+//! assert_eq!(rt; tokens.peek()?, TokenKind::EndArray);
+//! ```
+#![tactic(auto)]
+
+mod ahead;
+pub mod laws;
+mod lent;
+mod level;
+mod packed_value;
+mod piece;
+mod refusals;
+mod text_tokens;
+mod token;
+mod tokens;
+mod value_tokens;
+mod view_tokens;
+
+pub use lent::Lent;
+pub use piece::{Piece, lend};
+pub use refusals::{is_refusal, refusal};
+pub use text_tokens::TextTokens;
+pub use token::{Token, TokenKind, TokenOf, begin_kind};
+pub use tokens::Tokens;
+pub use value_tokens::ValueTokens;

@@ -1,0 +1,117 @@
+// Texts as a source of tokens lends them.
+ghost use Rattle.std.specs.Prelude.{◌≡◌, ◌↔◌, ℕ, List, None, IsSome, IfOk, IfErr, IfSome, string_bytes};
+ghost use Rattle.std.specs.Cow.{cow_str_bytes, IsBorrowedStr};
+ghost use Rattle.json_io.specs.Errors.{no_memory};
+ghost use Rattle.json_text.specs.Spelled.{NoEscape};
+ghost use Rattle.json_tokens.specs.Pieces.{Says};
+
+use crate::lent::Lent;
+use json_text::{Error, ErrorCode, Place, Result, Span};
+use std::alloc::{AllocError, Global};
+use std::borrow::CowStr;
+use std::str::from_utf8_unchecked;
+
+/// A text or a key, maybe with escapes that are still to be read.
+///
+/// ```
+/// use json_tokens::Piece;
+/// let piece = Piece::plain("Ada");
+/// assert_eq!(rt; piece.lent(), Some("Ada"));
+/// assert_eq!(rt; piece.copy(alloc)?.as_str(), "Ada");
+/// ```
+pub struct Piece<S: Lent> {
+    pub text: S,
+    /// Whether its escapes are read in the lossy mode; `None` if it has none.
+    pub escaped: Option<bool>,
+    pub ghost spells: { ∥ ((s : List ℕ) × Says s escaped (S.bytes text)) ∥₁ },
+    pub ghost told: { IsSome escaped → ¬ (NoEscape (S.bytes text)) },
+}
+
+impl<S: Lent> Clone for Piece<S> {
+    ghost is_clone = { λ x y. y ≡ x };
+
+    ghost is_infallible = { λ _. Unit {0} };
+
+    fn clone(&self) -> std::result::Result<Piece<S>, AllocError> {
+        Ok(*self)
+    }
+}
+
+impl<S: Lent> Copy for Piece<S> {}
+
+impl<S: Lent> Piece<S> {
+    /// A text without escapes.
+    #[inline(always)]
+    pub fn plain(text: S) -> Piece<S>
+        ensures escaped { result.escaped ≡ None }
+        ensures text { S.bytes result.text ≡ S.bytes text }
+    {
+        Piece {
+            text,
+            escaped: None,
+        }
+    }
+
+    /// The text, exactly where it needs no unescaping.
+    #[inline(always)]
+    pub fn lent(self) -> Option<S>
+        ensures text { IfSome result (λ t. (s : List ℕ) → Says s self.escaped (S.bytes self.text)
+            → s ≡ S.bytes t) }
+        ensures exactly { IsSome result ↔ (self.escaped ≡ None) }
+    {
+        if self.escaped.is_some() {
+            None
+        } else {
+            Some(self.text)
+        }
+    }
+
+    /// Returns the text, lent where it needs no unescaping. Fails with `NoMemory` if memory runs out.
+    #[inline(always)]
+    pub fn to_text(&self, alloc: Global) -> Result<CowStr<'_>>
+        ensures ok { IfOk result (λ v. (s : List ℕ)
+            → Says s self.now.escaped (S.bytes self.now.text) → s ≡ cow_str_bytes v) }
+        ensures err { IfErr result (λ e. e ≡ no_memory) }
+    {
+        match self.escaped {
+            None => Ok(CowStr::Borrowed(self.text.as_text())),
+            Some(_) => Ok(CowStr::Owned(self.copy(alloc)?)),
+        }
+    }
+
+    /// The text, or `NoMemory`.
+    #[inline]
+    pub fn copy(self, alloc: Global) -> Result<String>
+        ensures ok { IfOk result (λ v. (s : List ℕ) → Says s self.escaped (S.bytes self.text)
+            → s ≡ string_bytes v) }
+        ensures err { IfErr result (λ e. e ≡ no_memory) }
+    {
+        let Some(lossy) = self.escaped else {
+            return Ok(String::from_str(alloc, self.text.as_text())?);
+        };
+        let span = Span {
+            raw: self.text.as_text(),
+            escaped: true,
+            lossy,
+        };
+        let mut bytes = Vec::with_capacity(alloc, span.raw_len())?;
+        span.unescape_into(&mut bytes);
+        // what a text spells is UTF-8, and mostly shorter: it takes no more room than it needs
+        let text = unsafe { from_utf8_unchecked(bytes.as_slice()) };
+        Ok(String::from_str(alloc, text)?)
+    }
+}
+
+/// The text of a piece, lent exactly where it needs no unescaping, or `NoMemory`.
+#[inline]
+pub fn lend<'a>(piece: Piece<&'a str>, alloc: Global) -> Result<CowStr<'a>>
+    ensures ok { IfOk result (λ v. (s : List ℕ) → Says s piece.entry.escaped piece.entry.text.now
+        → s ≡ cow_str_bytes v) }
+    ensures lent { IfOk result (λ v. IsBorrowedStr v ↔ (piece.entry.escaped ≡ None)) }
+    ensures err { IfErr result (λ e. e ≡ no_memory) }
+{
+    match piece.lent() {
+        Some(text) => Ok(CowStr::Borrowed(text)),
+        None => Ok(CowStr::Owned(piece.copy(alloc)?)),
+    }
+}

@@ -1,0 +1,25 @@
+// Refusals of a tree.
+ghost use Rattle.std.specs.Prelude.{◌≡◌};
+ghost use Rattle.json_tokens.specs.Refusals.{is_refusal as spec_is_refusal, refusal as spec_refusal};
+
+use json_text::{Error, ErrorCode, Place};
+
+/// Returns the error of this code, without a place.
+pub fn refusal(code: ErrorCode) -> Error
+    ensures { result ≡ spec_refusal code }
+{
+    Error {
+        code,
+        place: Place::None,
+    }
+}
+
+/// Whether a reader refuses a tree so.
+pub fn is_refusal(code: ErrorCode) -> bool
+    ensures { result ≡ spec_is_refusal code }
+{
+    matches!(
+        code,
+        ErrorCode::TypeUnmatched | ErrorCode::NumberOutOfRange | ErrorCode::ExpectedNumericKey
+    )
+}

@@ -1,0 +1,396 @@
+// The tokens of a text.
+ghost use Rattle.std.specs.Prelude.{◌≡◌, ◌≤◌, ◌^◌, length, List, [], true, false, None, OnOk, IfOk, IfErr, IfSome, IsSome, IsTrue, MatchOption};
+ghost use Rattle.json_grammar.specs.Tree.{Tree, Token as Tok, tokens, depth};
+ghost use Rattle.json_value.specs.Denotes.{tree_of};
+ghost use Rattle.json_tokens.specs.Kinds.{DenotesToken};
+ghost use Rattle.json_tokens.specs.TextValues.{IsPackedAtRoot};
+ghost use Rattle.json_tokens.specs.Spots.{IsOpen, over};
+ghost use Rattle.json_tokens.specs.Stand.{NotWhole, WantsValue, TakesTokens, Peeks, TakesOne, TakesTree, Leaves, TokensFail, FailsWithTokens, ReturnsAgain};
+ghost use Rattle.json_tokens.specs.Text.{IsFreshReader, text_taken, text_tokens_state, TextFails, HasFault, HasReadValue};
+ghost use Rattle.json_tokens.specs.declared.token.TokenKind.{TokenKind as TokenKindOf};
+ghost use Rattle.json_tokens.specs.declared.token.TokenKind.TheVariants as TokenKindAt;
+ghost use Rattle.std.specs.Str.{IsCharBoundary};
+ghost use Rattle.json_text.specs.Faults.{FaultFrom};
+ghost use Rattle.json_text.specs.Parsing.{input};
+ghost use Rattle.json_grammar.specs.Grammar.{is_text};
+
+mod at_once;
+
+use crate::ahead::{Ahead, read_ahead};
+use crate::packed_value::packed_value;
+use crate::piece::Piece;
+use crate::token::{TokenKind, TokenOf};
+use crate::tokens::Tokens;
+use json_grammar::Kind;
+use json_text::{Error, Event, Parser, Result};
+use json_value::Value;
+use std::alloc::Global;
+use std::marker::Model;
+
+/// The tokens of a text that begins with a value. What follows the value is not looked at.
+///
+/// ```
+/// use json_tokens::{TextTokens, TokenKind, Tokens};
+/// let mut tokens = TextTokens::new("[true] and the rest");
+/// tokens.next()?;
+/// assert_eq!(rt; tokens.peek()?, TokenKind::Bool);
+/// tokens.skip()?;
+/// assert_eq!(rt; tokens.peek()?, TokenKind::EndArray);
+/// ```
+#[derive(Drop)]
+pub struct TextTokens<'a> {
+    parser: Parser<'a>,
+    // an event that was read and not taken yet
+    ahead: Option<Ahead<'a>>,
+    failed: Option<Error>,
+}
+
+impl<'a> Model for TextTokens<'a> {
+    ghost use Rattle.std.specs.Prelude.{option_map};
+    ghost use Rattle.json_tokens.specs.Text.{TextTokensState, IsReading};
+
+    ghost Value = { TextTokensState };
+
+    ghost view = { λ a. record { parser = a.parser; ahead = option_map (λ h. h.event) a.ahead; failed = a.failed } };
+
+    ghost invariant = { λ a. IsReading (record { parser = a.parser; ahead = option_map (λ h. h.event) a.ahead; failed = a.failed }) };
+}
+
+impl<'a> TextTokens<'a> {
+    /// Stands at the beginning of the text. A value of at most 254 levels is read, where `depth` chooses none.
+    pub fn new(text: &'a str) -> TextTokens<'a>
+        ensures text { result.parser.text ≡ text.now }
+        ensures start { (result.parser.start ≡ 0) × (result.parser.limit ≡ 254) }
+        ensures strict { result.parser.lossy ≡ false }
+        ensures fresh { IsFreshReader result }
+    {
+        TextTokens {
+            parser: Parser::new(text),
+            ahead: None,
+            failed: None,
+        }
+    }
+
+    /// Returns the tokens of the value at this offset of the text, in bytes, with the limit of `new`.
+    /// Errors have their places in the whole text.
+    pub fn at(text: &'a str, index: usize) -> TextTokens<'a>
+        requires { IsCharBoundary text.now index }
+        ensures text { result.parser.text ≡ text.now }
+        ensures start { (result.parser.start ≡ index) × (result.parser.limit ≡ 254) }
+        ensures strict { result.parser.lossy ≡ false }
+        ensures fresh { IsFreshReader result }
+    {
+        TextTokens {
+            parser: Parser::at(text, index),
+            ahead: None,
+            failed: None,
+        }
+    }
+
+    /// Returns the same tokens with another limit of levels, at most 1,024. To be called before the
+    /// first token.
+    pub fn depth(self, depth: u32) -> TextTokens<'a>
+        requires most { depth ≤ 1024 }
+        requires fresh { IsFreshReader self }
+        ensures text { result.parser.text ≡ self.entry.parser.text }
+        ensures start { (result.parser.start ≡ self.entry.parser.start)
+            × (result.parser.limit ≡ depth) }
+        ensures mode { result.parser.lossy ≡ self.entry.parser.lossy }
+        ensures fresh { IsFreshReader result }
+    {
+        TextTokens {
+            parser: self.parser.depth(depth),
+            ahead: None,
+            failed: None,
+        }
+    }
+
+    /// Returns the same tokens in the lossy mode, in which no surrogate is an error: the escape of one
+    /// that is alone is U+FFFD (RFC 8259, section 8.2). To be called before the first token.
+    pub fn lossy(self) -> TextTokens<'a>
+        requires { IsFreshReader self }
+        ensures text { result.parser.text ≡ self.entry.parser.text }
+        ensures start { (result.parser.start ≡ self.entry.parser.start)
+            × (result.parser.limit ≡ self.entry.parser.limit) }
+        ensures mode { result.parser.lossy ≡ true }
+        ensures fresh { IsFreshReader result }
+    {
+        TextTokens {
+            parser: self.parser.lossy(),
+            ahead: None,
+            failed: None,
+        }
+    }
+
+    /// Returns the error that was returned in place of a token: `NoMemory`, or the error of the value,
+    /// which comes at the first token that needs the byte at its place.
+    pub fn failure(&self) -> Option<Error>
+        ensures same { result ≡ self.now.failed }
+        ensures cause { IfSome self.now.failed (TextFails self.now.parser) }
+    {
+        self.failed
+    }
+
+    /// Returns the offset right after the value, which was taken, in bytes from the beginning of the
+    /// text.
+    pub fn index(&self) -> usize
+        requires over { (text_tokens_state self.now).spot ≡ over }
+        requires told { (text_tokens_state self.now).told ≡ None }
+        ensures same { result ≡ self.now.parser.index }
+        ensures order { self.now.parser.start ≤ result }
+        ensures read { HasReadValue self.now }
+    {
+        self.parser.index()
+    }
+
+    /// Takes the rest of the text, after the value, which was taken. Fails with the fault of the text if
+    /// more than whitespace follows.
+    pub fn finish(self) -> Result<()>
+        requires over { (text_tokens_state self).spot ≡ over }
+        requires told { (text_tokens_state self).told ≡ None }
+        ensures ok { OnOk result ((ts : List Tok) → text_taken self.entry ts
+            → (t : Tree) × is_text self.entry.parser.lossy t (input self.entry.parser)
+            × (ts ≡ tokens t) × (depth t ≤ self.entry.parser.limit)) }
+        ensures err { IfErr result (λ e.
+            FaultFrom self.entry.parser.lossy self.entry.parser.limit self.entry.parser.start
+            self.entry.parser.text e.code e.place) }
+    {
+        let mut parser = self.parser;
+        parser.end()
+    }
+
+    /// Returns the error that was returned in place of a token.
+    #[inline(always)]
+    fn refusal(&self) -> Error
+        requires { IsSome self.now.failed }
+        ensures { self.now.failed ≡ Some result }
+    {
+        match self.failed {
+            Some(error) => error,
+            None => unreachable!(),
+        }
+    }
+
+    /// Reads the next event, where none waits. Whether one waits then; else it failed.
+    #[inline(never)]
+    fn read(&mut self) -> bool
+        requires whole { NotWhole (text_tokens_state self.old) }
+        requires none { self.old.ahead ≡ None }
+        requires unfailed { self.old.failed ≡ None }
+        ensures ok { IsTrue result
+            → (k : TokenKindOf) × Peeks (text_tokens_state self.old)
+            (text_tokens_state self.new) k }
+        ensures none { IsTrue result → TakesTokens text_taken self.old [] self.new }
+        ensures unfailed { IsTrue result → self.new.failed ≡ None }
+        ensures failed { result ≡ false → IsSome self.new.failed }
+        ensures err { IfSome self.new.failed (λ e.
+            TokensFail (text_tokens_state self.old) (text_tokens_state self.new) e) }
+        ensures cause { IfSome self.new.failed (HasFault self.new.parser) }
+    {
+        match read_ahead(&mut self.parser) {
+            Ok(event) => {
+                self.ahead = Some(Ahead::new(event));
+                true
+            }
+            Err(error) => {
+                self.failed = Some(error);
+                false
+            }
+        }
+    }
+
+    /// The kind of the next token.
+    #[inline(always)]
+    fn look(&mut self) -> Result<TokenKind>
+        requires { NotWhole (text_tokens_state self.old) }
+        ensures ok { IfOk result
+            (λ k. Peeks (text_tokens_state self.old) (text_tokens_state self.new) k) }
+        ensures none { OnOk result (TakesTokens text_taken self.old [] self.new) }
+        ensures unfailed { OnOk result (self.new.failed ≡ None) }
+        ensures err { FailsWithTokens (text_tokens_state self.old) (text_tokens_state self.new) result }
+        ensures cause { self.old.failed ≡ None → IfErr result (HasFault self.new.parser) }
+        ensures again { ReturnsAgain self.old.failed result }
+    {
+        if self.failed.is_some() {
+            return Err(self.refusal());
+        }
+        if let Some(ahead) = self.ahead {
+            return Ok(ahead.kind);
+        }
+        if !self.read() {
+            return Err(self.refusal());
+        }
+        match self.ahead {
+            Some(ahead) => Ok(ahead.kind),
+            None => unreachable!(),
+        }
+    }
+
+    /// Takes the next token.
+    #[inline(always)]
+    fn take(&mut self) -> Result<TokenOf<&'a str>>
+        requires { NotWhole (text_tokens_state self.old) }
+        ensures ok { IfOk result (λ y. (x : Tok) × DenotesToken (λ s. s.now) y x
+            × TakesOne text_taken text_tokens_state self.old self.new x) }
+        ensures unfailed { OnOk result (self.new.failed ≡ None) }
+        ensures err { FailsWithTokens (text_tokens_state self.old) (text_tokens_state self.new) result }
+        ensures cause { self.old.failed ≡ None → IfErr result (HasFault self.new.parser) }
+        ensures again { ReturnsAgain self.old.failed result }
+    {
+        self.look()?;
+        match self.ahead {
+            Some(ahead) => {
+                self.ahead = None;
+                Ok(ahead.token())
+            }
+            None => unreachable!(),
+        }
+    }
+
+    /// Takes the tokens of one tree, and returns a value of it.
+    fn keep(&mut self, alloc: Global) -> Result<Value>
+        requires { WantsValue (text_tokens_state self.old) }
+        ensures ok { IfOk result (λ v.
+            TakesTree text_taken text_tokens_state self.old self.new (tree_of v)) }
+        ensures place { IfOk result IsPackedAtRoot }
+        ensures unfailed { OnOk result (self.new.failed ≡ None) }
+        ensures err { FailsWithTokens (text_tokens_state self.old) (text_tokens_state self.new) result }
+        ensures cause { self.old.failed ≡ None → IfErr result (TextFails self.new.parser) }
+        ensures again { ReturnsAgain self.old.failed result }
+    {
+        self.look()?;
+        let event = match self.ahead {
+            Some(ahead) => ahead.event,
+            None => unreachable!(),
+        };
+        self.ahead = None;
+        match packed_value(alloc, &mut self.parser, event) {
+            Ok(value) => Ok(value),
+            Err(error) => {
+                self.failed = Some(error);
+                Err(error)
+            }
+        }
+    }
+
+    /// Takes what is left of the innermost open container.
+    fn close(&mut self) -> Result<()>
+        requires { IsOpen (text_tokens_state self.old).spot }
+        ensures ok { OnOk result (Leaves text_taken text_tokens_state self.old self.new) }
+        ensures unfailed { OnOk result (self.new.failed ≡ None) }
+        ensures err { FailsWithTokens (text_tokens_state self.old) (text_tokens_state self.new) result }
+        ensures cause { self.old.failed ≡ None → IfErr result (HasFault self.new.parser) }
+        ensures again { ReturnsAgain self.old.failed result }
+    {
+        if let Some(error) = self.failed {
+            return Err(error);
+        }
+        'rest: loop {
+            let kind = self.look()?;
+            self.take()?;
+            match kind {
+                TokenKind::EndArray | TokenKind::EndObject => return Ok(()),
+                TokenKind::BeginArray | TokenKind::BeginObject => self.close()?,
+                _ => {}
+            }
+        }
+    }
+
+    /// Takes the tokens of one tree.
+    fn pass(&mut self) -> Result<()>
+        requires { WantsValue (text_tokens_state self.old) }
+        ensures ok { OnOk result ((t : Tree)
+            × TakesTree text_taken text_tokens_state self.old self.new t) }
+        ensures unfailed { OnOk result (self.new.failed ≡ None) }
+        ensures err { FailsWithTokens (text_tokens_state self.old) (text_tokens_state self.new) result }
+        ensures cause { self.old.failed ≡ None → IfErr result (HasFault self.new.parser) }
+        ensures again { ReturnsAgain self.old.failed result }
+    {
+        let kind = self.look()?;
+        self.take()?;
+        match kind {
+            TokenKind::BeginArray | TokenKind::BeginObject => self.close(),
+            _ => Ok(()),
+        }
+    }
+}
+
+/// At each state of a source over a text some tokens were taken so far.
+pub fn text_row_exists(tokens: &TextTokens<'_>)
+    ensures { (ts : List Tok) × text_taken tokens.now ts }
+{
+    let _failed = tokens.failed;
+}
+
+impl<'a> Tokens<&'a str> for TextTokens<'a> {
+    ghost taken = { text_taken };
+
+    ghost stand = { text_tokens_state };
+
+    ghost causes = { λ s. HasFault s.parser };
+
+    ghost placed = { λ _. IsPackedAtRoot };
+
+    #[inline(always)]
+    fn peek(&mut self) -> Result<TokenKind> {
+        self.look()
+    }
+
+    #[inline(always)]
+    fn next(&mut self) -> Result<TokenOf<&'a str>> {
+        self.take()
+    }
+
+    // A container that has members is a place of a document of its own.
+    fn value(&mut self, alloc: Global) -> Result<Value> {
+        self.keep(alloc)
+    }
+
+    fn skip(&mut self) -> Result<()> {
+        self.pass()
+    }
+
+    fn leave(&mut self) -> Result<()> {
+        self.close()
+    }
+
+    #[inline(always)]
+    fn integer(&mut self, most: u64) -> Option<u64> {
+        self.take_integer(most)
+    }
+
+    #[inline(always)]
+    fn negative(&mut self, least: u64) -> Option<u64> {
+        self.take_negative(least)
+    }
+
+    #[inline(always)]
+    fn null(&mut self) -> bool {
+        self.take_null()
+    }
+
+    #[inline(always)]
+    fn boolean(&mut self) -> Option<bool> {
+        self.take_boolean()
+    }
+
+    #[inline(always)]
+    fn text(&mut self) -> Option<Piece<&'a str>> {
+        self.take_text()
+    }
+
+    #[inline(always)]
+    fn key(&mut self) -> Option<Piece<&'a str>> {
+        self.take_key()
+    }
+
+    #[inline(always)]
+    fn begins(&mut self, kind: Kind) -> bool {
+        self.take_begin(kind)
+    }
+
+    #[inline(always)]
+    fn ends(&mut self, kind: Kind) -> bool {
+        self.take_end(kind)
+    }
+}

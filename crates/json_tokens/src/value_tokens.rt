@@ -1,0 +1,235 @@
+// The tokens of a value.
+ghost use Rattle.std.specs.Prelude.{◌≡◌, List, [], ◌∷◌, false, true, Some, None, OnOk, IfOk, IfErr, option_map};
+ghost use Rattle.json_grammar.specs.Tree.{Token as Tok};
+ghost use Rattle.json_io.specs.Errors.{no_memory};
+ghost use Rattle.json_value.specs.Seen.{seen};
+ghost use Rattle.json_value.specs.Sights.{sight_of};
+ghost use Rattle.json_tokens.specs.Kinds.{DenotesToken};
+ghost use Rattle.json_tokens.specs.Spots.{spot_after};
+ghost use Rattle.json_tokens.specs.Stand.{NotWhole};
+ghost use Rattle.json_tokens.specs.Values.{Left, left_after_opening, value_state, value_taken, value_stand, value_placed, next_sight, at_begin, NoElement, SettlesNext, TakesTokensTo, Breaks};
+
+use crate::level::Level;
+use crate::piece::Piece;
+use crate::refusals::refusal;
+use crate::token::{Token, TokenKind, TokenOf};
+use crate::tokens::Tokens;
+use crate::view_tokens::{scalar_token, view_kind};
+use json_doc::JsonType;
+use json_text::{Error, ErrorCode, Result};
+use json_value::{Value, View};
+use std::alloc::Global;
+use std::mem;
+
+/// The tokens of a value. Its calls fail with no error but `NoMemory`.
+///
+/// ```
+/// use json_tokens::{Token, Tokens, ValueTokens};
+/// use json_value::{Value, View};
+/// let value = Value::Bool(true);
+/// let mut tokens = ValueTokens::new(alloc, value.view());
+/// assert!(rt; matches!(tokens.next()?, Token::Bool(true)));
+/// ```
+#[derive(Drop)]
+pub struct ValueTokens<'a> {
+    whole: View<'a>,
+    // the value that comes next, if it was reached
+    next: Option<View<'a>>,
+    // the innermost open container, and those around it, the outermost first
+    inner: Level<'a>,
+    outer: Vec<Level<'a>>,
+    // whether the kind of the next token was returned
+    told: bool,
+    // whether memory ran out
+    failed: bool,
+}
+
+impl<'a> ValueTokens<'a> {
+    /// Stands before the value.
+    pub fn new(alloc: Global, view: View<'a>) -> ValueTokens<'a>
+        ensures state { value_state result ≡ at_begin (seen view.entry) }
+        ensures sight { next_sight result.next result.inner ≡ Some (sight_of view.entry) }
+        ensures taken { value_taken result [] }
+    {
+        ValueTokens {
+            whole: view,
+            next: Some(view),
+            inner: Level::Root,
+            outer: Vec::new(alloc),
+            told: false,
+            failed: false,
+        }
+    }
+
+    // Reaches an element that comes next.
+    fn settle(&mut self)
+        ensures state { SettlesNext (value_state self.old) (value_state self.new) }
+        ensures sight { option_map sight_of self.new.next
+            ≡ next_sight self.old.next self.old.inner }
+    {
+        if self.next.is_none() {
+            self.next = self.inner.element();
+        }
+    }
+
+    // Memory ran out.
+    fn exhaust(&mut self) -> Error
+        ensures error { result ≡ no_memory }
+        ensures failed { value_state self.new ≡ record (value_state self.old) { failed = true } }
+    {
+        self.failed = true;
+        refusal(ErrorCode::NoMemory)
+    }
+
+    // Goes from the value that comes next into what is left of it.
+    fn enter(&mut self, level: Level<'a>) -> Result<()>
+        ensures ok { let s = value_state self.old in OnOk result (value_state self.new
+            ≡ record s { next = None; levels = left_after_opening level.entry s.levels; told = false }) }
+        ensures err { IfErr result (λ e. (e ≡ no_memory)
+            × Breaks (value_state self.old) (value_state self.new)) }
+    {
+        let outer = mem::replace(&mut self.inner, level);
+        match self.outer.push(outer) {
+            Ok(()) => {
+                self.next = None;
+                self.told = false;
+                Ok(())
+            }
+            Err(_) => Err(self.exhaust()),
+        }
+    }
+
+    // Goes on after the innermost container.
+    fn exit(&mut self)
+        ensures state { let s = value_state self.old in (l : Left) (ls : List Left)
+            → s.levels ≡ l ∷ ls
+            → value_state self.new ≡ record s { next = None; levels = ls; told = false } }
+        ensures failed { self.new.failed ≡ self.old.failed }
+    {
+        self.next = None;
+        self.told = false;
+        match self.outer.pop() {
+            Some(level) => self.inner = level,
+            None => self.inner = Level::Root,
+        }
+    }
+
+    // Takes the first token of the value that comes next.
+    fn take_value(&mut self, view: View<'a>) -> Result<TokenOf<&'a str>>
+        requires { (value_state self.old).next ≡ Some (seen view) }
+        ensures ok { IfOk result (λ y. (x : Tok) × DenotesToken (λ s. s.now) y x
+            × TakesTokensTo (value_state self.old) (value_state self.new) (x ∷ [])
+            (spot_after (value_stand self.old).spot x)) }
+        ensures err { IfErr result (λ e. (e ≡ no_memory)
+            × Breaks (value_state self.old) (value_state self.new)) }
+    {
+        match view.get_type() {
+            JsonType::Array => {
+                self.enter(Level::elements(view))?;
+                Ok(Token::BeginArray)
+            }
+            JsonType::Object => {
+                self.enter(Level::members(view))?;
+                Ok(Token::BeginObject)
+            }
+            _ => {
+                self.next = None;
+                self.told = false;
+                Ok(scalar_token(view))
+            }
+        }
+    }
+
+    // Takes a key or the end of a container, where no value comes next.
+    fn take_front(&mut self) -> TokenOf<&'a str>
+        requires open { NotWhole (value_stand self.old) }
+        requires next { (value_state self.old).next ≡ None }
+        requires reached { NoElement (value_state self.old).levels }
+        ensures { (x : Tok) × DenotesToken (λ s. s.now) result x
+            × TakesTokensTo (value_state self.old) (value_state self.new) (x ∷ [])
+            (spot_after (value_stand self.old).spot x) }
+    {
+        let front = self.inner.front();
+        if let Some((key, value)) = self.inner.member() {
+            self.next = Some(value);
+            self.told = false;
+            return Token::Key(Piece::plain(key));
+        }
+        self.exit();
+        if front == TokenKind::EndObject {
+            Token::EndObject
+        } else {
+            Token::EndArray
+        }
+    }
+}
+
+impl<'a> Tokens<&'a str> for ValueTokens<'a> {
+    ghost taken = { value_taken };
+
+    ghost stand = { value_stand };
+
+    ghost causes = { λ _ e. e ≡ no_memory };
+
+    ghost placed = { value_placed };
+
+    fn peek(&mut self) -> Result<TokenKind> {
+        if self.failed {
+            return Err(refusal(ErrorCode::NoMemory));
+        }
+        self.settle();
+        self.told = true;
+        match self.next {
+            Some(view) => Ok(view_kind(view)),
+            None => Ok(self.inner.front()),
+        }
+    }
+
+    fn next(&mut self) -> Result<TokenOf<&'a str>> {
+        if self.failed {
+            return Err(refusal(ErrorCode::NoMemory));
+        }
+        self.settle();
+        match self.next {
+            Some(view) => self.take_value(view),
+            None => Ok(self.take_front()),
+        }
+    }
+
+    fn value(&mut self, alloc: Global) -> Result<Value> {
+        if self.failed {
+            return Err(refusal(ErrorCode::NoMemory));
+        }
+        self.settle();
+        let view = match self.next {
+            Some(view) => view,
+            None => unreachable!(),
+        };
+        match view.to_value(alloc) {
+            Ok(value) => {
+                self.next = None;
+                self.told = false;
+                Ok(value)
+            }
+            Err(_) => Err(self.exhaust()),
+        }
+    }
+
+    fn skip(&mut self) -> Result<()> {
+        if self.failed {
+            return Err(refusal(ErrorCode::NoMemory));
+        }
+        self.settle();
+        self.next = None;
+        self.told = false;
+        Ok(())
+    }
+
+    fn leave(&mut self) -> Result<()> {
+        if self.failed {
+            return Err(refusal(ErrorCode::NoMemory));
+        }
+        self.exit();
+        Ok(())
+    }
+}
