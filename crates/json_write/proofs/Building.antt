@@ -14,7 +14,8 @@ use Rattle.json_print.specs.Taking.{after_all, StopsAmong, Takes}
 use Rattle.json_print.proofs.Data.{whole_tree}
 use Rattle.json_write.specs.Building.{Frame, Work, Build, new_frame, frame_take, work_after, build_after, at_start, is_inside, StopsAs, StopsBuild, first_refusal}
 use Rattle.json_write.specs.Writing.{WritesDatumTokens}
-use Rattle.json_write.proofs.Parts.{after_append, wrote}
+use Rattle.json_buffer.proofs.TextLaws.{after_append}
+use Rattle.json_write.proofs.Parts.{wrote}
 use Rattle.json_write.proofs.Refused.{Refuses, refused_or}
 
 -- an integer that has no room

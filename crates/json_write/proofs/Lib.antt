@@ -11,6 +11,4 @@ pub mod Sending
 pub mod Building
 pub mod TreeData
 pub mod FieldRows
-pub mod Placed
-pub mod TextLaws
 pub mod TextsInMemory

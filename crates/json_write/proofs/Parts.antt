@@ -7,10 +7,7 @@ use Rattle.json_print.specs.Given.{TokenOrInteger, token_of}
 use Rattle.json_print.specs.Taking.{after_all, Takes}
 use Rattle.json_print.proofs.Data.{before_append, whole_append, gap_append}
 use Rattle.json_write.specs.Writing.{WritesDatumTokens, IsTokenProper, AreTokensProper}
-
-pub after_append : {S T : Type 0} (after : S → T → S) (s : S) (a b : List T) → after_all after s (a ++ b) ≡ after_all after (after_all after s a) b
-after_append after s [] b = refl
-after_append after s (x ∷ a) b = after_append after (after s x) a b
+use Rattle.json_buffer.proofs.TextLaws.{after_append}
 
 -- ---- where the gaps are
 

@@ -8,12 +8,12 @@ use Rattle.json_io.specs.Errors.{no_memory, key_refused}
 use Rattle.json_print.specs.Data.{parts, before_gap}
 use Rattle.json_print.specs.Taking.{after_all}
 use Rattle.json_print.proofs.Data.{whole_tree, gap_tree}
-use Rattle.json_write.specs.TextState.{TextState, token_put, given_put, StopsAtMemory, empty_text}
+use Rattle.json_buffer.specs.TextState.{TextState, token_put, given_put, StopsAtMemory, empty_text}
 use Rattle.json_write.specs.Writing.{WritesDatumTokens}
 use Rattle.json_write.proofs.Parts.{wrote}
 use Rattle.json_write.proofs.Proper.{shown_utf8}
 use Rattle.json_write.proofs.Refused.{refused_or}
-use Rattle.json_write.proofs.TextLaws.{tree_put, given_all}
+use Rattle.json_buffer.proofs.TextLaws.{tree_put, given_all}
 
 pub record TextOf (d : Datum) (bytes : List ℕ) : Type 0 where
   pub tree : Tree

@@ -5,6 +5,3 @@ pub mod Sending
 pub mod Building
 pub mod TreeDatum
 pub mod FieldRows
-pub mod Leads
-pub mod TextState
-pub mod TextMoves

@@ -14,25 +14,20 @@
 #![tactic(auto)]
 
 mod builder;
-mod escaping;
 mod fields;
 mod giving;
 mod holders;
 mod integers;
 mod key_room;
 mod key_test;
-mod lead;
 mod level;
 mod lists;
 mod maps;
 mod nesting;
 mod numbers;
-mod placing;
 mod refusal;
 mod scalars;
 mod serialize;
-mod text_buffer;
-mod text_writer;
 mod texts;
 mod values;
 mod writing;

@@ -4,7 +4,7 @@ ghost use Rattle.json_write.specs.Sending.{datum_text, two_spaces};
 ghost use Rattle.json_write.specs.Building.{FailsOnKeyText};
 
 use crate::Serialize;
-use crate::text_writer::TextWriter;
+use json_buffer::TextWriter;
 use json_print::Serializer;
 use json_text::{Result, VecSink};
 use std::alloc::Global;
