@@ -1,10 +1,10 @@
 mod Results
-mod ReplacedAt
-mod PointerTexts
-mod Indexes
-mod PatchLaws
-mod PatchOrder
-mod MergeLaws
+pub mod ReplacedAt
+pub mod PointerTexts
+pub mod Indexes
+pub mod PatchLaws
+pub mod PatchOrder
+pub mod MergeLaws
 mod MergedTwice
 mod ValueAtPath
 mod PointerParsing
@@ -15,17 +15,6 @@ mod Changes
 mod Members
 mod OperationLists
 mod KeyStarts
-mod MergedMembers
+pub mod MergedMembers
 mod Touched
 mod Commands
-mod UniqueKeys
-mod MergeDiff
-mod MergeDiffViews
-mod DiffSteps
-mod DiffMembers
-mod DiffElements
-mod OperationsLead
-mod DiffDocument
-mod OperationsBelow
-mod DiffParts
-mod DiffWriting

@@ -1,8 +1,9 @@
 -- What merging makes of members and of values.
-use Rattle.std.proofs.Common.{◌≡◌, ℕ, zero, suc, ◌<◌, List, [], ◌∷◌, Bool, true, false, cond, Option, Some, None, refl, sym, ap, ◌∙◌, subst, bytes_eq, length, get_or, take, map, arith}
+use Rattle.std.proofs.Common.{◌≡◌, ℕ, zero, suc, ◌<◌, List, [], ◌∷◌, Bool, true, false, cond, Option, Some, None, refl, sym, ap, ◌∙◌, subst, bytes_eq, length, get_or, take, map, arith, ◌+◌, ◌≤◌}
 use Rattle.std.specs.Prelude.{slice_get, IfSome}
 use Rattle.std.proofs.lemmas.List.{length-map}
 use Rattle.json_grammar.specs.Tree.{Tree, null, pairs, Pairs, no_pairs, pair_and, list_pairs}
+use Rattle.json_grammar.specs.Sizes.{nodes, pairs_nodes}
 use Rattle.json_model.specs.Edit.{has_key}
 use Rattle.json_model.specs.Same.{first_value}
 use Rattle.json_model.proofs.Members.{key_itself}
@@ -15,6 +16,9 @@ use Rattle.json_value.proofs.ValueLevels.{object_tree}
 use Rattle.json_value.specs.Steps.{tree_or_null}
 use Rattle.json_patch.specs.Merge.{pairs_merged}
 use Rattle.json_patch.specs.Merge.{member_merged}
+
+pub fewer_nodes : (all left : List (List ℕ × Tree)) (k : List ℕ) (v : Tree) → all ≡ (k, v) ∷ left → pairs_nodes (list_pairs left) ≤ pairs_nodes (list_pairs all)
+fewer_nodes all left k v e = let s : pairs_nodes (list_pairs all) ≡ suc (nodes v + pairs_nodes (list_pairs left)) = ap (λ (ms : List (List ℕ × Tree)). pairs_nodes (list_pairs ms)) e in omega (arith, s)
 
 no_true : true ≡ false → ⊥
 no_true e = cc

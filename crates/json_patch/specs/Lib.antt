@@ -12,11 +12,3 @@ pub mod Operations
 pub mod Errors
 pub mod Touched
 pub mod Commands
-pub mod MergeDiff
-pub mod MergeDiffViews
-pub mod MergeDiffExamples
-pub mod Diff
-pub mod DiffDocument
-pub mod DiffParts
-pub mod DiffWriting
-pub mod DiffExamples

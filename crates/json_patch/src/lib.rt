@@ -13,28 +13,23 @@
 //! ```
 #![tactic(auto)]
 
-mod between;
 mod change;
 mod command;
-pub mod diff_examples;
-pub mod diff_laws;
 mod error;
 pub mod examples;
 mod key_index;
 pub mod laws;
 mod lookup;
 mod merge;
-mod merge_between;
 mod operation;
 mod patch;
 mod path;
 mod pointer;
 mod run;
 
-pub use between::diff;
 pub use error::{PatchCode, PatchError};
 pub use merge::apply_merge;
-pub use merge_between::merge_diff;
+pub use operation::single_member;
 pub use patch::apply_patch;
-pub use pointer::Pointer;
+pub use pointer::{Pointer, push_escaped};
 pub use run::run_patch;

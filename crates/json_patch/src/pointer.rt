@@ -99,7 +99,7 @@ fn push_slashes(text: &mut String, part: &str) -> TextResult<()>
     Ok(())
 }
 
-/// Appends a token, escaped.
+/// Appends a token, escaped. Fails with `NoMemory` if memory runs out.
 pub fn push_escaped(text: &mut String, token: &str) -> TextResult<()>
     ensures ok { OnOk result (string_bytes text.new
         ≡ string_bytes text.old ++ escaped_token token.now) }

@@ -1,6 +1,7 @@
 // Patches between values.
+use json_diff::diff;
 use json_fixtures::{read, shows, whole};
-use json_patch::{apply_patch, diff};
+use json_patch::apply_patch;
 use json_text::Result as TextResult;
 use std::alloc::Global;
 use std::test::Fail;

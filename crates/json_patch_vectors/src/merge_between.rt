@@ -1,6 +1,7 @@
 // Merge patches between values.
+use json_diff::merge_diff;
 use json_fixtures::{read, shows, whole};
-use json_patch::{apply_merge, merge_diff};
+use json_patch::apply_merge;
 use json_text::Result as TextResult;
 use std::alloc::Global;
 use std::test::Fail;

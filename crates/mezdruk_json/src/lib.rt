@@ -78,6 +78,8 @@
 //! ```
 #![tactic(auto)]
 
+pub mod patch;
+
 pub use json_access::{JsonContainerTrait, JsonValueMutTrait, JsonValueTrait};
 pub use json_containers::{ArrayCalls, Entry, IntoIter, ObjectCalls, OccupiedEntry, VacantEntry};
 pub use json_data::{
@@ -91,7 +93,6 @@ pub use json_explain as explain;
 pub use json_history as history;
 pub use json_lines as lines;
 pub use json_number::{Integer, JsonNumberTrait, Number, RawNumber};
-pub use json_patch as patch;
 pub use json_print::{
     BufferedWriter, CompactFormatter, Events, Formatter, Layout, PrettyFormatter, Serializer, Style,
 };

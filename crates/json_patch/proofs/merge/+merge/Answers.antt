@@ -12,8 +12,7 @@ use Rattle.json_value.specs.declared.value.Value.{Value}
 use Rattle.json_value.proofs.AppliedTrees.{first_moved, none_moved, insert_over}
 use Rattle.json_value.proofs.SameViews.{object_seen}
 use Rattle.json_patch.proofs.KeyStarts.{starts_set}
-use Rattle.json_patch.proofs.MergeDiffViews.{fewer_nodes}
-use Rattle.json_patch.proofs.MergedMembers.{first_is, first_null, merged_more, object_merged}
+use Rattle.json_patch.proofs.MergedMembers.{fewer_nodes, first_is, first_null, merged_more, object_merged}
 use Rattle.json_patch.proofs.merge.+merge.Goals as goal
 
 pub merge_in-merge_object_in-requires : goal.merge_in-merge_object_in-requires

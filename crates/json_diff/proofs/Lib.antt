@@ -1,0 +1,11 @@
+mod UniqueKeys
+mod MergeDiff
+mod MergeDiffViews
+mod DiffSteps
+mod DiffMembers
+mod DiffElements
+mod OperationsLead
+mod DiffDocument
+mod OperationsBelow
+mod DiffParts
+mod DiffWriting

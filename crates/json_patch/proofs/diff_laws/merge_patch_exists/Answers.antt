@@ -1,5 +1,0 @@
-use Rattle.json_patch.proofs.MergeDiff as proof
-use Rattle.json_patch.proofs.diff_laws.merge_patch_exists.Goals as goal
-
-pub returns : goal.returns
-returns c = proof.merge_patch_exists
