@@ -9,6 +9,7 @@ use Rattle.json_io.specs.declared.error.Error.{Error}
 use Rattle.json_io.specs.Errors.{writing_failed}
 use Rattle.json_io.specs.Known.{append_known}
 use Rattle.json_io.specs.Outside.{Loan, SinkState}
+use Rattle.json_layout.specs.TextWriting.{Begins, StopCause}
 use Rattle.json_print.specs.declared.events.Turn.{Turn}
 use Rattle.json_print.specs.declared.events.Turn.TheVariants.{Value as at_value, Element as at_element, Key as at_key, Member as at_member, Done as at_done}
 use Rattle.json_print.specs.Calls.{Call, null_call, boolean_call, number_call, string_call, begin_call, end_call, begin_element, end_element, begin_key, end_key, begin_member, end_member}
