@@ -86,6 +86,6 @@ text_state w = record { bytes = buffered w.buffer; lead = w.lead; opened = rever
 abbrev pub PutsText : {T : Type 0} → (TextState → T → TextState) → TextWriter → TextWriter → T → Result (Unit {0}) Error → Type 0
 PutsText next old new t result = Takes next StopsAtMemory (text_state old) (text_state new) (writer_error old) (writer_error new) t result
 
--- a quoted text was put behind what stands before it
+-- a quoted text was put after what was there, with what leads to it
 abbrev pub PutsQuoted : Lead → List ℕ → (old new : TextBuffer) → Bool → Type 0
 PutsQuoted lead text old new put = IsTrue put → buffered new ≡ buffered old ++ (lead_bytes lead ++ quoted text)

@@ -4,7 +4,6 @@ ghost use Rattle.std.specs.Io.{WritesAtMost};
 ghost use Rattle.std.specs.Fmt.{decimal};
 ghost use Rattle.json_model.specs.Print.{quoted};
 ghost use Rattle.json_io.specs.Outside.{Writes, Flushes};
-ghost use Rattle.json_buffer.specs.TextState.{PutsQuoted};
 
 use crate::escaping::{ESCAPED, place_escaped};
 use crate::lead::Lead;
@@ -34,7 +33,7 @@ pub(crate) struct TextBuffer {
 
 impl TextBuffer {
     ghost use Rattle.json_buffer.specs.Leads.{lead_bytes};
-    ghost use Rattle.json_buffer.specs.TextState.{buffered};
+    ghost use Rattle.json_buffer.specs.TextState.{PutsQuoted, buffered};
 
     /// No bytes; it takes no memory yet.
     pub(crate) fn new(alloc: Global) -> TextBuffer
