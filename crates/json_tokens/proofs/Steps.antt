@@ -112,7 +112,7 @@ is_begin_object (begin object) e = refl
 is_begin_object (end array) e = cc
 is_begin_object (end object) e = cc
 
-is_end_object : (x : Tok) → kind_of x ≡ EndObject → x ≡ end object
+pub is_end_object : (x : Tok) → kind_of x ≡ EndObject → x ≡ end object
 is_end_object null_token e = cc
 is_end_object (boolean_token b) e = cc
 is_end_object (num_token l) e = absurd (no_bracket (integer_in l) EndObject e (inr (inr (inr refl))))
