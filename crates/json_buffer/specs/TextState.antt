@@ -4,14 +4,12 @@ use Rattle.json_grammar.specs.declared.Kind.{Kind}
 use Rattle.json_grammar.specs.Grammar.{null_bytes, boolean_bytes}
 use Rattle.json_grammar.specs.Place.{bracket, closing, outside}
 use Rattle.json_grammar.specs.Tree.{Token, null_token, boolean_token, num_token, text_token, begin, end, key_token}
+use Rattle.json_grammar.specs.TokenStates.{TokenState, Expected, a_value, expected_in}
 use Rattle.json_model.specs.Print.{quoted}
 use Rattle.json_io.specs.declared.error.Error.{Error}
 use Rattle.json_io.specs.Errors.{no_memory}
 use Rattle.json_print.specs.Given.{TokenOrInteger, token_of}
 use Rattle.json_print.specs.Taking.{Takes}
-use Rattle.json_print.specs.Standing.{ExpectedTokens, turn_after_value, first_turn}
-use Rattle.json_print.specs.declared.events.Turn.{Turn}
-use Rattle.json_print.specs.declared.events.Turn.TheVariants.{Value as at_value, Member as at_member}
 use Rattle.json_buffer.specs.declared.lead.Lead.{Lead}
 use Rattle.json_buffer.specs.declared.lead.Lead.TheVariants.{Nothing, Comma, Colon}
 use Rattle.json_buffer.specs.declared.text_buffer.TextBuffer.{TextBuffer}
@@ -24,19 +22,19 @@ pub record TextState : Type 0 where
   -- the open containers, the innermost first
   pub opened : List Kind
 
--- before the first element or member, or the value itself
-abbrev pub first_in : List Kind → Turn
-first_in [] = at_value
-first_in (k ∷ ks) = first_turn k
+-- what comes next after a bracket, or as the value itself
+abbrev pub first_in : List Kind → Expected
+first_in [] = a_value
+first_in (k ∷ ks) = expected_in (k ∷ ks)
 
-abbrev pub turn_by : Lead → List Kind → Turn
-turn_by Nothing opened = first_in opened
-turn_by Comma opened = turn_after_value opened
-turn_by Colon opened = at_member
+abbrev pub expected_by : Lead → List Kind → Expected
+expected_by Nothing opened = first_in opened
+expected_by Comma opened = expected_in opened
+expected_by Colon opened = a_value
 
 -- what may come next
-abbrev pub text_expected : TextState → ExpectedTokens
-text_expected s = record { turn = turn_by s.lead s.opened; opened = s.opened }
+abbrev pub text_expected : TextState → TokenState
+text_expected s = record { opened = s.opened; expected = expected_by s.lead s.opened }
 
 -- a scalar of this text more
 abbrev pub scalar_put : TextState → List ℕ → TextState

@@ -5,10 +5,12 @@ use Rattle.json_tokens.specs.declared.token.TokenKind.{TokenKind}
 use Rattle.json_tokens.specs.declared.token.TokenKind.TheVariants.{BeginArray, EndArray}
 use Rattle.json_io.specs.declared.error.ErrorCode.{ErrorCode}
 use Rattle.json_grammar.specs.Tree.{Tree, Trees, Token as Tok, list, no_trees, tree_and, tokens, trees_tokens, begin, end}
-use Rattle.json_grammar.specs.declared.Kind.TheVariants.{Array as array}
+use Rattle.json_grammar.specs.declared.Kind.{Kind}
+use Rattle.json_grammar.specs.declared.Kind.TheVariants.{Array as array, Object as object}
 use Rattle.json_model.specs.Datum.{Datum}
 use Rattle.json_data.specs.Reading.{Reading, gives, refuses, Series, gives_all, stops, prepend_reading, each}
-use Rattle.json_tokens.specs.Spots.{Spot, top, over, element, key_or_end, member, behind_value, spot_after, around, spot_after_begin, InArray}
+use Rattle.json_grammar.specs.TokenStates.{TokenState, Expected, a_value, element_or_end, name_or_end, nothing, within, after_value, after_token}
+use Rattle.json_tokens.specs.Spots.{around, InArray, AtElement}
 use Rattle.json_tokens.specs.Stand.{TokensState, TakesTokens, Peeks, AsTold, TakesTree, TakesOne, Leaves, Rest}
 use Rattle.json_tokens.proofs.Steps.{joins, is_begin, is_end}
 
@@ -24,7 +26,7 @@ tokens-join (tree_and t ts) us = ap (λ (xs : List Tok). tokens t ++ xs) (tokens
 pub record InList {S : Type 0} (taken : S → List Tok → Type 0) (stand : S → TokensState) (a b : S) (ts : Trees) : Type 0 where
   pub takes : TakesTokens taken a (begin array ∷ trees_tokens ts) b
   pub input : (stand b).input ≡ (stand a).input
-  pub spot : (stand b).spot ≡ spot_after_begin array (stand a).spot
+  pub spot : (stand b).spot ≡ after_token (stand a).spot (begin array)
   pub left : (stand b).left < (stand a).left
   pub as_told : AsTold (stand a) BeginArray
 
@@ -36,7 +38,7 @@ opens {taken = taken} {stand = stand} {a = a} {b = b} {c = c} {x = x} i y z r =
     record {
       takes = subst (λ (y : Tok). TakesTokens taken a (y ∷ []) c) e (joins z r.takes);
       input = r.moves.input ∙ h.input;
-      spot = r.moves.spot ∙ ap (λ (y : Tok). spot_after (stand b).spot y) e ∙ ap (spot_after_begin array) h.spot;
+      spot = r.moves.spot ∙ ap (λ (y : Tok). after_token (stand b).spot y) e ∙ ap (λ (p : TokenState). after_token p (begin array)) h.spot;
       left = omega (arith, h.left, r.moves.left);
       as_told = record { may = h.may; told = h.again };
     }
@@ -48,7 +50,7 @@ pub ended : {S : Type 0} {taken : S → List Tok → Type 0} {stand : S → Toke
     → InList taken stand a b ts → TakesOne taken stand b c (end array) → TakesTree taken stand a c (list ts)
 ended w r = record {
   takes = joins w.takes r.takes;
-  moves = record { input = r.moves.input ∙ w.input; spot = r.moves.spot ∙ ap around w.spot; told = r.moves.told; left = omega (arith, w.left, r.moves.left) };
+  moves = record { input = r.moves.input ∙ w.input; spot = r.moves.spot ∙ ap (λ (p : TokenState). around p) w.spot; told = r.moves.told; left = omega (arith, w.left, r.moves.left) };
   as_told = w.as_told;
 }
 
@@ -73,7 +75,7 @@ one_more {taken = taken} {a = a} {c = c} {ts = ts} {t = t} w r =
     record {
       takes = subst (λ (xs : List Tok). TakesTokens taken a (begin array ∷ xs) c) (sym e) (joins w.takes r.takes);
       input = r.moves.input ∙ w.input;
-      spot = r.moves.spot ∙ ap behind_value w.spot;
+      spot = r.moves.spot ∙ ap (λ (p : TokenState). after_value p) w.spot;
       left = omega (arith, w.left, r.moves.left);
       as_told = w.as_told;
     }
@@ -88,7 +90,7 @@ closes {taken = taken} {stand = stand} {a = a} {b = b} {c = c} {d = d} {ts = ts}
       takes = subst (λ (y : Tok). TakesTokens taken a (begin array ∷ (trees_tokens ts ++ y ∷ [])) d) e (joins v.takes r.takes);
       moves = record {
         input = r.moves.input ∙ v.input;
-        spot = r.moves.spot ∙ ap (λ (y : Tok). spot_after (stand c).spot y) e ∙ ap around v.spot;
+        spot = r.moves.spot ∙ ap (λ (y : Tok). after_token (stand c).spot y) e ∙ ap (λ (p : TokenState). around p) v.spot;
         told = r.moves.told;
         left = omega (arith, v.left, r.moves.left);
       };
@@ -98,7 +100,7 @@ closes {taken = taken} {stand = stand} {a = a} {b = b} {c = c} {d = d} {ts = ts}
 pub leaves : {S : Type 0} {taken : S → List Tok → Type 0} {stand : S → TokensState} {a b c : S} {ts : Trees}
     → InList taken stand a b ts → (r : Leaves taken stand b c) → (us : Trees) × TakesTree taken stand a c (list (join ts us)) × (r.rest ≡ trees_tokens us ++ end array ∷ [])
 leaves {taken = taken} {stand = stand} {a = a} {b = b} {c = c} {ts = ts} w r =
-    let rest : (us : Trees) × (r.rest ≡ trees_tokens us ++ end array ∷ []) = subst (λ (p : Spot). Rest p r.rest) w.spot r.is_rest in
+    let rest : (us : Trees) × (r.rest ≡ trees_tokens us ++ end array ∷ []) = subst (λ (p : TokenState). Rest p r.rest) w.spot r.is_rest in
     let us = rest.0 in
     let e : trees_tokens ts ++ r.rest ≡ trees_tokens (join ts us) ++ end array ∷ [] =
     ap (λ (xs : List Tok). trees_tokens ts ++ xs) rest.1 ∙ sym (append_assoc (trees_tokens ts) (trees_tokens us) (end array ∷ []))
@@ -108,7 +110,7 @@ leaves {taken = taken} {stand = stand} {a = a} {b = b} {c = c} {ts = ts} w r =
         takes = subst (λ (xs : List Tok). TakesTokens taken a (begin array ∷ xs) c) e (joins w.takes r.takes);
         moves = record {
           input = r.moves.input ∙ w.input;
-          spot = r.moves.spot ∙ ap around w.spot;
+          spot = r.moves.spot ∙ ap (λ (p : TokenState). around p) w.spot;
           told = r.moves.told;
           left = omega (arith, w.left, r.moves.left);
         };
@@ -118,12 +120,16 @@ leaves {taken = taken} {stand = stand} {a = a} {b = b} {c = c} {ts = ts} w r =
     )
 
 -- behind an element it stands in the list again
-pub in_array_again : (p q : Spot) → InArray p → q ≡ behind_value p → InArray q
-in_array_again top q i e = absurd i
-in_array_again over q i e = absurd i
-in_array_again (key_or_end c) q i e = absurd i
-in_array_again (member c) q i e = absurd i
-in_array_again (element c) q i e = subst (λ (s : Spot). InArray s) (sym e) tt
+pub in_array_again : (p q : TokenState) → InArray p → q ≡ after_value p → InArray q
+in_array_again p q i e = subst (λ (s : TokenState). InArray s) (sym e) (by p.expected p.opened i)
+  where
+    by : (e : Expected) (c : List Kind) → AtElement e c → InArray (within c)
+    by a_value c i = absurd i
+    by element_or_end [] i = absurd i
+    by element_or_end (array ∷ c) i = tt
+    by element_or_end (object ∷ c) i = absurd i
+    by name_or_end c i = absurd i
+    by nothing c i = absurd i
 
 pub still_array : {S : Type 0} (stand : S → TokensState) {b c : S} → c ≡ b → InArray (stand b).spot → InArray (stand c).spot
 still_array {S = S} stand e i = subst (λ (s : S). InArray (stand s).spot) (sym e) i

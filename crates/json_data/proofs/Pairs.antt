@@ -1,6 +1,7 @@
 -- The pairs of an object, taken one after another.
 use Rattle.std.proofs.Common.{◌≡◌, ◌<◌, ◌⊎◌, inl, inr, ℕ, Bool, true, false, List, [], ◌∷◌, ◌++◌, refl, sym, ◌∙◌, ap, subst, append_assoc, arith}
 use Rattle.std.proofs.lemmas.List.{append-nil}
+use Rattle.json_grammar.specs.declared.Kind.{Kind}
 use Rattle.json_grammar.specs.declared.Kind.TheVariants.{Object as object}
 use Rattle.json_grammar.specs.Tree.{Tree, Pairs, pairs, no_pairs, pair_and, tokens, pairs_tokens, Token as Tok, begin, end, key_token}
 use Rattle.json_io.specs.declared.error.Error.{Error}
@@ -10,7 +11,8 @@ use Rattle.json_tokens.specs.declared.token.TokenKind.TheVariants.{BeginObject, 
 use Rattle.json_data.specs.Reading.{Reading, refuses}
 use Rattle.json_tokens.specs.Refusals.{refusal, is_refusal}
 use Rattle.json_data.specs.Reader.{ReadsTree, StopsReading, KeyReadingFails}
-use Rattle.json_tokens.specs.Spots.{Spot, top, over, element, key_or_end, member, opened_of, behind_value, spot_after_begin, around, spot_after, InObject}
+use Rattle.json_grammar.specs.TokenStates.{TokenState, Expected, a_value, element_or_end, name_or_end, nothing, within, after_value, after_token}
+use Rattle.json_tokens.specs.Spots.{around, InObject, AtName}
 use Rattle.json_tokens.specs.Stand.{TokensState, TakesTokens, Peeks, AsTold, TakesTree, TakesOne, Leaves, Rest, TokensFail}
 use Rattle.json_tokens.proofs.Steps.{joins, is_begin_object as is_begin, is_end_object as is_end}
 use Rattle.json_data.proofs.Exits.{refusing, giving_up}
@@ -31,7 +33,7 @@ join-join_pairs (pair_and k t ps) qs rs = ap (λ (us : Pairs). pair_and k t us) 
 pub record InPairs {S : Type 0} (taken : S → List Tok → Type 0) (stand : S → TokensState) (a b : S) (ps : Pairs) : Type 0 where
   pub takes : TakesTokens taken a (begin object ∷ pairs_tokens ps) b
   pub input : (stand b).input ≡ (stand a).input
-  pub spot : (stand b).spot ≡ spot_after_begin object (stand a).spot
+  pub spot : (stand b).spot ≡ after_token (stand a).spot (begin object)
   pub left : (stand b).left < (stand a).left
   pub as_told : AsTold (stand a) BeginObject
 
@@ -39,7 +41,7 @@ pub record InPairs {S : Type 0} (taken : S → List Tok → Type 0) (stand : S �
 pub record InMember {S : Type 0} (taken : S → List Tok → Type 0) (stand : S → TokensState) (a b : S) (ps : Pairs) (k : List ℕ) : Type 0 where
   pub takes : TakesTokens taken a (begin object ∷ (pairs_tokens ps ++ key_token k ∷ [])) b
   pub input : (stand b).input ≡ (stand a).input
-  pub spot : (stand b).spot ≡ member (opened_of (stand a).spot)
+  pub spot : (stand b).spot ≡ record { opened = object ∷ (stand a).spot.opened; expected = a_value }
   pub left : (stand b).left < (stand a).left
   pub as_told : AsTold (stand a) BeginObject
 
@@ -55,7 +57,7 @@ opens_pairs {taken = taken} {stand = stand} {a = a} {b = b} {c = c} {x = x} i y 
     record {
       takes = subst (λ (y : Tok). TakesTokens taken a (y ∷ []) c) e (joins z r.takes);
       input = r.moves.input ∙ h.input;
-      spot = r.moves.spot ∙ ap (λ (y : Tok). spot_after (stand b).spot y) e ∙ ap (spot_after_begin object) h.spot;
+      spot = r.moves.spot ∙ ap (λ (y : Tok). after_token (stand b).spot y) e ∙ ap (λ (p : TokenState). after_token p (begin object)) h.spot;
       left = omega (arith, h.left, r.moves.left);
       as_told = record { may = h.may; told = h.again };
     }
@@ -67,7 +69,7 @@ pub ended_pairs : {S : Type 0} {taken : S → List Tok → Type 0} {stand : S �
     → InPairs taken stand a b ps → TakesOne taken stand b c (end object) → TakesTree taken stand a c (pairs ps)
 ended_pairs w r = record {
   takes = joins w.takes r.takes;
-  moves = record { input = r.moves.input ∙ w.input; spot = r.moves.spot ∙ ap around w.spot; told = r.moves.told; left = omega (arith, w.left, r.moves.left) };
+  moves = record { input = r.moves.input ∙ w.input; spot = r.moves.spot ∙ ap (λ (p : TokenState). around p) w.spot; told = r.moves.told; left = omega (arith, w.left, r.moves.left) };
   as_told = w.as_told;
 }
 
@@ -86,7 +88,7 @@ pub one_key : {S : Type 0} {taken : S → List Tok → Type 0} {stand : S → To
 one_key {k = k} w r = record {
   takes = joins w.takes r.takes;
   input = r.moves.input ∙ w.input;
-  spot = r.moves.spot ∙ ap (λ (p : Spot). spot_after p (key_token k)) w.spot;
+  spot = r.moves.spot ∙ ap (λ (p : TokenState). after_token p (key_token k)) w.spot;
   left = omega (arith, w.left, r.moves.left);
   as_told = w.as_told;
 }
@@ -99,7 +101,7 @@ pub one_member : {S : Type 0} {taken : S → List Tok → Type 0} {stand : S →
 one_member {taken = taken} {a = a} {c = c} {ps = ps} {k = k} {t = t} w r = record {
   takes = subst (λ (xs : List Tok). TakesTokens taken a (begin object ∷ xs) c) (member-row ps k t) (joins w.takes r.takes);
   input = r.moves.input ∙ w.input;
-  spot = r.moves.spot ∙ ap behind_value w.spot;
+  spot = r.moves.spot ∙ ap (λ (p : TokenState). after_value p) w.spot;
   left = omega (arith, w.left, r.moves.left);
   as_told = w.as_told;
 }
@@ -114,7 +116,7 @@ closes_pairs {taken = taken} {stand = stand} {a = a} {b = b} {c = c} {d = d} {ps
       takes = subst (λ (y : Tok). TakesTokens taken a (begin object ∷ (pairs_tokens ps ++ y ∷ [])) d) e (joins v.takes r.takes);
       moves = record {
         input = r.moves.input ∙ v.input;
-        spot = r.moves.spot ∙ ap (λ (y : Tok). spot_after (stand c).spot y) e ∙ ap around v.spot;
+        spot = r.moves.spot ∙ ap (λ (y : Tok). after_token (stand c).spot y) e ∙ ap (λ (p : TokenState). around p) v.spot;
         told = r.moves.told;
         left = omega (arith, v.left, r.moves.left);
       };
@@ -124,7 +126,7 @@ closes_pairs {taken = taken} {stand = stand} {a = a} {b = b} {c = c} {d = d} {ps
 pub leaves_pairs : {S : Type 0} {taken : S → List Tok → Type 0} {stand : S → TokensState} {a b c : S} {ps : Pairs}
     → InPairs taken stand a b ps → Leaves taken stand b c → (qs : Pairs) × TakesTree taken stand a c (pairs (join_pairs ps qs))
 leaves_pairs {taken = taken} {stand = stand} {a = a} {b = b} {c = c} {ps = ps} w r =
-    let rest : (qs : Pairs) × (r.rest ≡ pairs_tokens qs ++ end object ∷ []) = subst (λ (p : Spot). Rest p r.rest) w.spot r.is_rest in
+    let rest : (qs : Pairs) × (r.rest ≡ pairs_tokens qs ++ end object ∷ []) = subst (λ (p : TokenState). Rest p r.rest) w.spot r.is_rest in
     let qs = rest.0 in
     let e : pairs_tokens ps ++ r.rest ≡ pairs_tokens (join_pairs ps qs) ++ end object ∷ [] =
     ap (λ (xs : List Tok). pairs_tokens ps ++ xs) rest.1 ∙ sym (append_assoc (pairs_tokens ps) (pairs_tokens qs) (end object ∷ []))
@@ -134,7 +136,7 @@ leaves_pairs {taken = taken} {stand = stand} {a = a} {b = b} {c = c} {ps = ps} w
         takes = subst (λ (xs : List Tok). TakesTokens taken a (begin object ∷ xs) c) e (joins w.takes r.takes);
         moves = record {
           input = r.moves.input ∙ w.input;
-          spot = r.moves.spot ∙ ap around w.spot;
+          spot = r.moves.spot ∙ ap (λ (p : TokenState). around p) w.spot;
           told = r.moves.told;
           left = omega (arith, w.left, r.moves.left);
         };
@@ -145,7 +147,7 @@ leaves_pairs {taken = taken} {stand = stand} {a = a} {b = b} {c = c} {ps = ps} w
 pub leaves_member : {S : Type 0} {taken : S → List Tok → Type 0} {stand : S → TokensState} {a b c : S} {ps : Pairs} {k : List ℕ}
     → InMember taken stand a b ps k → Leaves taken stand b c → (t : Tree) × (qs : Pairs) × TakesTree taken stand a c (pairs (join_pairs ps (pair_and k t qs)))
 leaves_member {taken = taken} {stand = stand} {a = a} {b = b} {c = c} {ps = ps} {k = k} w r =
-    let rest : (t : Tree) × (qs : Pairs) × (r.rest ≡ (tokens t ++ pairs_tokens qs) ++ end object ∷ []) = subst (λ (p : Spot). Rest p r.rest) w.spot r.is_rest in
+    let rest : (t : Tree) × (qs : Pairs) × (r.rest ≡ (tokens t ++ pairs_tokens qs) ++ end object ∷ []) = subst (λ (p : TokenState). Rest p r.rest) w.spot r.is_rest in
     let t = rest.0 in
     let qs = rest.1 in
     let e : (pairs_tokens ps ++ key_token k ∷ []) ++ r.rest ≡ pairs_tokens (join_pairs ps (pair_and k t qs)) ++ end object ∷ [] =
@@ -158,7 +160,7 @@ leaves_member {taken = taken} {stand = stand} {a = a} {b = b} {c = c} {ps = ps} 
         takes = subst (λ (xs : List Tok). TakesTokens taken a (begin object ∷ xs) c) e (joins w.takes r.takes);
         moves = record {
           input = r.moves.input ∙ w.input;
-          spot = r.moves.spot ∙ ap around w.spot;
+          spot = r.moves.spot ∙ ap (λ (p : TokenState). around p) w.spot;
           told = r.moves.told;
           left = omega (arith, w.left, r.moves.left);
         };
@@ -167,12 +169,16 @@ leaves_member {taken = taken} {stand = stand} {a = a} {b = b} {c = c} {ps = ps} 
     )
 
 -- behind a member it stands in the object again
-pub in_object_again : (p q r : Spot) (k : List ℕ) → InObject p → q ≡ spot_after p (key_token k) → r ≡ behind_value q → InObject r
-in_object_again top q r k i e h = absurd i
-in_object_again over q r k i e h = absurd i
-in_object_again (element c) q r k i e h = absurd i
-in_object_again (member c) q r k i e h = absurd i
-in_object_again (key_or_end c) q r k i e h = subst (λ (s : Spot). InObject s) (sym (h ∙ ap behind_value e)) tt
+pub in_object_again : (p q r : TokenState) (k : List ℕ) → InObject p → q ≡ after_token p (key_token k) → r ≡ after_value q → InObject r
+in_object_again p q r k i e h = subst (λ (s : TokenState). InObject s) (sym (h ∙ ap (λ (s : TokenState). after_value s) e)) (by p.expected p.opened i)
+  where
+    by : (e : Expected) (c : List Kind) → AtName e c → InObject (within c)
+    by a_value c i = absurd i
+    by element_or_end c i = absurd i
+    by name_or_end [] i = absurd i
+    by name_or_end (array ∷ c) i = absurd i
+    by name_or_end (object ∷ c) i = tt
+    by nothing c i = absurd i
 
 -- ---- refusals
 

@@ -9,7 +9,7 @@ use Rattle.json_grammar.specs.Tree.{Token, num_token}
 use Rattle.json_grammar.specs.Grammar.{chars}
 use Rattle.json_grammar.specs.Sizes.{token_nodes, nodes_of}
 use Rattle.json_grammar.proofs.Sizes.{nodes_append}
-use Rattle.json_doc.specs.Awaited.{BeginsTree}
+use Rattle.json_grammar.specs.TokenStates.{BeginsTree}
 use Rattle.json_doc.specs.State.{VisitorState, Fits, after_event, MayComeAfter, HoldsMore}
 use Rattle.json_doc.specs.Recorded.{visitor_state, Holds}
 use Rattle.json_text.specs.declared.event.Event.{Event}

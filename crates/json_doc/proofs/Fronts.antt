@@ -1,5 +1,5 @@
 -- What the reader of one value rests on.
-use Rattle.std.proofs.Common.{◌≡◌, ◌∙◌, ◌⊎◌, inl, inr, Bool, ℕ, drop, None, Some, ◌≤◌, List, [], ◌∷◌, take, sym, ap, subst}
+use Rattle.std.proofs.Common.{◌≡◌, ◌∙◌, ◌⊎◌, inl, inr, Bool, ℕ, drop, None, Some, ◌≤◌, List, [], ◌∷◌, length, take, sym, ap, subst}
 use Rattle.std.proofs.lemmas.List.{nil_from_length}
 use Rattle.json_grammar.specs.Tree.{Tree, depth, null, boolean, num, text, list, pairs, Token, tokens}
 use Rattle.json_grammar.specs.Place.{reading}
@@ -11,6 +11,8 @@ use Rattle.json_io.specs.declared.error.ErrorCode.{ErrorCode}
 use Rattle.json_io.specs.declared.error.ErrorCode.TheVariants as code
 use Rattle.json_io.specs.declared.error.Place.{Place}
 use Rattle.json_io.specs.declared.error.Place.TheVariants as place
+use Rattle.json_grammar.specs.TokenStates.{TokenState, at_start}
+use Rattle.json_grammar.proofs.TokenStates.{after_tree, place_state, whole_place}
 use Rattle.json_text.specs.declared.event.Event.{Event}
 use Rattle.json_text.specs.declared.event.Event.TheVariants as event
 use Rattle.json_io.specs.Errors.{no_memory}
@@ -22,7 +24,6 @@ use Rattle.json_doc.specs.Recorded.{Holds}
 use Rattle.json_doc.specs.Reading.{FrontFails}
 use Rattle.json_doc.specs.declared.document_visitor.DocumentVisitor.{DocumentVisitor}
 use Rattle.json_doc.proofs.Keeping.{goes_on, given_begins}
-use Rattle.json_doc.proofs.Slots.{tree_whole}
 use Rattle.json_doc.proofs.Subtrees.{one_begins}
 use Rattle.json_doc.proofs.ValueRecording.{means_one}
 
@@ -53,6 +54,12 @@ first_out p q e fresh whole goes unfailed =
     record { token = x.0; means = x.1; begins = one_begins x.0 (given_begins q (x.0 ∷ []) x.2); before = []; given = x.2; unfailed = unfailed }
 
 -- ---- the end, and a fault
+
+-- behind the tokens of a tree the parser is done
+tree_whole : (p : ParserState) (t : Tree) → HasGiven p (tokens t) → IsWhole p
+tree_whole p t h =
+    let e = whole_place p.spot p.open_kinds (ap (λ (s : TokenState). s.expected) (sym (place_state h.given.at) ∙ after_tree at_start t)) in
+    (e.0, ap length e.1)
 
 -- the tokens handed out to the end of the value are its own
 front_given : (old p q : ParserState) (e : Event) (t : Tree) → HasGiven old [] → (e ≡ event.End → IsWhole old) → Goes old e p → ReadsValue p e t q → HasGiven q (tokens t)

@@ -12,7 +12,7 @@ use Rattle.json_grammar.specs.Sizes.{token_nodes, nodes_of}
 use Rattle.json_grammar.proofs.Sizes.{nodes_append}
 use Rattle.json_number.specs.Integers.{integer_in}
 use Rattle.json_number.proofs.Integers.{decimal_number, decimal_reads}
-use Rattle.json_doc.specs.Awaited.{Slot, a_value, past_value, past_token, awaits, BeginsTree}
+use Rattle.json_grammar.specs.TokenStates.{TokenState, at_start, after_value, after_token, after_tokens, ValueMayCome, MayCome, BeginsTree}
 use Rattle.json_doc.specs.ByValue.{integer_cell}
 use Rattle.json_doc.specs.CellReadings.{cell_len}
 use Rattle.json_doc.specs.OpenCells.{link_of, outer_place, outer_count}
@@ -22,7 +22,8 @@ use Rattle.json_doc.specs.Building.{Building, nothing, nowhere}
 use Rattle.json_doc.specs.Recorded.{Held}
 use Rattle.json_doc.specs.declared.cell.Cell.{Cell}
 use Rattle.json_doc.specs.declared.cell.Cell.TheVariants as cell
-use Rattle.json_doc.proofs.Awaiting.{next_awaits, value_where}
+use Rattle.json_grammar.proofs.TokenStates.{after_append}
+use Rattle.json_grammar.proofs.TokenPrefixes.{may_come}
 use Rattle.json_doc.proofs.Integers.{integer_text, raw_text, integer_stands, raw_stands, negative_text}
 use Rattle.json_doc.proofs.Builds.{builds_more, count_within, builds_value, builds_key, builds_array, builds_object, Within, within_array, within_object, ends}
 
@@ -43,22 +44,22 @@ held_same cells cells' bytes bytes' p p' n n' ts e f g h held =
 
 pub held_nothing : Held [] [] nowhere 0 []
 held_nothing = record {
-  slots = a_value ∷ [];
-  awaited = refl;
   built = nothing;
   texts = refl;
   utf8 = IsUtf8-nil;
   counted = refl;
 }
 
+-- the state after the last token is that after all
+after_one : (bytes : List ℕ) (cells : List Cell) (p n : ℕ) (ts : List Token) (x : Token) → Building bytes cells p n (after_token (after_tokens at_start ts) x) (ts ++ x ∷ []) → Building bytes cells p n (after_tokens at_start (ts ++ x ∷ [])) (ts ++ x ∷ [])
+after_one bytes cells p n ts x b = subst (λ (s : TokenState). Building bytes cells p n s (ts ++ x ∷ [])) (sym (after_append at_start ts (x ∷ []))) b
+
 -- one more cell, made of the token x
-held_more : (cells : List Cell) (bytes extra : List ℕ) (p n : ℕ) (ts : List Token) (c : Cell) (x : Token) (v : List Slot)
+held_more : (cells : List Cell) (bytes extra : List ℕ) (p n : ℕ) (ts : List Token) (c : Cell) (x : Token)
     → length cells ≡ nodes_of ts → bytes ≡ tokens_text ts → IsUtf8 bytes → token_nodes x ≡ 1 → token_text x ≡ extra → IsUtf8 extra
-    → awaits (ts ++ x ∷ []) ≡ Some v → Building (bytes ++ extra) (cells ++ c ∷ []) p n v (ts ++ x ∷ []) → Held (cells ++ c ∷ []) (bytes ++ extra) p n (ts ++ x ∷ [])
-held_more cells bytes extra p n ts c x v m t u one is_extra u' a b = record {
-  slots = v;
-  awaited = a;
-  built = b;
+    → Building (bytes ++ extra) (cells ++ c ∷ []) p n (after_token (after_tokens at_start ts) x) (ts ++ x ∷ []) → Held (cells ++ c ∷ []) (bytes ++ extra) p n (ts ++ x ∷ [])
+held_more cells bytes extra p n ts c x m t u one is_extra u' b = record {
+  built = after_one (bytes ++ extra) (cells ++ c ∷ []) p n ts x b;
   texts = ap (λ (s : List ℕ). s ++ extra) t ∙ ap (λ (s : List ℕ). tokens_text ts ++ s) (sym is_extra) ∙ sym (more_text ts x);
   utf8 = IsUtf8-append bytes extra u u';
   counted = let more = more_nodes ts x in omega (arith, length_push cells c);
@@ -66,12 +67,13 @@ held_more cells bytes extra p n ts c x v m t u one is_extra u' a b = record {
 
 -- a scalar
 held_leaf : (cells : List Cell) (bytes extra : List ℕ) (p n : ℕ) (ts : List Token) (c : Cell) (t : Tree) (x : Token)
-    → IsUtf8 extra → ((w : List Slot) → past_token w x ≡ past_value w) → tokens t ≡ x ∷ [] → token_nodes x ≡ 1 → token_text x ≡ extra → ((k : ℕ) → node (bytes ++ extra) k (c ∷ []) t)
+    → IsUtf8 extra → ((s : TokenState) → (after_token s x ≡ after_value s) × (MayCome s x → ValueMayCome s.expected)) → tokens t ≡ x ∷ [] → token_nodes x ≡ 1 → token_text x ≡ extra → ((k : ℕ) → node (bytes ++ extra) k (c ∷ []) t)
     → Held cells bytes p n ts → BeginsTree (ts ++ x ∷ []) → Held (cells ++ c ∷ []) (bytes ++ extra) p (n + 1) (ts ++ x ∷ [])
 held_leaf cells bytes extra p n ts c t x u is_value is_token one is_extra here h b =
-    let next = next_awaits ts x h.slots h.awaited b in
-    let built = builds_value (bytes ++ extra) next.0 (c ∷ []) t (builds_more extra u h.built) (sym (is_value h.slots) ∙ next.1) (here (length cells)) in
-    held_more cells bytes extra p (n + 1) ts c x next.0 h.counted h.texts h.utf8 one is_extra u next.2 (subst (λ (y : List Token). Building (bytes ++ extra) (cells ++ c ∷ []) p (n + 1) next.0 (ts ++ y)) is_token built)
+    let value = is_value (after_tokens at_start ts) in
+    let built = builds_value (bytes ++ extra) (c ∷ []) t (builds_more extra u h.built) (value.1 (may_come ts x b)) (here (length cells)) in
+    held_more cells bytes extra p (n + 1) ts c x h.counted h.texts h.utf8 one is_extra u
+    (subst (λ (s : TokenState). Building (bytes ++ extra) (cells ++ c ∷ []) p (n + 1) s (ts ++ x ∷ [])) (sym value.0) (subst (λ (y : List Token). Building (bytes ++ extra) (cells ++ c ∷ []) p (n + 1) (after_value (after_tokens at_start ts)) (ts ++ y)) is_token built))
 
 no_bytes : (cells : List Cell) (bytes : List ℕ) (p n : ℕ) (ts : List Token) → Held cells (bytes ++ []) p n ts → Held cells bytes p n ts
 no_bytes cells bytes p n ts h = subst (λ (s : List ℕ). Held cells s p n ts) (append-nil bytes) h
@@ -90,16 +92,16 @@ stands_last bytes s u = (
 
 module _ (cells : List Cell) (bytes : List ℕ) (p n : ℕ) (ts : List Token) where
   pub held_null : Held cells bytes p n ts → BeginsTree (ts ++ null_token ∷ []) → Held (cells ++ cell.Null ∷ []) bytes p (n + 1) (ts ++ null_token ∷ [])
-  held_null h b = no_bytes _ bytes p _ _ (held_leaf cells bytes [] p n ts cell.Null null null_token IsUtf8-nil (λ w. refl) refl refl refl (λ k. refl) h b)
+  held_null h b = no_bytes _ bytes p _ _ (held_leaf cells bytes [] p n ts cell.Null null null_token IsUtf8-nil (λ s. (refl, λ m. m)) refl refl refl (λ k. refl) h b)
 
   pub held_boolean : (v : Bool) → Held cells bytes p n ts → BeginsTree (ts ++ boolean_token v ∷ []) → Held (cells ++ cell.Bool v ∷ []) bytes p (n + 1) (ts ++ boolean_token v ∷ [])
-  held_boolean v h b = no_bytes _ bytes p _ _ (held_leaf cells bytes [] p n ts (cell.Bool v) (boolean v) (boolean_token v) IsUtf8-nil (λ w. refl) refl refl refl (λ k. refl) h b)
+  held_boolean v h b = no_bytes _ bytes p _ _ (held_leaf cells bytes [] p n ts (cell.Bool v) (boolean v) (boolean_token v) IsUtf8-nil (λ s. (refl, λ m. m)) refl refl refl (λ k. refl) h b)
 
   held_integer : (z : ℤ) → number (signed_decimal z) → integer_in (signed_decimal z) ≡ Some z
       → Held cells bytes p n ts → BeginsTree (ts ++ num_token (signed_decimal z) ∷ []) → Held (cells ++ integer_cell z ∷ []) bytes p (n + 1) (ts ++ num_token (signed_decimal z) ∷ [])
   held_integer z is e h b =
       let l = signed_decimal z in
-      no_bytes _ bytes p _ _ (held_leaf cells bytes [] p n ts (integer_cell z) (num l) (num_token l) IsUtf8-nil (λ w. refl) refl refl (integer_text l z e) (λ k. (is, integer_cell z, refl, integer_stands (bytes ++ []) l z e refl)) h b)
+      no_bytes _ bytes p _ _ (held_leaf cells bytes [] p n ts (integer_cell z) (num l) (num_token l) IsUtf8-nil (λ s. (refl, λ m. m)) refl refl (integer_text l z e) (λ k. (is, integer_cell z, refl, integer_stands (bytes ++ []) l z e refl)) h b)
 
   pub held_unsigned : (m : ℕ) → m < 2 ^ 64 → Held cells bytes p n ts → BeginsTree (ts ++ num_token (signed_decimal (pos m)) ∷ [])
       → Held (cells ++ cell.Unsigned m ∷ []) bytes p (n + 1) (ts ++ num_token (signed_decimal (pos m)) ∷ [])
@@ -115,35 +117,28 @@ module _ (cells : List Cell) (bytes : List ℕ) (p n : ℕ) (ts : List Token) wh
       → Held cells bytes p n ts → BeginsTree (ts ++ num_token l ∷ []) → Held (cells ++ cell.Raw (length bytes) (length l) ∷ []) (bytes ++ l) p (n + 1) (ts ++ num_token l ∷ [])
   held_raw l u is e h b =
       let c = cell.Raw (length bytes) (length l) in
-      held_leaf cells bytes l p n ts c (num l) (num_token l) u (λ w. refl) refl refl (raw_text l e) (λ k. (is, c, refl, raw_stands (bytes ++ l) l c e (length bytes, refl, stands_last bytes l u))) h b
+      held_leaf cells bytes l p n ts c (num l) (num_token l) u (λ s. (refl, λ m. m)) refl refl (raw_text l e) (λ k. (is, c, refl, raw_stands (bytes ++ l) l c e (length bytes, refl, stands_last bytes l u))) h b
 
   pub held_text : (s : List ℕ) → IsUtf8 s → Held cells bytes p n ts → BeginsTree (ts ++ text_token s ∷ []) → Held (cells ++ cell.Str (length bytes) (length s) ∷ []) (bytes ++ s) p (n + 1) (ts ++ text_token s ∷ [])
   held_text s u h b =
       let c = cell.Str (length bytes) (length s) in
-      held_leaf cells bytes s p n ts c (text s) (text_token s) u (λ w. refl) refl refl refl (λ k. (c, refl, (length bytes, refl, stands_last bytes s u))) h b
+      held_leaf cells bytes s p n ts c (text s) (text_token s) u (λ s. (refl, λ m. m)) refl refl refl (λ k. (c, refl, (length bytes, refl, stands_last bytes s u))) h b
 
   pub held_key : (s : List ℕ) → IsUtf8 s → Held cells bytes p n ts → BeginsTree (ts ++ key_token s ∷ []) → Held (cells ++ cell.Str (length bytes) (length s) ∷ []) (bytes ++ s) p (n + 1) (ts ++ key_token s ∷ [])
   held_key s u h b =
-      let next = next_awaits ts (key_token s) h.slots h.awaited b in
       let c = cell.Str (length bytes) (length s) in
-      let built = builds_key (bytes ++ s) next.0 c s (builds_more s u h.built) next.1 (length bytes, refl, stands_last bytes s u) in
-      held_more cells bytes s p (n + 1) ts c (key_token s) next.0 h.counted h.texts h.utf8 refl refl u next.2 built
+      let built = builds_key (bytes ++ s) c s (builds_more s u h.built) (may_come ts (key_token s) b) (length bytes, refl, stands_last bytes s u) in
+      held_more cells bytes s p (n + 1) ts c (key_token s) h.counted h.texts h.utf8 refl refl u built
 
   pub held_array : Held cells bytes p n ts → BeginsTree (ts ++ begin array ∷ []) → Held (cells ++ cell.Array p n ∷ []) bytes (length cells) 0 (ts ++ begin array ∷ [])
   held_array h b =
-      let next = next_awaits ts (begin array) h.slots h.awaited b in
-      let value = value_where array h.slots next.0 next.1 in
-      let built = builds_array (bytes ++ []) (builds_more [] IsUtf8-nil h.built) in
-      no_bytes _ bytes (length cells) _ _ (held_more cells bytes [] (length cells) 0 ts (cell.Array p n) (begin array) next.0 h.counted h.texts h.utf8 refl refl IsUtf8-nil next.2
-      (subst (λ (w : List Slot). Building (bytes ++ []) (cells ++ cell.Array p n ∷ []) (length cells) 0 w (ts ++ begin array ∷ [])) (sym value.2) built))
+      no_bytes _ bytes (length cells) _ _
+      (held_more cells bytes [] (length cells) 0 ts (cell.Array p n) (begin array) h.counted h.texts h.utf8 refl refl IsUtf8-nil (builds_array (bytes ++ []) (builds_more [] IsUtf8-nil h.built) (may_come ts (begin array) b)))
 
   pub held_object : Held cells bytes p n ts → BeginsTree (ts ++ begin object ∷ []) → Held (cells ++ cell.Object p n ∷ []) bytes (length cells) 0 (ts ++ begin object ∷ [])
   held_object h b =
-      let next = next_awaits ts (begin object) h.slots h.awaited b in
-      let value = value_where object h.slots next.0 next.1 in
-      let built = builds_object (bytes ++ []) (builds_more [] IsUtf8-nil h.built) in
-      no_bytes _ bytes (length cells) _ _ (held_more cells bytes [] (length cells) 0 ts (cell.Object p n) (begin object) next.0 h.counted h.texts h.utf8 refl refl IsUtf8-nil next.2
-      (subst (λ (w : List Slot). Building (bytes ++ []) (cells ++ cell.Object p n ∷ []) (length cells) 0 w (ts ++ begin object ∷ [])) (sym value.2) built))
+      no_bytes _ bytes (length cells) _ _
+      (held_more cells bytes [] (length cells) 0 ts (cell.Object p n) (begin object) h.counted h.texts h.utf8 refl refl IsUtf8-nil (builds_object (bytes ++ []) (builds_more [] IsUtf8-nil h.built) (may_come ts (begin object) b)))
 
 -- ---- the end of a container
 
@@ -156,22 +151,22 @@ pub record Ends (x : Token) (c : Cell) (cells : List Cell) (bytes : List ℕ) (p
   pub fits : outer_count cells p < length cells
   pub held : Held (slice_set cells p c) bytes (outer_place cells p) (outer_count cells p + 1) (ts ++ x ∷ [])
 
-held_end : (x : Token) (c : Cell) (cells : List Cell) (bytes : List ℕ) (p n : ℕ) (ts : List Token) (v : List Slot) → token_text x ≡ [] → token_nodes x ≡ 0 → awaits (ts ++ x ∷ []) ≡ Some v
-    → Held cells bytes p n ts → Within x c bytes cells p v ts → Ends x c cells bytes p ts
-held_end x c cells bytes p n ts v no_text no_node a h i =
+held_end : (x : Token) (c : Cell) (cells : List Cell) (bytes : List ℕ) (p n : ℕ) (ts : List Token) → token_text x ≡ [] → token_nodes x ≡ 0
+    → Held cells bytes p n ts → Within x c bytes cells p (after_token (after_tokens at_start ts) x) ts → Ends x c cells bytes p ts
+held_end x c cells bytes p n ts no_text no_node h i =
     let header : slice_index_or cells p cell.Null ≡ i.open_cell = ap (λ (k : List Cell). slice_index_or k p cell.Null) i.is_front ∙ get_or_at i.outer i.open_cell i.cs cell.Null p i.is_place in
     let around : outer_place cells p ≡ i.around = ap link_of header ∙ i.is_link in
     let count : outer_count cells p ≡ i.count = ap cell_len header ∙ i.is_len in
     let there : p < length cells = omega (arith, ap length i.is_front, length-append i.outer (i.open_cell ∷ i.cs), i.is_place) in
     let more = more_nodes ts x in
+    let after = after_token (after_tokens at_start ts) x in
     record {
       is_open = there;
       fits = omega (arith, count_within i.built_outer, i.is_place);
       held = record {
-        slots = v;
-        awaited = a;
-        built = subst (λ (k : ℕ). Building bytes (slice_set cells p c) (outer_place cells p) (k + 1) v (ts ++ x ∷ [])) (sym count)
-            (subst (λ (k : ℕ). Building bytes (slice_set cells p c) k (i.count + 1) v (ts ++ x ∷ [])) (sym around) (ends x c bytes cells p v ts i));
+        built = after_one bytes (slice_set cells p c) (outer_place cells p) (outer_count cells p + 1) ts x
+            (subst (λ (k : ℕ). Building bytes (slice_set cells p c) (outer_place cells p) (k + 1) after (ts ++ x ∷ [])) (sym count)
+            (subst (λ (k : ℕ). Building bytes (slice_set cells p c) k (i.count + 1) after (ts ++ x ∷ [])) (sym around) (ends x c bytes cells p after ts i)));
         texts = end_text bytes ts x no_text h.texts;
         utf8 = h.utf8;
         counted = length-set cells p c ∙ h.counted ∙ omega arith;
@@ -180,10 +175,8 @@ held_end x c cells bytes p n ts v no_text no_node a h i =
 
 pub held_array_end : (cells : List Cell) (bytes : List ℕ) (p n : ℕ) (ts : List Token) → Held cells bytes p n ts → BeginsTree (ts ++ end array ∷ []) → Ends (end array) (cell.Array (length cells) n) cells bytes p ts
 held_array_end cells bytes p n ts h b =
-    let next = next_awaits ts (end array) h.slots h.awaited b in
-    held_end (end array) (cell.Array (length cells) n) cells bytes p n ts next.0 refl refl next.2 h (within_array next.0 h.built next.1)
+    held_end (end array) (cell.Array (length cells) n) cells bytes p n ts refl refl h (within_array h.built (may_come ts (end array) b))
 
 pub held_object_end : (cells : List Cell) (bytes : List ℕ) (p n : ℕ) (ts : List Token) → Held cells bytes p n ts → BeginsTree (ts ++ end object ∷ []) → Ends (end object) (cell.Object (length cells) (n / 2)) cells bytes p ts
 held_object_end cells bytes p n ts h b =
-    let next = next_awaits ts (end object) h.slots h.awaited b in
-    held_end (end object) (cell.Object (length cells) (n / 2)) cells bytes p n ts next.0 refl refl next.2 h (within_object next.0 h.built next.1)
+    held_end (end object) (cell.Object (length cells) (n / 2)) cells bytes p n ts refl refl h (within_object h.built (may_come ts (end object) b))

@@ -33,7 +33,7 @@ use Rattle.json_io.specs.Positions.{place_at}
 use Rattle.json_text.specs.Events.{Means, raw_size, event_bytes}
 use Rattle.json_text.specs.Faults.{IsFault, IsFaultWith, FaultWithAt}
 use Rattle.json_text.specs.Parsing.{ParserState, input, HasGiven, SameInput, Goes, TakesToken, IsTight, IsDue}
-use Rattle.json_doc.specs.Awaited.{BeginsTree}
+use Rattle.json_grammar.specs.TokenStates.{BeginsTree}
 use Rattle.json_doc.specs.State.{VisitorState}
 use Rattle.json_doc.specs.Recorded.{visitor_state, Holds, SameRoom}
 use Rattle.json_doc.specs.Reading.{ReadingFails, ReadingFailsWith, RefusesName, EventIsNumber, Follows}
@@ -41,7 +41,7 @@ use Rattle.json_doc.specs.OpenNames.{HasNames, TakesIn, Differ}
 use Rattle.json_doc.specs.Progress.{Keeps}
 use Rattle.json_doc.specs.declared.open_keys.OpenKeys.{OpenKeys}
 use Rattle.json_doc.specs.declared.document_visitor.DocumentVisitor.{DocumentVisitor}
-use Rattle.json_doc.proofs.Prefixes.{reading_begins}
+use Rattle.json_grammar.proofs.TokenPrefixes.{reading_begins}
 use Rattle.json_doc.proofs.Fitting.{recorded_bytes}
 use Rattle.json_doc.proofs.Numeric.{event_number}
 
@@ -91,7 +91,7 @@ tight_on p q event.EndObject n g = g
 tight_on p q event.End n g = absurd (n refl)
 
 pub given_begins : (p : ParserState) (ts : List Token) → HasGiven p ts → BeginsTree ts
-given_begins p ts h = reading_begins p.lossy (take h.base (input p)) p.open_kinds p.spot ts h.given.at
+given_begins p ts h = reading_begins h.given.at
 
 -- what was recorded is no longer than what was taken
 recorded_within : (p : ParserState) (v : DocumentVisitor) (ts : List Token) → HasGiven p ts → Holds v ts → (visitor_state v).bytes ≤ p.index

@@ -1,4 +1,3 @@
-pub mod Awaiting
 pub mod Integers
 pub mod Segments
 pub mod Builds
@@ -7,7 +6,6 @@ pub mod Spelling
 pub mod Shaping
 pub mod OpenObject
 pub mod Finishing
-pub mod Prefixes
 pub mod Trees
 pub mod Numeric
 pub mod Properness
@@ -19,5 +17,4 @@ pub mod Stepping
 pub mod NameSets
 pub mod Fronts
 pub mod Subtrees
-pub mod Slots
 pub mod ValueRecording

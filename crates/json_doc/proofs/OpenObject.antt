@@ -1,13 +1,13 @@
 -- The members of an object that stands open in a builder, gone through key by key.
-use Rattle.std.proofs.Common.{◌≡◌, ◌⊎◌, inl, inr, Bool, true, false, ℕ, ◌+◌, ◌-◌, ◌<◌, ◌≤◌, List, [], ◌∷◌, ◌++◌, length, Option, Some, None, refl, sym, ap, subst, ◌∙◌, arith, append_assoc, length-append}
-use Rattle.std.specs.Prelude.{◌≢◌, slice_get, slice_index_or, option_and_then}
+use Rattle.std.proofs.Common.{◌≡◌, ◌⊎◌, inl, inr, Bool, true, false, ℕ, ◌+◌, ◌-◌, ◌<◌, ◌≤◌, List, [], ◌∷◌, ◌++◌, length, refl, sym, ap, subst, ◌∙◌, arith, append_assoc, length-append}
+use Rattle.std.specs.Prelude.{◌≢◌, slice_get, slice_index_or}
 use Rattle.std.specs.List.{Contains}
 use Rattle.std.proofs.lemmas.List.{length_push}
 use Rattle.std.proofs.lemmas.List.Elements.{Contains-append_right, Contains-append_cases}
 use Rattle.json_grammar.specs.Tree.{Pairs, no_pairs, pair_and, Token, key_token}
 use Rattle.json_grammar.specs.Repeated.{names, open_keys}
 use Rattle.json_grammar.proofs.OpenKeys.{key_inside}
-use Rattle.json_doc.specs.Awaited.{Slot, a_value, an_element, a_key, a_member, awaits, past_tokens}
+use Rattle.json_grammar.specs.TokenStates.{TokenState, a_value, at_start, after_tokens}
 use Rattle.json_doc.specs.Building.{Building, nothing, whole, in_array, in_object, in_pair}
 use Rattle.json_doc.specs.Recorded.{Held}
 use Rattle.json_doc.specs.Segment.{SegmentAt, text_cell}
@@ -15,7 +15,7 @@ use Rattle.json_doc.specs.Places.{place_behind}
 use Rattle.json_doc.specs.OpenObject.{NamesText, MembersStand, KeyStands}
 use Rattle.json_doc.specs.declared.cell.Cell.{Cell}
 use Rattle.json_doc.specs.declared.cell.Cell.TheVariants as cell
-use Rattle.json_doc.proofs.Awaiting.{past_append}
+use Rattle.json_grammar.proofs.TokenStates.{after_append}
 use Rattle.json_doc.proofs.Segments.{node_some}
 use Rattle.json_doc.proofs.Spelling.{get_behind, stands_first, stands_rest, stands_left, stands_right}
 use Rattle.json_doc.proofs.Shaping.{node_behind, stands_within}
@@ -81,30 +81,26 @@ not_both b t f = let e : true ≡ false = sym t ∙ f in absurd (cc)
 
 -- ---- the object that stands open where a key was recorded last
 
--- a value has to come behind a key
-pub member_awaited : (ts : List Token) (s : List ℕ) (w : List Slot) → awaits (ts ++ key_token s ∷ []) ≡ Some w → (v : List Slot) × (w ≡ a_member ∷ v)
-member_awaited ts s w e = by (past_tokens (a_value ∷ []) ts) (sym (past_append (a_value ∷ []) ts (key_token s ∷ [])) ∙ e)
-  where
-    by : (o : Option (List Slot)) → option_and_then (λ v. past_tokens v (key_token s ∷ [])) o ≡ Some w → (v : List Slot) × (w ≡ a_member ∷ v)
-    by None h = absurd (cc)
-    by (Some []) h = absurd (cc)
-    by (Some (a_value ∷ v)) h = absurd (cc)
-    by (Some (an_element ∷ v)) h = absurd (cc)
-    by (Some (a_key ∷ v)) h = (v, cc)
-    by (Some (a_member ∷ v)) h = absurd (cc)
+-- after a name comes a value
+after_name : (ts : List Token) (s : List ℕ) → (after_tokens at_start (ts ++ key_token s ∷ [])).expected ≡ a_value
+after_name ts s = ap (λ (z : TokenState). z.expected) (after_append at_start ts (key_token s ∷ []))
+
+no_last : (ts : List Token) (x : Token) → [] ≡ ts ++ x ∷ [] → ⊥
+no_last [] x e = cc
+no_last (y ∷ ts) x e = cc
 
 pub record OpenKey (cells : List Cell) (bytes : List ℕ) (p : ℕ) (ts : List Token) (s : List ℕ) : Type 0 where
   pub members : Pairs
   pub stands : KeyStands cells bytes (p + 1) members (length cells - 1) s
   pub keys : open_keys ts ≡ names members
 
-key_built : {bytes : List ℕ} {cells : List Cell} {p n : ℕ} {w : List Slot} {us : List Token} (ts : List Token) (s : List ℕ) (v : List Slot)
-    → Building bytes cells p n w us → w ≡ a_member ∷ v → us ≡ ts ++ key_token s ∷ [] → OpenKey cells bytes p ts s
-key_built ts s v nothing e f = absurd (cc)
-key_built ts s v (whole t h) e f = absurd (cc)
-key_built ts s v (in_array cs us b r) e f = absurd (cc)
-key_built ts s v (in_object cs us b r) e f = absurd (cc)
-key_built {bytes = bytes} ts s v (in_pair {front = front} {p = p} {n = n} {ts = before} {key = key} cs us k b r m) e f =
+key_built : {bytes : List ℕ} {cells : List Cell} {p n : ℕ} {z : TokenState} {us : List Token} (ts : List Token) (s : List ℕ)
+    → Building bytes cells p n z us → z.expected ≡ a_value → us ≡ ts ++ key_token s ∷ [] → OpenKey cells bytes p ts s
+key_built ts s nothing e f = absurd (no_last ts (key_token s) f)
+key_built ts s (whole t h) e f = absurd (cc)
+key_built ts s (in_array cs us b v r) e f = absurd (cc)
+key_built ts s (in_object cs us b v r) e f = absurd (cc)
+key_built {bytes = bytes} ts s (in_pair {front = front} {p = p} {n = n} {ts = before} {key = key} cs us k b v r m) e f =
     let header = cell.Object p n in
     let all = front ++ header ∷ (cs ++ key ∷ []) in
     let told = key_inside ts before us s k (sym f) in
@@ -127,4 +123,4 @@ key_built {bytes = bytes} ts s v (in_pair {front = front} {p = p} {n = n} {ts = 
     }
 
 pub open_key : (cells : List Cell) (bytes : List ℕ) (p n : ℕ) (ts : List Token) (s : List ℕ) → Held cells bytes p n (ts ++ key_token s ∷ []) → OpenKey cells bytes p ts s
-open_key cells bytes p n ts s h = let w = member_awaited ts s h.slots h.awaited in key_built ts s w.0 h.built w.1 refl
+open_key cells bytes p n ts s h = key_built ts s h.built (after_name ts s) refl

@@ -1,5 +1,7 @@
 -- What the reader of one value among others keeps from event to event.
-use Rattle.std.proofs.Common.{◌≡◌, ◌≢◌, ◌∙◌, ℕ, ◌+◌, ◌-◌, ◌<◌, ◌≤◌, List, [], ◌∷◌, ◌++◌, length, take, Bool, true, false, Some, None, refl, sym, ap, subst, append_assoc, arith}
+use Rattle.std.proofs.Common.{◌≡◌, ◌≢◌, ◌∙◌, ℕ, ◌+◌, ◌-◌, ◌<◌, ◌≤◌, List, [], ◌∷◌, ◌++◌, length, take, Bool, true, false, Some, None, refl, sym, ap, ap₂, subst, append_assoc, arith}
+use Rattle.std.proofs.lemmas.List.{nil_from_length}
+use Rattle.json_grammar.specs.declared.Kind.{Kind}
 use Rattle.json_grammar.specs.Tree.{Tree, Token, null_token, boolean_token, num_token, text_token, begin, end, key_token, tokens}
 use Rattle.json_grammar.specs.Sizes.{token_nodes, nodes_of}
 use Rattle.json_grammar.proofs.Sizes.{nodes_append}
@@ -10,15 +12,16 @@ use Rattle.json_text.specs.declared.event.Event.TheVariants as event
 use Rattle.json_text.specs.Events.{Means, raw_size}
 use Rattle.json_text.specs.Faults.{IsInValue}
 use Rattle.json_text.specs.Parsing.{ParserState, input, HasGiven, SameInput, IsWhole, HasRead, Goes, IsTight, IsDue}
-use Rattle.json_doc.specs.Awaited.{Slot, a_value, awaits, BeginsTree}
+use Rattle.json_grammar.specs.TokenStates.{TokenState, Expected, nothing, at_start, within, after_tokens, Accepts, BeginsTree}
 use Rattle.json_doc.specs.Recorded.{visitor_state, Holds, SameRoom}
 use Rattle.json_doc.specs.Reading.{EventIsNumber, HasRoomFor, Follows}
 use Rattle.json_doc.specs.OneValue.{TokenBeginsValue, levels_behind, HandedOut, ReadsValue, RefusesValue}
 use Rattle.json_doc.specs.declared.document_visitor.DocumentVisitor.{DocumentVisitor}
-use Rattle.json_doc.proofs.Awaiting.{next_awaits}
+use Rattle.json_grammar.proofs.TokenStates.{after_append, Agrees, agrees}
+use Rattle.json_grammar.proofs.TokenPrefixes.{begins_accepted, whole_tree}
 use Rattle.json_doc.proofs.Keeping.{goes_on, tight_on, given_begins}
 use Rattle.json_doc.proofs.Numeric.{event_number}
-use Rattle.json_doc.proofs.Subtrees.{Nested, Behind, Starts, token_step, begins_on, whole_value, not_whole}
+use Rattle.json_doc.proofs.Subtrees.{Starts, IsUnfinished, levels_step, begins_on, not_whole}
 
 -- an event is of one token
 pub means_one : (e : Event) (x y : Token) → Means e x → Means e y → x ≡ y
@@ -48,10 +51,8 @@ pub record Records (old p : ParserState) (first here : Event) (v : DocumentVisit
   pub starts : us ++ token ∷ [] ≡ first_token ∷ rest
   pub held : Holds v us
   pub admits : (visitor_state v).full ≡ false
-  pub slots : List Slot
-  pub awaited : awaits us ≡ Some slots
-  pub nested : Nested slots
-  pub open_slots : length slots ≡ levels + 1
+  pub unfinished : IsUnfinished us
+  pub open_levels : length (after_tokens at_start us).opened ≡ levels
   pub few : levels ≤ (visitor_state v).nodes
   pub before : List Token
   pub given : HasGiven p (before ++ (us ++ token ∷ []))
@@ -73,10 +74,8 @@ records_start p first v h held full = record {
   starts = refl;
   held = held;
   admits = full;
-  slots = a_value ∷ [];
-  awaited = refl;
-  nested = refl;
-  open_slots = refl;
+  unfinished = (tt, λ e. cc);
+  open_levels = refl;
   few = omega arith;
   before = h.before;
   given = h.given;
@@ -84,15 +83,12 @@ records_start p first v h held full = record {
   read = λ r. r;
 }
 
-some_slots : (w : List Slot) → Nested w → w ≢ []
-some_slots w h e = subst Nested e h
-
 module _ {old p : ParserState} {first here : Event} {v : DocumentVisitor} {levels : ℕ} (k : Records old p first here v levels) where
   pub starting : Starts (k.us ++ k.token ∷ [])
   starting = (k.first_token, k.rest, k.starts, k.first_begins)
 
   pub begins_here : BeginsTree (k.us ++ k.token ∷ [])
-  begins_here = begins_on k.before k.us k.token k.slots starting k.awaited (some_slots k.slots k.nested) (given_begins p (k.before ++ (k.us ++ k.token ∷ [])) k.given)
+  begins_here = begins_on k.before k.us k.token starting k.unfinished (given_begins p (k.before ++ (k.us ++ k.token ∷ [])) k.given)
 
   pub number_here : EventIsNumber here
   number_here =
@@ -100,10 +96,17 @@ module _ {old p : ParserState} {first here : Event} {v : DocumentVisitor} {level
       event_number here k.token (take h.base (input p)) p.open_kinds p.spot (k.before ++ k.us) k.means h.given.at
 
   -- behind its token
-  pub awaited_behind : (s : List Slot) × (awaits (k.us ++ k.token ∷ []) ≡ Some s) × Behind s (levels_behind k.token levels)
-  awaited_behind =
-      let n = next_awaits k.us k.token k.slots k.awaited begins_here in
-      (n.0, n.2, token_step k.token k.slots n.0 levels k.nested k.open_slots n.1)
+  abbrev state_here : TokenState
+  state_here = after_tokens at_start (k.us ++ k.token ∷ [])
+
+  pub levels_here : length state_here.opened ≡ levels_behind k.token levels
+  levels_here =
+      ap (λ (s : TokenState). length s.opened) (after_append at_start k.us (k.token ∷ [])) ∙ levels_step k.token (after_tokens at_start k.us) ∙ ap (levels_behind k.token) k.open_levels
+
+  pub agrees_here : Agrees state_here
+  agrees_here =
+      let same = sym k.starts in
+      subst (λ (ts : List Token). Agrees (after_tokens at_start ts)) same (agrees k.first_token k.rest (subst (λ (ts : List Token). Accepts at_start ts) k.starts (begins_accepted (k.us ++ k.token ∷ []) begins_here)))
 
 not_full : (b : Bool) → (b ≡ true → ⊥) → b ≡ false
 not_full true h = absurd (h refl)
@@ -136,21 +139,14 @@ levels_few (begin k) n m h = omega arith
 levels_few (end k) n m h = omega arith
 levels_few (key_token s) n m h = omega arith
 
--- a value that is whole
-none_open : (s : List Slot) (n : ℕ) → n ≡ 0 → Behind s n → s ≡ []
-none_open [] n e h = refl
-none_open (a ∷ s) n e h = let p = h.2 in absurd (omega arith)
-
-some_open : (s : List Slot) (n : ℕ) → (n ≡ 0 → ⊥) → Behind s n → Nested s × (length s ≡ n + 1)
-some_open [] n e h = absurd (e h)
-some_open (a ∷ s) n e h = (h.0, h.1)
+whole_state : (s : TokenState) → s.opened ≡ [] → s.expected ≡ nothing → s ≡ within []
+whole_state s e f = ap₂ (λ (o : List Kind) (x : Expected). let r : TokenState = record { opened = o; expected = x } in r) e f
 
 module _ {old p : ParserState} {first here : Event} {v : DocumentVisitor} {levels more : ℕ} (k : Records old p first here v levels) (behind : more ≡ levels_behind k.token levels) where
   pub records_end : (w : DocumentVisitor) → Holds w (k.us ++ k.token ∷ []) → more ≡ 0 → (t : Tree) × ReadsValue old first t p × Holds w (tokens t)
   records_end w held z =
-      let a = awaited_behind k in
-      let e : a.0 ≡ [] = none_open a.0 (levels_behind k.token levels) (sym behind ∙ z) a.2 in
-      let t = whole_value (k.us ++ k.token ∷ []) (begins_here k) (a.1 ∙ ap Some e) in (
+      let e = nil_from_length (state_here k).opened (levels_here k ∙ sym behind ∙ z) in
+      let t = whole_tree (k.us ++ k.token ∷ []) (begins_accepted (k.us ++ k.token ∷ []) (begins_here k)) (whole_state (state_here k) e ((agrees_here k).1 e)) in (
         t.0,
         record {
           token = k.first_token;
@@ -163,11 +159,12 @@ module _ {old p : ParserState} {first here : Event} {v : DocumentVisitor} {level
         subst (Holds w) (sym t.1) held,
       )
 
+  -- a value that is not whole
+  unfinished_here : (more ≡ 0 → ⊥) → IsUnfinished (k.us ++ k.token ∷ [])
+  unfinished_here z = (begins_accepted (k.us ++ k.token ∷ []) (begins_here k), λ e. z (behind ∙ sym (levels_here k) ∙ ap length ((agrees_here k).0 e)))
+
   pub still_open : (more ≡ 0 → ⊥) → ¬ (IsWhole p)
-  still_open z =
-      let a = awaited_behind k in
-      let n = some_open a.0 (levels_behind k.token levels) (λ e. z (behind ∙ e)) a.2 in
-      not_whole p k.before (k.us ++ k.token ∷ []) a.0 k.given (starting k) a.1 (some_slots a.0 n.0)
+  still_open z = not_whole p k.before (k.us ++ k.token ∷ []) k.given (starting k) (unfinished_here z)
 
   pub goes_forward : (q : ParserState) (e : Event) → (more ≡ 0 → ⊥) → (e ≡ event.End → IsWhole p) → IsTight p e q → SameInput p q → length q.text - q.index < length p.text - p.index
   goes_forward q e z whole tight same = let t = tight_on p q e (λ f. still_open z (whole f)) tight in let a = t.forward in let b = t.within in omega (arith, ap length same.text)
@@ -176,8 +173,6 @@ module _ {old p : ParserState} {first here : Event} {v : DocumentVisitor} {level
   pub records_on : (w : DocumentVisitor) → Holds w (k.us ++ k.token ∷ []) → (visitor_state w).full ≡ false → more ≤ (visitor_state w).nodes
       → (q : ParserState) (e : Event) → (more ≡ 0 → ⊥) → (e ≡ event.End → IsWhole p) → Goes p e q → IsTight p e q → SameInput p q → q.failure ≡ None → (¬ (IsWhole p) → IsWhole q → HasRead q) → Records old q first e w more
   records_on w held full few q e z whole goes tight same unfailed read =
-      let a = awaited_behind k in
-      let n = some_open a.0 (levels_behind k.token levels) (λ f. z (behind ∙ f)) a.2 in
       let other : e ≢ event.End = λ f. still_open z (whole f) in
       let us = k.us ++ k.token ∷ [] in
       let y = goes_on p q e other goes (k.before ++ us) k.given in
@@ -195,10 +190,8 @@ module _ {old p : ParserState} {first here : Event} {v : DocumentVisitor} {level
         starts = ap (λ l. l ++ y.0 ∷ []) k.starts;
         held = held;
         admits = full;
-        slots = a.0;
-        awaited = a.1;
-        nested = n.0;
-        open_slots = n.1 ∙ ap (λ m. m + 1) (sym behind);
+        unfinished = unfinished_here z;
+        open_levels = levels_here k ∙ sym behind;
         few = few;
         before = k.before;
         given = subst (HasGiven q) (append_assoc k.before us (y.0 ∷ [])) y.2;

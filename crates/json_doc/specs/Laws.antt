@@ -7,7 +7,7 @@ use Rattle.json_grammar.specs.Grammar.{is_text}
 use Rattle.json_grammar.specs.Proper.{IsProper}
 use Rattle.json_grammar.specs.Sizes.{token_nodes}
 use Rattle.json_grammar.specs.Place.{reading}
-use Rattle.json_doc.specs.Awaited.{BeginsTree}
+use Rattle.json_grammar.specs.TokenStates.{BeginsTree}
 use Rattle.json_doc.specs.State.{Fits}
 use Rattle.json_doc.specs.Recorded.{visitor_state, Holds}
 use Rattle.json_doc.specs.Docs.{doc_cells, doc_root, IsDocOf, doc_tree}

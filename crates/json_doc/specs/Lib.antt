@@ -1,4 +1,3 @@
-pub mod Awaited
 pub mod ByValue
 pub mod Texts
 pub mod Segment

@@ -1,17 +1,16 @@
 -- What the reader of one value among others keeps.
 use Rattle.std.specs.Prelude.{◌≡◌, ℕ, ◌+◌, ◌-◌, List, [], ◌∷◌, ◌++◌, Some, None}
-use Rattle.json_grammar.specs.Tree.{Tree, tokens, Token, begin, end, key_token}
+use Rattle.json_grammar.specs.Tree.{Tree, tokens, Token, begin, end}
+use Rattle.json_grammar.specs.TokenStates.{at_start, MayCome}
 use Rattle.json_io.specs.declared.error.Error.{Error}
 use Rattle.json_text.specs.declared.event.Event.{Event}
 use Rattle.json_text.specs.Events.{Means}
 use Rattle.json_text.specs.Faults.{IsInValue}
 use Rattle.json_text.specs.Parsing.{ParserState, HasGiven, IsDue}
 
--- the token is no name and no end
+-- the token may come first
 abbrev pub TokenBeginsValue : Token → Type 0
-TokenBeginsValue (end k) = ⊥
-TokenBeginsValue (key_token s) = ⊥
-TokenBeginsValue _ = Unit {0}
+TokenBeginsValue x = MayCome at_start x
 
 -- how many containers are open behind a token, where n were before it
 abbrev pub levels_behind : Token → ℕ → ℕ

@@ -1,7 +1,7 @@
 -- What clauses see of a builder, and what an event does to it.
 use Rattle.std.specs.Prelude.{◌≡◌, ℕ, ◌+◌, ◌≤◌, List, [], ◌∷◌, ◌++◌, Bool, true, false, ◌↔◌, IsTrue}
 use Rattle.json_grammar.specs.Tree.{Token}
-use Rattle.json_doc.specs.Awaited.{BeginsTree}
+use Rattle.json_grammar.specs.TokenStates.{BeginsTree}
 
 -- the room for cells and for bytes of text, how many were recorded, and whether an event was refused
 pub record VisitorState : Type 0 where

@@ -6,7 +6,7 @@ ghost use Rattle.json_text.specs.Events.{Means, raw_size};
 ghost use Rattle.json_text.specs.Faults.{IsFault};
 ghost use Rattle.json_text.specs.Steps.{Advances, StandsBehindGap};
 ghost use Rattle.json_text.specs.declared.event.Event.TheVariants as Event;
-ghost use Rattle.json_doc.specs.Awaited.{BeginsTree};
+ghost use Rattle.json_grammar.specs.TokenStates.{BeginsTree};
 ghost use Rattle.json_doc.specs.Progress.{IsReading};
 ghost use Rattle.json_doc.specs.Reading.{HasRoomFor, Follows};
 ghost use Rattle.json_doc.specs.Recorded.{SameRoom};

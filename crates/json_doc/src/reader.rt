@@ -9,7 +9,7 @@ ghost use Rattle.json_text.specs.Events.{Means, raw_size, event_bytes};
 ghost use Rattle.json_text.specs.Parsing.{input, taken, HasGiven, IsWhole, SameInput};
 ghost use Rattle.json_io.specs.Positions.{place_at};
 ghost use Rattle.json_text.specs.Ruled.{rules_of};
-ghost use Rattle.json_doc.specs.Awaited.{BeginsTree};
+ghost use Rattle.json_grammar.specs.TokenStates.{BeginsTree};
 ghost use Rattle.json_doc.specs.Lent.{IsPieceAt, EventIsLentBy, from_of};
 ghost use Rattle.json_doc.specs.State.{MayComeAfter};
 ghost use Rattle.json_doc.specs.Recorded.{visitor_state, Holds, SameRoom};

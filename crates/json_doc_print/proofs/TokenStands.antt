@@ -1,63 +1,49 @@
 -- What may come next behind what is given of trees.
-use Rattle.std.proofs.Common.{◌≡◌, List, [], ◌∷◌, ◌++◌, Bool, false, ℕ, ℤ, Option, Some, None, refl, ap, ◌∙◌}
+use Rattle.std.proofs.Common.{◌≡◌, List, [], ◌∷◌, ◌++◌, ℕ, ℤ, Option, Some, None, refl, ap, ◌∙◌}
 use Rattle.json_grammar.specs.declared.Kind.{Kind}
 use Rattle.json_grammar.specs.declared.Kind.TheVariants.{Array as array, Object as object}
-use Rattle.json_grammar.specs.Tree.{Tree, null, boolean, num, text, list, pairs, Trees, no_trees, tree_and, Pairs, no_pairs, pair_and, begin, end, key_token}
-use Rattle.json_grammar.specs.Place.{outside}
-use Rattle.json_print.specs.declared.events.Turn.TheVariants.{Element as at_element, Key as at_key}
-use Rattle.json_print.specs.Given.{TokenOrInteger, given, given_integer, token_of}
-use Rattle.json_print.specs.Standing.{ExpectedTokens, turn_after_value, stand_after}
+use Rattle.json_grammar.specs.Tree.{Tree, null, boolean, num, text, list, pairs, Trees, no_trees, tree_and, Pairs, no_pairs, pair_and, end, key_token}
+use Rattle.json_grammar.specs.TokenStates.{TokenState, within, after_value, after_token, after_tokens}
+use Rattle.json_grammar.proofs.TokenStates as states
+use Rattle.json_print.specs.Given.{TokenOrInteger, given, given_tokens}
 use Rattle.json_print.specs.Taking.{after_all}
+use Rattle.json_print.proofs.Taking.{tokens_append}
 use Rattle.json_number.specs.Integers.{integer_in}
 use Rattle.json_doc_print.specs.Emitting.{number_given, tree_given, trees_given, pairs_given}
-
--- what may come behind things given in turn
-abbrev pub stand_all : ExpectedTokens → List TokenOrInteger → ExpectedTokens
-stand_all s [] = s
-stand_all s (x ∷ ts) = stand_all (stand_after s (token_of x)) ts
-
-pub stand_append : (s : ExpectedTokens) (a b : List TokenOrInteger) → stand_all s (a ++ b) ≡ stand_all (stand_all s a) b
-stand_append s [] b = refl
-stand_append s (x ∷ a) b = stand_append (stand_after s (token_of x)) a b
 
 pub after_append : {S : Type 0} (after : S → TokenOrInteger → S) (s : S) (a b : List TokenOrInteger) → after_all after s (a ++ b) ≡ after_all after (after_all after s a) b
 after_append after s [] b = refl
 after_append after s (x ∷ a) b = after_append after (after s x) a b
 
--- where the state moves so with each, it does with all
-pub stand_moves : {S : Type 0} (after : S → TokenOrInteger → S) (stand : S → ExpectedTokens) → ((s : S) (g : TokenOrInteger) → stand (after s g) ≡ stand_after (stand s) (token_of g)) → (s : S) (ts : List TokenOrInteger) → stand (after_all after s ts) ≡ stand_all (stand s) ts
-stand_moves after stand moves s [] = refl
-stand_moves after stand moves s (x ∷ ts) = stand_moves after stand moves (after s x) ts ∙ ap (λ r. stand_all r ts) (moves s x)
+two : (s : TokenState) (a b : List TokenOrInteger) → after_tokens s (given_tokens (a ++ b)) ≡ after_tokens (after_tokens s (given_tokens a)) (given_tokens b)
+two s a b = ap (after_tokens s) (tokens_append a b) ∙ states.after_append s (given_tokens a) (given_tokens b)
 
-abbrev behind_all : List Kind → ExpectedTokens
-behind_all o = record { turn = turn_after_value o; opened = o }
+-- one after another, where the first leads to z
+then_to : (s z : TokenState) (a b : List TokenOrInteger) → after_tokens s (given_tokens a) ≡ z → after_tokens s (given_tokens (a ++ b)) ≡ after_tokens z (given_tokens b)
+then_to s z a b e = two s a b ∙ ap (λ (y : TokenState). after_tokens y (given_tokens b)) e
 
-ended : (s : ExpectedTokens) (k : Kind) (a : List TokenOrInteger) (o : List Kind) → (stand_all s a).opened ≡ k ∷ o → stand_all s (a ++ given (end k) ∷ []) ≡ behind_all o
-ended s k a o e = stand_append s a (given (end k) ∷ []) ∙ ap (λ c. behind_all (outside c)) e
-
-number_stand : (s : ExpectedTokens) (o : Option ℤ) (l : List ℕ) → stand_all s (number_given o l ∷ []) ≡ behind_all s.opened
+number_stand : (s : TokenState) (o : Option ℤ) (l : List ℕ) → after_tokens s (given_tokens (number_given o l ∷ [])) ≡ after_value s
 number_stand s (Some n) l = refl
 number_stand s None l = refl
 
 mutual
-  -- behind a tree a whole value stands
-  pub tree_stand : (s : ExpectedTokens) (t : Tree) → stand_all s (tree_given t) ≡ behind_all s.opened
+  -- a tree leads behind a value
+  pub tree_stand : (s : TokenState) (t : Tree) → after_tokens s (given_tokens (tree_given t)) ≡ after_value s
   tree_stand s null = refl
   tree_stand s (boolean b) = refl
   tree_stand s (num l) = number_stand s (integer_in l) l
   tree_stand s (text c) = refl
-  tree_stand s (list ts) = ended (stand_after s (begin array)) array (trees_given ts) s.opened (trees_opened (stand_after s (begin array)) ts)
-  tree_stand s (pairs ps) = ended (stand_after s (begin object)) object (pairs_given ps) s.opened (pairs_opened (stand_after s (begin object)) ps)
+  tree_stand s (list ts) = then_to (within (array ∷ s.opened)) (within (array ∷ s.opened)) (trees_given ts) (given (end array) ∷ []) (trees_stand s.opened ts)
+  tree_stand s (pairs ps) = then_to (within (object ∷ s.opened)) (within (object ∷ s.opened)) (pairs_given ps) (given (end object) ∷ []) (pairs_stand s.opened ps)
 
-  trees_opened : (s : ExpectedTokens) (ts : Trees) → (stand_all s (trees_given ts)).opened ≡ s.opened
-  trees_opened s no_trees = refl
-  trees_opened s (tree_and t ts) = ap (λ r. r.opened) (stand_append s (tree_given t) (trees_given ts)) ∙ trees_opened (stand_all s (tree_given t)) ts ∙ ap (λ r. r.opened) (tree_stand s t)
+  trees_stand : (c : List Kind) (ts : Trees) → after_tokens (within (array ∷ c)) (given_tokens (trees_given ts)) ≡ within (array ∷ c)
+  trees_stand c no_trees = refl
+  trees_stand c (tree_and t ts) = then_to (within (array ∷ c)) (within (array ∷ c)) (tree_given t) (trees_given ts) (tree_stand (within (array ∷ c)) t) ∙ trees_stand c ts
 
-  pairs_opened : (s : ExpectedTokens) (ps : Pairs) → (stand_all s (pairs_given ps)).opened ≡ s.opened
-  pairs_opened s no_pairs = refl
-  pairs_opened s (pair_and k t ps) =
-      ap (λ r. r.opened) (stand_append (stand_after s (key_token k)) (tree_given t) (pairs_given ps)) ∙ pairs_opened (stand_all (stand_after s (key_token k)) (tree_given t)) ps
-      ∙ ap (λ r. r.opened) (tree_stand (stand_after s (key_token k)) t)
+  pairs_stand : (c : List Kind) (ps : Pairs) → after_tokens (within (object ∷ c)) (given_tokens (pairs_given ps)) ≡ within (object ∷ c)
+  pairs_stand c no_pairs = refl
+  pairs_stand c (pair_and k t ps) =
+      let s = after_token (within (object ∷ c)) (key_token k) in then_to s (within (object ∷ c)) (tree_given t) (pairs_given ps) (tree_stand s t) ∙ pairs_stand c ps
 
 -- ---- within an array
 
@@ -67,11 +53,9 @@ all_given [] = []
 all_given (t ∷ ts) = tree_given t ++ all_given ts
 
 -- an element or the end may come
-pub elements_stand : (b : Bool) (o : List Kind) (ts : List Tree) → (c : Bool) × (stand_all (record { turn = at_element b; opened = array ∷ o }) (all_given ts) ≡ record { turn = at_element c; opened = array ∷ o })
-elements_stand b o [] = (b, refl)
-elements_stand b o (t ∷ ts) =
-    let s : ExpectedTokens = record { turn = at_element b; opened = array ∷ o } in
-    let r = elements_stand false o ts in (r.0, stand_append s (tree_given t) (all_given ts) ∙ ap (λ r. stand_all r (all_given ts)) (tree_stand s t) ∙ r.1)
+pub elements_stand : (c : List Kind) (ts : List Tree) → after_tokens (within (array ∷ c)) (given_tokens (all_given ts)) ≡ within (array ∷ c)
+elements_stand c [] = refl
+elements_stand c (t ∷ ts) = then_to (within (array ∷ c)) (within (array ∷ c)) (tree_given t) (all_given ts) (tree_stand (within (array ∷ c)) t) ∙ elements_stand c ts
 
 -- ---- within an object
 
@@ -81,8 +65,7 @@ all_pairs [] = []
 all_pairs (p ∷ ps) = given (key_token p.0) ∷ (tree_given p.1 ++ all_pairs ps)
 
 -- a name or the end may come
-pub members_stand : (b : Bool) (o : List Kind) (ps : List (List ℕ × Tree)) → (c : Bool) × (stand_all (record { turn = at_key b; opened = object ∷ o }) (all_pairs ps) ≡ record { turn = at_key c; opened = object ∷ o })
-members_stand b o [] = (b, refl)
-members_stand b o (p ∷ ps) =
-    let s : ExpectedTokens = record { turn = at_key b; opened = object ∷ o } in let m = stand_after s (key_token p.0) in
-    let r = members_stand false o ps in (r.0, stand_append m (tree_given p.1) (all_pairs ps) ∙ ap (λ r. stand_all r (all_pairs ps)) (tree_stand m p.1) ∙ r.1)
+pub members_stand : (c : List Kind) (ps : List (List ℕ × Tree)) → after_tokens (within (object ∷ c)) (given_tokens (all_pairs ps)) ≡ within (object ∷ c)
+members_stand c [] = refl
+members_stand c (p ∷ ps) =
+    let s = after_token (within (object ∷ c)) (key_token p.0) in then_to s (within (object ∷ c)) (tree_given p.1) (all_pairs ps) (tree_stand s p.1) ∙ members_stand c ps

@@ -1,19 +1,20 @@
 -- A tree, given in turn.
-use Rattle.std.proofs.Common.{◌≡◌, ℕ, zero, suc, ◌+◌, ◌≤◌, List, [], ◌∷◌, ◌++◌, length, take, drop, map, Option, Some, None, Ok, Err, Result, refl, sym, ap, ap₂, subst, ◌∙◌, arith, append_assoc, append-nil, slice_get, IfSome, true}
+use Rattle.std.proofs.Common.{◌≡◌, ℕ, zero, suc, ◌+◌, ◌≤◌, List, [], ◌∷◌, ◌++◌, length, take, drop, map, Option, Some, None, Ok, Err, Result, refl, sym, ap, ap₂, subst, ◌∙◌, arith, append_assoc, append-nil, slice_get, IfSome}
 use Rattle.json_grammar.specs.declared.Kind.TheVariants.{Array as array, Object as object}
 use Rattle.json_grammar.specs.Tree.{Tree, null, boolean, num, text, list, pairs, Trees, Pairs, trees_list, pairs_list, list_trees, list_pairs, begin, end, key_token}
+use Rattle.json_grammar.specs.TokenStates.{TokenState, after_token, ValueMayCome, NameMayCome, EndMayCome}
 use Rattle.json_grammar.specs.Sizes.{nodes, trees_nodes, pairs_nodes}
 use Rattle.json_io.specs.declared.error.Error.{Error}
 use Rattle.json_doc.specs.Readings.{object_keys, values, children}
 use Rattle.std.proofs.lemmas.List.{take_all, length-map}
 use Rattle.json_print.specs.Given.{TokenOrInteger, given, token_of}
-use Rattle.json_print.specs.Standing.{ExpectedTokens, stand_after, TurnTakesValue, TurnTakesKey, TurnTakesEnd}
+use Rattle.json_print.proofs.Taking.{stand_moves}
 use Rattle.json_print.specs.Taking.{after_all, StopsAmong, Takes}
 use Rattle.json_doc_print.specs.Readings.{members}
 use Rattle.json_doc_print.specs.Emitting.{Emits, tree_given, trees_given, pairs_given}
 use Rattle.json_doc.proofs.Trees.{list_back}
 use Rattle.json_doc_print.proofs.Trees.{pairs_back}
-use Rattle.json_doc_print.proofs.TokenStands.{after_append, stand_moves, all_given, all_pairs, elements_stand, members_stand}
+use Rattle.json_doc_print.proofs.TokenStands.{after_append, all_given, all_pairs, elements_stand, members_stand}
 
 -- ---- one
 
@@ -193,12 +194,12 @@ pub array_whole : (ts : List Tree) (n : ℕ) → length ts ≤ n → tree_given 
 array_whole ts n l = array_given ts ∙ ap (λ o. given (begin array) ∷ (all_given o ++ given (end array) ∷ [])) (sym (take_all n ts l))
 
 -- an element or the end may come behind some elements
-pub array_stand : {S : Type 0} (after : S → TokenOrInteger → S) (stand : S → ExpectedTokens) → ((s : S) (g : TokenOrInteger) → stand (after s g) ≡ stand_after (stand s) (token_of g)) → (first now : S) (ts : List Tree) (i : ℕ) → now ≡ after_all after first (array_front ts i)
-    → TurnTakesValue (stand now).turn × TurnTakesEnd (stand now).turn array
+pub array_stand : {S : Type 0} (after : S → TokenOrInteger → S) (stand : S → TokenState) → ((s : S) (g : TokenOrInteger) → stand (after s g) ≡ after_token (stand s) (token_of g)) → (first now : S) (ts : List Tree) (i : ℕ) → now ≡ after_all after first (array_front ts i)
+    → ValueMayCome (stand now).expected × EndMayCome (stand now).expected array
 array_stand after stand moves first now ts i e =
-    let o = (stand first).opened in let r = elements_stand true o (take i ts) in
-    let s = ap stand e ∙ stand_moves after stand moves first (array_front ts i) ∙ r.1 in
-    (subst (λ z. TurnTakesValue z.turn) (sym s) tt, subst (λ z. TurnTakesEnd z.turn array) (sym s) tt)
+    let o = (stand first).opened in let r = elements_stand o (take i ts) in
+    let s = ap stand e ∙ stand_moves after stand moves first (array_front ts i) ∙ r in
+    (subst (λ (z : TokenState). ValueMayCome z.expected) (sym s) tt, subst (λ (z : TokenState). EndMayCome z.expected array) (sym s) tt)
 
 -- one element more was given
 pub array_step : {S : Type 0} (after : S → TokenOrInteger → S) (first now new : S) (ts : List Tree) (i : ℕ) (u : Tree) → now ≡ after_all after first (array_front ts i) → new ≡ after_all after now (tree_given u) → slice_get ts i ≡ Some u
@@ -249,16 +250,16 @@ pub object_whole : (ps : List (List ℕ × Tree)) (n : ℕ) → length ps ≤ n 
 object_whole ps n l = object_given ps ∙ ap (λ o. given (begin object) ∷ (all_pairs o ++ given (end object) ∷ [])) (sym (take_all n ps l))
 
 -- a name or the end may come behind some members
-pub object_stand : {S : Type 0} (after : S → TokenOrInteger → S) (stand : S → ExpectedTokens) → ((s : S) (g : TokenOrInteger) → stand (after s g) ≡ stand_after (stand s) (token_of g)) → (first now : S) (ps : List (List ℕ × Tree)) (i : ℕ) → now ≡ after_all after first (object_front ps i)
-    → TurnTakesKey (stand now).turn × TurnTakesEnd (stand now).turn object
+pub object_stand : {S : Type 0} (after : S → TokenOrInteger → S) (stand : S → TokenState) → ((s : S) (g : TokenOrInteger) → stand (after s g) ≡ after_token (stand s) (token_of g)) → (first now : S) (ps : List (List ℕ × Tree)) (i : ℕ) → now ≡ after_all after first (object_front ps i)
+    → NameMayCome (stand now).expected × EndMayCome (stand now).expected object
 object_stand after stand moves first now ps i e =
-    let o = (stand first).opened in let r = members_stand true o (take i ps) in
-    let s = ap stand e ∙ stand_moves after stand moves first (object_front ps i) ∙ r.1 in
-    (subst (λ z. TurnTakesKey z.turn) (sym s) tt, subst (λ z. TurnTakesEnd z.turn object) (sym s) tt)
+    let o = (stand first).opened in let r = members_stand o (take i ps) in
+    let s = ap stand e ∙ stand_moves after stand moves first (object_front ps i) ∙ r in
+    (subst (λ (z : TokenState). NameMayCome z.expected) (sym s) tt, subst (λ (z : TokenState). EndMayCome z.expected object) (sym s) tt)
 
 -- a value may come behind a name
-pub member_stand : {S : Type 0} (after : S → TokenOrInteger → S) (stand : S → ExpectedTokens) → ((s : S) (g : TokenOrInteger) → stand (after s g) ≡ stand_after (stand s) (token_of g)) → (now new : S) (k : List ℕ) → new ≡ after now (given (key_token k)) → TurnTakesValue (stand new).turn
-member_stand after stand moves now new k e = subst (λ z. TurnTakesValue z.turn) (sym (ap stand e ∙ moves now (given (key_token k)))) tt
+pub member_stand : {S : Type 0} (after : S → TokenOrInteger → S) (stand : S → TokenState) → ((s : S) (g : TokenOrInteger) → stand (after s g) ≡ after_token (stand s) (token_of g)) → (now new : S) (k : List ℕ) → new ≡ after now (given (key_token k)) → ValueMayCome (stand new).expected
+member_stand after stand moves now new k e = subst (λ (z : TokenState). ValueMayCome z.expected) (sym (ap stand e ∙ moves now (given (key_token k)))) tt
 
 -- one member more was given
 pub object_step : {S : Type 0} (after : S → TokenOrInteger → S) (first now mid new : S) (ps : List (List ℕ × Tree)) (i : ℕ) (k : List ℕ) (u : Tree) → now ≡ after_all after first (object_front ps i) → mid ≡ after now (given (key_token k))

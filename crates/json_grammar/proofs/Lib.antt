@@ -51,3 +51,5 @@ pub mod RulesValueFault
 pub mod RulesTable
 pub mod RulesReader
 pub mod NeedsNames
+pub mod TokenStates
+pub mod TokenPrefixes

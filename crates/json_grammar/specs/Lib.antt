@@ -1,6 +1,7 @@
 pub mod Tree
 pub mod Grammar
 pub mod Place
+pub mod TokenStates
 pub mod Lexeme
 pub mod Levels
 pub mod Proper
@@ -15,6 +16,8 @@ pub mod Laws
 pub mod ReaderLaws
 pub mod RulesLaws
 pub mod RulesReaderLaws
+pub mod TokenLaws
 pub mod NumberStates
 pub mod Examples
 pub mod RulesExamples
+pub mod TokenExamples

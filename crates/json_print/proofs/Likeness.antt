@@ -9,7 +9,7 @@ use Rattle.json_print.specs.declared.events.Turn.{Turn}
 use Rattle.json_print.specs.declared.events.Turn.TheVariants.{Value as at_value, Element as at_element, Key as at_key, Member as at_member, Done as at_done}
 use Rattle.json_print.specs.Calls.{Call, null_call, boolean_call, number_call, string_call, begin_call, end_call, begin_element, end_element, begin_key, end_key, begin_member, end_member, piece_of, level_after, flag_after}
 use Rattle.json_print.specs.Layouts.{Form, LaidOut}
-use Rattle.json_print.specs.Standing.{stand_after}
+use Rattle.json_grammar.specs.TokenStates.{after_token}
 use Rattle.json_print.specs.Stands.{after_stands}
 use Rattle.json_print.specs.Taking.{after_all}
 use Rattle.json_print.specs.Printer.{Out, MemberText, after, put, gained_put, layers_put, call, lead_in, follow_on, value_begun, value_ended, turned, filed, key_put, took_scalar, took_end, took_key, row_put, rows_put, rows_sorted, top_rows, below, emptied, is_first, expected_tokens_of}
@@ -138,7 +138,7 @@ module _ {F : Type 0} (m : Form F) (i : Option (List ℕ)) where
   abbrev most : ℕ
   most = 2 ^ 64 - 1
 
-  after_opened : (s : Out F) (t : Token) → (after m s t).opened ≡ (stand_after (expected_tokens_of s) t).opened
+  after_opened : (s : Out F) (t : Token) → (after m s t).opened ≡ (after_token (expected_tokens_of s) t).opened
   after_opened s t = ap (λ z. z.opened) (after_stands m s t)
 
   shorter : (c : List Kind) → length c - 1 ≡ length (outside c)

@@ -4,6 +4,7 @@ use Rattle.json_grammar.specs.declared.Kind.{Kind}
 use Rattle.json_grammar.specs.Tree.{Token, null_token, boolean_token, num_token, text_token, begin, end, key_token}
 use Rattle.json_grammar.specs.declared.Kind.TheVariants.{Array as array, Object as object}
 use Rattle.json_grammar.specs.Place.{outside}
+use Rattle.json_grammar.specs.TokenStates.{TokenState}
 use Rattle.json_model.specs.Sort.{bytes_less}
 use Rattle.json_io.specs.declared.error.Error.{Error}
 use Rattle.json_io.specs.Errors.{writing_failed}
@@ -15,7 +16,7 @@ use Rattle.json_print.specs.declared.events.Turn.TheVariants.{Value as at_value,
 use Rattle.json_print.specs.Calls.{Call, null_call, boolean_call, number_call, string_call, begin_call, end_call, begin_element, end_element, begin_key, end_key, begin_member, end_member}
 use Rattle.json_print.specs.Given.{TokenOrInteger, token_of}
 use Rattle.json_print.specs.Layouts.{Form}
-use Rattle.json_print.specs.Standing.{ExpectedTokens, first_turn}
+use Rattle.json_print.specs.Standing.{expected_at_turn, first_turn}
 
 -- a pair of a sorted object, with the text of its value
 pub record MemberText : Type 0 where
@@ -205,8 +206,8 @@ after m s (begin k) = took_begin m s k
 after m s (end k) = took_end m s k
 after m s (key_token k) = took_key m s k
 
-abbrev pub expected_tokens_of : {F : Type 0} → Out F → ExpectedTokens
-expected_tokens_of s = record { turn = s.turn; opened = s.opened }
+abbrev pub expected_tokens_of : {F : Type 0} → Out F → TokenState
+expected_tokens_of s = record { opened = s.opened; expected = expected_at_turn s.turn }
 
 -- ---- refusals
 

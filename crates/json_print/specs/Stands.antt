@@ -8,7 +8,7 @@ use Rattle.json_grammar.specs.Place.{outside}
 use Rattle.json_print.specs.declared.events.Turn.{Turn}
 use Rattle.json_print.specs.declared.events.Turn.TheVariants.{Value as at_value, Element as at_element, Key as at_key, Member as at_member, Done as at_done}
 use Rattle.json_print.specs.Calls.{Call, null_call, boolean_call, number_call, string_call, begin_member}
-use Rattle.json_print.specs.Standing.{ExpectedTokens, stand_after, turn_after_value, first_turn}
+use Rattle.json_grammar.specs.TokenStates.{TokenState, a_value, name_or_end, expected_in, within, after_token}
 use Rattle.json_print.specs.Layouts.{Form}
 use Rattle.json_print.specs.Printer.{Out, MemberText, after, expected_tokens_of, call, lead_in, follow_on, value_begun, took_scalar, rows_put, row_put, emptied, rows_sorted, top_rows}
 
@@ -23,14 +23,10 @@ lead_opened m s (at_key first) = refl
 lead_opened m s at_member = one_of s.sorts s (call m s begin_member) s.opened refl refl
 lead_opened m s at_done = refl
 
-follow_stand : {F : Type 0} (m : Form F) (s : Out F) (c : List Kind) → expected_tokens_of (follow_on m s c) ≡ record { turn = turn_after_value c; opened = s.opened }
+follow_stand : {F : Type 0} (m : Form F) (s : Out F) (c : List Kind) → expected_tokens_of (follow_on m s c) ≡ record { opened = s.opened; expected = expected_in c }
 follow_stand m s [] = refl
 follow_stand m s (array ∷ c) = refl
-follow_stand {F = F} m s (object ∷ c) = by s.sorts _ _ refl refl
-  where
-    by : (b : Bool) (x y : Out F) → x.opened ≡ s.opened → y.opened ≡ s.opened → ◌≡◌ {A = ExpectedTokens} (record { turn = at_key false; opened = (cond b x y).opened }) (record { turn = at_key false; opened = s.opened })
-    by true x y p q = ap (λ (o : List Kind). let r : ExpectedTokens = record { turn = at_key false; opened = o } in r) p
-    by false x y p q = ap (λ (o : List Kind). let r : ExpectedTokens = record { turn = at_key false; opened = o } in r) q
+follow_stand m s (object ∷ c) = ap (λ (o : List Kind). let r : TokenState = record { opened = o; expected = name_or_end } in r) (one_of s.sorts _ _ s.opened refl refl)
 
 rows_opened : {F : Type 0} (m : Form F) (rows : List MemberText) (s : Out F) (first : Bool) → (rows_put m s first rows).opened ≡ s.opened
 rows_opened m [] s first = refl
@@ -40,17 +36,15 @@ emptied_opened : {F : Type 0} (m : Form F) (s : Out F) (k : Kind) → (emptied m
 emptied_opened m s array = refl
 emptied_opened m s object = one_of s.sorts _ s s.opened (rows_opened m (rows_sorted (top_rows s.layers)) _ true) refl
 
-abbrev stands : List Kind → ExpectedTokens
-stands o = record { turn = turn_after_value o; opened = o }
+scalar_stand : {F : Type 0} (m : Form F) (s : Out F) (c : Call) → expected_tokens_of (took_scalar m s c) ≡ within s.opened
+scalar_stand m s c = follow_stand m (call m (value_begun m s) c) (value_begun m s).opened ∙ ap within (lead_opened m s s.turn)
 
-scalar_stand : {F : Type 0} (m : Form F) (s : Out F) (c : Call) → expected_tokens_of (took_scalar m s c) ≡ stands s.opened
-scalar_stand m s c = follow_stand m (call m (value_begun m s) c) (value_begun m s).opened ∙ ap stands (lead_opened m s s.turn)
-
-pub after_stands : {F : Type 0} (m : Form F) (s : Out F) (t : Token) → expected_tokens_of (after m s t) ≡ stand_after (expected_tokens_of s) t
+pub after_stands : {F : Type 0} (m : Form F) (s : Out F) (t : Token) → expected_tokens_of (after m s t) ≡ after_token (expected_tokens_of s) t
 after_stands m s null_token = scalar_stand m s null_call
 after_stands m s (boolean_token b) = scalar_stand m s (boolean_call b)
 after_stands m s (num_token l) = scalar_stand m s (number_call l)
 after_stands m s (text_token t) = scalar_stand m s (string_call true t)
-after_stands m s (begin k) = ap (λ (o : List Kind). let r : ExpectedTokens = record { turn = first_turn k; opened = k ∷ o } in r) (lead_opened m s s.turn)
-after_stands m s (end k) = follow_stand m _ (outside (emptied m s k).opened) ∙ ap (λ o. stands (outside o)) (emptied_opened m s k)
-after_stands m s (key_token k) = ap (λ (o : List Kind). let r : ExpectedTokens = record { turn = at_member; opened = o } in r) (one_of s.sorts _ _ s.opened refl refl)
+after_stands m s (begin array) = ap (λ (o : List Kind). within (array ∷ o)) (lead_opened m s s.turn)
+after_stands m s (begin object) = ap (λ (o : List Kind). within (object ∷ o)) (lead_opened m s s.turn)
+after_stands m s (end k) = follow_stand m _ (outside (emptied m s k).opened) ∙ ap (λ (o : List Kind). within (outside o)) (emptied_opened m s k)
+after_stands m s (key_token k) = ap (λ (o : List Kind). let r : TokenState = record { opened = o; expected = a_value } in r) (one_of s.sorts _ _ s.opened refl refl)

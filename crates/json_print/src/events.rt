@@ -2,11 +2,11 @@
 ghost use Rattle.std.specs.Prelude.{◌≡◌, List, Option, None, pos};
 ghost use Rattle.std.specs.Fmt.{decimal, signed_decimal};
 ghost use Rattle.json_grammar.specs.Grammar.{number};
+ghost use Rattle.json_grammar.specs.TokenStates.{TokenState, MayCome, after_token};
 ghost use Rattle.json_grammar.specs.Tree.{Token, null_token, boolean_token, num_token, text_token, begin, end, key_token};
 ghost use Rattle.json_grammar.specs.declared.Kind.TheVariants.{Array as array, Object as object};
 ghost use Rattle.json_io.specs.declared.error.Error.{Error};
 ghost use Rattle.json_print.specs.Given.{TokenOrInteger, given, given_integer, token_of};
-ghost use Rattle.json_print.specs.Standing.{ExpectedTokens, MayCome, stand_after};
 ghost use Rattle.json_print.specs.Taking.{Takes};
 
 use json_io::Result;
@@ -60,7 +60,7 @@ pub trait Events {
     ghost after: { State → TokenOrInteger → State };
 
     /// What may come.
-    ghost stand: { State → ExpectedTokens };
+    ghost stand: { State → TokenState };
 
     /// What a call that meets an error at what is given may leave.
     ghost stopped: { State → TokenOrInteger → State → Error → Type 0 };
@@ -149,5 +149,5 @@ pub trait Events {
 
     /// What may come moves as in the tokens of a tree.
     ghost moves: { (s : State) (g : TokenOrInteger)
-        → stand (after s g) ≡ stand_after (stand s) (token_of g) };
+        → stand (after s g) ≡ after_token (stand s) (token_of g) };
 }

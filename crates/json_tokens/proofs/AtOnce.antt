@@ -1,5 +1,5 @@
 -- A token that is taken where it is found at once.
-use Rattle.std.proofs.Common.{◌≡◌, ◌≢◌, ◌∙◌, ◌-◌, ◌^◌, ◌<◌, ◌≤◌, ℕ, pos, Bool, List, [], ◌∷◌, ◌++◌, length, get_or, drop, true, Option, Some, None, refl, ap, sym, subst, arith, length-take, length-drop}
+use Rattle.std.proofs.Common.{◌≡◌, ◌≢◌, ◌∙◌, ◌-◌, ◌^◌, ◌<◌, ◌≤◌, ℕ, Bool, List, [], ◌∷◌, ◌++◌, length, get_or, drop, true, Option, Some, None, refl, ap, sym, subst, arith, length-take, length-drop}
 use Rattle.std.proofs.lemmas.Bool.{and_parts}
 use Rattle.std.specs.Char.{is_ascii_digit}
 use Rattle.std.specs.Str.{all_ascii_digits}
@@ -16,7 +16,7 @@ use Rattle.json_text.specs.Events.{Means}
 use Rattle.json_text.specs.Parsing.{ParserState, HasGiven, SameInput, Goes, IsTight, IsWhole, HasRead}
 use Rattle.json_text.specs.Tokens.{begin_event, end_event}
 use Rattle.json_text.proofs.Bracketed.{begin_is_event, end_is_event}
-use Rattle.json_tokens.specs.Spots.{over}
+use Rattle.json_grammar.specs.TokenStates.{within}
 use Rattle.json_tokens.specs.Stand.{NotWhole, Peeks, TakesOne, TakesTree, TakesInteger, TakesNegative, TakesText, TakesKeyPiece}
 use Rattle.json_tokens.specs.Text.{TextTokensState, TakenBefore, spot_before, text_taken, text_tokens_state, event_kind, ReadsAhead, IsReading}
 use Rattle.json_tokens.proofs.Digits.{plain_integer, negative_integer}
@@ -74,7 +74,7 @@ module _ (a : TextTokensState) (p : ParserState) (o : Option Event) (f : Option 
   unwaiting = ap (λ (t : TextTokensState). t.ahead) seen ∙ none
 
   pub clear_inside : NotWhole (text_tokens_state a) → ¬ (IsWhole p)
-  clear_inside h = λ w. h (subst (λ (t : TextTokensState). (text_tokens_state t).spot ≡ over) seen (subst (λ (u : Option Event). spot_before u p ≡ over) (sym unwaiting) (whole_over p w)))
+  clear_inside h = λ w. h (subst (λ (t : TextTokensState). (text_tokens_state t).spot ≡ within []) seen (subst (λ (u : Option Event). spot_before u p ≡ within []) (sym unwaiting) (whole_over p w)))
 
   -- it goes on behind an event
   pub clear_reading : (q : ParserState) (e : Event) → a.failed ≡ None → IsReading (record { parser = p; ahead = o; failed = f })

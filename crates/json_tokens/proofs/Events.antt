@@ -1,9 +1,6 @@
 -- One event more.
-use Rattle.std.proofs.Common.{◌≡◌, ◌≢◌, ◌≤◌, ◌∙◌, List, [], ◌∷◌, ◌++◌, length, take, true, None, refl, sym, ap, subst, arith}
-use Rattle.json_grammar.specs.declared.Kind.{Kind}
-use Rattle.json_grammar.specs.declared.Kind.TheVariants.{Array as array, Object as object}
+use Rattle.std.proofs.Common.{◌≡◌, ◌≢◌, ◌≤◌, ◌∙◌, List, [], ◌∷◌, ◌++◌, length, take, None, refl, sym, ap, subst}
 use Rattle.json_grammar.specs.declared.Spot.{Spot as Place}
-use Rattle.json_grammar.specs.declared.Spot.TheVariants.{Value as at_value, First as first, Key as at_key, KeyOrEnd as key_or_close, Colon as colon, Done as done}
 use Rattle.json_grammar.specs.Tree.{Tree, Token as Tok, num_token, tokens}
 use Rattle.json_text.specs.declared.event.Event.{Event}
 use Rattle.json_text.specs.declared.event.Event.TheVariants as event
@@ -13,21 +10,24 @@ use Rattle.json_text.proofs.Stands.{stood_at}
 use Rattle.json_grammar.specs.Place.{reading}
 use Rattle.json_tokens.specs.declared.token.TokenKind.{TokenKind}
 use Rattle.json_tokens.specs.Kinds.{kind_of}
-use Rattle.json_tokens.specs.Spots.{Spot, top, over, spot_after_all, spot_after, opened_of, may_come, KindMayCome}
-use Rattle.json_tokens.specs.Text.{event_kind, parser_spot, spot_at_place, before, ReadsAhead, IsReading}
+use Rattle.json_grammar.specs.TokenStates.{TokenState, a_value, nothing, at_start, within, after_token, after_tokens, MayCome, Accepts, state_at}
+use Rattle.json_tokens.specs.Spots.{KindMayCome}
+use Rattle.json_tokens.specs.Text.{event_kind, parser_spot, before, ReadsAhead, IsReading}
 use Rattle.json_grammar.proofs.Numeric.{last_number}
-use Rattle.json_tokens.proofs.Places.{at_spot, comes, allowed_last, after_append, after_tree, opened_spot, before_after}
+use Rattle.json_grammar.proofs.TokenStates.{after_append, after_tree, accepts_front, accepts_back, place_state, place_accepts, whole_place}
+use Rattle.std.proofs.lemmas.List.{nil_from_length}
+use Rattle.json_tokens.proofs.Places.{kind_may, reached, before_after}
 use Rattle.json_doc.specs.Reading.{EventIsNumber}
 
 pub given_reading : (p : ParserState) (ts : List Tok) → HasGiven p ts → reading p.lossy (take (taken p) (input p)) p.open_kinds p.spot ts
 given_reading p ts h = stood_at p.lossy p.limit (input p) (taken p) p.open_kinds p.spot ts h
 
-pub place_is : (p : ParserState) (ts : List Tok) → HasGiven p ts → parser_spot p ≡ spot_after_all top ts
-place_is p ts h = at_spot (given_reading p ts h)
+pub place_is : (p : ParserState) (ts : List Tok) → HasGiven p ts → parser_spot p ≡ after_tokens at_start ts
+place_is p ts h = sym (place_state (given_reading p ts h))
 
 -- behind the tokens of a tree nothing may come
-pub tree_over : (p : ParserState) (ts : List Tok) (t : Tree) → HasGiven p ts → ts ≡ tokens t → parser_spot p ≡ over
-tree_over p ts t h e = place_is p ts h ∙ ap (spot_after_all top) e ∙ after_tree top t
+pub tree_over : (p : ParserState) (ts : List Tok) (t : Tree) → HasGiven p ts → ts ≡ tokens t → parser_spot p ≡ within []
+tree_over p ts t h e = place_is p ts h ∙ ap (after_tokens at_start) e ∙ after_tree at_start t
 
 goes : (old new : ParserState) (e : Event) → e ≢ event.End → Goes old e new → (ts : List Tok) → HasGiven old ts → (x : Tok) × Means e x × HasGiven new (ts ++ x ∷ [])
 goes old new event.Null n g = g
@@ -78,56 +78,40 @@ event_number p event.BeginObject ts x m h = tt
 event_number p event.EndObject ts x m h = tt
 event_number p event.End ts x m h = tt
 
--- the spot before the last token
-pub spot_back : (p : ParserState) (e : Event) (ts : List Tok) (x : Tok) → Means e x → HasGiven p (ts ++ x ∷ []) → before (event_kind e) p.open_kinds ≡ spot_after_all top ts
+-- the last token may come
+last_may : (p : ParserState) (ts : List Tok) (x : Tok) → HasGiven p (ts ++ x ∷ []) → Accepts at_start ts × MayCome (after_tokens at_start ts) x
+last_may p ts x h = let a = place_accepts (given_reading p (ts ++ x ∷ []) h) in (accepts_front at_start ts (x ∷ []) a, (accepts_back at_start ts (x ∷ []) a).0)
+
+-- the state before the last token
+pub spot_back : (p : ParserState) (e : Event) (ts : List Tok) (x : Tok) → Means e x → HasGiven p (ts ++ x ∷ []) → before (event_kind e) p.open_kinds ≡ after_tokens at_start ts
 spot_back p e ts x m h =
-    let q = spot_after_all top ts in
-    let a : parser_spot p ≡ spot_after q x = place_is p (ts ++ x ∷ []) h ∙ after_append top ts (x ∷ []) in
-    let c : p.open_kinds ≡ opened_of (spot_after q x) = sym (opened_spot p.spot p.open_kinds) ∙ ap opened_of a in
-    let f : may_come q (kind_of x) ≡ true = allowed_last top ts x (comes (given_reading p (ts ++ x ∷ []) h)) in
-    ap (λ (k : TokenKind). before k p.open_kinds) (sym (same_kind e x m)) ∙ ap (before (kind_of x)) c ∙ before_after q x f
+    let q = after_tokens at_start ts in
+    let a : parser_spot p ≡ after_token q x = place_is p (ts ++ x ∷ []) h ∙ after_append at_start ts (x ∷ []) in
+    let f = last_may p ts x h in
+    ap (λ (k : TokenKind). before k p.open_kinds) (sym (same_kind e x m)) ∙ ap (λ (z : TokenState). before (kind_of x) z.opened) a ∙ before_after q x (reached ts f.0) f.1
 
 pub reads_ahead : (old new : ParserState) (e : Event) (ts : List Tok) → HasGiven old ts → e ≢ event.End → SameInput old new → Goes old e new → IsTight old e new → new.failure ≡ None → ReadsAhead old e new
 reads_ahead old new e ts h n s g t f =
     let r = goes old new e n g ts h in
     let k = tight old new e n t in
-    let q = spot_after_all top ts in
+    let q = after_tokens at_start ts in
     record {
       same = s;
       goes = goes old new e n g;
       forward = k.forward;
       inside = k.within;
       spot = spot_back new e ts r.0 r.1 r.2 ∙ sym (place_is old ts h);
-      may = subst (λ (p : Spot). KindMayCome p (event_kind e)) (sym (place_is old ts h)) (subst (λ (j : TokenKind). KindMayCome q j) (same_kind e r.0 r.1) (allowed_last top ts r.0 (comes (given_reading new (ts ++ r.0 ∷ []) r.2))));
+      may = subst (λ (p : TokenState). KindMayCome p (event_kind e)) (sym (place_is old ts h)) (subst (λ (j : TokenKind). KindMayCome q j) (same_kind e r.0 r.1) (kind_may q r.0 (last_may new ts r.0 r.2).1));
       fresh = f;
     }
 
 -- where a value was read and nothing is open
-pub whole_over : (p : ParserState) → IsWhole p → parser_spot p ≡ over
-whole_over p (e, l) = ap (λ (w : Place). spot_at_place w p.open_kinds) e ∙ ap (spot_at_place done) (empty p.open_kinds l)
-  where
-    empty : (c : List Kind) → length c ≡ 0 → c ≡ []
-    empty [] l = refl
-    empty (k ∷ c) l = absurd (omega arith)
+pub whole_over : (p : ParserState) → IsWhole p → parser_spot p ≡ within []
+whole_over p (e, l) = ap (λ (w : Place). state_at w p.open_kinds) e ∙ ap within (nil_from_length p.open_kinds l)
 
 -- and the other way round
-pub over_whole : (p : ParserState) → parser_spot p ≡ over → IsWhole p
-over_whole p e = by p.spot p.open_kinds e
-  where
-    by : (w : Place) (c : List Kind) → spot_at_place w c ≡ over → (w ≡ done) × (length c ≡ 0)
-    by done [] e = (refl, refl)
-    by at_value [] e = absurd (cc)
-    by first [] e = absurd (cc)
-    by at_key [] e = absurd (cc)
-    by key_or_close [] e = absurd (cc)
-    by colon [] e = absurd (cc)
-    by w (array ∷ c) e = absurd (cc)
-    by at_value (object ∷ c) e = absurd (cc)
-    by first (object ∷ c) e = absurd (cc)
-    by at_key (object ∷ c) e = absurd (cc)
-    by key_or_close (object ∷ c) e = absurd (cc)
-    by colon (object ∷ c) e = absurd (cc)
-    by done (object ∷ c) e = absurd (cc)
+pub over_whole : (p : ParserState) → parser_spot p ≡ within [] → IsWhole p
+over_whole p e = let h = whole_place p.spot p.open_kinds (ap (λ (s : TokenState). s.expected) e) in (h.0, ap length h.1)
 
 -- a parser that has given nothing has read no value
 pub fresh_reading : (p : ParserState) → HasGiven p [] → p.failure ≡ None → p.start ≤ p.index → IsReading (record { parser = p; ahead = None; failed = None })
@@ -136,5 +120,5 @@ fresh_reading p h f o = record {
   failed = tt;
   fresh = λ e. f;
   order = o;
-  read = λ w. absurd (let e : top ≡ over = sym (place_is p [] h) ∙ whole_over p w in cc);
+  read = λ w. absurd (let e : a_value ≡ nothing = ap (λ (s : TokenState). s.expected) (sym (place_is p [] h) ∙ whole_over p w) in cc);
 }

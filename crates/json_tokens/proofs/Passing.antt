@@ -8,18 +8,23 @@ use Rattle.json_number.specs.Integers.{integer_in}
 use Rattle.json_tokens.specs.declared.token.TokenKind.{TokenKind}
 use Rattle.json_tokens.specs.declared.token.TokenKind.TheVariants as kind
 use Rattle.json_tokens.specs.Kinds.{kind_of, first_kind, number_kind}
-use Rattle.json_tokens.specs.Spots.{Spot, top, over, element, key_or_end, member, behind_value, around, spot_after, KindMayCome, begins_value, IsOpen}
-use Rattle.json_tokens.specs.Stand.{TokensState, TakesTokens, Peeks, TakesTree, TakesOne, Leaves, Rest, FirstIs, WantsValueAt}
+use Rattle.json_grammar.specs.TokenStates.{TokenState, Expected, a_value, element_or_end, name_or_end, nothing, within, after_value, after_token, NameMayCome, EndMayCome}
+use Rattle.json_tokens.specs.Spots.{around, KindMayCome, begins_value, IsWithin, IsOpen}
+use Rattle.json_tokens.specs.Stand.{TokensState, TakesTokens, Peeks, TakesTree, TakesOne, Leaves, Rest, RestAt, FirstIs, ToldValue, WantsAt, WantsValueAt}
 use Rattle.json_tokens.proofs.Steps.{joins, scalar}
 
--- from p the tokens lead to a spot in the same container
-pub data Passing (p : Spot) : List Tok → Spot → Type 0 where
-  here : Passing p [] p
-  one_element : {xs : List Tok} {c : List Kind} → Passing p xs (element c) → (t : Tree) → Passing p (xs ++ tokens t) (element c)
-  one_key : {xs : List Tok} {c : List Kind} → Passing p xs (key_or_end c) → (k : List ℕ) → Passing p (xs ++ key_token k ∷ []) (member c)
-  one_member : {xs : List Tok} {c : List Kind} → Passing p xs (member c) → (t : Tree) → Passing p (xs ++ tokens t) (key_or_end c)
+-- in an object, after a name
+abbrev pub named : List Kind → TokenState
+named c = record { opened = object ∷ c; expected = a_value }
 
-pub rest_of : {p : Spot} {xs : List Tok} {q : Spot} → Passing p xs q → (ys : List Tok) → Rest q ys → Rest p (xs ++ ys)
+-- from p the tokens lead to a state in the same container
+pub data Passing (p : TokenState) : List Tok → TokenState → Type 0 where
+  here : Passing p [] p
+  one_element : {xs : List Tok} {c : List Kind} → Passing p xs (within (array ∷ c)) → (t : Tree) → Passing p (xs ++ tokens t) (within (array ∷ c))
+  one_key : {xs : List Tok} {c : List Kind} → Passing p xs (within (object ∷ c)) → (k : List ℕ) → Passing p (xs ++ key_token k ∷ []) (named c)
+  one_member : {xs : List Tok} {c : List Kind} → Passing p xs (named c) → (t : Tree) → Passing p (xs ++ tokens t) (within (object ∷ c))
+
+pub rest_of : {p : TokenState} {xs : List Tok} {q : TokenState} → Passing p xs q → (ys : List Tok) → Rest q ys → Rest p (xs ++ ys)
 rest_of here ys r = r
 rest_of {p} (one_element {xs = xs} h t) ys (ts, e) =
     subst (Rest p) (sym (append_assoc xs (tokens t) ys))
@@ -30,7 +35,7 @@ rest_of {p} (one_member {xs = xs} h t) ys (ps, e) =
     subst (Rest p) (sym (append_assoc xs (tokens t) ys))
     (rest_of h (tokens t ++ ys) (t, ps, ap (λ (zs : List Tok). tokens t ++ zs) e ∙ sym (append_assoc (tokens t) (pairs_tokens ps) (end object ∷ []))))
 
-around_same : {p : Spot} {xs : List Tok} {q : Spot} → Passing p xs q → around q ≡ around p
+around_same : {p : TokenState} {xs : List Tok} {q : TokenState} → Passing p xs q → around q ≡ around p
 around_same here = refl
 around_same (one_element h t) = around_same h
 around_same (one_key h k) = around_same h
@@ -72,7 +77,7 @@ peek_one {taken = taken} {stand = stand} {a = a} {b = b} {c = c} {k = k} {x = x}
     let m = r.moves in (
       record {
         takes = joins z r.takes;
-        moves = record { input = m.input ∙ h.input; spot = m.spot ∙ ap (λ (p : Spot). spot_after p x) h.spot; told = m.told; left = omega (arith, h.left, m.left) };
+        moves = record { input = m.input ∙ h.input; spot = m.spot ∙ ap (λ (p : TokenState). after_token p x) h.spot; told = m.told; left = omega (arith, h.left, m.left) };
         as_told = record { may = subst (λ (i : TokenKind). KindMayCome (stand a).spot i) (sym e) h.may; told = λ i t. e ∙ h.again i t };
       },
       e,
@@ -106,28 +111,34 @@ value_first (text s) = (λ e. cc, λ e. cc)
 value_first (list ts) = (λ e. cc, λ e. cc)
 value_first (pairs ps) = (λ e. cc, λ e. cc)
 
-key_kinds : (c : List Kind) (k : TokenKind) → KindMayCome (key_or_end c) k → (k ≡ kind.Key) ⊎ (k ≡ kind.EndObject)
-key_kinds c kind.Key e = inl refl
-key_kinds c kind.EndObject e = inr refl
-key_kinds c kind.Null e = absurd (cc)
-key_kinds c kind.Bool e = absurd (cc)
-key_kinds c kind.Int e = absurd (cc)
-key_kinds c kind.Raw e = absurd (cc)
-key_kinds c kind.Text e = absurd (cc)
-key_kinds c kind.BeginArray e = absurd (cc)
-key_kinds c kind.EndArray e = absurd (cc)
-key_kinds c kind.BeginObject e = absurd (cc)
+key_kinds : (c : List Kind) (k : TokenKind) → KindMayCome (record { opened = c; expected = name_or_end }) k → (k ≡ kind.Key) ⊎ (k ≡ kind.EndObject)
+key_kinds c kind.Key m = inl refl
+key_kinds c kind.EndObject m = inr refl
+key_kinds c kind.Null m = absurd m
+key_kinds c kind.Bool m = absurd m
+key_kinds c kind.Int m = absurd m
+key_kinds c kind.Raw m = absurd m
+key_kinds c kind.Text m = absurd m
+key_kinds c kind.BeginArray m = absurd m
+key_kinds c kind.EndArray m = absurd m
+key_kinds c kind.BeginObject m = absurd m
 
-value_path : {p : Spot} {xs : List Tok} (q : Spot) → Passing p xs q → IsOpen q → (t : Tree) → KindMayCome q (first_kind t) → Passing p (xs ++ tokens t) (behind_value q) × IsOpen (behind_value q)
-value_path top h o t m = absurd o
-value_path over h o t m = absurd o
-value_path (element c) h o t m = (one_element h t, tt)
-value_path (key_or_end c) h o t m = absurd (no_value (key_kinds c (first_kind t) m))
+value_path : {p : TokenState} {xs : List Tok} (q : TokenState) → Passing p xs q → IsOpen q → (t : Tree) → KindMayCome q (first_kind t) → Passing p (xs ++ tokens t) (after_value q) × IsOpen (after_value q)
+value_path {p = p} {xs = xs} q h o t m = by q.expected q.opened h o m
   where
     no_value : (first_kind t ≡ kind.Key) ⊎ (first_kind t ≡ kind.EndObject) → ⊥
     no_value (inl e) = (value_first t).0 e
     no_value (inr e) = (value_first t).1 e
-value_path (member c) h o t m = (one_member h t, tt)
+
+    by : (e : Expected) (c : List Kind) → Passing p xs (record { opened = c; expected = e }) → IsWithin e c → KindMayCome (record { opened = c; expected = e }) (first_kind t) → Passing p (xs ++ tokens t) (within c) × IsOpen (within c)
+    by a_value [] h o m = absurd o
+    by a_value (array ∷ c) h o m = absurd o
+    by a_value (object ∷ c) h o m = (one_member h t, tt)
+    by element_or_end [] h o m = absurd o
+    by element_or_end (array ∷ c) h o m = (one_element h t, tt)
+    by element_or_end (object ∷ c) h o m = absurd o
+    by name_or_end c h o m = absurd (no_value (key_kinds c (first_kind t) m))
+    by nothing c h o m = absurd o
 
 -- a tree more
 pub passed_tree : {S : Type 0} {taken : S → List Tok → Type 0} {stand : S → TokensState} {a b c : S} {t : Tree} → Passed taken stand a b → TakesTree taken stand b c t → (stand c).failed ≡ None → Passed taken stand a c
@@ -136,7 +147,7 @@ passed_tree {taken = taken} {stand = stand} {a = a} {b = b} {c = c} {t = t} w r 
     let h = value_path (stand b).spot w.path w.open_there t r.as_told.may in
     record {
       xs = w.xs ++ tokens t;
-      path = subst (λ (q : Spot). Passing (stand a).spot (w.xs ++ tokens t) q) (sym m.spot) h.0;
+      path = subst (λ (q : TokenState). Passing (stand a).spot (w.xs ++ tokens t) q) (sym m.spot) h.0;
       open_there = subst IsOpen (sym m.spot) h.1;
       takes = joins w.takes r.takes;
       input = m.input ∙ w.input;
@@ -145,21 +156,25 @@ passed_tree {taken = taken} {stand = stand} {a = a} {b = b} {c = c} {t = t} w r 
       first = λ k e. first_more (w.xs ++ tokens t) (stand c).told k (first_append w.xs (tokens t) (stand b).told k (w.first k e) (λ f. subst (FirstIs (tokens t)) (r.as_told.told k f) (first_tree t)));
     }
 
-key_path : {p : Spot} {xs : List Tok} (q : Spot) → Passing p xs q → (s : List ℕ) → KindMayCome q kind.Key → Passing p (xs ++ key_token s ∷ []) (spot_after q (key_token s)) × IsOpen (spot_after q (key_token s))
-key_path top h s m = absurd (cc)
-key_path over h s m = absurd (cc)
-key_path (element c) h s m = absurd (cc)
-key_path (key_or_end c) h s m = (one_key h s, tt)
-key_path (member c) h s m = absurd (cc)
+key_path : {p : TokenState} {xs : List Tok} (q : TokenState) → Passing p xs q → IsOpen q → (s : List ℕ) → KindMayCome q kind.Key → Passing p (xs ++ key_token s ∷ []) (after_token q (key_token s)) × IsOpen (after_token q (key_token s))
+key_path {p = p} {xs = xs} q h o s m = by q.expected q.opened h o m
+  where
+    by : (e : Expected) (c : List Kind) → Passing p xs (record { opened = c; expected = e }) → IsWithin e c → NameMayCome e → Passing p (xs ++ key_token s ∷ []) (record { opened = c; expected = a_value }) × IsWithin a_value c
+    by a_value c h o m = absurd m
+    by element_or_end c h o m = absurd m
+    by name_or_end [] h o m = absurd o
+    by name_or_end (array ∷ c) h o m = absurd o
+    by name_or_end (object ∷ c) h o m = (one_key h s, tt)
+    by nothing c h o m = absurd m
 
 -- a key more
 passed_key : {S : Type 0} {taken : S → List Tok → Type 0} {stand : S → TokensState} {a b c : S} {s : List ℕ} → Passed taken stand a b → TakesOne taken stand b c (key_token s) → (stand c).failed ≡ None → Passed taken stand a c
 passed_key {taken = taken} {stand = stand} {a = a} {b = b} {c = c} {s = s} w r u =
     let m = r.moves in
-    let h = key_path (stand b).spot w.path s r.as_told.may in
+    let h = key_path (stand b).spot w.path w.open_there s r.as_told.may in
     record {
       xs = w.xs ++ key_token s ∷ [];
-      path = subst (λ (q : Spot). Passing (stand a).spot (w.xs ++ key_token s ∷ []) q) (sym m.spot) h.0;
+      path = subst (λ (q : TokenState). Passing (stand a).spot (w.xs ++ key_token s ∷ []) q) (sym m.spot) h.0;
       open_there = subst IsOpen (sym m.spot) h.1;
       takes = joins w.takes r.takes;
       input = m.input ∙ w.input;
@@ -187,22 +202,22 @@ pub whole_container : {S : Type 0} {taken : S → List Tok → Type 0} {stand : 
 whole_container {taken = taken} {stand = stand} {a = a} {b = b} {c = c} (begin array) e r l =
     let m = r.moves in
     let n = l.moves in
-    let i : (ts : Trees) × (l.rest ≡ trees_tokens ts ++ end array ∷ []) = subst (λ (p : Spot). Rest p l.rest) m.spot l.is_rest in (
+    let i : (ts : Trees) × (l.rest ≡ trees_tokens ts ++ end array ∷ []) = subst (λ (p : TokenState). Rest p l.rest) m.spot l.is_rest in (
       list i.0,
       record {
         takes = subst (λ (ys : List Tok). TakesTokens taken a (begin array ∷ ys) c) i.1 (joins r.takes l.takes);
-        moves = record { input = n.input ∙ m.input; spot = n.spot ∙ ap around m.spot; told = n.told; left = omega (arith, m.left, n.left) };
+        moves = record { input = n.input ∙ m.input; spot = n.spot ∙ ap (λ (p : TokenState). around p) m.spot; told = n.told; left = omega (arith, m.left, n.left) };
         as_told = r.as_told;
       },
     )
 whole_container {taken = taken} {stand = stand} {a = a} {b = b} {c = c} (begin object) e r l =
     let m = r.moves in
     let n = l.moves in
-    let i : (ps : Pairs) × (l.rest ≡ pairs_tokens ps ++ end object ∷ []) = subst (λ (p : Spot). Rest p l.rest) m.spot l.is_rest in (
+    let i : (ps : Pairs) × (l.rest ≡ pairs_tokens ps ++ end object ∷ []) = subst (λ (p : TokenState). Rest p l.rest) m.spot l.is_rest in (
       pairs i.0,
       record {
         takes = subst (λ (ys : List Tok). TakesTokens taken a (begin object ∷ ys) c) i.1 (joins r.takes l.takes);
-        moves = record { input = n.input ∙ m.input; spot = n.spot ∙ ap around m.spot; told = n.told; left = omega (arith, m.left, n.left) };
+        moves = record { input = n.input ∙ m.input; spot = n.spot ∙ ap (λ (p : TokenState). around p) m.spot; told = n.told; left = omega (arith, m.left, n.left) };
         as_told = r.as_told;
       },
     )
@@ -227,7 +242,7 @@ whole_container (key_token s) (inl e) r l = absurd (cc)
 whole_container (key_token s) (inr e) r l = absurd (cc)
 
 -- a bracket that opens leads within
-pub begun_open : (x : Tok) (p : Spot) → (kind_of x ≡ kind.BeginArray) ⊎ (kind_of x ≡ kind.BeginObject) → IsOpen (spot_after p x)
+pub begun_open : (x : Tok) (p : TokenState) → (kind_of x ≡ kind.BeginArray) ⊎ (kind_of x ≡ kind.BeginObject) → IsOpen (after_token p x)
 begun_open (begin array) p e = tt
 begun_open (begin object) p e = tt
 begun_open null_token p (inl e) = absurd (cc)
@@ -251,17 +266,21 @@ begun_open (key_token s) p (inl e) = absurd (cc)
 begun_open (key_token s) p (inr e) = absurd (cc)
 
 -- the end comes
-end_rest : (q : Spot) (x : Tok) → (kind_of x ≡ kind.EndArray) ⊎ (kind_of x ≡ kind.EndObject) → KindMayCome q (kind_of x) → Rest q (x ∷ []) × (spot_after q x ≡ around q)
-end_rest (element c) (end array) e m = ((no_trees, refl), refl)
-end_rest (key_or_end c) (end object) e m = ((no_pairs, refl), refl)
-end_rest top (end array) e m = absurd (cc)
-end_rest over (end array) e m = absurd (cc)
-end_rest (key_or_end c) (end array) e m = absurd (cc)
-end_rest (member c) (end array) e m = absurd (cc)
-end_rest top (end object) e m = absurd (cc)
-end_rest over (end object) e m = absurd (cc)
-end_rest (element c) (end object) e m = absurd (cc)
-end_rest (member c) (end object) e m = absurd (cc)
+end_array : (e : Expected) (c : List Kind) → EndMayCome e array → RestAt e c (end array ∷ [])
+end_array a_value c m = absurd m
+end_array element_or_end c m = (no_trees, refl)
+end_array name_or_end c m = absurd m
+end_array nothing c m = absurd m
+
+end_object : (e : Expected) (c : List Kind) → EndMayCome e object → RestAt e c (end object ∷ [])
+end_object a_value c m = absurd m
+end_object element_or_end c m = absurd m
+end_object name_or_end c m = (no_pairs, refl)
+end_object nothing c m = absurd m
+
+end_rest : (q : TokenState) (x : Tok) → (kind_of x ≡ kind.EndArray) ⊎ (kind_of x ≡ kind.EndObject) → KindMayCome q (kind_of x) → Rest q (x ∷ []) × (after_token q x ≡ around q)
+end_rest q (end array) e m = (end_array q.expected q.opened m, refl)
+end_rest q (end object) e m = (end_object q.expected q.opened m, refl)
 end_rest q null_token (inl e) m = absurd (cc)
 end_rest q null_token (inr e) m = absurd (cc)
 end_rest q (boolean_token b) (inl e) m = absurd (cc)
@@ -297,13 +316,30 @@ passed_end {taken = taken} {stand = stand} {a = a} {b = b} {c = c} x e w r =
 
 -- ---- one value
 
-pub wants : (p : Spot) (o : Option TokenKind) (k : TokenKind) → WantsValueAt p o → KindMayCome p k → ((j : TokenKind) → o ≡ Some j → k ≡ j) → begins_value k ≡ true
-wants top o k w m t = m
-wants over o k w m t = absurd w
-wants (element c) (Some j) k w m t = subst (λ (i : TokenKind). begins_value i ≡ true) (sym (t j refl)) w
-wants (element c) None k w m t = absurd w
-wants (key_or_end c) o k w m t = absurd w
-wants (member c) o k w m t = m
+pub wants : (p : TokenState) (o : Option TokenKind) (k : TokenKind) → WantsValueAt p o → KindMayCome p k → ((j : TokenKind) → o ≡ Some j → k ≡ j) → begins_value k ≡ true
+wants p o k w m t = by p.expected w m
+  where
+    value_only : (k : TokenKind) → KindMayCome (record { opened = p.opened; expected = a_value }) k → begins_value k ≡ true
+    value_only kind.Null m = refl
+    value_only kind.Bool m = refl
+    value_only kind.Int m = refl
+    value_only kind.Raw m = refl
+    value_only kind.Text m = refl
+    value_only kind.Key m = absurd m
+    value_only kind.BeginArray m = refl
+    value_only kind.EndArray m = absurd m
+    value_only kind.BeginObject m = refl
+    value_only kind.EndObject m = absurd m
+
+    as_told : (o : Option TokenKind) → ToldValue o → ((j : TokenKind) → o ≡ Some j → k ≡ j) → begins_value k ≡ true
+    as_told None w t = absurd w
+    as_told (Some j) w t = subst (λ (i : TokenKind). begins_value i ≡ true) (sym (t j refl)) w
+
+    by : (e : Expected) → WantsAt e o → KindMayCome (record { opened = p.opened; expected = e }) k → begins_value k ≡ true
+    by a_value w m = value_only k m
+    by element_or_end w m = as_told o w t
+    by name_or_end w m = absurd w
+    by nothing w m = absurd w
 
 pub whole_scalar : {S : Type 0} {taken : S → List Tok → Type 0} {stand : S → TokensState} {a c : S} (x : Tok) → TakesOne taken stand a c x
     → kind_of x ≢ kind.BeginArray → kind_of x ≢ kind.BeginObject → begins_value (kind_of x) ≡ true → (t : Tree) × TakesTree taken stand a c t

@@ -8,7 +8,8 @@ use Rattle.json_grammar.specs.Tree.{Tree, Token as Tok, tokens, begin, end, null
 use Rattle.json_grammar.specs.declared.Kind.TheVariants.{Array as array, Object as object}
 use Rattle.json_tokens.specs.Kinds.{kind_of, first_kind, number_kind}
 use Rattle.json_number.specs.Integers.{integer_in}
-use Rattle.json_tokens.specs.Spots.{Spot, behind_value, spot_after, KindMayCome}
+use Rattle.json_grammar.specs.TokenStates.{TokenState, after_token, after_value}
+use Rattle.json_tokens.specs.Spots.{KindMayCome}
 use Rattle.json_tokens.specs.Stand.{TokensState, TakesTokens, Peeks, Moves, AsTold, TakesTree, TakesOne}
 
 pub joins : {S : Type 0} {taken : S → List Tok → Type 0} {a b c : S} {xs ys : List Tok} → TakesTokens taken a xs b → TakesTokens taken b ys c → TakesTokens taken a (xs ++ ys) c
@@ -20,7 +21,7 @@ told_before {a = a} {k = k} {j = j} p q = let e : j ≡ k = q.told k p.told in r
   told = λ i h. e ∙ p.again i h;
 }
 
-pub peek_moves : {a b c : TokensState} {k : TokenKind} {p : Spot} → Peeks a b k → Moves b c p → Moves a c p
+pub peek_moves : {a b c : TokensState} {k : TokenKind} {p : TokenState} → Peeks a b k → Moves b c p → Moves a c p
 peek_moves h m = record { input = m.input ∙ h.input; spot = m.spot; told = m.told; left = omega (arith, h.left, m.left) }
 
 -- a kind was told, and then a tree was taken
@@ -28,7 +29,7 @@ pub peek_tree : {S : Type 0} {taken : S → List Tok → Type 0} {stand : S → 
     → Peeks (stand a) (stand b) k → TakesTokens taken a [] b → TakesTree taken stand b c t → TakesTree taken stand a c t
 peek_tree {taken = taken} {stand = stand} {a = a} {b = b} {c = c} {t = t} h z r = record {
   takes = joins z r.takes;
-  moves = subst (λ (p : Spot). Moves (stand a) (stand c) (behind_value p)) h.spot (peek_moves h r.moves);
+  moves = subst (λ (p : TokenState). Moves (stand a) (stand c) (after_value p)) h.spot (peek_moves h r.moves);
   as_told = told_before h r.as_told;
 }
 
@@ -37,7 +38,7 @@ pub peek_one : {S : Type 0} {taken : S → List Tok → Type 0} {stand : S → T
     → Peeks (stand a) (stand b) k → TakesTokens taken a [] b → TakesOne taken stand b c x → TakesOne taken stand a c x
 peek_one {stand = stand} {a = a} {c = c} {x = x} h z r = record {
   takes = joins z r.takes;
-  moves = subst (λ (p : Spot). Moves (stand a) (stand c) (spot_after p x)) h.spot (peek_moves h r.moves);
+  moves = subst (λ (p : TokenState). Moves (stand a) (stand c) (after_token p x)) h.spot (peek_moves h r.moves);
   as_told = told_before h r.as_told;
 }
 
@@ -53,13 +54,13 @@ peek_kind {k = k} h r = r.as_told.told k h.told
 
 -- a tree of one token
 pub scalar : {S : Type 0} {taken : S → List Tok → Type 0} {stand : S → TokensState} {b c : S} {x : Tok} (t : Tree) (y : Tok)
-    → x ≡ y → tokens t ≡ y ∷ [] → kind_of y ≡ first_kind t → spot_after (stand b).spot y ≡ behind_value (stand b).spot
+    → x ≡ y → tokens t ≡ y ∷ [] → kind_of y ≡ first_kind t → after_token (stand b).spot y ≡ after_value (stand b).spot
     → TakesOne taken stand b c x → TakesTree taken stand b c t
 scalar {taken = taken} {stand = stand} {b = b} {c = c} t y i e k p q =
     let r = subst (λ (z : Tok). TakesOne taken stand b c z) i q in
     record {
       takes = subst (λ (xs : List Tok). TakesTokens taken b xs c) (sym e) r.takes;
-      moves = subst (λ (q : Spot). Moves (stand b) (stand c) q) p r.moves;
+      moves = subst (λ (q : TokenState). Moves (stand b) (stand c) q) p r.moves;
       as_told = subst (λ (j : TokenKind). AsTold (stand b) j) k r.as_told;
     }
 

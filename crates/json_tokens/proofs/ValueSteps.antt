@@ -18,7 +18,9 @@ use Rattle.json_tokens.specs.declared.token.TokenKind.TheVariants as kind
 use Rattle.json_tokens.specs.declared.value_tokens.ValueTokens.{ValueTokens}
 use Rattle.json_tokens.specs.Kinds.{kind_of, first_kind, number_kind}
 use Rattle.json_tokens.specs.Refusals.{is_refusal}
-use Rattle.json_tokens.specs.Spots.{Spot, over, element, key_or_end, member, spot_after, opened_of, spot_after_value, behind_value, around, begins_value, KindMayCome, IsOpen}
+use Rattle.json_grammar.specs.TokenStates.{TokenState, at_start, within, after_value, after_token}
+use Rattle.json_tokens.proofs.Places.{value_kind}
+use Rattle.json_tokens.specs.Spots.{around, begins_value, KindMayCome, IsOpen}
 use Rattle.json_tokens.specs.Stand.{over_tree, WantsValue, WantsValueAt, Peeks, Moves, AsTold, TakesOne, TakesTree, Leaves, Rest, FirstIs, TokensFail}
 use Rattle.json_tokens.specs.Values.{Left, elements_of, members_of, left_after_opening, opened_in, kind_left, left_tokens, open_tokens, next_tokens, spot_in_levels, ValueState, value_state, rest_of, head_kind, state_taken, state_stand, value_taken, value_stand, PullsMember, NoElement, FrontIs, SettlesNext, TakesTokensTo, Breaks}
 
@@ -50,20 +52,20 @@ entered d l k i os ns e f g =
 
 -- ---- spots
 
-kinds_at : (ls : List Left) (o : Option Tree) → map kind_left ls ≡ opened_of (spot_in_levels ls o)
+kinds_at : (ls : List Left) (o : Option Tree) → map kind_left ls ≡ (spot_in_levels ls o).opened
 kinds_at [] None = refl
 kinds_at [] (Some t) = refl
 kinds_at (elements_of ts ∷ ls) o = refl
 kinds_at (members_of ps ∷ ls) None = refl
 kinds_at (members_of ps ∷ ls) (Some t) = refl
 
-spot_behind : (ls : List Left) → spot_in_levels ls None ≡ spot_after_value (map kind_left ls)
+spot_behind : (ls : List Left) → spot_in_levels ls None ≡ within (map kind_left ls)
 spot_behind [] = refl
 spot_behind (elements_of ts ∷ ls) = refl
 spot_behind (members_of ps ∷ ls) = refl
 
-spot_value : (ls : List Left) (o : Option Tree) → spot_in_levels ls None ≡ behind_value (spot_in_levels ls o)
-spot_value ls o = spot_behind ls ∙ ap spot_after_value (kinds_at ls o)
+spot_value : (ls : List Left) (o : Option Tree) → spot_in_levels ls None ≡ after_value (spot_in_levels ls o)
+spot_value ls o = spot_behind ls ∙ ap within (kinds_at ls o)
 
 spot_around : (l : Left) (ls : List Left) (o : Option Tree) → spot_in_levels ls None ≡ around (spot_in_levels (l ∷ ls) o)
 spot_around (elements_of ts) ls o = spot_behind ls
@@ -85,18 +87,9 @@ first_begins (list ts) = refl
 first_begins (pairs ps) = refl
 
 value_may : (ls : List Left) (t : Tree) (k : TokenKind) → begins_value k ≡ true → KindMayCome (spot_in_levels ls (Some t)) k
-value_may [] t k e = e
-value_may (members_of ps ∷ ls) t k e = e
-value_may (elements_of ts ∷ ls) t kind.Null e = refl
-value_may (elements_of ts ∷ ls) t kind.Bool e = refl
-value_may (elements_of ts ∷ ls) t kind.Int e = refl
-value_may (elements_of ts ∷ ls) t kind.Raw e = refl
-value_may (elements_of ts ∷ ls) t kind.Text e = refl
-value_may (elements_of ts ∷ ls) t kind.Key e = absurd (cc)
-value_may (elements_of ts ∷ ls) t kind.BeginArray e = refl
-value_may (elements_of ts ∷ ls) t kind.EndArray e = absurd (cc)
-value_may (elements_of ts ∷ ls) t kind.BeginObject e = refl
-value_may (elements_of ts ∷ ls) t kind.EndObject e = absurd (cc)
+value_may [] t k e = value_kind at_start k e tt
+value_may (members_of ps ∷ ls) t k e = value_kind (spot_in_levels (members_of ps ∷ ls) (Some t)) k e tt
+value_may (elements_of ts ∷ ls) t k e = value_kind (within (array ∷ map kind_left ls)) k e tt
 
 -- a value's first token has its kind
 head_tree : (t : Tree) (xs : List Tok) → head_kind (tokens t ++ xs) ≡ Some (first_kind t)
@@ -122,13 +115,13 @@ member_first p ps ls = ap (λ (xs : List Tok). key_token p.0 ∷ xs) (regroup (t
 head_may : (ls : List Left) (o : Option Tree) (k : TokenKind) → head_kind (next_tokens o ++ open_tokens ls) ≡ Some k → KindMayCome (spot_in_levels ls o) k
 head_may ls (Some t) k e = value_head ls t k e
 head_may [] None k e = absurd (cc)
-head_may (elements_of [] ∷ ls) None k e = subst (λ (j : TokenKind). KindMayCome (element (map kind_left ls)) j) (some_is e) refl
+head_may (elements_of [] ∷ ls) None k e = subst (λ (j : TokenKind). KindMayCome (within (array ∷ map kind_left ls)) j) (some_is e) tt
 head_may (elements_of (t ∷ ts) ∷ ls) None k e = value_head (elements_of ts ∷ ls) t k (ap head_kind (sym (element_first t ts ls)) ∙ e)
-head_may (members_of [] ∷ ls) None k e = subst (λ (j : TokenKind). KindMayCome (key_or_end (map kind_left ls)) j) (some_is e) refl
-head_may (members_of (p ∷ ps) ∷ ls) None k e = subst (λ (j : TokenKind). KindMayCome (key_or_end (map kind_left ls)) j) (some_is e) refl
+head_may (members_of [] ∷ ls) None k e = subst (λ (j : TokenKind). KindMayCome (within (object ∷ map kind_left ls)) j) (some_is e) tt
+head_may (members_of (p ∷ ps) ∷ ls) None k e = subst (λ (j : TokenKind). KindMayCome (within (object ∷ map kind_left ls)) j) (some_is e) tt
 
 -- where no value comes next, it is a key or an end
-front_head : (ls : List Left) (k : TokenKind) → NoElement ls → FrontIs ls k → spot_in_levels ls None ≢ over → head_kind (open_tokens ls) ≡ Some k
+front_head : (ls : List Left) (k : TokenKind) → NoElement ls → FrontIs ls k → spot_in_levels ls None ≢ within [] → head_kind (open_tokens ls) ≡ Some k
 front_head [] k n f o = absurd (o refl)
 front_head (elements_of [] ∷ ls) k n f o = ap Some (sym f)
 front_head (elements_of (t ∷ ts) ∷ ls) k n f o = absurd (cc)
@@ -157,7 +150,7 @@ taken_on a b xs t r ts h = append_assoc ts xs (rest_of b) ∙ ap (λ (ys : List 
 fewer : (xs ys zs : List Tok) (x : Tok) → xs ≡ (x ∷ ys) ++ zs → length zs < length xs
 fewer xs ys zs x e = let l : length xs ≡ length ((x ∷ ys) ++ zs) = ap length e in let m : length (ys ++ zs) ≡ length ys + length zs = length-append ys zs in omega arith
 
-moves : {a b : ValueState} {p : Spot} (x : Tok) (xs : List Tok) → TakesTokensTo a b (x ∷ xs) p → Moves (state_stand a) (state_stand b) p
+moves : {a b : ValueState} {p : TokenState} (x : Tok) (xs : List Tok) → TakesTokensTo a b (x ∷ xs) p → Moves (state_stand a) (state_stand b) p
 moves {a} {b} x xs s = record {
   input = ap over_tree s.tree;
   spot = s.spot;
@@ -165,7 +158,7 @@ moves {a} {b} x xs s = record {
   left = fewer (rest_of a) xs (rest_of b) x s.rest;
 }
 
-pub one_taken : (a b : ValueTokens) (x : Tok) → TakesTokensTo (value_state a) (value_state b) (x ∷ []) (spot_after (value_stand a).spot x) → TakesOne value_taken value_stand a b x
+pub one_taken : (a b : ValueTokens) (x : Tok) → TakesTokensTo (value_state a) (value_state b) (x ∷ []) (after_token (value_stand a).spot x) → TakesOne value_taken value_stand a b x
 one_taken a b x s = record {
   takes = record { on = taken_on (value_state a) (value_state b) (x ∷ []) s.tree s.rest };
   moves = moves x [] s;
@@ -181,18 +174,18 @@ first_of (text s) = (text_token s, [], refl)
 first_of (list ts) = (begin array, _, refl)
 first_of (pairs ps) = (begin object, _, refl)
 
-tree_taken : (a b : ValueTokens) (t : Tree) → TakesTokensTo (value_state a) (value_state b) (tokens t) (behind_value (value_stand a).spot) → TakesTree value_taken value_stand a b t
+tree_taken : (a b : ValueTokens) (t : Tree) → TakesTokensTo (value_state a) (value_state b) (tokens t) (after_value (value_stand a).spot) → TakesTree value_taken value_stand a b t
 tree_taken a b t s =
     let f = first_of t in
     record {
       takes = record { on = taken_on (value_state a) (value_state b) (tokens t) s.tree s.rest };
-      moves = moves f.0 f.1 (subst (λ (xs : List Tok). TakesTokensTo (value_state a) (value_state b) xs (behind_value (value_stand a).spot)) f.2 s);
+      moves = moves f.0 f.1 (subst (λ (xs : List Tok). TakesTokensTo (value_state a) (value_state b) xs (after_value (value_stand a).spot)) f.2 s);
       as_told = as_told (value_state a) (first_kind t) (ap head_kind s.rest ∙ head_tree t (rest_of (value_state b)));
     }
 
 -- ---- behind an element that was reached
 
-pub settled : {a m b : ValueState} {xs : List Tok} {p q : Spot} → SettlesNext a m → TakesTokensTo m b xs p → p ≡ q → TakesTokensTo a b xs q
+pub settled : {a m b : ValueState} {xs : List Tok} {p q : TokenState} → SettlesNext a m → TakesTokensTo m b xs p → p ≡ q → TakesTokensTo a b xs q
 settled s t e = record { tree = t.tree ∙ s.tree; rest = sym s.rest ∙ t.rest; spot = t.spot ∙ e; told = t.told; failed = t.failed ∙ s.failed }
 
 pub fails : {a m b : ValueState} {e : Error} → SettlesNext a m → e ≡ no_memory → Breaks m b → TokensFail (state_stand a) (state_stand b) e
@@ -207,14 +200,14 @@ peeks a m k s e = record {
   spot = s.spot;
   told = e;
   left = let l : length (rest_of m) ≡ length (rest_of a) = ap length s.rest in omega arith;
-  may = subst (λ (p : Spot). KindMayCome p k) s.spot (head_may m.levels m.next k e);
+  may = subst (λ (p : TokenState). KindMayCome p k) s.spot (head_may m.levels m.next k e);
   again = λ j f. told_head a.told (head_kind (rest_of a)) j k (ap head_kind (sym s.rest) ∙ e) f;
 }
 
 pub peek_value : (a m : ValueState) (t : Tree) (k : TokenKind) → SettlesNext a m → m.next ≡ Some t → k ≡ first_kind t → Peeks (state_stand a) (state_stand (record m { told = true })) k
 peek_value a m t k s n e = peeks a m k s (ap (λ (o : Option Tree). head_kind (next_tokens o ++ open_tokens m.levels)) n ∙ head_tree t (open_tokens m.levels) ∙ ap Some (sym e))
 
-pub peek_front : (a m : ValueState) (k : TokenKind) → SettlesNext a m → spot_in_levels a.levels a.next ≢ over → m.next ≡ None → FrontIs m.levels k → Peeks (state_stand a) (state_stand (record m { told = true })) k
+pub peek_front : (a m : ValueState) (k : TokenKind) → SettlesNext a m → spot_in_levels a.levels a.next ≢ within [] → m.next ≡ None → FrontIs m.levels k → Peeks (state_stand a) (state_stand (record m { told = true })) k
 peek_front a m k s w n f =
     peeks a m k s (ap (λ (o : Option Tree). head_kind (next_tokens o ++ open_tokens m.levels)) n
     ∙ front_head m.levels k (s.reached n) f (λ i. w (sym s.spot ∙ ap (spot_in_levels m.levels) n ∙ i)))
@@ -224,11 +217,11 @@ peek_front a m k s w n f =
 next_rest : (a : ValueState) (t : Tree) → a.next ≡ Some t → rest_of a ≡ tokens t ++ open_tokens a.levels
 next_rest a t n = ap (λ (o : Option Tree). next_tokens o ++ open_tokens a.levels) n
 
-value_passed : (a : ValueState) (t : Tree) → a.next ≡ Some t → TakesTokensTo a (record a { next = None; told = false }) (tokens t) (behind_value (spot_in_levels a.levels a.next))
+value_passed : (a : ValueState) (t : Tree) → a.next ≡ Some t → TakesTokensTo a (record a { next = None; told = false }) (tokens t) (after_value (spot_in_levels a.levels a.next))
 value_passed a t n = record { tree = refl; rest = next_rest a t n; spot = spot_value a.levels a.next; told = refl; failed = refl }
 
 -- a scalar is one token
-pub scalar_one : (t : Tree) → type_of t ≢ json.Array → type_of t ≢ json.Object → (x : Tok) × (tokens t ≡ x ∷ []) × ((p : Spot) → behind_value p ≡ spot_after p x)
+pub scalar_one : (t : Tree) → type_of t ≢ json.Array → type_of t ≢ json.Object → (x : Tok) × (tokens t ≡ x ∷ []) × ((p : TokenState) → after_value p ≡ after_token p x)
 scalar_one null n m = (null_token, refl, λ p. refl)
 scalar_one (boolean b) n m = (boolean_token b, refl, λ p. refl)
 scalar_one (num l) n m = (num_token l, refl, λ p. refl)
@@ -236,8 +229,8 @@ scalar_one (text s) n m = (text_token s, refl, λ p. refl)
 scalar_one (list ts) n m = absurd (n refl)
 scalar_one (pairs ps) n m = absurd (m refl)
 
-pub scalar_taken : (a : ValueState) (t : Tree) (x : Tok) → a.next ≡ Some t → tokens t ≡ x ∷ [] → ((p : Spot) → behind_value p ≡ spot_after p x) → TakesTokensTo a (record a { next = None; told = false }) (x ∷ []) (spot_after (spot_in_levels a.levels a.next) x)
-scalar_taken a t x n e f = record { tree = refl; rest = next_rest a t n ∙ ap (λ (xs : List Tok). xs ++ open_tokens a.levels) e; spot = spot_value a.levels a.next ∙ f _; told = refl; failed = refl }
+pub scalar_taken : (a : ValueState) (t : Tree) (x : Tok) → a.next ≡ Some t → tokens t ≡ x ∷ [] → ((p : TokenState) → after_value p ≡ after_token p x) → TakesTokensTo a (record a { next = None; told = false }) (x ∷ []) (after_token (spot_in_levels a.levels a.next) x)
+scalar_taken a t x n e f = record { tree = refl; rest = next_rest a t n ∙ ap (λ (xs : List Tok). xs ++ open_tokens a.levels) e; spot = spot_value a.levels a.next ∙ f (spot_in_levels a.levels a.next); told = refl; failed = refl }
 
 array_is : (t : Tree) → type_of t ≡ json.Array → (ts : Trees) × (t ≡ list ts)
 array_is null e = absurd (cc)
@@ -255,20 +248,20 @@ object_is (text s) e = absurd (cc)
 object_is (list ts) e = absurd (cc)
 object_is (pairs ps) e = (ps, refl)
 
-array_begun : (a : ValueState) (ts : Trees) → a.next ≡ Some (list ts) → TakesTokensTo a (record a { next = None; levels = elements_of (trees_list ts) ∷ a.levels; told = false }) (begin array ∷ []) (spot_after (spot_in_levels a.levels a.next) (begin array))
+array_begun : (a : ValueState) (ts : Trees) → a.next ≡ Some (list ts) → TakesTokensTo a (record a { next = None; levels = elements_of (trees_list ts) ∷ a.levels; told = false }) (begin array ∷ []) (after_token (spot_in_levels a.levels a.next) (begin array))
 array_begun a ts n = record {
   tree = refl;
   rest = next_rest a (list ts) n ∙ ap (λ (us : Trees). begin array ∷ ((trees_tokens us ++ end array ∷ []) ++ open_tokens a.levels)) (sym (list_back ts));
-  spot = ap element (kinds_at a.levels a.next);
+  spot = ap (λ (c : List Kind). within (array ∷ c)) (kinds_at a.levels a.next);
   told = refl;
   failed = refl;
 }
 
-object_begun : (a : ValueState) (ps : Pairs) → a.next ≡ Some (pairs ps) → TakesTokensTo a (record a { next = None; levels = members_of (pairs_list ps) ∷ a.levels; told = false }) (begin object ∷ []) (spot_after (spot_in_levels a.levels a.next) (begin object))
+object_begun : (a : ValueState) (ps : Pairs) → a.next ≡ Some (pairs ps) → TakesTokensTo a (record a { next = None; levels = members_of (pairs_list ps) ∷ a.levels; told = false }) (begin object ∷ []) (after_token (spot_in_levels a.levels a.next) (begin object))
 object_begun a ps n = record {
   tree = refl;
   rest = next_rest a (pairs ps) n ∙ ap (λ (qs : Pairs). begin object ∷ ((pairs_tokens qs ++ end object ∷ []) ++ open_tokens a.levels)) (sym (pairs_back ps));
-  spot = ap key_or_end (kinds_at a.levels a.next);
+  spot = ap (λ (c : List Kind). within (object ∷ c)) (kinds_at a.levels a.next);
   told = refl;
   failed = refl;
 }
@@ -276,47 +269,47 @@ object_begun a ps n = record {
 -- as the code says it: into a level, whose list is that of the value
 pub array_entered : (a b : ValueState) (t : Tree) (inner : Level) → a.next ≡ Some t → type_of t ≡ json.Array
     → ((ts : Trees) (c : List Left) → t ≡ list ts → left_after_opening inner c ≡ elements_of (trees_list ts) ∷ c)
-    → b ≡ record a { next = None; levels = left_after_opening inner a.levels; told = false } → TakesTokensTo a b (begin array ∷ []) (spot_after (spot_in_levels a.levels a.next) (begin array))
+    → b ≡ record a { next = None; levels = left_after_opening inner a.levels; told = false } → TakesTokensTo a b (begin array ∷ []) (after_token (spot_in_levels a.levels a.next) (begin array))
 array_entered a b t inner n k l e =
     let r = array_is t k in
-    subst (λ (s : ValueState). TakesTokensTo a s (begin array ∷ []) (spot_after (spot_in_levels a.levels a.next) (begin array)))
+    subst (λ (s : ValueState). TakesTokensTo a s (begin array ∷ []) (after_token (spot_in_levels a.levels a.next) (begin array)))
     (ap (λ (ls : List Left). record a { next = None; levels = ls; told = false }) (sym (l r.0 a.levels r.1)) ∙ sym e)
     (array_begun a r.0 (n ∙ ap Some r.1))
 
 pub object_entered : (a b : ValueState) (t : Tree) (inner : Level) → a.next ≡ Some t → type_of t ≡ json.Object
     → ((ps : Pairs) (c : List Left) → t ≡ pairs ps → left_after_opening inner c ≡ members_of (pairs_list ps) ∷ c)
-    → b ≡ record a { next = None; levels = left_after_opening inner a.levels; told = false } → TakesTokensTo a b (begin object ∷ []) (spot_after (spot_in_levels a.levels a.next) (begin object))
+    → b ≡ record a { next = None; levels = left_after_opening inner a.levels; told = false } → TakesTokensTo a b (begin object ∷ []) (after_token (spot_in_levels a.levels a.next) (begin object))
 object_entered a b t inner n k l e =
     let r = object_is t k in
-    subst (λ (s : ValueState). TakesTokensTo a s (begin object ∷ []) (spot_after (spot_in_levels a.levels a.next) (begin object)))
+    subst (λ (s : ValueState). TakesTokensTo a s (begin object ∷ []) (after_token (spot_in_levels a.levels a.next) (begin object)))
     (ap (λ (ls : List Left). record a { next = None; levels = ls; told = false }) (sym (l r.0 a.levels r.1)) ∙ sym e)
     (object_begun a r.0 (n ∙ ap Some r.1))
 
 -- ---- keys and ends
 
-key_parts : (ls ks : List Left) (p : List ℕ × Tree) → PullsMember ls (Some p) ks → (open_tokens ls ≡ key_token p.0 ∷ (tokens p.1 ++ open_tokens ks)) × (spot_in_levels ks (Some p.1) ≡ spot_after (spot_in_levels ls None) (key_token p.0))
+key_parts : (ls ks : List Left) (p : List ℕ × Tree) → PullsMember ls (Some p) ks → (open_tokens ls ≡ key_token p.0 ∷ (tokens p.1 ++ open_tokens ks)) × (spot_in_levels ks (Some p.1) ≡ after_token (spot_in_levels ls None) (key_token p.0))
 key_parts [] ks p h = let e = h.0 in absurd (cc)
 key_parts (elements_of ts ∷ ls) ks p h = let e = h.0 in absurd (cc)
 key_parts (members_of [] ∷ ls) ks p h = let e = h.0 in absurd (cc)
 key_parts (members_of (q ∷ qs) ∷ ls) ks p (e, f) =
     let g : p ≡ q = some_is e in
-    subst (λ (r : List ℕ × Tree). (open_tokens (members_of (q ∷ qs) ∷ ls) ≡ key_token r.0 ∷ (tokens r.1 ++ open_tokens ks)) × (spot_in_levels ks (Some r.1) ≡ member (map kind_left ls))) (sym g)
-    (subst (λ (is : List Left). (open_tokens (members_of (q ∷ qs) ∷ ls) ≡ key_token q.0 ∷ (tokens q.1 ++ open_tokens is)) × (spot_in_levels is (Some q.1) ≡ member (map kind_left ls))) (sym f) (member_first q qs ls, refl))
+    subst (λ (r : List ℕ × Tree). (open_tokens (members_of (q ∷ qs) ∷ ls) ≡ key_token r.0 ∷ (tokens r.1 ++ open_tokens ks)) × (spot_in_levels ks (Some r.1) ≡ after_token (within (object ∷ map kind_left ls)) (key_token q.0))) (sym g)
+    (subst (λ (is : List Left). (open_tokens (members_of (q ∷ qs) ∷ ls) ≡ key_token q.0 ∷ (tokens q.1 ++ open_tokens is)) × (spot_in_levels is (Some q.1) ≡ after_token (within (object ∷ map kind_left ls)) (key_token q.0))) (sym f) (member_first q qs ls, refl))
 
 pub key_taken : (a : ValueState) (ks : List Left) (p : List ℕ × Tree) → a.next ≡ None → PullsMember a.levels (Some p) ks
-    → TakesTokensTo a (record a { next = Some p.1; levels = ks; told = false }) (key_token p.0 ∷ []) (spot_after (spot_in_levels a.levels a.next) (key_token p.0))
+    → TakesTokensTo a (record a { next = Some p.1; levels = ks; told = false }) (key_token p.0 ∷ []) (after_token (spot_in_levels a.levels a.next) (key_token p.0))
 key_taken a ks p n h =
     let r = key_parts a.levels ks p h in
     record {
       tree = refl;
       rest = ap (λ (o : Option Tree). next_tokens o ++ open_tokens a.levels) n ∙ r.0;
-      spot = r.1 ∙ ap (λ (o : Option Tree). spot_after (spot_in_levels a.levels o) (key_token p.0)) (sym n);
+      spot = r.1 ∙ ap (λ (o : Option Tree). after_token (spot_in_levels a.levels o) (key_token p.0)) (sym n);
       told = refl;
       failed = refl;
     }
 
-end_parts : (ls ks : List Left) (k : TokenKind) → NoElement ls → FrontIs ls k → PullsMember ls None ks → spot_in_levels ls None ≢ over
-    → (j : Kind) × (l : Left) × (c : List Left) × (ls ≡ l ∷ c) × (ks ≡ l ∷ c) × (open_tokens ls ≡ end j ∷ open_tokens c) × (k ≡ kind_of (end j)) × (spot_in_levels c None ≡ spot_after (spot_in_levels ls None) (end j))
+end_parts : (ls ks : List Left) (k : TokenKind) → NoElement ls → FrontIs ls k → PullsMember ls None ks → spot_in_levels ls None ≢ within []
+    → (j : Kind) × (l : Left) × (c : List Left) × (ls ≡ l ∷ c) × (ks ≡ l ∷ c) × (open_tokens ls ≡ end j ∷ open_tokens c) × (k ≡ kind_of (end j)) × (spot_in_levels c None ≡ after_token (spot_in_levels ls None) (end j))
 end_parts [] ks k n f h o = absurd (o refl)
 end_parts (elements_of [] ∷ ls) ks k n f h o = (array, elements_of [], ls, refl, h.1, refl, f, spot_behind ls)
 end_parts (elements_of (t ∷ ts) ∷ ls) ks k n f h o = absurd (cc)
@@ -324,9 +317,9 @@ end_parts (members_of [] ∷ ls) ks k n f h o = (object, members_of [], ls, refl
 end_parts (members_of (p ∷ ps) ∷ ls) ks k n f h o = let e = h.0 in absurd (cc)
 
 -- the state a, in which the innermost container has no more, is left as the code does, from what `member` made of it
-pub end_taken : (a b : ValueState) (ks : List Left) (k : TokenKind) → a.next ≡ None → NoElement a.levels → FrontIs a.levels k → PullsMember a.levels None ks → spot_in_levels a.levels a.next ≢ over
+pub end_taken : (a b : ValueState) (ks : List Left) (k : TokenKind) → a.next ≡ None → NoElement a.levels → FrontIs a.levels k → PullsMember a.levels None ks → spot_in_levels a.levels a.next ≢ within []
     → ((l : Left) (ls : List Left) → ks ≡ l ∷ ls → b ≡ record a { next = None; levels = ls; told = false })
-    → (j : Kind) × (k ≡ kind_of (end j)) × TakesTokensTo a b (end j ∷ []) (spot_after (spot_in_levels a.levels a.next) (end j))
+    → (j : Kind) × (k ≡ kind_of (end j)) × TakesTokensTo a b (end j ∷ []) (after_token (spot_in_levels a.levels a.next) (end j))
 end_taken a b ks k n r f h o x =
     let (j, l, c, e, g, i, m, s) = end_parts a.levels ks k r f h (λ q. o (ap (spot_in_levels a.levels) n ∙ q)) in
     let y : b ≡ record a { next = None; levels = c; told = false } = x l c g in (
@@ -335,7 +328,7 @@ end_taken a b ks k n r f h o x =
       record {
         tree = ap (λ (z : ValueState). z.tree) y;
         rest = ap (λ (q : Option Tree). next_tokens q ++ open_tokens a.levels) n ∙ i ∙ ap (λ (z : ValueState). end j ∷ rest_of z) (sym y);
-        spot = ap (λ (z : ValueState). spot_in_levels z.levels z.next) y ∙ s ∙ ap (λ (q : Option Tree). spot_after (spot_in_levels a.levels q) (end j)) (sym n);
+        spot = ap (λ (z : ValueState). spot_in_levels z.levels z.next) y ∙ s ∙ ap (λ (q : Option Tree). after_token (spot_in_levels a.levels q) (end j)) (sym n);
         told = ap (λ (z : ValueState). z.told) y;
         failed = ap (λ (z : ValueState). z.failed) y;
       },
@@ -422,7 +415,7 @@ wanted (members_of ps ∷ ls) None b h r = absurd h
 wants_next : (a m : ValueState) → SettlesNext a m → WantsValue (state_stand a) → (t : Tree) × (m.next ≡ Some t)
 wants_next a m s h =
     wanted m.levels m.next a.told
-    (subst (λ (p : Spot). WantsValueAt p (if a.told then head_kind (rest_of m) else None)) (sym s.spot)
+    (subst (λ (p : TokenState). WantsValueAt p (if a.told then head_kind (rest_of m) else None)) (sym s.spot)
     (subst (λ (xs : List Tok). WantsValueAt (spot_in_levels a.levels a.next) (if a.told then head_kind xs else None)) (sym s.rest) h))
     s.reached
 
@@ -430,8 +423,8 @@ wants_next a m s h =
 pub passes : (a b : ValueTokens) (m : ValueState) (t : Tree) → SettlesNext (value_state a) m → m.next ≡ Some t → value_state b ≡ record m { next = None; told = false } → TakesTree value_taken value_stand a b t
 passes a b m t s n e =
     tree_taken a b t
-    (settled s (subst (λ (z : ValueState). TakesTokensTo m z (tokens t) (behind_value (spot_in_levels m.levels m.next))) (sym e) (value_passed m t n))
-    (ap behind_value s.spot))
+    (settled s (subst (λ (z : ValueState). TakesTokensTo m z (tokens t) (after_value (spot_in_levels m.levels m.next))) (sym e) (value_passed m t n))
+    (ap (λ (p : TokenState). after_value p) s.spot))
 
 pub skips : (a b : ValueTokens) (m : ValueState) → SettlesNext (value_state a) m → WantsValue (value_stand a) → value_state b ≡ record m { next = None; told = false } → (t : Tree) × TakesTree value_taken value_stand a b t
 skips a b m s h e = let w = wants_next (value_state a) m s h in (w.0, passes a b m w.0 s w.1 e)

@@ -13,6 +13,8 @@ use Rattle.json_tokens.specs.declared.token.TokenKind.{TokenKind}
 use Rattle.json_tokens.specs.declared.token.TokenKind.TheVariants as kind
 use Rattle.json_text.specs.declared.event.Event.TheVariants as event
 use Rattle.json_tokens.specs.Kinds.{kind_of}
+use Rattle.json_grammar.specs.Place.{outside}
+use Rattle.json_grammar.specs.TokenStates.{ValueMayCome, expected_before_value}
 use Rattle.json_tokens.specs.Spots.{KindMayCome}
 use Rattle.json_tokens.specs.Stand.{TakesTokens, Peeks, TakesOne, TakesText}
 use Rattle.json_tokens.specs.Text.{TextTokensState, TakenBefore, before, event_kind, text_taken, text_tokens_state}
@@ -23,33 +25,22 @@ use Rattle.json_tokens.proofs.TextSteps.{takes_next}
 abbrev pub waits : ParserState → Option Error → Event → TextTokensState
 waits p f e = record { parser = p; ahead = Some e; failed = f }
 
+value_there : (c : List Kind) → ValueMayCome (expected_before_value c)
+value_there [] = tt
+value_there (array ∷ c) = tt
+value_there (object ∷ c) = tt
+
 may_before : (k : TokenKind) (c : List Kind) → KindMayCome (before k c) k
-may_before kind.Key c = refl
-may_before kind.EndArray c = refl
-may_before kind.EndObject c = refl
-may_before kind.BeginArray [] = refl
-may_before kind.BeginArray (k ∷ []) = refl
-may_before kind.BeginArray (k ∷ array ∷ c) = refl
-may_before kind.BeginArray (k ∷ object ∷ c) = refl
-may_before kind.BeginObject [] = refl
-may_before kind.BeginObject (k ∷ []) = refl
-may_before kind.BeginObject (k ∷ array ∷ c) = refl
-may_before kind.BeginObject (k ∷ object ∷ c) = refl
-may_before kind.Null [] = refl
-may_before kind.Null (array ∷ c) = refl
-may_before kind.Null (object ∷ c) = refl
-may_before kind.Bool [] = refl
-may_before kind.Bool (array ∷ c) = refl
-may_before kind.Bool (object ∷ c) = refl
-may_before kind.Int [] = refl
-may_before kind.Int (array ∷ c) = refl
-may_before kind.Int (object ∷ c) = refl
-may_before kind.Raw [] = refl
-may_before kind.Raw (array ∷ c) = refl
-may_before kind.Raw (object ∷ c) = refl
-may_before kind.Text [] = refl
-may_before kind.Text (array ∷ c) = refl
-may_before kind.Text (object ∷ c) = refl
+may_before kind.Key c = tt
+may_before kind.EndArray c = tt
+may_before kind.EndObject c = tt
+may_before kind.BeginArray c = value_there (outside c)
+may_before kind.BeginObject c = value_there (outside c)
+may_before kind.Null c = value_there c
+may_before kind.Bool c = value_there c
+may_before kind.Int c = value_there c
+may_before kind.Raw c = value_there c
+may_before kind.Text c = value_there c
 
 -- it is told, and nothing is taken
 told_waiting : (p : ParserState) (f : Option Error) (e : Event) → Peeks (text_tokens_state (waits p f e)) (text_tokens_state (waits p f e)) (event_kind e)

@@ -7,7 +7,9 @@ use Rattle.json_io.specs.declared.error.Error.{Error}
 use Rattle.json_tokens.specs.declared.token.TokenKind.{TokenKind}
 use Rattle.json_tokens.specs.Kinds.{kind_of, first_kind}
 use Rattle.json_tokens.specs.Refusals.{is_refusal}
-use Rattle.json_tokens.specs.Spots.{Spot, top, over, element, key_or_end, member, KindMayCome, begins_value, behind_value, around, spot_after}
+use Rattle.json_grammar.specs.declared.Kind.{Kind}
+use Rattle.json_grammar.specs.TokenStates.{TokenState, Expected, a_value, element_or_end, name_or_end, nothing, within, after_value, after_token}
+use Rattle.json_tokens.specs.Spots.{KindMayCome, begins_value, around}
 
 -- what is read: a text from a place on, lossy or not, with so many levels at most, or a tree
 pub data Input : Type 0 where
@@ -16,7 +18,7 @@ pub data Input : Type 0 where
 
 pub record TokensState : Type 0 where
   pub input : Input
-  pub spot : Spot
+  pub spot : TokenState
   -- the kind that was told since the last token was taken
   pub told : Option TokenKind
   -- falls with each token that is taken
@@ -26,19 +28,21 @@ pub record TokensState : Type 0 where
 
 -- the tokens taken so far are not those of a whole tree
 abbrev pub NotWhole : TokensState → Type 0
-NotWhole s = ¬ (s.spot ≡ over)
+NotWhole s = ¬ (s.spot ≡ within [])
 
 abbrev pub ToldValue : Option TokenKind → Type 0
 ToldValue (Some k) = begins_value k ≡ true
 ToldValue None = ⊥
 
 -- the next token is no key and no end
-abbrev pub WantsValueAt : Spot → Option TokenKind → Type 0
-WantsValueAt top o = Unit {0}
-WantsValueAt over o = ⊥
-WantsValueAt (element c) o = ToldValue o
-WantsValueAt (key_or_end c) o = ⊥
-WantsValueAt (member c) o = Unit {0}
+abbrev pub WantsAt : Expected → Option TokenKind → Type 0
+WantsAt a_value o = Unit {0}
+WantsAt element_or_end o = ToldValue o
+WantsAt name_or_end o = ⊥
+WantsAt nothing o = ⊥
+
+abbrev pub WantsValueAt : TokenState → Option TokenKind → Type 0
+WantsValueAt s o = WantsAt s.expected o
 
 abbrev pub WantsValue : TokensState → Type 0
 WantsValue s = WantsValueAt s.spot s.told
@@ -57,7 +61,7 @@ pub record Peeks (a b : TokensState) (k : TokenKind) : Type 0 where
   pub again : (j : TokenKind) → a.told ≡ Some j → k ≡ j
 
 -- tokens were taken, and it stands at p
-pub record Moves (a b : TokensState) (p : Spot) : Type 0 where
+pub record Moves (a b : TokensState) (p : TokenState) : Type 0 where
   pub input : b.input ≡ a.input
   pub spot : b.spot ≡ p
   pub told : b.told ≡ None
@@ -71,7 +75,7 @@ pub record AsTold (a : TokensState) (k : TokenKind) : Type 0 where
 -- the tokens of a tree were taken
 pub record TakesTree {S : Type 0} (taken : S → List Tok → Type 0) (stand : S → TokensState) (a b : S) (t : Tree) : Type 0 where
   pub takes : TakesTokens taken a (tokens t) b
-  pub moves : Moves (stand a) (stand b) (behind_value (stand a).spot)
+  pub moves : Moves (stand a) (stand b) (after_value (stand a).spot)
   pub as_told : AsTold (stand a) (first_kind t)
 
 -- an integer by value from 0 on was taken
@@ -93,12 +97,16 @@ pub record TakesText {S : Type 0} (taken : S → List Tok → Type 0) (stand : S
   pub takes : TakesTree taken stand a b (text_tree text)
 
 -- what is left of the innermost open container, its end included
-abbrev pub Rest : Spot → List Tok → Type 0
-Rest top xs = ⊥
-Rest over xs = ⊥
-Rest (element c) xs = (ts : Trees) × (xs ≡ trees_tokens ts ++ end array ∷ [])
-Rest (key_or_end c) xs = (ps : Pairs) × (xs ≡ pairs_tokens ps ++ end object ∷ [])
-Rest (member c) xs = (t : Tree) × (ps : Pairs) × (xs ≡ (tokens t ++ pairs_tokens ps) ++ end object ∷ [])
+abbrev pub RestAt : Expected → List Kind → List Tok → Type 0
+RestAt a_value [] xs = ⊥
+RestAt a_value (array ∷ c) xs = ⊥
+RestAt a_value (object ∷ c) xs = (t : Tree) × (ps : Pairs) × (xs ≡ (tokens t ++ pairs_tokens ps) ++ end object ∷ [])
+RestAt element_or_end c xs = (ts : Trees) × (xs ≡ trees_tokens ts ++ end array ∷ [])
+RestAt name_or_end c xs = (ps : Pairs) × (xs ≡ pairs_tokens ps ++ end object ∷ [])
+RestAt nothing c xs = ⊥
+
+abbrev pub Rest : TokenState → List Tok → Type 0
+Rest s xs = RestAt s.expected s.opened xs
 
 -- the first of them has the kind k
 abbrev pub FirstIs : List Tok → TokenKind → Type 0
@@ -116,7 +124,7 @@ pub record Leaves {S : Type 0} (taken : S → List Tok → Type 0) (stand : S �
 -- one token was taken
 pub record TakesOne {S : Type 0} (taken : S → List Tok → Type 0) (stand : S → TokensState) (a b : S) (x : Tok) : Type 0 where
   pub takes : TakesTokens taken a (x ∷ []) b
-  pub moves : Moves (stand a) (stand b) (spot_after (stand a).spot x)
+  pub moves : Moves (stand a) (stand b) (after_token (stand a).spot x)
   pub as_told : AsTold (stand a) (kind_of x)
 
 -- a name of which a piece says what it is was taken

@@ -2,8 +2,6 @@
 use Rattle.std.specs.Prelude.{◌≡◌, ◌⊎◌, ℕ, ℤ, ◌+◌, ◌-◌, ◌<◌, ◌≤◌, List, [], ◌∷◌, ◌++◌, length, false, Option, Some, None, IfSome, option_map}
 use Rattle.json_grammar.specs.declared.Kind.{Kind}
 use Rattle.json_grammar.specs.declared.Kind.TheVariants.{Array as array, Object as object}
-use Rattle.json_grammar.specs.declared.Spot.{Spot as Place}
-use Rattle.json_grammar.specs.declared.Spot.TheVariants.{Colon as colon, Done as done, Value as at_value}
 use Rattle.json_grammar.specs.Fault.{reads}
 use Rattle.json_grammar.specs.Tree.{Tree, Token as Tok, tokens, depth}
 use Rattle.json_grammar.specs.Place.{outside}
@@ -21,31 +19,21 @@ use Rattle.json_tokens.specs.declared.token.TokenKind.{TokenKind}
 use Rattle.json_tokens.specs.declared.token.TokenKind.TheVariants as kind
 use Rattle.json_tokens.specs.Kinds.{number_kind}
 use Rattle.json_tokens.specs.Refusals.{is_refusal}
-use Rattle.json_tokens.specs.Spots.{Spot, top, over, element, key_or_end, member, KindMayCome}
+use Rattle.json_grammar.specs.TokenStates.{TokenState, at_start, within, expected_before_value, state_at}
+use Rattle.json_tokens.specs.Spots.{KindMayCome}
 use Rattle.json_tokens.specs.Stand.{TokensState, over_text}
 
--- the spot of a place in a text, within the open containers
-abbrev pub spot_at_place : Place → List Kind → Spot
-spot_at_place done [] = over
-spot_at_place _ [] = top
-spot_at_place w (array ∷ c) = element c
-spot_at_place at_value (object ∷ c) = member c
-spot_at_place colon (object ∷ c) = member c
-spot_at_place _ (object ∷ c) = key_or_end c
-
 -- where a value may come, within the open containers
-abbrev pub value_spot : List Kind → Spot
-value_spot [] = top
-value_spot (array ∷ c) = element c
-value_spot (object ∷ c) = member c
+abbrev pub value_spot : List Kind → TokenState
+value_spot c = record { opened = c; expected = expected_before_value c }
 
--- the spot before a token of the kind, by the containers that are open behind it
-abbrev pub before : TokenKind → List Kind → Spot
-before kind.Key c = key_or_end (outside c)
+-- the state before a token of the kind, by the containers that are open behind it
+abbrev pub before : TokenKind → List Kind → TokenState
+before kind.Key c = within (object ∷ outside c)
 before kind.BeginArray c = value_spot (outside c)
 before kind.BeginObject c = value_spot (outside c)
-before kind.EndArray c = element c
-before kind.EndObject c = key_or_end c
+before kind.EndArray c = within (array ∷ c)
+before kind.EndObject c = within (object ∷ c)
 before _ c = value_spot c
 
 -- ---- events
@@ -68,8 +56,8 @@ abbrev pub event_integer : Event → Option ℤ
 event_integer (event.Number l) = integer_in l.now
 event_integer _ = None
 
-abbrev pub parser_spot : ParserState → Spot
-parser_spot p = spot_at_place p.spot p.open_kinds
+abbrev pub parser_spot : ParserState → TokenState
+parser_spot p = state_at p.spot p.open_kinds
 
 -- one event was read, of a token that may come there
 pub record ReadsAhead (old : ParserState) (e : Event) (new : ParserState) : Type 0 where
@@ -106,7 +94,7 @@ TakenBefore (Some e) p ts = (x : Tok) × Means e x × HasGiven p (ts ++ x ∷ []
 abbrev pub text_taken : TextTokensState → List Tok → Type 0
 text_taken s ts = TakenBefore s.ahead s.parser ts
 
-abbrev pub spot_before : Option Event → ParserState → Spot
+abbrev pub spot_before : Option Event → ParserState → TokenState
 spot_before None p = parser_spot p
 spot_before (Some e) p = before (event_kind e) p.open_kinds
 
@@ -127,7 +115,7 @@ text_tokens_state s = record {
 pub record IsFreshReader (s : TextTokensState) : Type 0 where
   pub none : HasGiven s.parser []
   pub taken : text_taken s []
-  pub spot : (text_tokens_state s).spot ≡ top
+  pub spot : (text_tokens_state s).spot ≡ at_start
   pub ahead : s.ahead ≡ None
   pub failed : s.failed ≡ None
 

@@ -17,7 +17,7 @@ use Rattle.json_tokens.specs.declared.token.TokenKind.{TokenKind}
 use Rattle.json_tokens.specs.declared.token.TokenKind.TheVariants as kind
 use Rattle.json_tokens.specs.declared.value_tokens.ValueTokens.{ValueTokens}
 use Rattle.json_tokens.specs.Kinds.{kind_of}
-use Rattle.json_tokens.specs.Spots.{Spot, top, over, element, key_or_end, member}
+use Rattle.json_grammar.specs.TokenStates.{TokenState, a_value, at_start, within}
 use Rattle.json_tokens.specs.Stand.{TokensState, over_tree}
 
 -- what is left of an open container: its elements, or its members
@@ -54,12 +54,12 @@ next_tokens None = []
 next_tokens (Some t) = tokens t
 
 -- the spot within open containers, by whether a value of the innermost comes next
-abbrev pub spot_in_levels : List Left → Option Tree → Spot
-spot_in_levels [] None = over
-spot_in_levels [] (Some t) = top
-spot_in_levels (elements_of ts ∷ ls) o = element (map kind_left ls)
-spot_in_levels (members_of ps ∷ ls) None = key_or_end (map kind_left ls)
-spot_in_levels (members_of ps ∷ ls) (Some t) = member (map kind_left ls)
+abbrev pub spot_in_levels : List Left → Option Tree → TokenState
+spot_in_levels [] None = within []
+spot_in_levels [] (Some t) = at_start
+spot_in_levels (elements_of ts ∷ ls) o = within (array ∷ map kind_left ls)
+spot_in_levels (members_of ps ∷ ls) None = within (object ∷ map kind_left ls)
+spot_in_levels (members_of ps ∷ ls) (Some t) = record { opened = object ∷ map kind_left ls; expected = a_value }
 
 -- a value whose tokens are taken
 pub record ValueState : Type 0 where
@@ -168,7 +168,7 @@ pub record SettlesNext (a b : ValueState) : Type 0 where
   pub failed : b.failed ≡ a.failed
 
 -- the tokens xs were taken, and it stands at p
-pub record TakesTokensTo (a b : ValueState) (xs : List Tok) (p : Spot) : Type 0 where
+pub record TakesTokensTo (a b : ValueState) (xs : List Tok) (p : TokenState) : Type 0 where
   pub tree : b.tree ≡ a.tree
   pub rest : rest_of a ≡ xs ++ rest_of b
   pub spot : spot_in_levels b.levels b.next ≡ p

@@ -5,7 +5,7 @@ ghost use Rattle.json_io.specs.Errors.{no_memory};
 ghost use Rattle.json_value.specs.Seen.{seen};
 ghost use Rattle.json_value.specs.Sights.{sight_of};
 ghost use Rattle.json_tokens.specs.Kinds.{DenotesToken};
-ghost use Rattle.json_tokens.specs.Spots.{spot_after};
+ghost use Rattle.json_grammar.specs.TokenStates.{after_token};
 ghost use Rattle.json_tokens.specs.Stand.{NotWhole};
 ghost use Rattle.json_tokens.specs.Values.{Left, left_after_opening, value_state, value_taken, value_stand, value_placed, next_sight, at_begin, NoElement, SettlesNext, TakesTokensTo, Breaks};
 
@@ -119,7 +119,7 @@ impl<'a> ValueTokens<'a> {
         requires { (value_state self.old).next ≡ Some (seen view) }
         ensures ok { IfOk result (λ y. (x : Tok) × DenotesToken (λ s. s.now) y x
             × TakesTokensTo (value_state self.old) (value_state self.new) (x ∷ [])
-            (spot_after (value_stand self.old).spot x)) }
+            (after_token (value_stand self.old).spot x)) }
         ensures err { IfErr result (λ e. (e ≡ no_memory)
             × Breaks (value_state self.old) (value_state self.new)) }
     {
@@ -147,7 +147,7 @@ impl<'a> ValueTokens<'a> {
         requires reached { NoElement (value_state self.old).levels }
         ensures { (x : Tok) × DenotesToken (λ s. s.now) result x
             × TakesTokensTo (value_state self.old) (value_state self.new) (x ∷ [])
-            (spot_after (value_stand self.old).spot x) }
+            (after_token (value_stand self.old).spot x) }
     {
         let front = self.inner.front();
         if let Some((key, value)) = self.inner.member() {

@@ -5,14 +5,14 @@ use Rattle.json_grammar.specs.declared.Kind.TheVariants.{Array as array, Object 
 use Rattle.json_grammar.specs.Tree.{Tree, null, boolean, num, text, list, pairs, no_pairs, list_trees, Token, null_token, boolean_token, num_token, text_token, begin, end, key_token}
 use Rattle.json_io.specs.declared.error.Error.{Error}
 use Rattle.json_io.specs.Errors.{no_memory, out_of_range, key_refused}
-use Rattle.json_print.specs.Standing.{ExpectedTokens, stand_after}
+use Rattle.json_grammar.specs.TokenStates.{TokenState, after_token, at_start as no_token}
 use Rattle.json_value.specs.Denotes.{tree_of, pair_of, text_bytes}
 use Rattle.json_model.specs.Merged.{inserted_all}
 use Rattle.json_write.specs.declared.builder.Builder.{Builder}
 use Rattle.json_write.specs.declared.level.Level.{Level}
 use Rattle.json_print.specs.Given.{TokenOrInteger, given, given_integer, token_of}
 use Rattle.json_print.specs.Taking.{Takes}
-use Rattle.json_write.specs.Nesting.{nesting_stand, at_first}
+use Rattle.json_write.specs.Nesting.{nesting_stand}
 use Rattle.json_model.specs.Datum.{Datum, tree_of_datum}
 
 -- it lies in i64 or in u64
@@ -59,7 +59,7 @@ pub record Work : Type 0 where
   pub outer : List Frame
 
 pub record Build : Type 0 where
-  pub stand : ExpectedTokens
+  pub stand : TokenState
   pub work : Work
   -- each integer by value so far lies in i64 or u64
   pub fits : Bool
@@ -85,15 +85,15 @@ fits_after b (given t) = b
 fits_after b (given_integer n) = b && is_inside n
 
 abbrev pub build_after : Build → TokenOrInteger → Build
-build_after b t = record { stand = stand_after b.stand (token_of t); work = work_after b.work (token_of t); fits = fits_after b.fits t }
+build_after b t = record { stand = after_token b.stand (token_of t); work = work_after b.work (token_of t); fits = fits_after b.fits t }
 
 -- a value is behind
 abbrev pub placed : Tree → Build → TokenOrInteger → Build
-placed u b t = record { stand = stand_after b.stand null_token; work = record (b.work) { top = frame_take b.work.top u }; fits = b.fits }
+placed u b t = record { stand = after_token b.stand null_token; work = record (b.work) { top = frame_take b.work.top u }; fits = b.fits }
 
 -- no token was taken yet
 abbrev pub at_start : Build
-at_start = record { stand = at_first; work = record { top = new_frame array; outer = [] }; fits = true }
+at_start = record { stand = no_token; work = record { top = new_frame array; outer = [] }; fits = true }
 
 abbrev pub StopsAs : Error → Build → TokenOrInteger → Build → Error → Type 0
 StopsAs x b t b' e = e ≡ x

@@ -1,10 +1,9 @@
 -- The members of a program's own type.
-use Rattle.std.specs.Prelude.{◌≡◌, List, ◌∷◌, Bool}
+use Rattle.std.specs.Prelude.{◌≡◌, List, ◌∷◌}
 use Rattle.json_grammar.specs.declared.Kind.{Kind}
 use Rattle.json_grammar.specs.declared.Kind.TheVariants.{Object as object}
+use Rattle.json_grammar.specs.TokenStates.{TokenState, within}
 use Rattle.json_model.specs.Datum.{Rows, no_rows, row_and}
-use Rattle.json_print.specs.declared.events.Turn.TheVariants.{Key as at_key}
-use Rattle.json_print.specs.Standing.{ExpectedTokens}
 
 -- rows, and others behind them
 abbrev pub rows_append : Rows → Rows → Rows
@@ -12,7 +11,6 @@ rows_append no_rows ss = ss
 rows_append (row_and k d rs) ss = row_and k d (rows_append rs ss)
 
 -- a key or the end of an object may come
-pub record AtKey (s : ExpectedTokens) : Type 0 where
-  pub first : Bool
+pub record AtKey (s : TokenState) : Type 0 where
   pub outer : List Kind
-  pub is : s ≡ record { turn = at_key first; opened = object ∷ outer }
+  pub is : s ≡ within (object ∷ outer)

@@ -1,27 +1,27 @@
 -- What may come next of what was tested.
 use Rattle.std.specs.Prelude.{◌≡◌, Result}
+use Rattle.json_grammar.specs.TokenStates.{TokenState, after_value, after_token}
 use Rattle.json_io.specs.declared.error.Error.{Error}
 use Rattle.json_io.specs.Errors.{no_memory}
 use Rattle.json_print.specs.Given.{TokenOrInteger, token_of}
-use Rattle.json_print.specs.Standing.{ExpectedTokens, turn_after_value, stand_after}
 use Rattle.json_print.specs.Taking.{Takes}
 use Rattle.json_write.specs.Nesting.{nesting_stand}
 use Rattle.json_write.specs.declared.key_test.KeyTest.{KeyTest}
 
-abbrev pub expected_in_test : KeyTest → ExpectedTokens
+abbrev pub expected_in_test : KeyTest → TokenState
 expected_in_test s = nesting_stand s.nesting
 
-abbrev pub stand_given : ExpectedTokens → TokenOrInteger → ExpectedTokens
-stand_given s g = stand_after s (token_of g)
+abbrev pub stand_given : TokenState → TokenOrInteger → TokenState
+stand_given s g = after_token s (token_of g)
 
 -- behind a value
-abbrev pub passed : ExpectedTokens → TokenOrInteger → ExpectedTokens
-passed s g = record s { turn = turn_after_value s.opened }
+abbrev pub passed : TokenState → TokenOrInteger → TokenState
+passed s g = after_value s
 
 -- want of memory alone stops it
-abbrev pub StopsTest : ExpectedTokens → TokenOrInteger → ExpectedTokens → Error → Type 0
+abbrev pub StopsTest : TokenState → TokenOrInteger → TokenState → Error → Type 0
 StopsTest s g s' e = e ≡ no_memory
 
 -- a call of a test: what may come next goes on so, or memory ran out
-abbrev pub Tests : (ExpectedTokens → TokenOrInteger → ExpectedTokens) → KeyTest → KeyTest → TokenOrInteger → Result (Unit {0}) Error → Type 0
+abbrev pub Tests : (TokenState → TokenOrInteger → TokenState) → KeyTest → KeyTest → TokenOrInteger → Result (Unit {0}) Error → Type 0
 Tests next old new g result = Takes next StopsTest (expected_in_test old) (expected_in_test new) old.failed new.failed g result

@@ -1,10 +1,9 @@
 // Events that write nothing: they tell whether each key has a text.
 ghost use Rattle.std.specs.Prelude.{◌≡◌, None, Some, OnOk, refl};
+ghost use Rattle.json_grammar.specs.TokenStates as states;
 ghost use Rattle.json_grammar.specs.Tree.{Tree, null_token, begin, end};
 ghost use Rattle.json_model.specs.Datum.{tree_of_datum};
 ghost use Rattle.json_print.specs.Given.{given};
-ghost use Rattle.json_print.specs.Standing as standing;
-ghost use Rattle.json_write.specs.Nesting.{at_first};
 ghost use Rattle.json_write.specs.Testing as testing;
 ghost use Rattle.json_write.specs.Testing.{Tests, expected_in_test};
 ghost use Rattle.json_write.specs.Building.{FailsOnKeyText};
@@ -25,7 +24,7 @@ pub(crate) struct KeyTest {
 impl KeyTest {
     fn new(alloc: Global) -> KeyTest
         ensures fresh { result.failed ≡ None }
-        ensures stand { expected_in_test result ≡ at_first }
+        ensures stand { expected_in_test result ≡ states.at_start }
     {
         KeyTest {
             nesting: Nesting::new(alloc),
@@ -71,7 +70,7 @@ impl KeyTest {
 }
 
 impl Events for KeyTest {
-    ghost State = { standing.ExpectedTokens };
+    ghost State = { states.TokenState };
 
     ghost state = { expected_in_test };
 

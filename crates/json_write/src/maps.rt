@@ -1,6 +1,5 @@
 // Maps.
 ghost use Rattle.std.specs.Prelude.{◌≡◌, None, map};
-ghost use Rattle.json_print.specs.Standing.{TurnTakesValue};
 ghost use Rattle.json_model.specs.Datum.{rows_datum, list_rows, row_of};
 ghost use Rattle.json_print.specs.Data.{parts};
 ghost use Rattle.json_write.specs.Writing.{WritesDatumTokens};

@@ -1,9 +1,9 @@
 // What may come next of tokens.
 ghost use Rattle.std.specs.Prelude.{◌≡◌, OnOk, IfErr};
+ghost use Rattle.json_grammar.specs.TokenStates.{at_start, after_token};
 ghost use Rattle.json_grammar.specs.Tree.{null_token, begin, end, key_token};
 ghost use Rattle.json_io.specs.Errors.{no_memory};
-ghost use Rattle.json_print.specs.Standing.{stand_after};
-ghost use Rattle.json_write.specs.Nesting.{nesting_stand, at_first};
+ghost use Rattle.json_write.specs.Nesting.{nesting_stand};
 
 use json_grammar::Kind;
 use json_print::Turn;
@@ -19,7 +19,7 @@ pub(crate) struct Nesting {
 
 impl Nesting {
     pub(crate) fn new(alloc: Global) -> Nesting
-        ensures { nesting_stand result ≡ at_first }
+        ensures { nesting_stand result ≡ at_start }
     {
         Nesting {
             turn: Turn::Value,
@@ -29,7 +29,7 @@ impl Nesting {
 
     // A value was taken.
     pub(crate) fn pass(&mut self)
-        ensures { nesting_stand self.new ≡ stand_after (nesting_stand self.old) null_token }
+        ensures { nesting_stand self.new ≡ after_token (nesting_stand self.old) null_token }
     {
         self.turn = match self.opened.last() {
             None => Turn::Done,
@@ -40,7 +40,7 @@ impl Nesting {
 
     pub(crate) fn begin(&mut self, kind: Kind) -> Result<()>
         ensures ok { OnOk result (nesting_stand self.new
-            ≡ stand_after (nesting_stand self.old) (begin kind)) }
+            ≡ after_token (nesting_stand self.old) (begin kind)) }
         ensures err { IfErr result (λ e. e ≡ no_memory) }
     {
         self.opened.push(kind)?;
@@ -52,7 +52,7 @@ impl Nesting {
     }
 
     pub(crate) fn end(&mut self, kind: Kind)
-        ensures { nesting_stand self.new ≡ stand_after (nesting_stand self.old) (end kind) }
+        ensures { nesting_stand self.new ≡ after_token (nesting_stand self.old) (end kind) }
     {
         let _ = kind;
         let _ = self.opened.pop();
@@ -61,7 +61,7 @@ impl Nesting {
 
     pub(crate) fn key(&mut self, key: &str)
         ensures { nesting_stand self.new
-            ≡ stand_after (nesting_stand self.old) (key_token key.now) }
+            ≡ after_token (nesting_stand self.old) (key_token key.now) }
     {
         let _ = key;
         self.turn = Turn::Member;

@@ -1,6 +1,7 @@
 use Rattle.std.proofs.Common.{◌≡◌, ℕ, suc, Option, refl, sym, subst, arith}
 use Rattle.json_grammar.specs.Tree.{no_trees, tree_and}
-use Rattle.json_tokens.specs.Spots.{Spot, InArray}
+use Rattle.json_grammar.specs.TokenStates.{TokenState}
+use Rattle.json_tokens.specs.Spots.{InArray}
 use Rattle.json_data.proofs.Lists.{begun, closes, join, one_more, peeks_on, in_array_again}
 use Rattle.json_tokens.proofs.Told.{is_kind}
 use Rattle.json_explain.specs.Explaining.{Explains, refused_in}
@@ -33,6 +34,6 @@ each-preserved g c =
     let n : suc c.each.index ≡ c.in-Some-checked_add.next = omega arith in (
       join i.0 (tree_and e.tree no_trees),
       λ a h. one_more (peeks_on (i.1 a h) peek c.in-Ok.ensures.none) e.takes,
-      in_array_again _ _ (subst (λ (p : Spot). InArray p) (sym peek.spot) i.2) e.takes.moves.spot,
+      in_array_again _ _ (subst (λ (p : TokenState). InArray p) (sym peek.spot) i.2) e.takes.moves.spot,
       subst (λ (k : ℕ). Passed g.V.Explain.refused (join i.0 (tree_and e.tree no_trees)) k) n (passed-more g.V.Explain.refused i.0 c.each.index e.tree i.3 e.answer),
     )

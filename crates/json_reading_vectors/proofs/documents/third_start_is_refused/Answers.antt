@@ -2,7 +2,7 @@ use Rattle.std.proofs.Common.{◌≡◌, Bool, true, false, List, [], ◌∷◌,
 use Rattle.std.specs.Bool.{OnTrue}
 use Rattle.json_grammar.specs.declared.Kind.TheVariants.{Array as array}
 use Rattle.json_grammar.specs.Tree.{Tree, list, no_trees, tree_and, Token, begin}
-use Rattle.json_doc.specs.Awaited.{BeginsTree}
+use Rattle.json_grammar.specs.TokenStates.{BeginsTree}
 use Rattle.json_doc.specs.State.{VisitorState, after_event, HoldsMore}
 use Rattle.json_doc.specs.Recorded.{visitor_state, Holds}
 use Rattle.json_doc.specs.declared.document_visitor.DocumentVisitor.{DocumentVisitor}
