@@ -117,7 +117,7 @@ sent_adds a b piece from to (Err e) h =
       counts = h.counts;
     }
 
--- ---- told to a caller
+-- ---- returned to a caller
 
 pub told_ok : (a b : SinkState) (piece : List ℕ) → Adds a b piece (Ok tt) → Puts a b piece (Ok tt)
 told_ok a b piece h =

@@ -113,7 +113,7 @@ Shows-same {n} a b p q r e h = subst (λ x. Shows n a b x r) e h
 pub Adds-same : (a b : SinkState) (p q : List ℕ) (r : Result (Unit {0}) SinkError) → p ≡ q → Adds a b p r → Adds a b q r
 Adds-same a b p q r e h = subst (λ x. Adds a b x r) e h
 
--- ---- told to a caller
+-- ---- returned to a caller
 
 pub written_ok : {n : ℕ} (old new : SinkState) (text : List ℕ) (u v : Unit {0}) → Shows n old new text (Ok u) → WritesText old new text (Ok v)
 written_ok old new text u v h = record { ok = h.ok; calm = h.faults_ok; prefix = tt; cause = tt; told = λ l. absurd (omega (arith, l, h.faults_ok)); same_loan = h.same_loan }

@@ -9,7 +9,7 @@ use Rattle.json_io.specs.declared.error.ErrorCode.TheVariants.{NoMemory, Io}
 use Rattle.json_io.specs.declared.error.Place.{Place}
 use Rattle.json_io.specs.declared.error.Place.TheVariants.{None as nowhere, Writing}
 
--- the second has all told bytes of the first, and maybe more
+-- the second has all known bytes of the first, and maybe more
 pub record Begins (a b : Option (List ℕ)) : Type 0 where
   pub back : List ℕ
   pub whole : b ≡ append_known a back

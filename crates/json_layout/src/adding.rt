@@ -70,10 +70,10 @@ pub(crate) fn refusal(error: SinkError) -> Error
     }
 }
 
-/// Returns the error of a write in line: `Io` at `Writing` where a call of the sink failed, and
-/// `NoMemory` where memory ran out.
+/// Returns what a write came to as a `Result` of the library: its error is `Io` at `Writing` where a
+/// call of the sink failed, and `NoMemory` where memory ran out.
 #[inline(always)]
-pub fn told(added: Added) -> Result<()>
+pub fn into_result(added: Added) -> Result<()>
     ensures { (old new : SinkState) (piece : List ℕ) → Adds old new piece added
         → Puts old new piece result }
 {

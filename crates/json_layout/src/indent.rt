@@ -16,10 +16,10 @@ const LINE: &[u8] = b",\n                                                       
 /// An indent: the bytes that a line begins with, once for each container around it.
 ///
 /// ```
-/// use json_layout::{Indent, add_start, told};
+/// use json_layout::{Indent, add_start, into_result};
 /// use json_io::VecSink;
 /// let mut sink = VecSink::new(alloc);
-/// told(add_start(&mut sink, Some(Indent::new(b"  ")), 2, false))?;
+/// into_result(add_start(&mut sink, Some(Indent::new(b"  ")), 2, false))?;
 /// assert_eq!(rt; sink.as_slice(), b",\n    ".as_slice());
 /// ```
 #[derive(Clone, Copy, Debug)]

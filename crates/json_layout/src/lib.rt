@@ -27,7 +27,7 @@ mod showing;
 mod shown;
 mod style;
 
-pub use adding::{add, told};
+pub use adding::{add, into_result};
 pub use buffered::{Buffer, BufferedWriter};
 pub use escape::{add_number, add_string, add_unsigned};
 pub use indent::Indent;

@@ -3,7 +3,7 @@ ghost use Rattle.json_print.specs.Layouts.{plain_form};
 
 use crate::Formatter;
 use json_io::{Result, Sink};
-use json_layout::{add, add_byte_array, add_number, add_string, add_unsigned, told};
+use json_layout::{add, add_byte_array, add_number, add_string, add_unsigned, into_result};
 
 /// A formatter that writes no whitespace between the tokens.
 ///
@@ -24,71 +24,71 @@ impl Formatter for CompactFormatter {
 
     #[inline(always)]
     fn write_null<W: Sink>(&mut self, writer: &mut W) -> Result<()> {
-        told(add(writer, b"null"))
+        into_result(add(writer, b"null"))
     }
 
     #[inline(always)]
     fn write_bool<W: Sink>(&mut self, writer: &mut W, value: bool) -> Result<()> {
         if value {
-            told(add(writer, b"true"))
+            into_result(add(writer, b"true"))
         } else {
-            told(add(writer, b"false"))
+            into_result(add(writer, b"false"))
         }
     }
 
     #[inline(always)]
     fn write_i8<W: Sink>(&mut self, writer: &mut W, value: i8) -> Result<()> {
-        told(add_number(writer, value))
+        into_result(add_number(writer, value))
     }
 
     #[inline(always)]
     fn write_i16<W: Sink>(&mut self, writer: &mut W, value: i16) -> Result<()> {
-        told(add_number(writer, value))
+        into_result(add_number(writer, value))
     }
 
     #[inline(always)]
     fn write_i32<W: Sink>(&mut self, writer: &mut W, value: i32) -> Result<()> {
-        told(add_number(writer, value))
+        into_result(add_number(writer, value))
     }
 
     #[inline(always)]
     fn write_i64<W: Sink>(&mut self, writer: &mut W, value: i64) -> Result<()> {
-        told(add_number(writer, value))
+        into_result(add_number(writer, value))
     }
 
     #[inline(always)]
     fn write_i128<W: Sink>(&mut self, writer: &mut W, value: i128) -> Result<()> {
-        told(add_number(writer, value))
+        into_result(add_number(writer, value))
     }
 
     #[inline(always)]
     fn write_u8<W: Sink>(&mut self, writer: &mut W, value: u8) -> Result<()> {
-        told(add_number(writer, value))
+        into_result(add_number(writer, value))
     }
 
     #[inline(always)]
     fn write_u16<W: Sink>(&mut self, writer: &mut W, value: u16) -> Result<()> {
-        told(add_number(writer, value))
+        into_result(add_number(writer, value))
     }
 
     #[inline(always)]
     fn write_u32<W: Sink>(&mut self, writer: &mut W, value: u32) -> Result<()> {
-        told(add_number(writer, value))
+        into_result(add_number(writer, value))
     }
 
     #[inline(always)]
     fn write_u64<W: Sink>(&mut self, writer: &mut W, value: u64) -> Result<()> {
-        told(add_unsigned(writer, value))
+        into_result(add_unsigned(writer, value))
     }
 
     #[inline(always)]
     fn write_u128<W: Sink>(&mut self, writer: &mut W, value: u128) -> Result<()> {
-        told(add_number(writer, value))
+        into_result(add_number(writer, value))
     }
 
     #[inline(always)]
     fn write_number_str<W: Sink>(&mut self, writer: &mut W, value: &str) -> Result<()> {
-        told(add(writer, value.as_bytes()))
+        into_result(add(writer, value.as_bytes()))
     }
 
     #[inline(always)]
@@ -98,32 +98,32 @@ impl Formatter for CompactFormatter {
         value: &str,
         need_quote: bool,
     ) -> Result<()> {
-        told(add_string(writer, value, need_quote))
+        into_result(add_string(writer, value, need_quote))
     }
 
     #[inline(always)]
     fn write_byte_array<W: Sink>(&mut self, writer: &mut W, value: &[u8]) -> Result<()> {
-        told(add_byte_array(writer, None, 1, 0, value))
+        into_result(add_byte_array(writer, None, 1, 0, value))
     }
 
     #[inline(always)]
     fn begin_string<W: Sink>(&mut self, writer: &mut W) -> Result<()> {
-        told(add(writer, b"\""))
+        into_result(add(writer, b"\""))
     }
 
     #[inline(always)]
     fn end_string<W: Sink>(&mut self, writer: &mut W) -> Result<()> {
-        told(add(writer, b"\""))
+        into_result(add(writer, b"\""))
     }
 
     #[inline(always)]
     fn begin_array<W: Sink>(&mut self, writer: &mut W) -> Result<()> {
-        told(add(writer, b"["))
+        into_result(add(writer, b"["))
     }
 
     #[inline(always)]
     fn end_array<W: Sink>(&mut self, writer: &mut W) -> Result<()> {
-        told(add(writer, b"]"))
+        into_result(add(writer, b"]"))
     }
 
     #[inline(always)]
@@ -131,7 +131,7 @@ impl Formatter for CompactFormatter {
         if first {
             Ok(())
         } else {
-            told(add(writer, b","))
+            into_result(add(writer, b","))
         }
     }
 
@@ -143,12 +143,12 @@ impl Formatter for CompactFormatter {
 
     #[inline(always)]
     fn begin_object<W: Sink>(&mut self, writer: &mut W) -> Result<()> {
-        told(add(writer, b"{"))
+        into_result(add(writer, b"{"))
     }
 
     #[inline(always)]
     fn end_object<W: Sink>(&mut self, writer: &mut W) -> Result<()> {
-        told(add(writer, b"}"))
+        into_result(add(writer, b"}"))
     }
 
     #[inline(always)]
@@ -156,7 +156,7 @@ impl Formatter for CompactFormatter {
         if first {
             Ok(())
         } else {
-            told(add(writer, b","))
+            into_result(add(writer, b","))
         }
     }
 
@@ -168,7 +168,7 @@ impl Formatter for CompactFormatter {
 
     #[inline(always)]
     fn begin_object_value<W: Sink>(&mut self, writer: &mut W) -> Result<()> {
-        told(add(writer, b":"))
+        into_result(add(writer, b":"))
     }
 
     #[inline(always)]
@@ -179,6 +179,6 @@ impl Formatter for CompactFormatter {
 
     #[inline(always)]
     fn write_raw_value<W: Sink>(&mut self, writer: &mut W, raw: &str) -> Result<()> {
-        told(add(writer, raw.as_bytes()))
+        into_result(add(writer, raw.as_bytes()))
     }
 }

@@ -5,7 +5,8 @@ ghost use Rattle.json_print.specs.Layouts.{LaidOut, pretty_form};
 use crate::Formatter;
 use json_io::{Result, Sink};
 use json_layout::{
-    Indent, add, add_byte_array, add_end, add_number, add_start, add_string, add_unsigned, told,
+    Indent, add, add_byte_array, add_end, add_number, add_start, add_string, add_unsigned,
+    into_result,
 };
 
 /// A formatter that writes each element and each key on a line of its own, after one indent for each
@@ -70,71 +71,71 @@ impl Formatter for PrettyFormatter<'_> {
 
     #[inline(always)]
     fn write_null<W: Sink>(&mut self, writer: &mut W) -> Result<()> {
-        told(add(writer, b"null"))
+        into_result(add(writer, b"null"))
     }
 
     #[inline(always)]
     fn write_bool<W: Sink>(&mut self, writer: &mut W, value: bool) -> Result<()> {
         if value {
-            told(add(writer, b"true"))
+            into_result(add(writer, b"true"))
         } else {
-            told(add(writer, b"false"))
+            into_result(add(writer, b"false"))
         }
     }
 
     #[inline(always)]
     fn write_i8<W: Sink>(&mut self, writer: &mut W, value: i8) -> Result<()> {
-        told(add_number(writer, value))
+        into_result(add_number(writer, value))
     }
 
     #[inline(always)]
     fn write_i16<W: Sink>(&mut self, writer: &mut W, value: i16) -> Result<()> {
-        told(add_number(writer, value))
+        into_result(add_number(writer, value))
     }
 
     #[inline(always)]
     fn write_i32<W: Sink>(&mut self, writer: &mut W, value: i32) -> Result<()> {
-        told(add_number(writer, value))
+        into_result(add_number(writer, value))
     }
 
     #[inline(always)]
     fn write_i64<W: Sink>(&mut self, writer: &mut W, value: i64) -> Result<()> {
-        told(add_number(writer, value))
+        into_result(add_number(writer, value))
     }
 
     #[inline(always)]
     fn write_i128<W: Sink>(&mut self, writer: &mut W, value: i128) -> Result<()> {
-        told(add_number(writer, value))
+        into_result(add_number(writer, value))
     }
 
     #[inline(always)]
     fn write_u8<W: Sink>(&mut self, writer: &mut W, value: u8) -> Result<()> {
-        told(add_number(writer, value))
+        into_result(add_number(writer, value))
     }
 
     #[inline(always)]
     fn write_u16<W: Sink>(&mut self, writer: &mut W, value: u16) -> Result<()> {
-        told(add_number(writer, value))
+        into_result(add_number(writer, value))
     }
 
     #[inline(always)]
     fn write_u32<W: Sink>(&mut self, writer: &mut W, value: u32) -> Result<()> {
-        told(add_number(writer, value))
+        into_result(add_number(writer, value))
     }
 
     #[inline(always)]
     fn write_u64<W: Sink>(&mut self, writer: &mut W, value: u64) -> Result<()> {
-        told(add_unsigned(writer, value))
+        into_result(add_unsigned(writer, value))
     }
 
     #[inline(always)]
     fn write_u128<W: Sink>(&mut self, writer: &mut W, value: u128) -> Result<()> {
-        told(add_number(writer, value))
+        into_result(add_number(writer, value))
     }
 
     #[inline(always)]
     fn write_number_str<W: Sink>(&mut self, writer: &mut W, value: &str) -> Result<()> {
-        told(add(writer, value.as_bytes()))
+        into_result(add(writer, value.as_bytes()))
     }
 
     #[inline(always)]
@@ -144,7 +145,7 @@ impl Formatter for PrettyFormatter<'_> {
         value: &str,
         need_quote: bool,
     ) -> Result<()> {
-        told(add_string(writer, value, need_quote))
+        into_result(add_string(writer, value, need_quote))
     }
 
     #[inline(always)]
@@ -152,35 +153,35 @@ impl Formatter for PrettyFormatter<'_> {
         let level = self.level.saturating_add(1);
         self.level = level.saturating_sub(1);
         self.flag = !value.is_empty();
-        told(add_byte_array(writer, Some(self.indent), level, self.level, value))
+        into_result(add_byte_array(writer, Some(self.indent), level, self.level, value))
     }
 
     #[inline(always)]
     fn begin_string<W: Sink>(&mut self, writer: &mut W) -> Result<()> {
-        told(add(writer, b"\""))
+        into_result(add(writer, b"\""))
     }
 
     #[inline(always)]
     fn end_string<W: Sink>(&mut self, writer: &mut W) -> Result<()> {
-        told(add(writer, b"\""))
+        into_result(add(writer, b"\""))
     }
 
     #[inline(always)]
     fn begin_array<W: Sink>(&mut self, writer: &mut W) -> Result<()> {
         self.level = self.level.saturating_add(1);
         self.flag = false;
-        told(add(writer, b"["))
+        into_result(add(writer, b"["))
     }
 
     #[inline(always)]
     fn end_array<W: Sink>(&mut self, writer: &mut W) -> Result<()> {
         self.level = self.level.saturating_sub(1);
-        told(add_end(writer, Some(self.indent), self.level, self.flag, b']'))
+        into_result(add_end(writer, Some(self.indent), self.level, self.flag, b']'))
     }
 
     #[inline(always)]
     fn begin_array_value<W: Sink>(&mut self, writer: &mut W, first: bool) -> Result<()> {
-        told(add_start(writer, Some(self.indent), self.level, first))
+        into_result(add_start(writer, Some(self.indent), self.level, first))
     }
 
     #[inline(always)]
@@ -194,18 +195,18 @@ impl Formatter for PrettyFormatter<'_> {
     fn begin_object<W: Sink>(&mut self, writer: &mut W) -> Result<()> {
         self.level = self.level.saturating_add(1);
         self.flag = false;
-        told(add(writer, b"{"))
+        into_result(add(writer, b"{"))
     }
 
     #[inline(always)]
     fn end_object<W: Sink>(&mut self, writer: &mut W) -> Result<()> {
         self.level = self.level.saturating_sub(1);
-        told(add_end(writer, Some(self.indent), self.level, self.flag, b'}'))
+        into_result(add_end(writer, Some(self.indent), self.level, self.flag, b'}'))
     }
 
     #[inline(always)]
     fn begin_object_key<W: Sink>(&mut self, writer: &mut W, first: bool) -> Result<()> {
-        told(add_start(writer, Some(self.indent), self.level, first))
+        into_result(add_start(writer, Some(self.indent), self.level, first))
     }
 
     #[inline(always)]
@@ -216,7 +217,7 @@ impl Formatter for PrettyFormatter<'_> {
 
     #[inline(always)]
     fn begin_object_value<W: Sink>(&mut self, writer: &mut W) -> Result<()> {
-        told(add(writer, b": "))
+        into_result(add(writer, b": "))
     }
 
     #[inline(always)]
@@ -228,6 +229,6 @@ impl Formatter for PrettyFormatter<'_> {
 
     #[inline(always)]
     fn write_raw_value<W: Sink>(&mut self, writer: &mut W, raw: &str) -> Result<()> {
-        told(add(writer, raw.as_bytes()))
+        into_result(add(writer, raw.as_bytes()))
     }
 }

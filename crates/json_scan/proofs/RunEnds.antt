@@ -3,7 +3,7 @@ use Rattle.std.proofs.Common.{◌≡◌, ℕ, zero, suc, ◌+◌, ◌-◌, ◌<�
 use Rattle.std.proofs.lemmas.Bool.{cases_lt}
 use Rattle.json_grammar.specs.Given.{piece}
 use Rattle.json_grammar.proofs.Moves.{piece_none}
-use Rattle.json_scan.specs.Runs.{CountedIn, EndsAt}
+use Rattle.json_scan.specs.Runs.{CountedIn, EndsAt, RunEndsAt}
 
 -- the bytes from i up to j are of a class
 abbrev pub Each : (ℕ → Type 0) → List ℕ → ℕ → ℕ → Type 0
@@ -42,9 +42,13 @@ run_to P class b i (suc n) none more l h =
     let e : i + n + 1 ≡ i + suc n = omega arith in
     subst (λ k. P (piece b i k)) e (more (i + n) (run_to P class b i n none more (omega (arith, l)) (λ k u v. h k u (omega (arith, v)))) (omega arith) (omega (arith, l)) (h (i + n) (omega arith) (omega arith)))
 
-pub run_up_to : (P : List ℕ → Type 0) (class : ℕ → Type 0) (b : List ℕ) (i e : ℕ) → P []
+pub run_ends : (P : List ℕ → Type 0) (class : ℕ → Type 0) (b : List ℕ) (i e : ℕ) → P []
     → ((j : ℕ) → P (piece b i j) → i ≤ j → j < length b → class (get_or b j 0) → P (piece b i (j + 1)))
-    → EndsAt class b i e → P (piece b i e)
-run_up_to P class b i e none more d =
-    let is : i + (e - i) ≡ e = omega (arith, d.order) in
-    subst (λ k. P (piece b i k)) is (run_to P class b i (e - i) none more (omega (arith, d.order, d.within)) (λ k l m. d.each k l (omega (arith, d.order))))
+    → EndsAt class b i e → RunEndsAt class P b i e
+run_ends P class b i e none more d =
+    let is : i + (e - i) ≡ e = omega (arith, d.order) in record {
+      order = d.order;
+      within = d.within;
+      run = subst (λ k. P (piece b i k)) is (run_to P class b i (e - i) none more (omega (arith, d.order, d.within)) (λ k l m. d.each k l (omega (arith, d.order))));
+      stop = d.stop;
+    }

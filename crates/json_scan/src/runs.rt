@@ -1,8 +1,7 @@
 // Runs of bytes of one kind.
 ghost use Rattle.std.specs.Prelude.{◌<◌, ◌≤◌, ◌↔◌, length, get_or, IsTrue};
 ghost use Rattle.json_grammar.specs.Grammar.{IsWhitespace, ws, IsDigit, digits};
-ghost use Rattle.json_grammar.specs.Given.{piece};
-ghost use Rattle.json_scan.specs.Runs.{IsPlain, plain, ByteAt, EndsAt};
+ghost use Rattle.json_scan.specs.Runs.{IsPlain, plain, ByteAt, EndsAt, RunEndsAt};
 
 use crate::lanes::{
     BLOCK, HALF, QUARTER, digits_in_block, plain_in_block, plain_in_half, plain_in_quarter,
@@ -62,9 +61,7 @@ fn ws_end_by_blocks(bytes: &[u8], from: usize) -> usize
 #[inline(never)]
 pub fn ws_run(bytes: &[u8], from: usize) -> usize
     requires { from ≤ length bytes.now }
-    ensures within { (from ≤ result) × (result ≤ length bytes.now) }
-    ensures space { ws (piece bytes.now from result) }
-    ensures stop { result < length bytes.now → ¬ (IsWhitespace (get_or bytes.now result 0)) }
+    ensures ends { RunEndsAt IsWhitespace ws bytes.now from result }
 {
     ws_end_by_blocks(bytes, from)
 }
@@ -74,9 +71,7 @@ pub fn ws_run(bytes: &[u8], from: usize) -> usize
 #[inline(always)]
 pub fn ws_end(bytes: &[u8], from: usize) -> usize
     requires { from ≤ length bytes.now }
-    ensures within { (from ≤ result) × (result ≤ length bytes.now) }
-    ensures space { ws (piece bytes.now from result) }
-    ensures stop { result < length bytes.now → ¬ (IsWhitespace (get_or bytes.now result 0)) }
+    ensures ends { RunEndsAt IsWhitespace ws bytes.now from result }
 {
     if from == bytes.len() || bytes[from] > b' ' {
         return from;
@@ -169,9 +164,7 @@ fn plain_end(bytes: &[u8], from: usize) -> usize
 #[inline(always)]
 pub fn plain_run(bytes: &[u8], from: usize) -> usize
     requires { from ≤ length bytes.now }
-    ensures within { (from ≤ result) × (result ≤ length bytes.now) }
-    ensures run { plain (piece bytes.now from result) }
-    ensures stop { result < length bytes.now → ¬ (IsPlain (get_or bytes.now result 0)) }
+    ensures ends { RunEndsAt IsPlain plain bytes.now from result }
 {
     plain_end(bytes, from)
 }
@@ -226,9 +219,7 @@ fn digits_end(bytes: &[u8], from: usize) -> usize
 #[inline(always)]
 pub fn digit_run(bytes: &[u8], from: usize) -> usize
     requires { from ≤ length bytes.now }
-    ensures within { (from ≤ result) × (result ≤ length bytes.now) }
-    ensures run { digits (piece bytes.now from result) }
-    ensures stop { result < length bytes.now → ¬ (IsDigit (get_or bytes.now result 0)) }
+    ensures ends { RunEndsAt IsDigit digits bytes.now from result }
 {
     digits_end(bytes, from)
 }
@@ -237,9 +228,7 @@ pub fn digit_run(bytes: &[u8], from: usize) -> usize
 #[inline(always)]
 pub fn few_digits_run(bytes: &[u8], from: usize) -> usize
     requires { from ≤ length bytes.now }
-    ensures within { (from ≤ result) × (result ≤ length bytes.now) }
-    ensures run { digits (piece bytes.now from result) }
-    ensures stop { result < length bytes.now → ¬ (IsDigit (get_or bytes.now result 0)) }
+    ensures ends { RunEndsAt IsDigit digits bytes.now from result }
 {
     digits_end_of_few(bytes, from)
 }

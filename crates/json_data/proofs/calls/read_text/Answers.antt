@@ -48,6 +48,6 @@ returns-in_ok-finish-in-Err-clause-err g c =
     let r = (c.in-Err.ensures.err.refused q).1 in
     let e = same_text c.args.depth b n.result m (n.ensures.text ∙ c.new.ensures.text) (n.ensures.start.0 ∙ c.new.ensures.start.0, n.ensures.start.1) (n.ensures.mode ∙ c.new.ensures.strict) r.takes.moves.input in
     let f = g.T.DeserializeFrom.from_tree in
-    let w = c.ws_run-begin.ensures in
-    let v : ValueBegins b c.place_of.result = value_begins c.as_bytes.result.now c.as_bytes-in-Err.result.now b c.ws_run-begin.result c.place_of.result c.as_bytes.ensures.value c.as_bytes-in-Err.ensures.value w.space w.stop c.place_of.ensures in
+    let w = c.ws_run-begin.ensures.ends in
+    let v : ValueBegins b c.place_of.result = value_begins c.as_bytes.result.now c.as_bytes-in-Err.result.now b c.ws_run-begin.result c.place_of.result c.as_bytes.ensures.value c.as_bytes-in-Err.ensures.value w.run w.stop c.place_of.ensures in
     refused_fails c.args.depth f b x.code c.place_of.result q (read_whole c.args.depth f b n.result m r.tree _ e n.ensures.fresh.taken r.takes c.in_ok-finish-in-Err.ensures.ok r.answer) v

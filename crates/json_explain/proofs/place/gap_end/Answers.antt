@@ -12,7 +12,7 @@ returns-clause-gap c =
       behind = piece b c.mark_end-mark.result c.ws_run.result;
       row = piece_append b c.args.from c.ws_run-start.result c.ws_run.result (omega arith) (omega arith)
           ∙ ap (λ (y : List ℕ). piece b c.args.from c.ws_run-start.result ++ y) (piece_append b c.ws_run-start.result c.mark_end-mark.result c.ws_run.result (omega arith) (omega arith));
-      space_before = c.ws_run-start.ensures.space;
+      space_before = c.ws_run-start.ensures.ends.run;
       is_mark = c.mark_end-mark.ensures.mark;
-      space_behind = c.ws_run.ensures.space;
+      space_behind = c.ws_run.ensures.ends.run;
     }

@@ -41,7 +41,7 @@ told-requires-in-Err g c =
     let k = c.ws_run-begin.result in
     let p = c.place_of-place in
     let at : p.result ≡ place_at b k = p.ensures ∙ ap (λ (y : List ℕ). place_at y k) c.as_bytes-in-Err.ensures.value in
-    let w : k ≤ length b = subst (λ (y : List ℕ). k ≤ length y) c.as_bytes.ensures.value c.ws_run-begin.ensures.within.1 in
+    let w : k ≤ length b = subst (λ (y : List ℕ). k ≤ length y) c.as_bytes.ensures.value c.ws_run-begin.ensures.ends.within in
     within_same c.args.repaired b p.result c.requires.same (subst (PlaceIsWithin b) (sym at) (place_within b k w))
 
 pub returns-then-not-is_refusal-clause-err : goal.returns-then-not-is_refusal-clause-err
@@ -75,7 +75,7 @@ returns-else-not-is_refusal g c =
     let e = reads_from b l i s.result c.deserialize.new.tokens s.ensures.text s.ensures.mode s.ensures.start r.takes.moves.input in
     let v : TakesNextValue f (stands_at b l o i) (refuses x.code) (stands_at b l o j.result) =
     takes_value f b l o i j.result s.result c.deserialize.new.tokens r.tree _ e c.utf8.text s.ensures.fresh.taken r.takes j.ensures.read j.ensures.same j.ensures.order r.answer in
-    let n = comes_next (standing (stands_at b l o i)) c.as_bytes.result.now i k.result c.as_bytes.ensures.value refl k.ensures.within k.ensures.space k.ensures.stop in
+    let n = comes_next (standing (stands_at b l o i)) c.as_bytes.result.now i k.result c.as_bytes.ensures.value refl (k.ensures.ends.order, k.ensures.ends.within) k.ensures.ends.run k.ensures.ends.stop in
     let at : p.result ≡ place_at b k.result = p.ensures ∙ ap (λ (y : List ℕ). place_at y k.result) c.as_bytes-in-Err.ensures.value in
     let t = tree_fails f (stands_at b l o i) x.code (in_input o p.result) (stands_at b l o j.result) q (record { takes = v; begins = k.result; next = n; place = ap (in_input o) at }) in
     record {

@@ -38,4 +38,4 @@ pub returns-clause-ok : goal.returns-clause-ok
 returns-clause-ok g c =
     Handles-as _ _ _ _ _ _ _ _ c.values.invariant.handled
     (values_all (task_of g.C.Change.changed c.args.job.now) c.args.start.name.now c.args.start.text.now c.values.offset c.values.number
-    (space_left c.args.start.text.now _ c.values.offset c.ws_run.result c.as_bytes.ensures.value c.values-test.false c.ws_run.ensures.within.1 c.ws_run.ensures.space))
+    (space_left c.args.start.text.now _ c.values.offset c.ws_run.result c.as_bytes.ensures.value c.values-test.false c.ws_run.ensures.ends.within c.ws_run.ensures.ends.run))

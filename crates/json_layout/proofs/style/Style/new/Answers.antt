@@ -8,4 +8,4 @@ returns-in-Some c = λ whitespace.
     let spaces : ws c.in-Some.spaces.now = rw c.in-Some.is at whitespace in
     let within = subst ws (sym c.as_bytes.ensures.value) spaces in
     let below : c.ws_run.result < length c.as_bytes.result.now = omega (arith, c.if-ws_run-spaces.true, c.as_bytes.ensures.len) in
-    c.ws_run.ensures.stop below (ws_at _ c.ws_run.result below within)
+    c.ws_run.ensures.ends.stop below (ws_at _ c.ws_run.result below within)
