@@ -3,7 +3,7 @@ use Rattle.std.proofs.Common.{◌≡◌, ◌∙◌, List, [], ◌∷◌, ◌++�
 use Rattle.json_grammar.specs.Tree.{Tree, Token as Tok, tokens}
 use Rattle.json_grammar.proofs.TokensUnique.{same}
 use Rattle.json_tokens.specs.Kinds.{kind_of}
-use Rattle.json_grammar.specs.TokenStates.{TokenState, at_start, after_value, after_token, after_tokens, Accepts}
+use Rattle.json_grammar.specs.TokenStates.{TokenState, initial_state, state_after_value, after_token, after_tokens, Accepts}
 use Rattle.json_tokens.specs.Spots.{KindMayCome}
 use Rattle.json_tokens.specs.Stand.{TakesTokens}
 use Rattle.json_grammar.proofs.TokenStates.{after_append, after_tree, accepts_tree, accepts_back}
@@ -13,29 +13,29 @@ use Rattle.json_tokens.proofs.Places.{kind_may}
 pub record LeftOf (tree : Tree) (p : TokenState) (rest : List Tok) : Type 0 where
   pub before : List Tok
   pub row : before ++ rest ≡ tokens tree
-  pub spot : p ≡ after_tokens at_start before
+  pub spot : p ≡ after_tokens initial_state before
 
-pub all_left : (tree : Tree) → LeftOf tree at_start (tokens tree)
+pub all_left : (tree : Tree) → LeftOf tree initial_state (tokens tree)
 all_left tree = record { before = []; row = refl; spot = refl }
 
 pub next_left : (tree : Tree) (p : TokenState) (x : Tok) (rest : List Tok) → LeftOf tree p (x ∷ rest) → KindMayCome p (kind_of x) × LeftOf tree (after_token p x) rest
 next_left tree p x rest w =
-    let a : Accepts at_start (w.before ++ x ∷ rest) = subst (Accepts at_start) (sym w.row) (accepts_tree at_start tree tt) in
-    let m = kind_may (after_tokens at_start w.before) x (accepts_back at_start w.before (x ∷ rest) a).0 in (
+    let a : Accepts initial_state (w.before ++ x ∷ rest) = subst (Accepts initial_state) (sym w.row) (accepts_tree initial_state tree tt) in
+    let m = kind_may (after_tokens initial_state w.before) x (accepts_back initial_state w.before (x ∷ rest) a).0 in (
       subst (λ (q : TokenState). KindMayCome q (kind_of x)) (sym w.spot) m,
       record {
         before = w.before ++ x ∷ [];
         row = append_assoc w.before (x ∷ []) rest ∙ w.row;
-        spot = ap (λ (q : TokenState). after_token q x) w.spot ∙ sym (after_append at_start w.before (x ∷ []));
+        spot = ap (λ (q : TokenState). after_token q x) w.spot ∙ sym (after_append initial_state w.before (x ∷ []));
       },
     )
 
 -- a whole tree is taken at once
-pub tree_left : (tree : Tree) (p : TokenState) (t : Tree) (rest : List Tok) → LeftOf tree p (tokens t ++ rest) → LeftOf tree (after_value p) rest
+pub tree_left : (tree : Tree) (p : TokenState) (t : Tree) (rest : List Tok) → LeftOf tree p (tokens t ++ rest) → LeftOf tree (state_after_value p) rest
 tree_left tree p t rest w = record {
   before = w.before ++ tokens t;
   row = append_assoc w.before (tokens t) rest ∙ w.row;
-  spot = ap (λ (p : TokenState). after_value p) w.spot ∙ sym (after_tree (after_tokens at_start w.before) t) ∙ sym (after_append at_start w.before (tokens t));
+  spot = ap (λ (p : TokenState). state_after_value p) w.spot ∙ sym (after_tree (after_tokens initial_state w.before) t) ∙ sym (after_append initial_state w.before (tokens t));
 }
 
 -- such a source takes a token

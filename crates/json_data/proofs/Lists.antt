@@ -9,8 +9,8 @@ use Rattle.json_grammar.specs.declared.Kind.{Kind}
 use Rattle.json_grammar.specs.declared.Kind.TheVariants.{Array as array, Object as object}
 use Rattle.json_model.specs.Datum.{Datum}
 use Rattle.json_data.specs.Reading.{Reading, gives, refuses, Series, gives_all, stops, prepend_reading, each}
-use Rattle.json_grammar.specs.TokenStates.{TokenState, Expected, a_value, element_or_end, name_or_end, nothing, within, after_value, after_token}
-use Rattle.json_tokens.specs.Spots.{around, InArray, AtElement}
+use Rattle.json_grammar.specs.TokenStates.{TokenState, Expected, a_value, element_or_end, name_or_end, nothing, state_in, state_after_value, after_token}
+use Rattle.json_tokens.specs.Spots.{around, InArray, BeforeElement}
 use Rattle.json_tokens.specs.Stand.{TokensState, TakesTokens, Peeks, AsTold, TakesTree, TakesOne, Leaves, Rest}
 use Rattle.json_tokens.proofs.Steps.{joins, is_begin, is_end}
 
@@ -75,7 +75,7 @@ one_more {taken = taken} {a = a} {c = c} {ts = ts} {t = t} w r =
     record {
       takes = subst (λ (xs : List Tok). TakesTokens taken a (begin array ∷ xs) c) (sym e) (joins w.takes r.takes);
       input = r.moves.input ∙ w.input;
-      spot = r.moves.spot ∙ ap (λ (p : TokenState). after_value p) w.spot;
+      spot = r.moves.spot ∙ ap (λ (p : TokenState). state_after_value p) w.spot;
       left = omega (arith, w.left, r.moves.left);
       as_told = w.as_told;
     }
@@ -120,10 +120,10 @@ leaves {taken = taken} {stand = stand} {a = a} {b = b} {c = c} {ts = ts} w r =
     )
 
 -- behind an element it stands in the list again
-pub in_array_again : (p q : TokenState) → InArray p → q ≡ after_value p → InArray q
+pub in_array_again : (p q : TokenState) → InArray p → q ≡ state_after_value p → InArray q
 in_array_again p q i e = subst (λ (s : TokenState). InArray s) (sym e) (by p.expected p.opened i)
   where
-    by : (e : Expected) (c : List Kind) → AtElement e c → InArray (within c)
+    by : (e : Expected) (c : List Kind) → BeforeElement e c → InArray (state_in c)
     by a_value c i = absurd i
     by element_or_end [] i = absurd i
     by element_or_end (array ∷ c) i = tt

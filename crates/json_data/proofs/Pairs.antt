@@ -11,8 +11,8 @@ use Rattle.json_tokens.specs.declared.token.TokenKind.TheVariants.{BeginObject, 
 use Rattle.json_data.specs.Reading.{Reading, refuses}
 use Rattle.json_tokens.specs.Refusals.{refusal, is_refusal}
 use Rattle.json_data.specs.Reader.{ReadsTree, StopsReading, KeyReadingFails}
-use Rattle.json_grammar.specs.TokenStates.{TokenState, Expected, a_value, element_or_end, name_or_end, nothing, within, after_value, after_token}
-use Rattle.json_tokens.specs.Spots.{around, InObject, AtName}
+use Rattle.json_grammar.specs.TokenStates.{TokenState, Expected, a_value, element_or_end, name_or_end, nothing, state_in, state_after_value, after_token}
+use Rattle.json_tokens.specs.Spots.{around, InObject, BeforeName}
 use Rattle.json_tokens.specs.Stand.{TokensState, TakesTokens, Peeks, AsTold, TakesTree, TakesOne, Leaves, Rest, TokensFail}
 use Rattle.json_tokens.proofs.Steps.{joins, is_begin_object as is_begin, is_end_object as is_end}
 use Rattle.json_data.proofs.Exits.{refusing, giving_up}
@@ -101,7 +101,7 @@ pub one_member : {S : Type 0} {taken : S → List Tok → Type 0} {stand : S →
 one_member {taken = taken} {a = a} {c = c} {ps = ps} {k = k} {t = t} w r = record {
   takes = subst (λ (xs : List Tok). TakesTokens taken a (begin object ∷ xs) c) (member-row ps k t) (joins w.takes r.takes);
   input = r.moves.input ∙ w.input;
-  spot = r.moves.spot ∙ ap (λ (p : TokenState). after_value p) w.spot;
+  spot = r.moves.spot ∙ ap (λ (p : TokenState). state_after_value p) w.spot;
   left = omega (arith, w.left, r.moves.left);
   as_told = w.as_told;
 }
@@ -169,10 +169,10 @@ leaves_member {taken = taken} {stand = stand} {a = a} {b = b} {c = c} {ps = ps} 
     )
 
 -- behind a member it stands in the object again
-pub in_object_again : (p q r : TokenState) (k : List ℕ) → InObject p → q ≡ after_token p (key_token k) → r ≡ after_value q → InObject r
-in_object_again p q r k i e h = subst (λ (s : TokenState). InObject s) (sym (h ∙ ap (λ (s : TokenState). after_value s) e)) (by p.expected p.opened i)
+pub in_object_again : (p q r : TokenState) (k : List ℕ) → InObject p → q ≡ after_token p (key_token k) → r ≡ state_after_value q → InObject r
+in_object_again p q r k i e h = subst (λ (s : TokenState). InObject s) (sym (h ∙ ap (λ (s : TokenState). state_after_value s) e)) (by p.expected p.opened i)
   where
-    by : (e : Expected) (c : List Kind) → AtName e c → InObject (within c)
+    by : (e : Expected) (c : List Kind) → BeforeName e c → InObject (state_in c)
     by a_value c i = absurd i
     by element_or_end c i = absurd i
     by name_or_end [] i = absurd i

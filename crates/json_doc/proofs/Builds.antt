@@ -5,7 +5,7 @@ use Rattle.std.specs.Str.{IsUtf8}
 use Rattle.std.proofs.lemmas.List.{set_at}
 use Rattle.json_grammar.specs.declared.Kind.TheVariants.{Array as array, Object as object}
 use Rattle.json_grammar.specs.Tree.{Tree, list, pairs, no_trees, no_pairs, Token, begin, end, key_token, tokens, trees_tokens, pairs_tokens}
-use Rattle.json_grammar.specs.TokenStates.{TokenState, after_value, after_token, ValueMayCome, NameMayCome, EndMayCome}
+use Rattle.json_grammar.specs.TokenStates.{TokenState, state_after_value, after_token, ValueMayCome, NameMayCome, EndMayCome}
 use Rattle.json_doc.specs.CellReadings.{cell_len}
 use Rattle.json_doc.specs.OpenCells.{link_of}
 use Rattle.json_doc.specs.Texts.{trees_count, pairs_count}
@@ -39,7 +39,7 @@ module _ (bytes : List ℕ) where
   -- ---- a finished value
 
   pub builds_value : {front : List Cell} {p n : ℕ} {s : TokenState} {ts : List Token} (seg : List Cell) (t : Tree)
-      → Building bytes front p n s ts → ValueMayCome s.expected → node bytes (length front) seg t → Building bytes (front ++ seg) p (n + 1) (after_value s) (ts ++ tokens t)
+      → Building bytes front p n s ts → ValueMayCome s.expected → node bytes (length front) seg t → Building bytes (front ++ seg) p (n + 1) (state_after_value s) (ts ++ tokens t)
   builds_value seg t nothing v h = whole t h
   builds_value seg t (whole u k) v h = absurd v
   builds_value seg t (in_array {front = front} {p = p} {n = n} {ts = ts} cs us b o r) v h =
@@ -96,7 +96,7 @@ pub record Within (x : Token) (c : Cell) (bytes : List ℕ) (front : List Cell) 
   pub is_len : cell_len open_cell ≡ count
   pub is_tokens : ts ++ x ∷ [] ≡ before ++ tokens tree
   pub takes_value : ValueMayCome state.expected
-  pub is_after : after_value state ≡ after
+  pub is_after : state_after_value state ≡ after
   pub built_outer : Building bytes outer around count state before
   pub finished : node bytes p (c ∷ cs) tree
 

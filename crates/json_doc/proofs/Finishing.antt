@@ -3,7 +3,7 @@ use Rattle.std.proofs.Common.{◌≡◌, ℕ, ◌+◌, List, length, refl, ap, s
 use Rattle.json_grammar.specs.Tree.{Tree, Token, tokens}
 use Rattle.json_grammar.proofs.TokensUnique.{tokens_injective}
 use Rattle.json_grammar.proofs.Sizes.{nodes_tree}
-use Rattle.json_grammar.specs.TokenStates.{TokenState, nothing as nothing_next, at_start}
+use Rattle.json_grammar.specs.TokenStates.{TokenState, nothing as nothing_next, initial_state}
 use Rattle.json_doc.specs.Segment.{node}
 use Rattle.json_doc.specs.Building.{Building, nothing, whole, in_array, in_object, in_pair}
 use Rattle.json_doc.specs.Recorded.{Held}
@@ -23,7 +23,7 @@ whole_in t (in_pair cs us k b v h n) e f = absurd (cc)
 
 pub finished : (cells : List Cell) (bytes : List ℕ) (p n : ℕ) (t : Tree) → Held cells bytes p n (tokens t) → node bytes 0 cells t
 finished cells bytes p n t h =
-    whole_in t h.built (ap (λ (s : TokenState). s.expected) (after_tree at_start t)) refl
+    whole_in t h.built (ap (λ (s : TokenState). s.expected) (after_tree initial_state t)) refl
 
 pub stands_for : (cells : List Cell) (bytes : List ℕ) (p n : ℕ) (t : Tree) → Held cells bytes p n (tokens t) → StandsFor cells bytes 0 t
 stands_for cells bytes p n t h =

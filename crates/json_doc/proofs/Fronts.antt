@@ -11,7 +11,7 @@ use Rattle.json_io.specs.declared.error.ErrorCode.{ErrorCode}
 use Rattle.json_io.specs.declared.error.ErrorCode.TheVariants as code
 use Rattle.json_io.specs.declared.error.Place.{Place}
 use Rattle.json_io.specs.declared.error.Place.TheVariants as place
-use Rattle.json_grammar.specs.TokenStates.{TokenState, at_start}
+use Rattle.json_grammar.specs.TokenStates.{TokenState, initial_state}
 use Rattle.json_grammar.proofs.TokenStates.{after_tree, place_state, whole_place}
 use Rattle.json_text.specs.declared.event.Event.{Event}
 use Rattle.json_text.specs.declared.event.Event.TheVariants as event
@@ -58,7 +58,7 @@ first_out p q e fresh whole goes unfailed =
 -- behind the tokens of a tree the parser is done
 tree_whole : (p : ParserState) (t : Tree) → HasGiven p (tokens t) → IsWhole p
 tree_whole p t h =
-    let e = whole_place p.spot p.open_kinds (ap (λ (s : TokenState). s.expected) (sym (place_state h.given.at) ∙ after_tree at_start t)) in
+    let e = whole_place p.spot p.open_kinds (ap (λ (s : TokenState). s.expected) (sym (place_state h.given.at) ∙ after_tree initial_state t)) in
     (e.0, ap length e.1)
 
 -- the tokens handed out to the end of the value are its own

@@ -12,7 +12,7 @@ use Rattle.json_grammar.specs.Sizes.{token_nodes, nodes_of}
 use Rattle.json_grammar.proofs.Sizes.{nodes_append}
 use Rattle.json_number.specs.Integers.{integer_in}
 use Rattle.json_number.proofs.Integers.{decimal_number, decimal_reads}
-use Rattle.json_grammar.specs.TokenStates.{TokenState, at_start, after_value, after_token, after_tokens, ValueMayCome, MayCome, BeginsTree}
+use Rattle.json_grammar.specs.TokenStates.{TokenState, initial_state, state_after_value, after_token, after_tokens, ValueMayCome, MayCome, BeginsTree}
 use Rattle.json_doc.specs.ByValue.{integer_cell}
 use Rattle.json_doc.specs.CellReadings.{cell_len}
 use Rattle.json_doc.specs.OpenCells.{link_of, outer_place, outer_count}
@@ -51,13 +51,13 @@ held_nothing = record {
 }
 
 -- the state after the last token is that after all
-after_one : (bytes : List ℕ) (cells : List Cell) (p n : ℕ) (ts : List Token) (x : Token) → Building bytes cells p n (after_token (after_tokens at_start ts) x) (ts ++ x ∷ []) → Building bytes cells p n (after_tokens at_start (ts ++ x ∷ [])) (ts ++ x ∷ [])
-after_one bytes cells p n ts x b = subst (λ (s : TokenState). Building bytes cells p n s (ts ++ x ∷ [])) (sym (after_append at_start ts (x ∷ []))) b
+after_one : (bytes : List ℕ) (cells : List Cell) (p n : ℕ) (ts : List Token) (x : Token) → Building bytes cells p n (after_token (after_tokens initial_state ts) x) (ts ++ x ∷ []) → Building bytes cells p n (after_tokens initial_state (ts ++ x ∷ [])) (ts ++ x ∷ [])
+after_one bytes cells p n ts x b = subst (λ (s : TokenState). Building bytes cells p n s (ts ++ x ∷ [])) (sym (after_append initial_state ts (x ∷ []))) b
 
 -- one more cell, made of the token x
 held_more : (cells : List Cell) (bytes extra : List ℕ) (p n : ℕ) (ts : List Token) (c : Cell) (x : Token)
     → length cells ≡ nodes_of ts → bytes ≡ tokens_text ts → IsUtf8 bytes → token_nodes x ≡ 1 → token_text x ≡ extra → IsUtf8 extra
-    → Building (bytes ++ extra) (cells ++ c ∷ []) p n (after_token (after_tokens at_start ts) x) (ts ++ x ∷ []) → Held (cells ++ c ∷ []) (bytes ++ extra) p n (ts ++ x ∷ [])
+    → Building (bytes ++ extra) (cells ++ c ∷ []) p n (after_token (after_tokens initial_state ts) x) (ts ++ x ∷ []) → Held (cells ++ c ∷ []) (bytes ++ extra) p n (ts ++ x ∷ [])
 held_more cells bytes extra p n ts c x m t u one is_extra u' b = record {
   built = after_one (bytes ++ extra) (cells ++ c ∷ []) p n ts x b;
   texts = ap (λ (s : List ℕ). s ++ extra) t ∙ ap (λ (s : List ℕ). tokens_text ts ++ s) (sym is_extra) ∙ sym (more_text ts x);
@@ -67,13 +67,13 @@ held_more cells bytes extra p n ts c x m t u one is_extra u' b = record {
 
 -- a scalar
 held_leaf : (cells : List Cell) (bytes extra : List ℕ) (p n : ℕ) (ts : List Token) (c : Cell) (t : Tree) (x : Token)
-    → IsUtf8 extra → ((s : TokenState) → (after_token s x ≡ after_value s) × (MayCome s x → ValueMayCome s.expected)) → tokens t ≡ x ∷ [] → token_nodes x ≡ 1 → token_text x ≡ extra → ((k : ℕ) → node (bytes ++ extra) k (c ∷ []) t)
+    → IsUtf8 extra → ((s : TokenState) → (after_token s x ≡ state_after_value s) × (MayCome s x → ValueMayCome s.expected)) → tokens t ≡ x ∷ [] → token_nodes x ≡ 1 → token_text x ≡ extra → ((k : ℕ) → node (bytes ++ extra) k (c ∷ []) t)
     → Held cells bytes p n ts → BeginsTree (ts ++ x ∷ []) → Held (cells ++ c ∷ []) (bytes ++ extra) p (n + 1) (ts ++ x ∷ [])
 held_leaf cells bytes extra p n ts c t x u is_value is_token one is_extra here h b =
-    let value = is_value (after_tokens at_start ts) in
+    let value = is_value (after_tokens initial_state ts) in
     let built = builds_value (bytes ++ extra) (c ∷ []) t (builds_more extra u h.built) (value.1 (may_come ts x b)) (here (length cells)) in
     held_more cells bytes extra p (n + 1) ts c x h.counted h.texts h.utf8 one is_extra u
-    (subst (λ (s : TokenState). Building (bytes ++ extra) (cells ++ c ∷ []) p (n + 1) s (ts ++ x ∷ [])) (sym value.0) (subst (λ (y : List Token). Building (bytes ++ extra) (cells ++ c ∷ []) p (n + 1) (after_value (after_tokens at_start ts)) (ts ++ y)) is_token built))
+    (subst (λ (s : TokenState). Building (bytes ++ extra) (cells ++ c ∷ []) p (n + 1) s (ts ++ x ∷ [])) (sym value.0) (subst (λ (y : List Token). Building (bytes ++ extra) (cells ++ c ∷ []) p (n + 1) (state_after_value (after_tokens initial_state ts)) (ts ++ y)) is_token built))
 
 no_bytes : (cells : List Cell) (bytes : List ℕ) (p n : ℕ) (ts : List Token) → Held cells (bytes ++ []) p n ts → Held cells bytes p n ts
 no_bytes cells bytes p n ts h = subst (λ (s : List ℕ). Held cells s p n ts) (append-nil bytes) h
@@ -152,14 +152,14 @@ pub record Ends (x : Token) (c : Cell) (cells : List Cell) (bytes : List ℕ) (p
   pub held : Held (slice_set cells p c) bytes (outer_place cells p) (outer_count cells p + 1) (ts ++ x ∷ [])
 
 held_end : (x : Token) (c : Cell) (cells : List Cell) (bytes : List ℕ) (p n : ℕ) (ts : List Token) → token_text x ≡ [] → token_nodes x ≡ 0
-    → Held cells bytes p n ts → Within x c bytes cells p (after_token (after_tokens at_start ts) x) ts → Ends x c cells bytes p ts
+    → Held cells bytes p n ts → Within x c bytes cells p (after_token (after_tokens initial_state ts) x) ts → Ends x c cells bytes p ts
 held_end x c cells bytes p n ts no_text no_node h i =
     let header : slice_index_or cells p cell.Null ≡ i.open_cell = ap (λ (k : List Cell). slice_index_or k p cell.Null) i.is_front ∙ get_or_at i.outer i.open_cell i.cs cell.Null p i.is_place in
     let around : outer_place cells p ≡ i.around = ap link_of header ∙ i.is_link in
     let count : outer_count cells p ≡ i.count = ap cell_len header ∙ i.is_len in
     let there : p < length cells = omega (arith, ap length i.is_front, length-append i.outer (i.open_cell ∷ i.cs), i.is_place) in
     let more = more_nodes ts x in
-    let after = after_token (after_tokens at_start ts) x in
+    let after = after_token (after_tokens initial_state ts) x in
     record {
       is_open = there;
       fits = omega (arith, count_within i.built_outer, i.is_place);

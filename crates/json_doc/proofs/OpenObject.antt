@@ -7,7 +7,7 @@ use Rattle.std.proofs.lemmas.List.Elements.{Contains-append_right, Contains-appe
 use Rattle.json_grammar.specs.Tree.{Pairs, no_pairs, pair_and, Token, key_token}
 use Rattle.json_grammar.specs.Repeated.{names, open_keys}
 use Rattle.json_grammar.proofs.OpenKeys.{key_inside}
-use Rattle.json_grammar.specs.TokenStates.{TokenState, a_value, at_start, after_tokens}
+use Rattle.json_grammar.specs.TokenStates.{TokenState, a_value, initial_state, after_tokens}
 use Rattle.json_doc.specs.Building.{Building, nothing, whole, in_array, in_object, in_pair}
 use Rattle.json_doc.specs.Recorded.{Held}
 use Rattle.json_doc.specs.Segment.{SegmentAt, text_cell}
@@ -82,8 +82,8 @@ not_both b t f = let e : true ≡ false = sym t ∙ f in absurd (cc)
 -- ---- the object that stands open where a key was recorded last
 
 -- after a name comes a value
-after_name : (ts : List Token) (s : List ℕ) → (after_tokens at_start (ts ++ key_token s ∷ [])).expected ≡ a_value
-after_name ts s = ap (λ (z : TokenState). z.expected) (after_append at_start ts (key_token s ∷ []))
+after_name : (ts : List Token) (s : List ℕ) → (after_tokens initial_state (ts ++ key_token s ∷ [])).expected ≡ a_value
+after_name ts s = ap (λ (z : TokenState). z.expected) (after_append initial_state ts (key_token s ∷ []))
 
 no_last : (ts : List Token) (x : Token) → [] ≡ ts ++ x ∷ [] → ⊥
 no_last [] x e = cc

@@ -8,7 +8,7 @@ use Rattle.json_grammar.specs.Tree.{Tree, null, boolean, num, text, list, pairs,
 use Rattle.json_grammar.specs.Place.{reading, outside}
 use Rattle.json_grammar.proofs.Closing.{whole_text}
 use Rattle.json_text.specs.Parsing.{ParserState, input, HasGiven, IsWhole}
-use Rattle.json_grammar.specs.TokenStates.{TokenState, nothing, at_start, within, after_token, after_tokens, Accepts, BeginsTree}
+use Rattle.json_grammar.specs.TokenStates.{TokenState, nothing, initial_state, state_in, after_token, after_tokens, Accepts, BeginsTree}
 use Rattle.json_doc.specs.OneValue.{TokenBeginsValue, levels_behind}
 use Rattle.json_grammar.proofs.TokenStates.{after_tree}
 use Rattle.json_grammar.proofs.TokenPrefixes.{tree_alone}
@@ -92,14 +92,14 @@ levels_step (end k) s = outside_length s.opened
 levels_step (key_token n) s = refl
 
 -- more than the tokens of a tree are not accepted
-after_whole : (t : Tree) (m us : List Token) → us ≡ tokens t ++ m → Accepts at_start us → (m ≡ []) × (after_tokens at_start us ≡ within [])
+after_whole : (t : Tree) (m us : List Token) → us ≡ tokens t ++ m → Accepts initial_state us → (m ≡ []) × (after_tokens initial_state us ≡ state_in [])
 after_whole t m us e a =
-    let n = tree_alone t m (subst (Accepts at_start) e a) in
-    (n, ap (after_tokens at_start) (e ∙ ap (λ l. tokens t ++ l) n ∙ append-nil (tokens t)) ∙ after_tree at_start t)
+    let n = tree_alone t m (subst (Accepts initial_state) e a) in
+    (n, ap (after_tokens initial_state) (e ∙ ap (λ l. tokens t ++ l) n ∙ append-nil (tokens t)) ∙ after_tree initial_state t)
 
 -- the tokens us are accepted, and more has to come
 abbrev pub IsUnfinished : List Token → Type 0
-IsUnfinished us = Accepts at_start us × ((after_tokens at_start us).expected ≢ nothing)
+IsUnfinished us = Accepts initial_state us × ((after_tokens initial_state us).expected ≢ nothing)
 
 -- the tokens us have one that begins a value first
 abbrev pub Starts : List Token → Type 0

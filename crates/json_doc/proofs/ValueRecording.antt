@@ -12,7 +12,7 @@ use Rattle.json_text.specs.declared.event.Event.TheVariants as event
 use Rattle.json_text.specs.Events.{Means, raw_size}
 use Rattle.json_text.specs.Faults.{IsInValue}
 use Rattle.json_text.specs.Parsing.{ParserState, input, HasGiven, SameInput, IsWhole, HasRead, Goes, IsTight, IsDue}
-use Rattle.json_grammar.specs.TokenStates.{TokenState, Expected, nothing, at_start, within, after_tokens, Accepts, BeginsTree}
+use Rattle.json_grammar.specs.TokenStates.{TokenState, Expected, nothing, initial_state, state_in, after_tokens, Accepts, BeginsTree}
 use Rattle.json_doc.specs.Recorded.{visitor_state, Holds, SameRoom}
 use Rattle.json_doc.specs.Reading.{EventIsNumber, HasRoomFor, Follows}
 use Rattle.json_doc.specs.OneValue.{TokenBeginsValue, levels_behind, HandedOut, ReadsValue, RefusesValue}
@@ -52,7 +52,7 @@ pub record Records (old p : ParserState) (first here : Event) (v : DocumentVisit
   pub held : Holds v us
   pub admits : (visitor_state v).full ≡ false
   pub unfinished : IsUnfinished us
-  pub open_levels : length (after_tokens at_start us).opened ≡ levels
+  pub open_levels : length (after_tokens initial_state us).opened ≡ levels
   pub few : levels ≤ (visitor_state v).nodes
   pub before : List Token
   pub given : HasGiven p (before ++ (us ++ token ∷ []))
@@ -97,16 +97,16 @@ module _ {old p : ParserState} {first here : Event} {v : DocumentVisitor} {level
 
   -- behind its token
   abbrev state_here : TokenState
-  state_here = after_tokens at_start (k.us ++ k.token ∷ [])
+  state_here = after_tokens initial_state (k.us ++ k.token ∷ [])
 
   pub levels_here : length state_here.opened ≡ levels_behind k.token levels
   levels_here =
-      ap (λ (s : TokenState). length s.opened) (after_append at_start k.us (k.token ∷ [])) ∙ levels_step k.token (after_tokens at_start k.us) ∙ ap (levels_behind k.token) k.open_levels
+      ap (λ (s : TokenState). length s.opened) (after_append initial_state k.us (k.token ∷ [])) ∙ levels_step k.token (after_tokens initial_state k.us) ∙ ap (levels_behind k.token) k.open_levels
 
   pub agrees_here : Agrees state_here
   agrees_here =
       let same = sym k.starts in
-      subst (λ (ts : List Token). Agrees (after_tokens at_start ts)) same (agrees k.first_token k.rest (subst (λ (ts : List Token). Accepts at_start ts) k.starts (begins_accepted (k.us ++ k.token ∷ []) begins_here)))
+      subst (λ (ts : List Token). Agrees (after_tokens initial_state ts)) same (agrees k.first_token k.rest (subst (λ (ts : List Token). Accepts initial_state ts) k.starts (begins_accepted (k.us ++ k.token ∷ []) begins_here)))
 
 not_full : (b : Bool) → (b ≡ true → ⊥) → b ≡ false
 not_full true h = absurd (h refl)
@@ -139,7 +139,7 @@ levels_few (begin k) n m h = omega arith
 levels_few (end k) n m h = omega arith
 levels_few (key_token s) n m h = omega arith
 
-whole_state : (s : TokenState) → s.opened ≡ [] → s.expected ≡ nothing → s ≡ within []
+whole_state : (s : TokenState) → s.opened ≡ [] → s.expected ≡ nothing → s ≡ state_in []
 whole_state s e f = ap₂ (λ (o : List Kind) (x : Expected). let r : TokenState = record { opened = o; expected = x } in r) e f
 
 module _ {old p : ParserState} {first here : Event} {v : DocumentVisitor} {levels more : ℕ} (k : Records old p first here v levels) (behind : more ≡ levels_behind k.token levels) where

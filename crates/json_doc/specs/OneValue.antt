@@ -1,7 +1,7 @@
 -- What the reader of one value among others keeps.
 use Rattle.std.specs.Prelude.{◌≡◌, ℕ, ◌+◌, ◌-◌, List, [], ◌∷◌, ◌++◌, Some, None}
 use Rattle.json_grammar.specs.Tree.{Tree, tokens, Token, begin, end}
-use Rattle.json_grammar.specs.TokenStates.{at_start, MayCome}
+use Rattle.json_grammar.specs.TokenStates.{initial_state, MayCome}
 use Rattle.json_io.specs.declared.error.Error.{Error}
 use Rattle.json_text.specs.declared.event.Event.{Event}
 use Rattle.json_text.specs.Events.{Means}
@@ -10,7 +10,7 @@ use Rattle.json_text.specs.Parsing.{ParserState, HasGiven, IsDue}
 
 -- the token may come first
 abbrev pub TokenBeginsValue : Token → Type 0
-TokenBeginsValue x = MayCome at_start x
+TokenBeginsValue x = MayCome initial_state x
 
 -- how many containers are open behind a token, where n were before it
 abbrev pub levels_behind : Token → ℕ → ℕ

@@ -4,7 +4,7 @@ use Rattle.std.specs.Str.{IsUtf8}
 use Rattle.json_grammar.specs.Tree.{Token}
 use Rattle.json_grammar.specs.Sizes.{nodes_of}
 use Rattle.json_doc.specs.State.{VisitorState}
-use Rattle.json_grammar.specs.TokenStates.{at_start, after_tokens}
+use Rattle.json_grammar.specs.TokenStates.{initial_state, after_tokens}
 use Rattle.json_doc.specs.Texts.{tokens_text}
 use Rattle.json_doc.specs.Building.{Building}
 use Rattle.json_doc.specs.declared.cell.Cell.{Cell}
@@ -16,7 +16,7 @@ visitor_state v = record { cell_room = v.room; text_room = v.text_room; nodes = 
 
 -- these cells and bytes were made of the tokens ts
 pub record Held (cells : List Cell) (bytes : List ℕ) (p n : ℕ) (ts : List Token) : Type 0 where
-  pub built : Building bytes cells p n (after_tokens at_start ts) ts
+  pub built : Building bytes cells p n (after_tokens initial_state ts) ts
   pub texts : bytes ≡ tokens_text ts
   pub utf8 : IsUtf8 bytes
   pub counted : length cells ≡ nodes_of ts

@@ -3,7 +3,7 @@ use Rattle.std.proofs.Common.{◌≡◌, List, [], ◌∷◌, ◌++◌, ℕ, ℤ
 use Rattle.json_grammar.specs.declared.Kind.{Kind}
 use Rattle.json_grammar.specs.declared.Kind.TheVariants.{Array as array, Object as object}
 use Rattle.json_grammar.specs.Tree.{Tree, null, boolean, num, text, list, pairs, Trees, no_trees, tree_and, Pairs, no_pairs, pair_and, end, key_token}
-use Rattle.json_grammar.specs.TokenStates.{TokenState, within, after_value, after_token, after_tokens}
+use Rattle.json_grammar.specs.TokenStates.{TokenState, state_in, state_after_value, after_token, after_tokens}
 use Rattle.json_grammar.proofs.TokenStates as states
 use Rattle.json_print.specs.Given.{TokenOrInteger, given, given_tokens}
 use Rattle.json_print.specs.Taking.{after_all}
@@ -22,28 +22,28 @@ two s a b = ap (after_tokens s) (tokens_append a b) ∙ states.after_append s (g
 then_to : (s z : TokenState) (a b : List TokenOrInteger) → after_tokens s (given_tokens a) ≡ z → after_tokens s (given_tokens (a ++ b)) ≡ after_tokens z (given_tokens b)
 then_to s z a b e = two s a b ∙ ap (λ (y : TokenState). after_tokens y (given_tokens b)) e
 
-number_stand : (s : TokenState) (o : Option ℤ) (l : List ℕ) → after_tokens s (given_tokens (number_given o l ∷ [])) ≡ after_value s
+number_stand : (s : TokenState) (o : Option ℤ) (l : List ℕ) → after_tokens s (given_tokens (number_given o l ∷ [])) ≡ state_after_value s
 number_stand s (Some n) l = refl
 number_stand s None l = refl
 
 mutual
   -- a tree leads behind a value
-  pub tree_stand : (s : TokenState) (t : Tree) → after_tokens s (given_tokens (tree_given t)) ≡ after_value s
+  pub tree_stand : (s : TokenState) (t : Tree) → after_tokens s (given_tokens (tree_given t)) ≡ state_after_value s
   tree_stand s null = refl
   tree_stand s (boolean b) = refl
   tree_stand s (num l) = number_stand s (integer_in l) l
   tree_stand s (text c) = refl
-  tree_stand s (list ts) = then_to (within (array ∷ s.opened)) (within (array ∷ s.opened)) (trees_given ts) (given (end array) ∷ []) (trees_stand s.opened ts)
-  tree_stand s (pairs ps) = then_to (within (object ∷ s.opened)) (within (object ∷ s.opened)) (pairs_given ps) (given (end object) ∷ []) (pairs_stand s.opened ps)
+  tree_stand s (list ts) = then_to (state_in (array ∷ s.opened)) (state_in (array ∷ s.opened)) (trees_given ts) (given (end array) ∷ []) (trees_stand s.opened ts)
+  tree_stand s (pairs ps) = then_to (state_in (object ∷ s.opened)) (state_in (object ∷ s.opened)) (pairs_given ps) (given (end object) ∷ []) (pairs_stand s.opened ps)
 
-  trees_stand : (c : List Kind) (ts : Trees) → after_tokens (within (array ∷ c)) (given_tokens (trees_given ts)) ≡ within (array ∷ c)
+  trees_stand : (c : List Kind) (ts : Trees) → after_tokens (state_in (array ∷ c)) (given_tokens (trees_given ts)) ≡ state_in (array ∷ c)
   trees_stand c no_trees = refl
-  trees_stand c (tree_and t ts) = then_to (within (array ∷ c)) (within (array ∷ c)) (tree_given t) (trees_given ts) (tree_stand (within (array ∷ c)) t) ∙ trees_stand c ts
+  trees_stand c (tree_and t ts) = then_to (state_in (array ∷ c)) (state_in (array ∷ c)) (tree_given t) (trees_given ts) (tree_stand (state_in (array ∷ c)) t) ∙ trees_stand c ts
 
-  pairs_stand : (c : List Kind) (ps : Pairs) → after_tokens (within (object ∷ c)) (given_tokens (pairs_given ps)) ≡ within (object ∷ c)
+  pairs_stand : (c : List Kind) (ps : Pairs) → after_tokens (state_in (object ∷ c)) (given_tokens (pairs_given ps)) ≡ state_in (object ∷ c)
   pairs_stand c no_pairs = refl
   pairs_stand c (pair_and k t ps) =
-      let s = after_token (within (object ∷ c)) (key_token k) in then_to s (within (object ∷ c)) (tree_given t) (pairs_given ps) (tree_stand s t) ∙ pairs_stand c ps
+      let s = after_token (state_in (object ∷ c)) (key_token k) in then_to s (state_in (object ∷ c)) (tree_given t) (pairs_given ps) (tree_stand s t) ∙ pairs_stand c ps
 
 -- ---- within an array
 
@@ -53,9 +53,9 @@ all_given [] = []
 all_given (t ∷ ts) = tree_given t ++ all_given ts
 
 -- an element or the end may come
-pub elements_stand : (c : List Kind) (ts : List Tree) → after_tokens (within (array ∷ c)) (given_tokens (all_given ts)) ≡ within (array ∷ c)
+pub elements_stand : (c : List Kind) (ts : List Tree) → after_tokens (state_in (array ∷ c)) (given_tokens (all_given ts)) ≡ state_in (array ∷ c)
 elements_stand c [] = refl
-elements_stand c (t ∷ ts) = then_to (within (array ∷ c)) (within (array ∷ c)) (tree_given t) (all_given ts) (tree_stand (within (array ∷ c)) t) ∙ elements_stand c ts
+elements_stand c (t ∷ ts) = then_to (state_in (array ∷ c)) (state_in (array ∷ c)) (tree_given t) (all_given ts) (tree_stand (state_in (array ∷ c)) t) ∙ elements_stand c ts
 
 -- ---- within an object
 
@@ -65,7 +65,7 @@ all_pairs [] = []
 all_pairs (p ∷ ps) = given (key_token p.0) ∷ (tree_given p.1 ++ all_pairs ps)
 
 -- a name or the end may come
-pub members_stand : (c : List Kind) (ps : List (List ℕ × Tree)) → after_tokens (within (object ∷ c)) (given_tokens (all_pairs ps)) ≡ within (object ∷ c)
+pub members_stand : (c : List Kind) (ps : List (List ℕ × Tree)) → after_tokens (state_in (object ∷ c)) (given_tokens (all_pairs ps)) ≡ state_in (object ∷ c)
 members_stand c [] = refl
 members_stand c (p ∷ ps) =
-    let s = after_token (within (object ∷ c)) (key_token p.0) in then_to s (within (object ∷ c)) (tree_given p.1) (all_pairs ps) (tree_stand s p.1) ∙ members_stand c ps
+    let s = after_token (state_in (object ∷ c)) (key_token p.0) in then_to s (state_in (object ∷ c)) (tree_given p.1) (all_pairs ps) (tree_stand s p.1) ∙ members_stand c ps

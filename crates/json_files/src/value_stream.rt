@@ -9,7 +9,7 @@ ghost use Rattle.json_files.specs.Streams.{ReadsAt, TextFault, ValueFails};
 use crate::document::MAX_BYTES;
 use crate::part::{Part, Scope, whole_part};
 use json_doc::{Doc, read_front};
-use json_text::{Error, ErrorCode, Parser, Place, Result, check_utf8, ws_run};
+use json_text::{Error, ErrorCode, Parser, Place, Result, check_utf8};
 use std::alloc::Global;
 use std::rc::Rc;
 

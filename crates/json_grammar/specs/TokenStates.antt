@@ -23,8 +23,8 @@ pub record TokenState : Type 0 where
 -- ---- the state after each token
 
 -- before the value
-abbrev pub at_start : TokenState
-at_start = record { opened = []; expected = a_value }
+abbrev pub initial_state : TokenState
+initial_state = record { opened = []; expected = a_value }
 
 -- what comes next in the open containers after a value, or after the bracket that opens the innermost of them
 abbrev pub expected_in : List Kind → Expected
@@ -32,21 +32,21 @@ expected_in [] = nothing
 expected_in (array ∷ c) = element_or_end
 expected_in (object ∷ c) = name_or_end
 
-abbrev pub within : List Kind → TokenState
-within c = record { opened = c; expected = expected_in c }
+abbrev pub state_in : List Kind → TokenState
+state_in c = record { opened = c; expected = expected_in c }
 
 -- after a value, whatever its tokens are
-abbrev pub after_value : TokenState → TokenState
-after_value s = within s.opened
+abbrev pub state_after_value : TokenState → TokenState
+state_after_value s = state_in s.opened
 
 -- a name is followed by a value
 abbrev pub after_token : TokenState → Token → TokenState
-after_token s null_token = after_value s
-after_token s (boolean_token b) = after_value s
-after_token s (num_token l) = after_value s
-after_token s (text_token t) = after_value s
-after_token s (begin k) = within (k ∷ s.opened)
-after_token s (end k) = within (outside s.opened)
+after_token s null_token = state_after_value s
+after_token s (boolean_token b) = state_after_value s
+after_token s (num_token l) = state_after_value s
+after_token s (text_token t) = state_after_value s
+after_token s (begin k) = state_in (k ∷ s.opened)
+after_token s (end k) = state_in (outside s.opened)
 after_token s (key_token n) = record s { expected = a_value }
 
 abbrev pub after_tokens : TokenState → List Token → TokenState

@@ -2,7 +2,7 @@
 use Rattle.std.specs.Prelude.{[], ◌∷◌, true, ◌≡◌, Option, None}
 use Rattle.json_grammar.specs.declared.Kind.{Kind}
 use Rattle.json_grammar.specs.declared.Kind.TheVariants.{Array as array, Object as object}
-use Rattle.json_grammar.specs.TokenStates.{Expected, a_value, element_or_end, name_or_end, nothing, TokenState, at_start, within, ValueMayCome, NameMayCome, EndMayCome}
+use Rattle.json_grammar.specs.TokenStates.{Expected, a_value, element_or_end, name_or_end, nothing, TokenState, initial_state, state_in, ValueMayCome, NameMayCome, EndMayCome}
 use Rattle.json_print.specs.declared.events.Turn.{Turn}
 use Rattle.json_print.specs.declared.events.Turn.TheVariants.{Value as at_value, Element as at_element, Key as at_key, Member as at_member, Done as at_done}
 use Rattle.json_io.specs.declared.error.Error.{Error}
@@ -34,8 +34,8 @@ AcceptsEnd failed s k = failed ≡ None → EndMayCome s.expected k
 
 -- one tree is awaited, and nothing is open
 abbrev pub AwaitsTree : TokenState → Type 0
-AwaitsTree s = s ≡ at_start
+AwaitsTree s = s ≡ initial_state
 
 -- a member of the one open object is awaited, or its end
 abbrev pub AwaitsMember : TokenState → Type 0
-AwaitsMember s = s ≡ within (object ∷ [])
+AwaitsMember s = s ≡ state_in (object ∷ [])

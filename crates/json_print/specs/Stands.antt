@@ -8,7 +8,7 @@ use Rattle.json_grammar.specs.Place.{outside}
 use Rattle.json_print.specs.declared.events.Turn.{Turn}
 use Rattle.json_print.specs.declared.events.Turn.TheVariants.{Value as at_value, Element as at_element, Key as at_key, Member as at_member, Done as at_done}
 use Rattle.json_print.specs.Calls.{Call, null_call, boolean_call, number_call, string_call, begin_member}
-use Rattle.json_grammar.specs.TokenStates.{TokenState, a_value, name_or_end, expected_in, within, after_token}
+use Rattle.json_grammar.specs.TokenStates.{TokenState, a_value, name_or_end, expected_in, state_in, after_token}
 use Rattle.json_print.specs.Layouts.{Form}
 use Rattle.json_print.specs.Printer.{Out, MemberText, after, expected_tokens_of, call, lead_in, follow_on, value_begun, took_scalar, rows_put, row_put, emptied, rows_sorted, top_rows}
 
@@ -36,15 +36,15 @@ emptied_opened : {F : Type 0} (m : Form F) (s : Out F) (k : Kind) → (emptied m
 emptied_opened m s array = refl
 emptied_opened m s object = one_of s.sorts _ s s.opened (rows_opened m (rows_sorted (top_rows s.layers)) _ true) refl
 
-scalar_stand : {F : Type 0} (m : Form F) (s : Out F) (c : Call) → expected_tokens_of (took_scalar m s c) ≡ within s.opened
-scalar_stand m s c = follow_stand m (call m (value_begun m s) c) (value_begun m s).opened ∙ ap within (lead_opened m s s.turn)
+scalar_stand : {F : Type 0} (m : Form F) (s : Out F) (c : Call) → expected_tokens_of (took_scalar m s c) ≡ state_in s.opened
+scalar_stand m s c = follow_stand m (call m (value_begun m s) c) (value_begun m s).opened ∙ ap state_in (lead_opened m s s.turn)
 
 pub after_stands : {F : Type 0} (m : Form F) (s : Out F) (t : Token) → expected_tokens_of (after m s t) ≡ after_token (expected_tokens_of s) t
 after_stands m s null_token = scalar_stand m s null_call
 after_stands m s (boolean_token b) = scalar_stand m s (boolean_call b)
 after_stands m s (num_token l) = scalar_stand m s (number_call l)
 after_stands m s (text_token t) = scalar_stand m s (string_call true t)
-after_stands m s (begin array) = ap (λ (o : List Kind). within (array ∷ o)) (lead_opened m s s.turn)
-after_stands m s (begin object) = ap (λ (o : List Kind). within (object ∷ o)) (lead_opened m s s.turn)
-after_stands m s (end k) = follow_stand m _ (outside (emptied m s k).opened) ∙ ap (λ (o : List Kind). within (outside o)) (emptied_opened m s k)
+after_stands m s (begin array) = ap (λ (o : List Kind). state_in (array ∷ o)) (lead_opened m s s.turn)
+after_stands m s (begin object) = ap (λ (o : List Kind). state_in (object ∷ o)) (lead_opened m s s.turn)
+after_stands m s (end k) = follow_stand m _ (outside (emptied m s k).opened) ∙ ap (λ (o : List Kind). state_in (outside o)) (emptied_opened m s k)
 after_stands m s (key_token k) = ap (λ (o : List Kind). let r : TokenState = record { opened = o; expected = a_value } in r) (one_of s.sorts _ _ s.opened refl refl)

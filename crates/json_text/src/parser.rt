@@ -28,7 +28,7 @@ mod expected;
 mod literals;
 mod negatives;
 
-pub use expected::Integer;
+pub use expected::UnsignedInteger;
 pub use negatives::NegativeInteger;
 
 /// The most levels of a tree, where the caller chooses none (RFC 8259, section 9).

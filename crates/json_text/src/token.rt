@@ -427,8 +427,7 @@ fn key_or_end<'a>(
     }
 }
 
-/// Reads the end of the innermost container, which alone may come at `at` after a value that no comma
-/// follows.
+/// Reads the end of the innermost container: only it may follow a value at `at` without a comma.
 #[inline(always)]
 fn behind_value<'a>(text: &'a str, at: usize, kinds: &mut Kinds) -> Result<Read<'a>, Fault>
     requires within { at < length text.now }
@@ -462,8 +461,7 @@ fn behind_value<'a>(text: &'a str, at: usize, kinds: &mut Kinds) -> Result<Read<
     }
 }
 
-/// Reads the part that begins at the cursor, where there is neither whitespace nor a comma or a colon.
-/// Fails at the first fault of that part.
+/// Reads the part at the cursor, where no whitespace, comma or colon is; fails at its first fault.
 #[inline(always)]
 pub fn take_event<'a>(
     text: &'a str,

@@ -16,9 +16,9 @@ use Rattle.json_text.specs.Events.{Means}
 use Rattle.json_text.specs.Parsing.{ParserState, HasGiven, SameInput, Goes, IsTight, IsWhole, HasRead}
 use Rattle.json_text.specs.Tokens.{begin_event, end_event}
 use Rattle.json_text.proofs.Bracketed.{begin_is_event, end_is_event}
-use Rattle.json_grammar.specs.TokenStates.{within}
+use Rattle.json_grammar.specs.TokenStates.{state_in}
 use Rattle.json_tokens.specs.Stand.{NotWhole, Peeks, TakesOne, TakesTree, TakesInteger, TakesNegative, TakesText, TakesKeyPiece}
-use Rattle.json_tokens.specs.Text.{TextTokensState, TakenBefore, spot_before, text_taken, text_tokens_state, event_kind, ReadsAhead, IsReading}
+use Rattle.json_tokens.specs.Text.{TextTokensState, TakenBefore, spot_before, text_taken, text_tokens_state, event_kind, ReadsAhead, IsReadingText}
 use Rattle.json_tokens.proofs.Digits.{plain_integer, negative_integer}
 use Rattle.json_tokens.proofs.Events.{reads_ahead, whole_over}
 use Rattle.json_tokens.proofs.Steps.{scalar}
@@ -34,7 +34,7 @@ told_ahead p q f e r =
     let text = s.text in let start = s.start in let lossy = s.lossy in let limit = s.limit in
     let n : length q.text ≡ length p.text = ap length s.text in
     let go = r.forward in
-    let within = r.inside in
+    let state_in = r.inside in
     record {
       input = cc;
       spot = r.spot;
@@ -60,7 +60,7 @@ no_minus (x ∷ l) d h = λ e.
     cc
 
 -- the source goes on behind it
-pub still_reading : (p q : ParserState) (e : Event) (ts : List Tok) → HasGiven p ts → ReadsAhead p e q → p.start ≤ p.index → (IsWhole q → HasRead q) → IsReading (clear q None)
+pub still_reading : (p q : ParserState) (e : Event) (ts : List Tok) → HasGiven p ts → ReadsAhead p e q → p.start ≤ p.index → (IsWhole q → HasRead q) → IsReadingText (clear q None)
 still_reading p q e ts h r o w =
     let g = r.goes ts h in
     let start = r.same.start in
@@ -74,19 +74,19 @@ module _ (a : TextTokensState) (p : ParserState) (o : Option Event) (f : Option 
   unwaiting = ap (λ (t : TextTokensState). t.ahead) seen ∙ none
 
   pub clear_inside : NotWhole (text_tokens_state a) → ¬ (IsWhole p)
-  clear_inside h = λ w. h (subst (λ (t : TextTokensState). (text_tokens_state t).spot ≡ within []) seen (subst (λ (u : Option Event). spot_before u p ≡ within []) (sym unwaiting) (whole_over p w)))
+  clear_inside h = λ w. h (subst (λ (t : TextTokensState). (text_tokens_state t).spot ≡ state_in []) seen (subst (λ (u : Option Event). spot_before u p ≡ state_in []) (sym unwaiting) (whole_over p w)))
 
   -- it goes on behind an event
-  pub clear_reading : (q : ParserState) (e : Event) → a.failed ≡ None → IsReading (record { parser = p; ahead = o; failed = f })
-      → ((ts : List Tok) → HasGiven p ts → ReadsAhead p e q) → (IsWhole q → HasRead q) → IsReading (record { parser = q; ahead = o; failed = f })
+  pub clear_reading : (q : ParserState) (e : Event) → a.failed ≡ None → IsReadingText (record { parser = p; ahead = o; failed = f })
+      → ((ts : List Tok) → HasGiven p ts → ReadsAhead p e q) → (IsWhole q → HasRead q) → IsReadingText (record { parser = q; ahead = o; failed = f })
   clear_reading q e u i r w =
       let h : HasGiven p i.given.0 = subst (λ (v : Option Event). TakenBefore v p i.given.0) unwaiting i.given.1 in
       let g : f ≡ None = ap (λ (t : TextTokensState). t.failed) seen ∙ u in
-      subst (λ (v : Option Event). IsReading (record { parser = q; ahead = v; failed = f })) (sym unwaiting)
-      (subst (λ (v : Option Error). IsReading (clear q v)) (sym g) (still_reading p q e i.given.0 h (r i.given.0 h) i.order w))
+      subst (λ (v : Option Event). IsReadingText (record { parser = q; ahead = v; failed = f })) (sym unwaiting)
+      (subst (λ (v : Option Error). IsReadingText (clear q v)) (sym g) (still_reading p q e i.given.0 h (r i.given.0 h) i.order w))
 
   -- what is taken from there on
-  pub clear_taken : (P : TextTokensState → TextTokensState → Type 0) (q : ParserState) → IsReading (record { parser = p; ahead = o; failed = f })
+  pub clear_taken : (P : TextTokensState → TextTokensState → Type 0) (q : ParserState) → IsReadingText (record { parser = p; ahead = o; failed = f })
       → ((ts : List Tok) → HasGiven p ts → P (clear p f) (clear q f)) → P a (record { parser = q; ahead = o; failed = f })
   clear_taken P q i t =
       let h : HasGiven p i.given.0 = subst (λ (v : Option Event). TakenBefore v p i.given.0) unwaiting i.given.1 in

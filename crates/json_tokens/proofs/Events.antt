@@ -10,9 +10,9 @@ use Rattle.json_text.proofs.Stands.{stood_at}
 use Rattle.json_grammar.specs.Place.{reading}
 use Rattle.json_tokens.specs.declared.token.TokenKind.{TokenKind}
 use Rattle.json_tokens.specs.Kinds.{kind_of}
-use Rattle.json_grammar.specs.TokenStates.{TokenState, a_value, nothing, at_start, within, after_token, after_tokens, MayCome, Accepts, state_at}
+use Rattle.json_grammar.specs.TokenStates.{TokenState, a_value, nothing, initial_state, state_in, after_token, after_tokens, MayCome, Accepts, state_at}
 use Rattle.json_tokens.specs.Spots.{KindMayCome}
-use Rattle.json_tokens.specs.Text.{event_kind, parser_spot, before, ReadsAhead, IsReading}
+use Rattle.json_tokens.specs.Text.{event_kind, parser_spot, before, ReadsAhead, IsReadingText}
 use Rattle.json_grammar.proofs.Numeric.{last_number}
 use Rattle.json_grammar.proofs.TokenStates.{after_append, after_tree, accepts_front, accepts_back, place_state, place_accepts, whole_place}
 use Rattle.std.proofs.lemmas.List.{nil_from_length}
@@ -22,12 +22,12 @@ use Rattle.json_doc.specs.Reading.{EventIsNumber}
 pub given_reading : (p : ParserState) (ts : List Tok) → HasGiven p ts → reading p.lossy (take (taken p) (input p)) p.open_kinds p.spot ts
 given_reading p ts h = stood_at p.lossy p.limit (input p) (taken p) p.open_kinds p.spot ts h
 
-pub place_is : (p : ParserState) (ts : List Tok) → HasGiven p ts → parser_spot p ≡ after_tokens at_start ts
+pub place_is : (p : ParserState) (ts : List Tok) → HasGiven p ts → parser_spot p ≡ after_tokens initial_state ts
 place_is p ts h = sym (place_state (given_reading p ts h))
 
 -- behind the tokens of a tree nothing may come
-pub tree_over : (p : ParserState) (ts : List Tok) (t : Tree) → HasGiven p ts → ts ≡ tokens t → parser_spot p ≡ within []
-tree_over p ts t h e = place_is p ts h ∙ ap (after_tokens at_start) e ∙ after_tree at_start t
+pub tree_over : (p : ParserState) (ts : List Tok) (t : Tree) → HasGiven p ts → ts ≡ tokens t → parser_spot p ≡ state_in []
+tree_over p ts t h e = place_is p ts h ∙ ap (after_tokens initial_state) e ∙ after_tree initial_state t
 
 goes : (old new : ParserState) (e : Event) → e ≢ event.End → Goes old e new → (ts : List Tok) → HasGiven old ts → (x : Tok) × Means e x × HasGiven new (ts ++ x ∷ [])
 goes old new event.Null n g = g
@@ -79,14 +79,14 @@ event_number p event.EndObject ts x m h = tt
 event_number p event.End ts x m h = tt
 
 -- the last token may come
-last_may : (p : ParserState) (ts : List Tok) (x : Tok) → HasGiven p (ts ++ x ∷ []) → Accepts at_start ts × MayCome (after_tokens at_start ts) x
-last_may p ts x h = let a = place_accepts (given_reading p (ts ++ x ∷ []) h) in (accepts_front at_start ts (x ∷ []) a, (accepts_back at_start ts (x ∷ []) a).0)
+last_may : (p : ParserState) (ts : List Tok) (x : Tok) → HasGiven p (ts ++ x ∷ []) → Accepts initial_state ts × MayCome (after_tokens initial_state ts) x
+last_may p ts x h = let a = place_accepts (given_reading p (ts ++ x ∷ []) h) in (accepts_front initial_state ts (x ∷ []) a, (accepts_back initial_state ts (x ∷ []) a).0)
 
 -- the state before the last token
-pub spot_back : (p : ParserState) (e : Event) (ts : List Tok) (x : Tok) → Means e x → HasGiven p (ts ++ x ∷ []) → before (event_kind e) p.open_kinds ≡ after_tokens at_start ts
+pub spot_back : (p : ParserState) (e : Event) (ts : List Tok) (x : Tok) → Means e x → HasGiven p (ts ++ x ∷ []) → before (event_kind e) p.open_kinds ≡ after_tokens initial_state ts
 spot_back p e ts x m h =
-    let q = after_tokens at_start ts in
-    let a : parser_spot p ≡ after_token q x = place_is p (ts ++ x ∷ []) h ∙ after_append at_start ts (x ∷ []) in
+    let q = after_tokens initial_state ts in
+    let a : parser_spot p ≡ after_token q x = place_is p (ts ++ x ∷ []) h ∙ after_append initial_state ts (x ∷ []) in
     let f = last_may p ts x h in
     ap (λ (k : TokenKind). before k p.open_kinds) (sym (same_kind e x m)) ∙ ap (λ (z : TokenState). before (kind_of x) z.opened) a ∙ before_after q x (reached ts f.0) f.1
 
@@ -94,7 +94,7 @@ pub reads_ahead : (old new : ParserState) (e : Event) (ts : List Tok) → HasGiv
 reads_ahead old new e ts h n s g t f =
     let r = goes old new e n g ts h in
     let k = tight old new e n t in
-    let q = after_tokens at_start ts in
+    let q = after_tokens initial_state ts in
     record {
       same = s;
       goes = goes old new e n g;
@@ -106,15 +106,15 @@ reads_ahead old new e ts h n s g t f =
     }
 
 -- where a value was read and nothing is open
-pub whole_over : (p : ParserState) → IsWhole p → parser_spot p ≡ within []
-whole_over p (e, l) = ap (λ (w : Place). state_at w p.open_kinds) e ∙ ap within (nil_from_length p.open_kinds l)
+pub whole_over : (p : ParserState) → IsWhole p → parser_spot p ≡ state_in []
+whole_over p (e, l) = ap (λ (w : Place). state_at w p.open_kinds) e ∙ ap state_in (nil_from_length p.open_kinds l)
 
 -- and the other way round
-pub over_whole : (p : ParserState) → parser_spot p ≡ within [] → IsWhole p
+pub over_whole : (p : ParserState) → parser_spot p ≡ state_in [] → IsWhole p
 over_whole p e = let h = whole_place p.spot p.open_kinds (ap (λ (s : TokenState). s.expected) e) in (h.0, ap length h.1)
 
 -- a parser that has given nothing has read no value
-pub fresh_reading : (p : ParserState) → HasGiven p [] → p.failure ≡ None → p.start ≤ p.index → IsReading (record { parser = p; ahead = None; failed = None })
+pub fresh_reading : (p : ParserState) → HasGiven p [] → p.failure ≡ None → p.start ≤ p.index → IsReadingText (record { parser = p; ahead = None; failed = None })
 fresh_reading p h f o = record {
   given = ([], h);
   failed = tt;

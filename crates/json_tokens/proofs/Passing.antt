@@ -8,8 +8,8 @@ use Rattle.json_number.specs.Integers.{integer_in}
 use Rattle.json_tokens.specs.declared.token.TokenKind.{TokenKind}
 use Rattle.json_tokens.specs.declared.token.TokenKind.TheVariants as kind
 use Rattle.json_tokens.specs.Kinds.{kind_of, first_kind, number_kind}
-use Rattle.json_grammar.specs.TokenStates.{TokenState, Expected, a_value, element_or_end, name_or_end, nothing, within, after_value, after_token, NameMayCome, EndMayCome}
-use Rattle.json_tokens.specs.Spots.{around, KindMayCome, begins_value, IsWithin, IsOpen}
+use Rattle.json_grammar.specs.TokenStates.{TokenState, Expected, a_value, element_or_end, name_or_end, nothing, state_in, state_after_value, after_token, NameMayCome, EndMayCome}
+use Rattle.json_tokens.specs.Spots.{around, KindMayCome, begins_value, WithinContainer, IsOpen}
 use Rattle.json_tokens.specs.Stand.{TokensState, TakesTokens, Peeks, TakesTree, TakesOne, Leaves, Rest, RestAt, FirstIs, ToldValue, WantsAt, WantsValueAt}
 use Rattle.json_tokens.proofs.Steps.{joins, scalar}
 
@@ -20,9 +20,9 @@ named c = record { opened = object ∷ c; expected = a_value }
 -- from p the tokens lead to a state in the same container
 pub data Passing (p : TokenState) : List Tok → TokenState → Type 0 where
   here : Passing p [] p
-  one_element : {xs : List Tok} {c : List Kind} → Passing p xs (within (array ∷ c)) → (t : Tree) → Passing p (xs ++ tokens t) (within (array ∷ c))
-  one_key : {xs : List Tok} {c : List Kind} → Passing p xs (within (object ∷ c)) → (k : List ℕ) → Passing p (xs ++ key_token k ∷ []) (named c)
-  one_member : {xs : List Tok} {c : List Kind} → Passing p xs (named c) → (t : Tree) → Passing p (xs ++ tokens t) (within (object ∷ c))
+  one_element : {xs : List Tok} {c : List Kind} → Passing p xs (state_in (array ∷ c)) → (t : Tree) → Passing p (xs ++ tokens t) (state_in (array ∷ c))
+  one_key : {xs : List Tok} {c : List Kind} → Passing p xs (state_in (object ∷ c)) → (k : List ℕ) → Passing p (xs ++ key_token k ∷ []) (named c)
+  one_member : {xs : List Tok} {c : List Kind} → Passing p xs (named c) → (t : Tree) → Passing p (xs ++ tokens t) (state_in (object ∷ c))
 
 pub rest_of : {p : TokenState} {xs : List Tok} {q : TokenState} → Passing p xs q → (ys : List Tok) → Rest q ys → Rest p (xs ++ ys)
 rest_of here ys r = r
@@ -123,14 +123,14 @@ key_kinds c kind.BeginArray m = absurd m
 key_kinds c kind.EndArray m = absurd m
 key_kinds c kind.BeginObject m = absurd m
 
-value_path : {p : TokenState} {xs : List Tok} (q : TokenState) → Passing p xs q → IsOpen q → (t : Tree) → KindMayCome q (first_kind t) → Passing p (xs ++ tokens t) (after_value q) × IsOpen (after_value q)
+value_path : {p : TokenState} {xs : List Tok} (q : TokenState) → Passing p xs q → IsOpen q → (t : Tree) → KindMayCome q (first_kind t) → Passing p (xs ++ tokens t) (state_after_value q) × IsOpen (state_after_value q)
 value_path {p = p} {xs = xs} q h o t m = by q.expected q.opened h o m
   where
     no_value : (first_kind t ≡ kind.Key) ⊎ (first_kind t ≡ kind.EndObject) → ⊥
     no_value (inl e) = (value_first t).0 e
     no_value (inr e) = (value_first t).1 e
 
-    by : (e : Expected) (c : List Kind) → Passing p xs (record { opened = c; expected = e }) → IsWithin e c → KindMayCome (record { opened = c; expected = e }) (first_kind t) → Passing p (xs ++ tokens t) (within c) × IsOpen (within c)
+    by : (e : Expected) (c : List Kind) → Passing p xs (record { opened = c; expected = e }) → WithinContainer e c → KindMayCome (record { opened = c; expected = e }) (first_kind t) → Passing p (xs ++ tokens t) (state_in c) × IsOpen (state_in c)
     by a_value [] h o m = absurd o
     by a_value (array ∷ c) h o m = absurd o
     by a_value (object ∷ c) h o m = (one_member h t, tt)
@@ -159,7 +159,7 @@ passed_tree {taken = taken} {stand = stand} {a = a} {b = b} {c = c} {t = t} w r 
 key_path : {p : TokenState} {xs : List Tok} (q : TokenState) → Passing p xs q → IsOpen q → (s : List ℕ) → KindMayCome q kind.Key → Passing p (xs ++ key_token s ∷ []) (after_token q (key_token s)) × IsOpen (after_token q (key_token s))
 key_path {p = p} {xs = xs} q h o s m = by q.expected q.opened h o m
   where
-    by : (e : Expected) (c : List Kind) → Passing p xs (record { opened = c; expected = e }) → IsWithin e c → NameMayCome e → Passing p (xs ++ key_token s ∷ []) (record { opened = c; expected = a_value }) × IsWithin a_value c
+    by : (e : Expected) (c : List Kind) → Passing p xs (record { opened = c; expected = e }) → WithinContainer e c → NameMayCome e → Passing p (xs ++ key_token s ∷ []) (record { opened = c; expected = a_value }) × WithinContainer a_value c
     by a_value c h o m = absurd m
     by element_or_end c h o m = absurd m
     by name_or_end [] h o m = absurd o

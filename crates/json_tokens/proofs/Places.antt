@@ -5,7 +5,7 @@ use Rattle.json_grammar.specs.declared.Kind.TheVariants.{Array as array, Object 
 use Rattle.json_grammar.specs.Tree.{Token as Tok, null_token, boolean_token, num_token, text_token, begin, end, key_token}
 use Rattle.json_grammar.specs.Place.{outside}
 use Rattle.json_number.specs.Integers.{integer_in}
-use Rattle.json_grammar.specs.TokenStates.{TokenState, a_value, at_start, within, after_token, after_tokens, ValueMayCome, MayCome, Accepts}
+use Rattle.json_grammar.specs.TokenStates.{TokenState, a_value, initial_state, state_in, after_token, after_tokens, ValueMayCome, MayCome, Accepts}
 use Rattle.json_tokens.specs.declared.token.TokenKind.{TokenKind}
 use Rattle.json_tokens.specs.declared.token.TokenKind.TheVariants as kind
 use Rattle.json_tokens.specs.Kinds.{kind_of, number_kind}
@@ -45,8 +45,8 @@ kind_may s (key_token n) m = m
 -- ---- the states after tokens that are accepted
 
 pub data Reached : TokenState → Type 0 where
-  first : Reached at_start
-  between : (c : List Kind) → Reached (within c)
+  first : Reached initial_state
+  between : (c : List Kind) → Reached (state_in c)
   named : (c : List Kind) → Reached (record { opened = object ∷ c; expected = a_value })
 
 reached_name : (s : TokenState) (n : List ℕ) → Reached s → MayCome s (key_token n) → Reached (after_token s (key_token n))
@@ -69,8 +69,8 @@ reached_from : (s : TokenState) (ts : List Tok) → Reached s → Accepts s ts �
 reached_from s [] r a = r
 reached_from s (x ∷ ts) r a = reached_from (after_token s x) ts (reached_token s x r a.0) a.1
 
-pub reached : (ts : List Tok) → Accepts at_start ts → Reached (after_tokens at_start ts)
-reached ts a = reached_from at_start ts first a
+pub reached : (ts : List Tok) → Accepts initial_state ts → Reached (after_tokens initial_state ts)
+reached ts a = reached_from initial_state ts first a
 
 -- ---- the state before a token
 

@@ -8,7 +8,7 @@ use Rattle.json_grammar.specs.Tree.{Tree, Token as Tok, tokens, begin, end, null
 use Rattle.json_grammar.specs.declared.Kind.TheVariants.{Array as array, Object as object}
 use Rattle.json_tokens.specs.Kinds.{kind_of, first_kind, number_kind}
 use Rattle.json_number.specs.Integers.{integer_in}
-use Rattle.json_grammar.specs.TokenStates.{TokenState, after_token, after_value}
+use Rattle.json_grammar.specs.TokenStates.{TokenState, after_token, state_after_value}
 use Rattle.json_tokens.specs.Spots.{KindMayCome}
 use Rattle.json_tokens.specs.Stand.{TokensState, TakesTokens, Peeks, Moves, AsTold, TakesTree, TakesOne}
 
@@ -29,7 +29,7 @@ pub peek_tree : {S : Type 0} {taken : S → List Tok → Type 0} {stand : S → 
     → Peeks (stand a) (stand b) k → TakesTokens taken a [] b → TakesTree taken stand b c t → TakesTree taken stand a c t
 peek_tree {taken = taken} {stand = stand} {a = a} {b = b} {c = c} {t = t} h z r = record {
   takes = joins z r.takes;
-  moves = subst (λ (p : TokenState). Moves (stand a) (stand c) (after_value p)) h.spot (peek_moves h r.moves);
+  moves = subst (λ (p : TokenState). Moves (stand a) (stand c) (state_after_value p)) h.spot (peek_moves h r.moves);
   as_told = told_before h r.as_told;
 }
 
@@ -54,7 +54,7 @@ peek_kind {k = k} h r = r.as_told.told k h.told
 
 -- a tree of one token
 pub scalar : {S : Type 0} {taken : S → List Tok → Type 0} {stand : S → TokensState} {b c : S} {x : Tok} (t : Tree) (y : Tok)
-    → x ≡ y → tokens t ≡ y ∷ [] → kind_of y ≡ first_kind t → after_token (stand b).spot y ≡ after_value (stand b).spot
+    → x ≡ y → tokens t ≡ y ∷ [] → kind_of y ≡ first_kind t → after_token (stand b).spot y ≡ state_after_value (stand b).spot
     → TakesOne taken stand b c x → TakesTree taken stand b c t
 scalar {taken = taken} {stand = stand} {b = b} {c = c} t y i e k p q =
     let r = subst (λ (z : Tok). TakesOne taken stand b c z) i q in

@@ -18,7 +18,7 @@ use Rattle.json_text.proofs.Stands.{stood_spaced, stood_whole, misplaced_fault}
 use Rattle.json_text.specs.Parsing.{ParserState, input, taken, HasGiven, IsWhole, HasRead}
 use Rattle.json_tokens.specs.declared.token.TokenKind.{TokenKind}
 use Rattle.json_tokens.specs.Kinds.{kind_of}
-use Rattle.json_grammar.specs.TokenStates.{TokenState, after_token, after_tokens, at_start, within}
+use Rattle.json_grammar.specs.TokenStates.{TokenState, after_token, after_tokens, initial_state, state_in}
 use Rattle.json_tokens.specs.Spots.{KindMayCome}
 use Rattle.json_tokens.specs.Stand.{TakesTokens, Peeks, TakesOne}
 use Rattle.json_tokens.specs.Text.{TextTokensState, TakenBefore, text_taken, text_tokens_state, event_kind, parser_spot, ReadsAhead, HasFault, HasReadValue}
@@ -41,7 +41,7 @@ takes_next a p f e k i h z =
     let x = i.1.0 in
     let m = i.1.1 in
     let g = i.1.2 in
-    let s : (text_tokens_state a).spot ≡ after_tokens at_start i.0 = sym h.spot ∙ spot_back p e i.0 x m g in
+    let s : (text_tokens_state a).spot ≡ after_tokens initial_state i.0 = sym h.spot ∙ spot_back p e i.0 x m g in
     let n : Some (event_kind e) ≡ Some k = h.told in
     let j : k ≡ kind_of x = let u : event_kind e ≡ k = cc in sym u ∙ sym (same_kind e x m) in (
       x,
@@ -55,7 +55,7 @@ takes_next a p f e k i h z =
         };
         moves = record {
           input = h.input;
-          spot = place_is p (i.0 ++ x ∷ []) g ∙ after_append at_start i.0 (x ∷ []) ∙ ap (λ (q : TokenState). after_token q x) (sym s);
+          spot = place_is p (i.0 ++ x ∷ []) g ∙ after_append initial_state i.0 (x ∷ []) ∙ ap (λ (q : TokenState). after_token q x) (sym s);
           told = refl;
           left = let l = h.left in omega arith;
         };
@@ -80,13 +80,13 @@ none_waits p None f t = refl
 none_waits p (Some e) f t = absurd (cc)
 
 -- behind a value that was taken
-pub has_read_value : (p : ParserState) (o : Option Event) (f : Option Error) → (text_tokens_state (record { parser = p; ahead = o; failed = f })).spot ≡ within []
+pub has_read_value : (p : ParserState) (o : Option Event) (f : Option Error) → (text_tokens_state (record { parser = p; ahead = o; failed = f })).spot ≡ state_in []
     → (text_tokens_state (record { parser = p; ahead = o; failed = f })).told ≡ None → (IsWhole p → HasRead p) → HasReadValue (record { parser = p; ahead = o; failed = f })
 has_read_value p (Some a) f s t r = absurd (cc)
 has_read_value p None f s t r = r (over_whole p s)
 
 -- behind a value and whitespace
-spaced_to : (p : ParserState) (ts : List Tok) (k : ℕ) → HasGiven p ts → parser_spot p ≡ within [] → p.start ≤ p.index → ComesNext p k → Stood p.lossy p.limit (input p) (k - p.start) p.open_kinds done ts
+spaced_to : (p : ParserState) (ts : List Tok) (k : ℕ) → HasGiven p ts → parser_spot p ≡ state_in [] → p.start ≤ p.index → ComesNext p k → Stood p.lossy p.limit (input p) (k - p.start) p.open_kinds done ts
 spaced_to p ts k g o s n =
     let w = over_whole p o in
     let h : Stood p.lossy p.limit (input p) (taken p) p.open_kinds done ts = subst (λ (q : Place). Stood p.lossy p.limit (input p) (taken p) p.open_kinds q ts) w.0 g in
@@ -98,13 +98,13 @@ spaced_to p ts k g o s n =
     stood_spaced p.lossy p.limit (input p) (taken p) (k - p.start) p.open_kinds done ts h (omega arith) (omega (arith, length-drop p.start p.text)) (subst ws (sym e) n.space)
 
 -- where only whitespace is left, it is a text
-pub whole_text : (p : ParserState) (ts : List Tok) → HasGiven p ts → parser_spot p ≡ within [] → p.start ≤ p.index → NothingLeft p → (t : Tree) × is_text p.lossy t (input p) × (ts ≡ tokens t) × (depth t ≤ p.limit)
+pub whole_text : (p : ParserState) (ts : List Tok) → HasGiven p ts → parser_spot p ≡ state_in [] → p.start ≤ p.index → NothingLeft p → (t : Tree) × is_text p.lossy t (input p) × (ts ≡ tokens t) × (depth t ≤ p.limit)
 whole_text p ts g o s n =
     let from = n.order in
     stood_whole p.lossy p.limit (input p) (length p.text - p.start) p.open_kinds ts (spaced_to p ts (length p.text) g o s n) (over_whole p o).1 (sym (length-drop p.start p.text))
 
 -- and else the next byte is its fault
-pub trailing_fault : (p : ParserState) (ts : List Tok) (e : Error) → HasGiven p ts → parser_spot p ≡ within [] → p.start ≤ p.index → TrailsAt p e → FaultFrom p.lossy p.limit p.start p.text e.code e.place
+pub trailing_fault : (p : ParserState) (ts : List Tok) (e : Error) → HasGiven p ts → parser_spot p ≡ state_in [] → p.start ≤ p.index → TrailsAt p e → FaultFrom p.lossy p.limit p.start p.text e.code e.place
 trailing_fault p ts e g o s t =
     let k = t.at - p.start in
     let from = t.next.order in

@@ -14,7 +14,7 @@ use Rattle.json_io.specs.Errors.{no_memory}
 use Rattle.json_text.specs.Parsing.{ParserState, HasGiven, SameInput}
 use Rattle.json_tokens.specs.declared.token.TokenKind.{TokenKind}
 use Rattle.json_tokens.specs.Kinds.{kind_of, first_kind}
-use Rattle.json_grammar.specs.TokenStates.{TokenState, after_tokens, after_value, at_start}
+use Rattle.json_grammar.specs.TokenStates.{TokenState, after_tokens, state_after_value, initial_state}
 use Rattle.json_tokens.specs.Spots.{begins_value, KindMayCome}
 use Rattle.json_tokens.specs.Stand.{over_text, WantsValueAt, FirstIs, TakesTokens, Peeks, TakesTree}
 use Rattle.json_tokens.specs.Text.{TextTokensState, TakenBefore, text_taken, text_tokens_state, event_kind, TextFails}
@@ -54,7 +54,7 @@ pub takes_value : (a : TextTokensState) (p q : ParserState) (f g : Option Error)
     → SameInput p q → p.index ≤ q.index → ReadsValue p e t q → TakesTree text_taken text_tokens_state a (record { parser = q; ahead = None; failed = g }) t
 takes_value a p q f g e k t (us, (x, m, i)) h z same order r =
     let inputs : over_text q.text q.start q.lossy q.limit ≡ over_text p.text p.start p.lossy p.limit = rw (same.text, same.start, same.lossy, same.limit) in
-    let s : (text_tokens_state a).spot ≡ after_tokens at_start us = sym h.spot ∙ spot_back p e us x m i in
+    let s : (text_tokens_state a).spot ≡ after_tokens initial_state us = sym h.spot ∙ spot_back p e us x m i in
     let on : (ts : List Tok) → TakenBefore (Some e) p ts → HasGiven q (ts ++ tokens t) = λ ts b.
     r.goes ts (subst (λ (y : Tok). HasGiven p (ts ++ y ∷ [])) (means_one e b.0 r.token b.1 r.means) b.2) in
     let j : first_kind t ≡ k =
@@ -63,7 +63,7 @@ takes_value a p q f g e k t (us, (x, m, i)) h z same order r =
       takes = record { on = λ ts b. on ts (subst (TakenBefore (Some e) p) (append-nil ts) (z.on ts b)) };
       moves = record {
         input = inputs ∙ h.input;
-        spot = place_is q (us ++ tokens t) (on us (x, m, i)) ∙ after_append at_start us (tokens t) ∙ after_tree (after_tokens at_start us) t ∙ ap (λ (p : TokenState). after_value p) (sym s);
+        spot = place_is q (us ++ tokens t) (on us (x, m, i)) ∙ after_append initial_state us (tokens t) ∙ after_tree (after_tokens initial_state us) t ∙ ap (λ (p : TokenState). state_after_value p) (sym s);
         told = refl;
         left = let l = h.left in omega (arith, ap length same.text);
       };

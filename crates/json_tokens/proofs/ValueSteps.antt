@@ -18,7 +18,7 @@ use Rattle.json_tokens.specs.declared.token.TokenKind.TheVariants as kind
 use Rattle.json_tokens.specs.declared.value_tokens.ValueTokens.{ValueTokens}
 use Rattle.json_tokens.specs.Kinds.{kind_of, first_kind, number_kind}
 use Rattle.json_tokens.specs.Refusals.{is_refusal}
-use Rattle.json_grammar.specs.TokenStates.{TokenState, at_start, within, after_value, after_token}
+use Rattle.json_grammar.specs.TokenStates.{TokenState, initial_state, state_in, state_after_value, after_token}
 use Rattle.json_tokens.proofs.Places.{value_kind}
 use Rattle.json_tokens.specs.Spots.{around, begins_value, KindMayCome, IsOpen}
 use Rattle.json_tokens.specs.Stand.{over_tree, WantsValue, WantsValueAt, Peeks, Moves, AsTold, TakesOne, TakesTree, Leaves, Rest, FirstIs, TokensFail}
@@ -59,13 +59,13 @@ kinds_at (elements_of ts ∷ ls) o = refl
 kinds_at (members_of ps ∷ ls) None = refl
 kinds_at (members_of ps ∷ ls) (Some t) = refl
 
-spot_behind : (ls : List Left) → spot_in_levels ls None ≡ within (map kind_left ls)
+spot_behind : (ls : List Left) → spot_in_levels ls None ≡ state_in (map kind_left ls)
 spot_behind [] = refl
 spot_behind (elements_of ts ∷ ls) = refl
 spot_behind (members_of ps ∷ ls) = refl
 
-spot_value : (ls : List Left) (o : Option Tree) → spot_in_levels ls None ≡ after_value (spot_in_levels ls o)
-spot_value ls o = spot_behind ls ∙ ap within (kinds_at ls o)
+spot_value : (ls : List Left) (o : Option Tree) → spot_in_levels ls None ≡ state_after_value (spot_in_levels ls o)
+spot_value ls o = spot_behind ls ∙ ap state_in (kinds_at ls o)
 
 spot_around : (l : Left) (ls : List Left) (o : Option Tree) → spot_in_levels ls None ≡ around (spot_in_levels (l ∷ ls) o)
 spot_around (elements_of ts) ls o = spot_behind ls
@@ -87,9 +87,9 @@ first_begins (list ts) = refl
 first_begins (pairs ps) = refl
 
 value_may : (ls : List Left) (t : Tree) (k : TokenKind) → begins_value k ≡ true → KindMayCome (spot_in_levels ls (Some t)) k
-value_may [] t k e = value_kind at_start k e tt
+value_may [] t k e = value_kind initial_state k e tt
 value_may (members_of ps ∷ ls) t k e = value_kind (spot_in_levels (members_of ps ∷ ls) (Some t)) k e tt
-value_may (elements_of ts ∷ ls) t k e = value_kind (within (array ∷ map kind_left ls)) k e tt
+value_may (elements_of ts ∷ ls) t k e = value_kind (state_in (array ∷ map kind_left ls)) k e tt
 
 -- a value's first token has its kind
 head_tree : (t : Tree) (xs : List Tok) → head_kind (tokens t ++ xs) ≡ Some (first_kind t)
@@ -115,13 +115,13 @@ member_first p ps ls = ap (λ (xs : List Tok). key_token p.0 ∷ xs) (regroup (t
 head_may : (ls : List Left) (o : Option Tree) (k : TokenKind) → head_kind (next_tokens o ++ open_tokens ls) ≡ Some k → KindMayCome (spot_in_levels ls o) k
 head_may ls (Some t) k e = value_head ls t k e
 head_may [] None k e = absurd (cc)
-head_may (elements_of [] ∷ ls) None k e = subst (λ (j : TokenKind). KindMayCome (within (array ∷ map kind_left ls)) j) (some_is e) tt
+head_may (elements_of [] ∷ ls) None k e = subst (λ (j : TokenKind). KindMayCome (state_in (array ∷ map kind_left ls)) j) (some_is e) tt
 head_may (elements_of (t ∷ ts) ∷ ls) None k e = value_head (elements_of ts ∷ ls) t k (ap head_kind (sym (element_first t ts ls)) ∙ e)
-head_may (members_of [] ∷ ls) None k e = subst (λ (j : TokenKind). KindMayCome (within (object ∷ map kind_left ls)) j) (some_is e) tt
-head_may (members_of (p ∷ ps) ∷ ls) None k e = subst (λ (j : TokenKind). KindMayCome (within (object ∷ map kind_left ls)) j) (some_is e) tt
+head_may (members_of [] ∷ ls) None k e = subst (λ (j : TokenKind). KindMayCome (state_in (object ∷ map kind_left ls)) j) (some_is e) tt
+head_may (members_of (p ∷ ps) ∷ ls) None k e = subst (λ (j : TokenKind). KindMayCome (state_in (object ∷ map kind_left ls)) j) (some_is e) tt
 
 -- where no value comes next, it is a key or an end
-front_head : (ls : List Left) (k : TokenKind) → NoElement ls → FrontIs ls k → spot_in_levels ls None ≢ within [] → head_kind (open_tokens ls) ≡ Some k
+front_head : (ls : List Left) (k : TokenKind) → NoElement ls → FrontIs ls k → spot_in_levels ls None ≢ state_in [] → head_kind (open_tokens ls) ≡ Some k
 front_head [] k n f o = absurd (o refl)
 front_head (elements_of [] ∷ ls) k n f o = ap Some (sym f)
 front_head (elements_of (t ∷ ts) ∷ ls) k n f o = absurd (cc)
@@ -174,12 +174,12 @@ first_of (text s) = (text_token s, [], refl)
 first_of (list ts) = (begin array, _, refl)
 first_of (pairs ps) = (begin object, _, refl)
 
-tree_taken : (a b : ValueTokens) (t : Tree) → TakesTokensTo (value_state a) (value_state b) (tokens t) (after_value (value_stand a).spot) → TakesTree value_taken value_stand a b t
+tree_taken : (a b : ValueTokens) (t : Tree) → TakesTokensTo (value_state a) (value_state b) (tokens t) (state_after_value (value_stand a).spot) → TakesTree value_taken value_stand a b t
 tree_taken a b t s =
     let f = first_of t in
     record {
       takes = record { on = taken_on (value_state a) (value_state b) (tokens t) s.tree s.rest };
-      moves = moves f.0 f.1 (subst (λ (xs : List Tok). TakesTokensTo (value_state a) (value_state b) xs (after_value (value_stand a).spot)) f.2 s);
+      moves = moves f.0 f.1 (subst (λ (xs : List Tok). TakesTokensTo (value_state a) (value_state b) xs (state_after_value (value_stand a).spot)) f.2 s);
       as_told = as_told (value_state a) (first_kind t) (ap head_kind s.rest ∙ head_tree t (rest_of (value_state b)));
     }
 
@@ -207,7 +207,7 @@ peeks a m k s e = record {
 pub peek_value : (a m : ValueState) (t : Tree) (k : TokenKind) → SettlesNext a m → m.next ≡ Some t → k ≡ first_kind t → Peeks (state_stand a) (state_stand (record m { told = true })) k
 peek_value a m t k s n e = peeks a m k s (ap (λ (o : Option Tree). head_kind (next_tokens o ++ open_tokens m.levels)) n ∙ head_tree t (open_tokens m.levels) ∙ ap Some (sym e))
 
-pub peek_front : (a m : ValueState) (k : TokenKind) → SettlesNext a m → spot_in_levels a.levels a.next ≢ within [] → m.next ≡ None → FrontIs m.levels k → Peeks (state_stand a) (state_stand (record m { told = true })) k
+pub peek_front : (a m : ValueState) (k : TokenKind) → SettlesNext a m → spot_in_levels a.levels a.next ≢ state_in [] → m.next ≡ None → FrontIs m.levels k → Peeks (state_stand a) (state_stand (record m { told = true })) k
 peek_front a m k s w n f =
     peeks a m k s (ap (λ (o : Option Tree). head_kind (next_tokens o ++ open_tokens m.levels)) n
     ∙ front_head m.levels k (s.reached n) f (λ i. w (sym s.spot ∙ ap (spot_in_levels m.levels) n ∙ i)))
@@ -217,11 +217,11 @@ peek_front a m k s w n f =
 next_rest : (a : ValueState) (t : Tree) → a.next ≡ Some t → rest_of a ≡ tokens t ++ open_tokens a.levels
 next_rest a t n = ap (λ (o : Option Tree). next_tokens o ++ open_tokens a.levels) n
 
-value_passed : (a : ValueState) (t : Tree) → a.next ≡ Some t → TakesTokensTo a (record a { next = None; told = false }) (tokens t) (after_value (spot_in_levels a.levels a.next))
+value_passed : (a : ValueState) (t : Tree) → a.next ≡ Some t → TakesTokensTo a (record a { next = None; told = false }) (tokens t) (state_after_value (spot_in_levels a.levels a.next))
 value_passed a t n = record { tree = refl; rest = next_rest a t n; spot = spot_value a.levels a.next; told = refl; failed = refl }
 
 -- a scalar is one token
-pub scalar_one : (t : Tree) → type_of t ≢ json.Array → type_of t ≢ json.Object → (x : Tok) × (tokens t ≡ x ∷ []) × ((p : TokenState) → after_value p ≡ after_token p x)
+pub scalar_one : (t : Tree) → type_of t ≢ json.Array → type_of t ≢ json.Object → (x : Tok) × (tokens t ≡ x ∷ []) × ((p : TokenState) → state_after_value p ≡ after_token p x)
 scalar_one null n m = (null_token, refl, λ p. refl)
 scalar_one (boolean b) n m = (boolean_token b, refl, λ p. refl)
 scalar_one (num l) n m = (num_token l, refl, λ p. refl)
@@ -229,7 +229,7 @@ scalar_one (text s) n m = (text_token s, refl, λ p. refl)
 scalar_one (list ts) n m = absurd (n refl)
 scalar_one (pairs ps) n m = absurd (m refl)
 
-pub scalar_taken : (a : ValueState) (t : Tree) (x : Tok) → a.next ≡ Some t → tokens t ≡ x ∷ [] → ((p : TokenState) → after_value p ≡ after_token p x) → TakesTokensTo a (record a { next = None; told = false }) (x ∷ []) (after_token (spot_in_levels a.levels a.next) x)
+pub scalar_taken : (a : ValueState) (t : Tree) (x : Tok) → a.next ≡ Some t → tokens t ≡ x ∷ [] → ((p : TokenState) → state_after_value p ≡ after_token p x) → TakesTokensTo a (record a { next = None; told = false }) (x ∷ []) (after_token (spot_in_levels a.levels a.next) x)
 scalar_taken a t x n e f = record { tree = refl; rest = next_rest a t n ∙ ap (λ (xs : List Tok). xs ++ open_tokens a.levels) e; spot = spot_value a.levels a.next ∙ f (spot_in_levels a.levels a.next); told = refl; failed = refl }
 
 array_is : (t : Tree) → type_of t ≡ json.Array → (ts : Trees) × (t ≡ list ts)
@@ -252,7 +252,7 @@ array_begun : (a : ValueState) (ts : Trees) → a.next ≡ Some (list ts) → Ta
 array_begun a ts n = record {
   tree = refl;
   rest = next_rest a (list ts) n ∙ ap (λ (us : Trees). begin array ∷ ((trees_tokens us ++ end array ∷ []) ++ open_tokens a.levels)) (sym (list_back ts));
-  spot = ap (λ (c : List Kind). within (array ∷ c)) (kinds_at a.levels a.next);
+  spot = ap (λ (c : List Kind). state_in (array ∷ c)) (kinds_at a.levels a.next);
   told = refl;
   failed = refl;
 }
@@ -261,7 +261,7 @@ object_begun : (a : ValueState) (ps : Pairs) → a.next ≡ Some (pairs ps) → 
 object_begun a ps n = record {
   tree = refl;
   rest = next_rest a (pairs ps) n ∙ ap (λ (qs : Pairs). begin object ∷ ((pairs_tokens qs ++ end object ∷ []) ++ open_tokens a.levels)) (sym (pairs_back ps));
-  spot = ap (λ (c : List Kind). within (object ∷ c)) (kinds_at a.levels a.next);
+  spot = ap (λ (c : List Kind). state_in (object ∷ c)) (kinds_at a.levels a.next);
   told = refl;
   failed = refl;
 }
@@ -293,8 +293,8 @@ key_parts (elements_of ts ∷ ls) ks p h = let e = h.0 in absurd (cc)
 key_parts (members_of [] ∷ ls) ks p h = let e = h.0 in absurd (cc)
 key_parts (members_of (q ∷ qs) ∷ ls) ks p (e, f) =
     let g : p ≡ q = some_is e in
-    subst (λ (r : List ℕ × Tree). (open_tokens (members_of (q ∷ qs) ∷ ls) ≡ key_token r.0 ∷ (tokens r.1 ++ open_tokens ks)) × (spot_in_levels ks (Some r.1) ≡ after_token (within (object ∷ map kind_left ls)) (key_token q.0))) (sym g)
-    (subst (λ (is : List Left). (open_tokens (members_of (q ∷ qs) ∷ ls) ≡ key_token q.0 ∷ (tokens q.1 ++ open_tokens is)) × (spot_in_levels is (Some q.1) ≡ after_token (within (object ∷ map kind_left ls)) (key_token q.0))) (sym f) (member_first q qs ls, refl))
+    subst (λ (r : List ℕ × Tree). (open_tokens (members_of (q ∷ qs) ∷ ls) ≡ key_token r.0 ∷ (tokens r.1 ++ open_tokens ks)) × (spot_in_levels ks (Some r.1) ≡ after_token (state_in (object ∷ map kind_left ls)) (key_token q.0))) (sym g)
+    (subst (λ (is : List Left). (open_tokens (members_of (q ∷ qs) ∷ ls) ≡ key_token q.0 ∷ (tokens q.1 ++ open_tokens is)) × (spot_in_levels is (Some q.1) ≡ after_token (state_in (object ∷ map kind_left ls)) (key_token q.0))) (sym f) (member_first q qs ls, refl))
 
 pub key_taken : (a : ValueState) (ks : List Left) (p : List ℕ × Tree) → a.next ≡ None → PullsMember a.levels (Some p) ks
     → TakesTokensTo a (record a { next = Some p.1; levels = ks; told = false }) (key_token p.0 ∷ []) (after_token (spot_in_levels a.levels a.next) (key_token p.0))
@@ -308,7 +308,7 @@ key_taken a ks p n h =
       failed = refl;
     }
 
-end_parts : (ls ks : List Left) (k : TokenKind) → NoElement ls → FrontIs ls k → PullsMember ls None ks → spot_in_levels ls None ≢ within []
+end_parts : (ls ks : List Left) (k : TokenKind) → NoElement ls → FrontIs ls k → PullsMember ls None ks → spot_in_levels ls None ≢ state_in []
     → (j : Kind) × (l : Left) × (c : List Left) × (ls ≡ l ∷ c) × (ks ≡ l ∷ c) × (open_tokens ls ≡ end j ∷ open_tokens c) × (k ≡ kind_of (end j)) × (spot_in_levels c None ≡ after_token (spot_in_levels ls None) (end j))
 end_parts [] ks k n f h o = absurd (o refl)
 end_parts (elements_of [] ∷ ls) ks k n f h o = (array, elements_of [], ls, refl, h.1, refl, f, spot_behind ls)
@@ -317,7 +317,7 @@ end_parts (members_of [] ∷ ls) ks k n f h o = (object, members_of [], ls, refl
 end_parts (members_of (p ∷ ps) ∷ ls) ks k n f h o = let e = h.0 in absurd (cc)
 
 -- the state a, in which the innermost container has no more, is left as the code does, from what `member` made of it
-pub end_taken : (a b : ValueState) (ks : List Left) (k : TokenKind) → a.next ≡ None → NoElement a.levels → FrontIs a.levels k → PullsMember a.levels None ks → spot_in_levels a.levels a.next ≢ within []
+pub end_taken : (a b : ValueState) (ks : List Left) (k : TokenKind) → a.next ≡ None → NoElement a.levels → FrontIs a.levels k → PullsMember a.levels None ks → spot_in_levels a.levels a.next ≢ state_in []
     → ((l : Left) (ls : List Left) → ks ≡ l ∷ ls → b ≡ record a { next = None; levels = ls; told = false })
     → (j : Kind) × (k ≡ kind_of (end j)) × TakesTokensTo a b (end j ∷ []) (after_token (spot_in_levels a.levels a.next) (end j))
 end_taken a b ks k n r f h o x =
@@ -423,8 +423,8 @@ wants_next a m s h =
 pub passes : (a b : ValueTokens) (m : ValueState) (t : Tree) → SettlesNext (value_state a) m → m.next ≡ Some t → value_state b ≡ record m { next = None; told = false } → TakesTree value_taken value_stand a b t
 passes a b m t s n e =
     tree_taken a b t
-    (settled s (subst (λ (z : ValueState). TakesTokensTo m z (tokens t) (after_value (spot_in_levels m.levels m.next))) (sym e) (value_passed m t n))
-    (ap (λ (p : TokenState). after_value p) s.spot))
+    (settled s (subst (λ (z : ValueState). TakesTokensTo m z (tokens t) (state_after_value (spot_in_levels m.levels m.next))) (sym e) (value_passed m t n))
+    (ap (λ (p : TokenState). state_after_value p) s.spot))
 
 pub skips : (a b : ValueTokens) (m : ValueState) → SettlesNext (value_state a) m → WantsValue (value_stand a) → value_state b ≡ record m { next = None; told = false } → (t : Tree) × TakesTree value_taken value_stand a b t
 skips a b m s h e = let w = wants_next (value_state a) m s h in (w.0, passes a b m w.0 s w.1 e)

@@ -3,13 +3,13 @@ use Rattle.std.specs.Prelude.{List, [], ◌∷◌, Bool, true, false}
 use Rattle.json_grammar.specs.declared.Kind.{Kind}
 use Rattle.json_grammar.specs.declared.Kind.TheVariants.{Array as array, Object as object}
 use Rattle.json_grammar.specs.Place.{outside}
-use Rattle.json_grammar.specs.TokenStates.{TokenState, Expected, a_value, element_or_end, name_or_end, nothing, within, ValueMayCome, NameMayCome, EndMayCome}
+use Rattle.json_grammar.specs.TokenStates.{TokenState, Expected, a_value, element_or_end, name_or_end, nothing, state_in, ValueMayCome, NameMayCome, EndMayCome}
 use Rattle.json_tokens.specs.declared.token.TokenKind.{TokenKind}
 use Rattle.json_tokens.specs.declared.token.TokenKind.TheVariants as kind
 
 -- after the innermost container
 abbrev pub around : TokenState → TokenState
-around s = within (outside s.opened)
+around s = state_in (outside s.opened)
 
 -- a token of the kind begins a value
 abbrev pub begins_value : TokenKind → Bool
@@ -34,31 +34,31 @@ Innermost object (array ∷ c) = ⊥
 Innermost object (object ∷ c) = Unit {0}
 
 -- a container is open
-abbrev pub IsWithin : Expected → List Kind → Type 0
-IsWithin a_value c = Innermost object c
-IsWithin element_or_end c = Innermost array c
-IsWithin name_or_end c = Innermost object c
-IsWithin nothing c = ⊥
+abbrev pub WithinContainer : Expected → List Kind → Type 0
+WithinContainer a_value c = Innermost object c
+WithinContainer element_or_end c = Innermost array c
+WithinContainer name_or_end c = Innermost object c
+WithinContainer nothing c = ⊥
 
 abbrev pub IsOpen : TokenState → Type 0
-IsOpen s = IsWithin s.expected s.opened
+IsOpen s = WithinContainer s.expected s.opened
 
 -- before an element or the end of a list
-abbrev pub AtElement : Expected → List Kind → Type 0
-AtElement a_value c = ⊥
-AtElement element_or_end c = Innermost array c
-AtElement name_or_end c = ⊥
-AtElement nothing c = ⊥
+abbrev pub BeforeElement : Expected → List Kind → Type 0
+BeforeElement a_value c = ⊥
+BeforeElement element_or_end c = Innermost array c
+BeforeElement name_or_end c = ⊥
+BeforeElement nothing c = ⊥
 
 abbrev pub InArray : TokenState → Type 0
-InArray s = AtElement s.expected s.opened
+InArray s = BeforeElement s.expected s.opened
 
 -- before a key or the end of an object
-abbrev pub AtName : Expected → List Kind → Type 0
-AtName a_value c = ⊥
-AtName element_or_end c = ⊥
-AtName name_or_end c = Innermost object c
-AtName nothing c = ⊥
+abbrev pub BeforeName : Expected → List Kind → Type 0
+BeforeName a_value c = ⊥
+BeforeName element_or_end c = ⊥
+BeforeName name_or_end c = Innermost object c
+BeforeName nothing c = ⊥
 
 abbrev pub InObject : TokenState → Type 0
-InObject s = AtName s.expected s.opened
+InObject s = BeforeName s.expected s.opened

@@ -8,7 +8,7 @@ use Rattle.json_tokens.specs.declared.token.TokenKind.{TokenKind}
 use Rattle.json_tokens.specs.Kinds.{kind_of, first_kind}
 use Rattle.json_tokens.specs.Refusals.{is_refusal}
 use Rattle.json_grammar.specs.declared.Kind.{Kind}
-use Rattle.json_grammar.specs.TokenStates.{TokenState, Expected, a_value, element_or_end, name_or_end, nothing, within, after_value, after_token}
+use Rattle.json_grammar.specs.TokenStates.{TokenState, Expected, a_value, element_or_end, name_or_end, nothing, state_in, state_after_value, after_token}
 use Rattle.json_tokens.specs.Spots.{KindMayCome, begins_value, around}
 
 -- what is read: a text from a place on, lossy or not, with so many levels at most, or a tree
@@ -28,7 +28,7 @@ pub record TokensState : Type 0 where
 
 -- the tokens taken so far are not those of a whole tree
 abbrev pub NotWhole : TokensState → Type 0
-NotWhole s = ¬ (s.spot ≡ within [])
+NotWhole s = ¬ (s.spot ≡ state_in [])
 
 abbrev pub ToldValue : Option TokenKind → Type 0
 ToldValue (Some k) = begins_value k ≡ true
@@ -75,7 +75,7 @@ pub record AsTold (a : TokensState) (k : TokenKind) : Type 0 where
 -- the tokens of a tree were taken
 pub record TakesTree {S : Type 0} (taken : S → List Tok → Type 0) (stand : S → TokensState) (a b : S) (t : Tree) : Type 0 where
   pub takes : TakesTokens taken a (tokens t) b
-  pub moves : Moves (stand a) (stand b) (after_value (stand a).spot)
+  pub moves : Moves (stand a) (stand b) (state_after_value (stand a).spot)
   pub as_told : AsTold (stand a) (first_kind t)
 
 -- an integer by value from 0 on was taken

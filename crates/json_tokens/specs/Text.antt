@@ -19,7 +19,7 @@ use Rattle.json_tokens.specs.declared.token.TokenKind.{TokenKind}
 use Rattle.json_tokens.specs.declared.token.TokenKind.TheVariants as kind
 use Rattle.json_tokens.specs.Kinds.{number_kind}
 use Rattle.json_tokens.specs.Refusals.{is_refusal}
-use Rattle.json_grammar.specs.TokenStates.{TokenState, at_start, within, expected_before_value, state_at}
+use Rattle.json_grammar.specs.TokenStates.{TokenState, initial_state, state_in, expected_before_value, state_at}
 use Rattle.json_tokens.specs.Spots.{KindMayCome}
 use Rattle.json_tokens.specs.Stand.{TokensState, over_text}
 
@@ -29,11 +29,11 @@ value_spot c = record { opened = c; expected = expected_before_value c }
 
 -- the state before a token of the kind, by the containers that are open behind it
 abbrev pub before : TokenKind → List Kind → TokenState
-before kind.Key c = within (object ∷ outside c)
+before kind.Key c = state_in (object ∷ outside c)
 before kind.BeginArray c = value_spot (outside c)
 before kind.BeginObject c = value_spot (outside c)
-before kind.EndArray c = within (array ∷ c)
-before kind.EndObject c = within (object ∷ c)
+before kind.EndArray c = state_in (array ∷ c)
+before kind.EndObject c = state_in (object ∷ c)
 before _ c = value_spot c
 
 -- ---- events
@@ -115,7 +115,7 @@ text_tokens_state s = record {
 pub record IsFreshReader (s : TextTokensState) : Type 0 where
   pub none : HasGiven s.parser []
   pub taken : text_taken s []
-  pub spot : (text_tokens_state s).spot ≡ at_start
+  pub spot : (text_tokens_state s).spot ≡ initial_state
   pub ahead : s.ahead ≡ None
   pub failed : s.failed ≡ None
 
@@ -128,7 +128,7 @@ abbrev pub TextFails : ParserState → Error → Type 0
 TextFails p e = (e ≡ no_memory) ⊎ HasFault p e
 
 -- what is true of each source
-pub record IsReading (s : TextTokensState) : Type 0 where
+pub record IsReadingText (s : TextTokensState) : Type 0 where
   pub given : (ts : List Tok) × text_taken s ts
   pub failed : IfSome s.failed (TextFails s.parser)
   pub fresh : s.failed ≡ None → s.parser.failure ≡ None

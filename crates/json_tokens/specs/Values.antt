@@ -17,7 +17,7 @@ use Rattle.json_tokens.specs.declared.token.TokenKind.{TokenKind}
 use Rattle.json_tokens.specs.declared.token.TokenKind.TheVariants as kind
 use Rattle.json_tokens.specs.declared.value_tokens.ValueTokens.{ValueTokens}
 use Rattle.json_tokens.specs.Kinds.{kind_of}
-use Rattle.json_grammar.specs.TokenStates.{TokenState, a_value, at_start, within}
+use Rattle.json_grammar.specs.TokenStates.{TokenState, a_value, initial_state, state_in}
 use Rattle.json_tokens.specs.Stand.{TokensState, over_tree}
 
 -- what is left of an open container: its elements, or its members
@@ -55,10 +55,10 @@ next_tokens (Some t) = tokens t
 
 -- the spot within open containers, by whether a value of the innermost comes next
 abbrev pub spot_in_levels : List Left → Option Tree → TokenState
-spot_in_levels [] None = within []
-spot_in_levels [] (Some t) = at_start
-spot_in_levels (elements_of ts ∷ ls) o = within (array ∷ map kind_left ls)
-spot_in_levels (members_of ps ∷ ls) None = within (object ∷ map kind_left ls)
+spot_in_levels [] None = state_in []
+spot_in_levels [] (Some t) = initial_state
+spot_in_levels (elements_of ts ∷ ls) o = state_in (array ∷ map kind_left ls)
+spot_in_levels (members_of ps ∷ ls) None = state_in (object ∷ map kind_left ls)
 spot_in_levels (members_of ps ∷ ls) (Some t) = record { opened = object ∷ map kind_left ls; expected = a_value }
 
 -- a value whose tokens are taken

@@ -8,7 +8,7 @@ ghost use Rattle.json_grammar.specs.Grammar.{chars};
 ghost use Rattle.json_number.specs.Numbers.{value_of};
 ghost use Rattle.json_tokens.specs.Pieces.{Says};
 ghost use Rattle.json_tokens.specs.Kinds.{DenotesToken};
-ghost use Rattle.json_grammar.specs.TokenStates.{within};
+ghost use Rattle.json_grammar.specs.TokenStates.{state_in};
 ghost use Rattle.json_tokens.specs.Text.{event_kind as spec_event_kind, event_integer as spec_event_integer, parser_spot, ReadsAhead, HasFault};
 ghost use Rattle.json_doc.specs.Reading.{EventIsNumber};
 
@@ -33,7 +33,7 @@ pub(crate) struct Ahead<'a> {
 #[inline(always)]
 pub(crate) fn read_ahead<'a>(parser: &mut Parser<'a>) -> std::result::Result<Event<'a>, Error>
     requires given { (ts : List Tok) × HasGiven parser.old ts }
-    requires whole { ¬ (parser_spot parser.old ≡ within []) }
+    requires whole { ¬ (parser_spot parser.old ≡ state_in []) }
     requires fresh { parser.old.failure ≡ None }
     ensures ok { IfOk result (λ e. ReadsAhead parser.old e parser.new) }
     ensures read { OnOk result (IsWhole parser.new → HasRead parser.new) }

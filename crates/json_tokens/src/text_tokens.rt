@@ -5,7 +5,7 @@ ghost use Rattle.json_value.specs.Denotes.{tree_of};
 ghost use Rattle.json_tokens.specs.Kinds.{DenotesToken};
 ghost use Rattle.json_tokens.specs.TextValues.{IsPackedAtRoot};
 ghost use Rattle.json_tokens.specs.Spots.{IsOpen};
-ghost use Rattle.json_grammar.specs.TokenStates.{within};
+ghost use Rattle.json_grammar.specs.TokenStates.{state_in};
 ghost use Rattle.json_tokens.specs.Stand.{NotWhole, WantsValue, TakesTokens, Peeks, TakesOne, TakesTree, Leaves, TokensFail, FailsWithTokens, ReturnsAgain};
 ghost use Rattle.json_tokens.specs.Text.{IsFreshReader, text_taken, text_tokens_state, TextFails, HasFault, HasReadValue};
 ghost use Rattle.json_tokens.specs.declared.token.TokenKind.{TokenKind as TokenKindOf};
@@ -48,13 +48,13 @@ pub struct TextTokens<'a> {
 
 impl<'a> Model for TextTokens<'a> {
     ghost use Rattle.std.specs.Prelude.{option_map};
-    ghost use Rattle.json_tokens.specs.Text.{TextTokensState, IsReading};
+    ghost use Rattle.json_tokens.specs.Text.{TextTokensState, IsReadingText};
 
     ghost Value = { TextTokensState };
 
     ghost view = { λ a. record { parser = a.parser; ahead = option_map (λ h. h.event) a.ahead; failed = a.failed } };
 
-    ghost invariant = { λ a. IsReading (record { parser = a.parser; ahead = option_map (λ h. h.event) a.ahead; failed = a.failed }) };
+    ghost invariant = { λ a. IsReadingText (record { parser = a.parser; ahead = option_map (λ h. h.event) a.ahead; failed = a.failed }) };
 }
 
 impl<'a> TextTokens<'a> {
@@ -135,7 +135,7 @@ impl<'a> TextTokens<'a> {
     /// Returns the offset right after the value, which was taken, in bytes from the beginning of the
     /// text.
     pub fn index(&self) -> usize
-        requires over { (text_tokens_state self.now).spot ≡ within [] }
+        requires over { (text_tokens_state self.now).spot ≡ state_in [] }
         requires told { (text_tokens_state self.now).told ≡ None }
         ensures same { result ≡ self.now.parser.index }
         ensures order { self.now.parser.start ≤ result }
@@ -147,7 +147,7 @@ impl<'a> TextTokens<'a> {
     /// Takes the rest of the text, after the value, which was taken. Fails with the fault of the text if
     /// more than whitespace follows.
     pub fn finish(self) -> Result<()>
-        requires over { (text_tokens_state self).spot ≡ within [] }
+        requires over { (text_tokens_state self).spot ≡ state_in [] }
         requires told { (text_tokens_state self).told ≡ None }
         ensures ok { OnOk result ((ts : List Tok) → text_taken self.entry ts
             → (t : Tree) × is_text self.entry.parser.lossy t (input self.entry.parser)

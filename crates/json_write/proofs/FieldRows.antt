@@ -3,7 +3,7 @@ use Rattle.std.proofs.Common.{◌≡◌, ℕ, List, [], ◌∷◌, ◌++◌, tru
 use Rattle.json_grammar.specs.declared.Kind.{Kind}
 use Rattle.json_grammar.specs.declared.Kind.TheVariants.{Object as object}
 use Rattle.json_grammar.specs.Tree.{begin, key_token}
-use Rattle.json_grammar.specs.TokenStates.{TokenState, a_value, within, after_tokens, ValueMayCome, NameMayCome, EndMayCome}
+use Rattle.json_grammar.specs.TokenStates.{TokenState, a_value, state_in, after_tokens, ValueMayCome, NameMayCome, EndMayCome}
 use Rattle.json_grammar.proofs.TokenStates.{after_append}
 use Rattle.json_io.specs.declared.error.Error.{Error}
 use Rattle.json_model.specs.Datum.{Datum, Rows, no_rows, row_and, key_of}
@@ -23,7 +23,7 @@ two : (s : TokenState) (ps qs : List (Option TokenOrInteger)) → is_whole ps �
 two s ps qs w = ap (λ gs. after_tokens s (given_tokens gs)) (before_append ps qs w) ∙ ap (after_tokens s) (tokens_append (before_gap ps) (before_gap qs)) ∙ after_append s (given_tokens (before_gap ps)) (given_tokens (before_gap qs))
 
 abbrev Stays : List Kind → List (Option TokenOrInteger) → Type 0
-Stays o ps = is_whole ps ≡ true → after_tokens (within (object ∷ o)) (given_tokens (before_gap ps)) ≡ within (object ∷ o)
+Stays o ps = is_whole ps ≡ true → after_tokens (state_in (object ∷ o)) (given_tokens (before_gap ps)) ≡ state_in (object ∷ o)
 
 one_stand : (o : List Kind) (k : Option (List ℕ)) (d : Datum) (qs : List (Option TokenOrInteger)) → Stays o qs → Stays o (option_map (λ s. given (key_token s)) k ∷ (parts d ++ qs))
 one_stand o None d qs h w = absurd (cc)

@@ -4,7 +4,7 @@ use Rattle.json_grammar.specs.declared.Kind.{Kind}
 use Rattle.json_grammar.specs.declared.Kind.TheVariants.{Array as array, Object as object}
 use Rattle.json_io.specs.declared.error.Error.{Error}
 use Rattle.json_grammar.specs.Tree.{begin, key_token}
-use Rattle.json_grammar.specs.TokenStates.{TokenState, a_value, within, after_value, after_token, after_tokens, ValueMayCome, NameMayCome, EndMayCome}
+use Rattle.json_grammar.specs.TokenStates.{TokenState, a_value, state_in, state_after_value, after_token, after_tokens, ValueMayCome, NameMayCome, EndMayCome}
 use Rattle.json_grammar.proofs.TokenStates.{after_tree}
 use Rattle.json_print.specs.Given.{TokenOrInteger, given, given_tokens, token_of}
 use Rattle.json_model.specs.Datum.{Datum}
@@ -14,7 +14,7 @@ use Rattle.json_print.proofs.Taking.{stand_moves}
 use Rattle.json_write.proofs.Parts.{Wrote}
 
 -- a datum leads to where a value leads
-pub datum_stand : (s : TokenState) (d : Datum) → is_whole (parts d) ≡ true → after_tokens s (given_tokens (before_gap (parts d))) ≡ after_value s
+pub datum_stand : (s : TokenState) (d : Datum) → is_whole (parts d) ≡ true → after_tokens s (given_tokens (before_gap (parts d))) ≡ state_after_value s
 datum_stand s d w = let t = whole_tree d w in ap (after_tokens s) t.spelled ∙ after_tree s t.tree
 
 -- ---- while it is written
@@ -22,18 +22,18 @@ datum_stand s d w = let t = whole_tree d w in ap (after_tokens s) t.spelled ∙ 
 abbrev pub Moves : {S : Type 0} → (S → TokenOrInteger → S) → (S → TokenState) → Type 0
 Moves {S = S} after stand = (s : S) (t : TokenOrInteger) → stand (after s t) ≡ after_token (stand s) (token_of t)
 
-pub wrote_stand : {S : Type 0} {after : S → TokenOrInteger → S} (stand : S → TokenState) {old new : S} {err failed : Option Error} (d : Datum) → Moves after stand → Wrote after old new err failed (parts d) → stand new ≡ after_value (stand old)
+pub wrote_stand : {S : Type 0} {after : S → TokenOrInteger → S} (stand : S → TokenState) {old new : S} {err failed : Option Error} (d : Datum) → Moves after stand → Wrote after old new err failed (parts d) → stand new ≡ state_after_value (stand old)
 wrote_stand {after = after} stand {old = old} d moves w = ap stand w.state ∙ stand_moves after stand moves old (before_gap (parts d)) ∙ datum_stand (stand old) d w.whole
 
 -- an element or the end of a list may come, in the containers o
 pub record InList (o : List Kind) (s : TokenState) : Type 0 where
-  pub is : s ≡ within (array ∷ o)
+  pub is : s ≡ state_in (array ∷ o)
 
 pub list_begun : {S : Type 0} {after : S → TokenOrInteger → S} (stand : S → TokenState) {old new : S} {err failed : Option Error} → Moves after stand → Wrote after old new err failed (Some (given (begin array)) ∷ []) → InList (stand old).opened (stand new)
 list_begun stand {old = old} moves w = record { is = ap stand w.state ∙ moves old (given (begin array)) }
 
 pub list_more : {S : Type 0} {after : S → TokenOrInteger → S} (stand : S → TokenState) {old new : S} {err failed : Option Error} (d : Datum) {o : List Kind} → Moves after stand → InList o (stand old) → Wrote after old new err failed (parts d) → InList o (stand new)
-list_more stand d moves i w = record { is = wrote_stand stand d moves w ∙ ap (λ (s : TokenState). after_value s) i.is }
+list_more stand d moves i w = record { is = wrote_stand stand d moves w ∙ ap (λ (s : TokenState). state_after_value s) i.is }
 
 pub list_takes : {o : List Kind} {s : TokenState} → InList o s → ValueMayCome s.expected
 list_takes i = subst (λ (z : TokenState). ValueMayCome z.expected) (sym i.is) tt
@@ -43,7 +43,7 @@ list_ends i = subst (λ (z : TokenState). EndMayCome z.expected array) (sym i.is
 
 -- a key or the end of rows may come, in the containers o
 pub record InRows (o : List Kind) (s : TokenState) : Type 0 where
-  pub is : s ≡ within (object ∷ o)
+  pub is : s ≡ state_in (object ∷ o)
 
 -- the value behind a key may come
 pub record AtValue (o : List Kind) (s : TokenState) : Type 0 where
@@ -56,7 +56,7 @@ pub rows_key : {S : Type 0} {after : S → TokenOrInteger → S} (stand : S → 
 rows_key stand {old = old} {k = k} moves i w = record { is = ap stand w.state ∙ moves old (given (key_token k)) ∙ ap (λ (s : TokenState). after_token s (key_token k)) i.is }
 
 pub rows_more : {S : Type 0} {after : S → TokenOrInteger → S} (stand : S → TokenState) {old new : S} {err failed : Option Error} (d : Datum) {o : List Kind} → Moves after stand → AtValue o (stand old) → Wrote after old new err failed (parts d) → InRows o (stand new)
-rows_more stand d moves i w = record { is = wrote_stand stand d moves w ∙ ap (λ (s : TokenState). after_value s) i.is }
+rows_more stand d moves i w = record { is = wrote_stand stand d moves w ∙ ap (λ (s : TokenState). state_after_value s) i.is }
 
 pub rows_take : {o : List Kind} {s : TokenState} → InRows o s → NameMayCome s.expected
 rows_take i = subst (λ (z : TokenState). NameMayCome z.expected) (sym i.is) tt

@@ -5,7 +5,7 @@ use Rattle.json_grammar.specs.declared.Kind.TheVariants.{Array as array, Object 
 use Rattle.json_grammar.specs.Tree.{Tree, null, boolean, num, text, list, pairs, no_pairs, list_trees, Token, null_token, boolean_token, num_token, text_token, begin, end, key_token}
 use Rattle.json_io.specs.declared.error.Error.{Error}
 use Rattle.json_io.specs.Errors.{no_memory, out_of_range, key_refused}
-use Rattle.json_grammar.specs.TokenStates.{TokenState, after_token, at_start as no_token}
+use Rattle.json_grammar.specs.TokenStates.{TokenState, after_token, initial_state as no_token}
 use Rattle.json_value.specs.Denotes.{tree_of, pair_of, text_bytes}
 use Rattle.json_model.specs.Merged.{inserted_all}
 use Rattle.json_write.specs.declared.builder.Builder.{Builder}

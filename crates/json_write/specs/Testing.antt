@@ -1,6 +1,6 @@
 -- What may come next of what was tested.
 use Rattle.std.specs.Prelude.{◌≡◌, Result}
-use Rattle.json_grammar.specs.TokenStates.{TokenState, after_value, after_token}
+use Rattle.json_grammar.specs.TokenStates.{TokenState, state_after_value, after_token}
 use Rattle.json_io.specs.declared.error.Error.{Error}
 use Rattle.json_io.specs.Errors.{no_memory}
 use Rattle.json_print.specs.Given.{TokenOrInteger, token_of}
@@ -16,7 +16,7 @@ stand_given s g = after_token s (token_of g)
 
 -- behind a value
 abbrev pub passed : TokenState → TokenOrInteger → TokenState
-passed s g = after_value s
+passed s g = state_after_value s
 
 -- want of memory alone stops it
 abbrev pub StopsTest : TokenState → TokenOrInteger → TokenState → Error → Type 0

@@ -1,6 +1,6 @@
 // What may come next of tokens.
 ghost use Rattle.std.specs.Prelude.{◌≡◌, OnOk, IfErr};
-ghost use Rattle.json_grammar.specs.TokenStates.{at_start, after_token};
+ghost use Rattle.json_grammar.specs.TokenStates.{initial_state, after_token};
 ghost use Rattle.json_grammar.specs.Tree.{null_token, begin, end, key_token};
 ghost use Rattle.json_io.specs.Errors.{no_memory};
 ghost use Rattle.json_write.specs.Nesting.{nesting_stand};
@@ -19,7 +19,7 @@ pub(crate) struct Nesting {
 
 impl Nesting {
     pub(crate) fn new(alloc: Global) -> Nesting
-        ensures { nesting_stand result ≡ at_start }
+        ensures { nesting_stand result ≡ initial_state }
     {
         Nesting {
             turn: Turn::Value,

@@ -18,15 +18,15 @@ use json_scan::byte_is;
 /// A number that is an integer by value, with its literal.
 ///
 /// ```
-/// use json_text::{Integer, Parser};
+/// use json_text::{UnsignedInteger, Parser};
 /// let mut parser = Parser::new("17");
-/// if let Some(Integer { value, .. }) = parser.next_integer(100) {
+/// if let Some(UnsignedInteger { value, .. }) = parser.next_integer(100) {
 ///     assert_eq!(rt; value, 17);
 /// }
 /// assert!(rt; Parser::new("170").next_integer(100).is_none());
 /// ```
 #[derive(Clone, Copy)]
-pub struct Integer<'a> {
+pub struct UnsignedInteger<'a> {
     pub literal: &'a str,
     pub value: u64,
 }
@@ -67,7 +67,7 @@ impl<'a> Parser<'a> {
     /// assert!(rt; matches!(parser.next()?, Event::Number("1.5")));
     /// ```
     #[inline(always)]
-    pub fn next_integer(&mut self, most: u64) -> Option<Integer<'a>>
+    pub fn next_integer(&mut self, most: u64) -> Option<UnsignedInteger<'a>>
         requires fresh { self.old.failure ≡ None }
         requires inside { ¬ (IsWhole self.old) }
         ensures same { SameInput self.old self.new }
@@ -100,7 +100,7 @@ impl<'a> Parser<'a> {
         }
         self.at = digits.end;
         self.spot = Spot::Done;
-        Some(Integer {
+        Some(UnsignedInteger {
             literal: &self.rest[stand.at..digits.end],
             value: digits.value,
         })
