@@ -1,6 +1,6 @@
 // What no clause says: that calls with ample memory succeed, and the texts of one small tree.
 ghost use Rattle.std.specs.Prelude.{◌≡◌, [], true, OnOk};
-ghost use Rattle.json_print.specs.declared.events.Turn.TheVariants.{Done as at_done};
+ghost use Rattle.json_grammar.specs.TokenStates.{nothing};
 ghost use Rattle.json_print.specs.Standing.{AwaitsTree, AwaitsMember};
 
 use json_print::{
@@ -40,7 +40,7 @@ fn object_member<E: Events>(out: &mut E) -> Result<()>
 // `"a": {}, "": []`, and the end
 fn empty_members<E: Events>(out: &mut E) -> Result<()>
     requires { AwaitsMember (E.stand (E.state out.old)) }
-    ensures { OnOk result (E.stand (E.state out.new) ≡ record { turn = at_done; opened = [] }) }
+    ensures { OnOk result (E.stand (E.state out.new) ≡ record { opened = []; expected = nothing }) }
 {
     out.key("a")?;
     out.begin_object(None)?;

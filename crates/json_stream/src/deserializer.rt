@@ -6,9 +6,9 @@ ghost use Rattle.json_tokens.specs.TextValues.{IsPackedAtRoot};
 ghost use Rattle.json_text.specs.Ends.{NothingLeft, TrailsAt, LacksEnd};
 ghost use Rattle.json_stream.specs.Streams.{InputState, standing, stands_at, offset_in, TakesNextValue, NextValueFails, PassesEnd, EndFails};
 
+use crate::input_place::at_input_place;
 use crate::read_value::read_value;
 use crate::stream_deserializer::StreamDeserializer;
-use crate::told::told;
 use json_data::Deserialize;
 use json_text::{Parser, Repaired, Result, check_utf8};
 use std::alloc::Global;
@@ -168,7 +168,7 @@ impl<'a> Deserializer<'a> {
         match self.text {
             Ok(text) => match Parser::at(text, self.at).end() {
                 Ok(()) => Ok(()),
-                Err(error) => Err(told(self.repaired, error)),
+                Err(error) => Err(at_input_place(self.repaired, error)),
             },
             Err(error) => Err(error),
         }
@@ -190,7 +190,7 @@ impl<'a> Deserializer<'a> {
                         self.at = parser.index();
                         Ok(())
                     }
-                    Err(error) => Err(told(self.repaired, error)),
+                    Err(error) => Err(at_input_place(self.repaired, error)),
                 }
             }
             Err(error) => Err(error),
@@ -213,7 +213,7 @@ impl<'a> Deserializer<'a> {
                         self.at = parser.index();
                         Ok(())
                     }
-                    Err(error) => Err(told(self.repaired, error)),
+                    Err(error) => Err(at_input_place(self.repaired, error)),
                 }
             }
             Err(error) => Err(error),

@@ -12,10 +12,10 @@
 #![tactic(auto)]
 
 mod deserializer;
+mod input_place;
 pub mod laws;
 mod read_value;
 mod stream_deserializer;
-mod told;
 
 pub use deserializer::Deserializer;
 pub use stream_deserializer::StreamDeserializer;

@@ -6,7 +6,7 @@ ghost use Rattle.json_tokens.specs.Text.{IsFreshReader};
 ghost use Rattle.json_tokens.specs.TextValues.{IsPackedAtRoot};
 ghost use Rattle.json_stream.specs.Streams.{stands_at, TakesNextValue, NextValueFails};
 
-use crate::told::told;
+use crate::input_place::at_input_place;
 use json_data::{Deserialize, TextTokens, is_refusal};
 use json_text::{Error, Repaired, Result, place_of, ws_run};
 use std::alloc::Global;
@@ -54,12 +54,12 @@ pub(crate) fn read_value<'a, T: Deserialize<'a>>(
         Err(error) => {
             if !is_refusal(error.code) {
                 let _failure = tokens.failure();
-                return Err(told(repaired, error));
+                return Err(at_input_place(repaired, error));
             }
             *at = tokens.index();
             let begin = ws_run(text.as_bytes(), from);
             let place = place_of(text.as_bytes(), begin);
-            Err(told(repaired, Error { place, ..error }))
+            Err(at_input_place(repaired, Error { place, ..error }))
         }
     }
 }

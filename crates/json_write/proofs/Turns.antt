@@ -1,5 +1,5 @@
 -- What may come next behind the tokens of data.
-use Rattle.std.proofs.Common.{◌≡◌, List, [], ◌∷◌, true, Option, Some, sym, ap, subst, ◌∙◌}
+use Rattle.std.proofs.Common.{ℕ, ◌≡◌, List, [], ◌∷◌, true, Option, Some, sym, ap, subst, ◌∙◌}
 use Rattle.json_grammar.specs.declared.Kind.{Kind}
 use Rattle.json_grammar.specs.declared.Kind.TheVariants.{Array as array, Object as object}
 use Rattle.json_io.specs.declared.error.Error.{Error}

@@ -24,7 +24,7 @@ pub(crate) struct KeyTest {
 impl KeyTest {
     fn new(alloc: Global) -> KeyTest
         ensures fresh { result.failed ≡ None }
-        ensures stand { expected_in_test result ≡ states.at_start }
+        ensures stand { expected_in_test result ≡ states.initial_state }
     {
         KeyTest {
             nesting: Nesting::new(alloc),

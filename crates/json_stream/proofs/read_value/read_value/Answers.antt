@@ -23,8 +23,8 @@ returns-in-Ok g c =
     takes_value f b l o i j.result s.result c.deserialize.new.tokens r.tree _ e c.utf8.text s.ensures.fresh.taken r.takes j.ensures.read j.ensures.same j.ensures.order r.answer in
     record { ok = v; place = c.in-Ok.ensures.place; err = tt; boundary = boundary_behind f b l o i j.result _ c.requires.boundary v }
 
-pub told-requires : goal.told-requires
-told-requires g c =
+pub at_input_place-requires : goal.at_input_place-requires
+at_input_place-requires g c =
     let s = c.tokens_at-tokens in
     let b = c.args.text.now in
     let i = c.args.at.now in
@@ -35,8 +35,8 @@ told-requires g c =
     let n = met b l i m x (reads_from b l i s.result m s.ensures.text s.ensures.mode s.ensures.start u.input) u.cause c.failure-failure.ensures.cause in
     within_same c.args.repaired b x.place c.requires.same (met_within b l i x c.requires.boundary.0 n)
 
-pub told-requires-in-Err : goal.told-requires-in-Err
-told-requires-in-Err g c =
+pub at_input_place-requires-in-Err : goal.at_input_place-requires-in-Err
+at_input_place-requires-in-Err g c =
     let b = c.args.text.now in
     let k = c.ws_run-begin.result in
     let p = c.place_of-place in
@@ -56,7 +56,7 @@ returns-then-not-is_refusal-clause-err g c =
     let x = c.in-Err.error in
     let u = c.in-Err.ensures.err.gave_up (sym c.is_refusal.ensures ∙ c.if-not-is_refusal.true) in
     let n = met b l i m x (reads_from b l i s.result m s.ensures.text s.ensures.mode s.ensures.start u.input) u.cause c.failure-failure.ensures.cause in
-    subst (λ (y : Error). NextValueFails f (stands_at b l o i) y.code y.place (stands_at b l o i)) (sym c.told.ensures) (gave_up f b l o i x c.utf8.text n)
+    subst (λ (y : Error). NextValueFails f (stands_at b l o i) y.code y.place (stands_at b l o i)) (sym c.at_input_place.ensures) (gave_up f b l o i x c.utf8.text n)
 
 pub returns-else-not-is_refusal : goal.returns-else-not-is_refusal
 returns-else-not-is_refusal g c =
@@ -81,6 +81,6 @@ returns-else-not-is_refusal g c =
     record {
       ok = tt;
       place = tt;
-      err = subst (λ (y : Error). NextValueFails f (stands_at b l o i) y.code y.place (stands_at b l o j.result)) (sym c.told-in-Err.ensures) t;
+      err = subst (λ (y : Error). NextValueFails f (stands_at b l o i) y.code y.place (stands_at b l o j.result)) (sym c.at_input_place-in-Err.ensures) t;
       boundary = boundary_behind f b l o i j.result _ c.requires.boundary v;
     }

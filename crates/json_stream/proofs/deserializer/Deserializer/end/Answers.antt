@@ -2,8 +2,8 @@ use Rattle.std.proofs.Common.{◌∙◌}
 use Rattle.json_stream.proofs.Values.{within_same, same_text, trails_within}
 use Rattle.json_stream.proofs.deserializer.Deserializer.end.Goals as goal
 
-pub told-requires : goal.told-requires
-told-requires c =
+pub at_input_place-requires : goal.at_input_place-requires
+at_input_place-requires c =
     let i = rw c.in-Ok.is at c.self.invariant in
     let b = c.self.inside.bytes.now in
     let e = c.in-Err-end.error in

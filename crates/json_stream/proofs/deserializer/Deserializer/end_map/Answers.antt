@@ -10,8 +10,8 @@ invariant_of-self c =
     rw c.in-Ok.is
     (i.0, past_end object c.self.inside.bytes.now c.in-Ok.text.now c.self.inside.at c.index-self-inside.result p.result c.end_map.new.self p.ensures.text i.1 c.in-Ok-end_map.ensures.ok c.index-self-inside.ensures)
 
-pub told-requires : goal.told-requires
-told-requires c =
+pub at_input_place-requires : goal.at_input_place-requires
+at_input_place-requires c =
     let i = rw c.in-Ok.is at c.self.invariant in
     let b = c.self.inside.bytes.now in
     let p = c.at-parser in
