@@ -3,12 +3,13 @@
 //!
 //! ```
 //! use json_doc::read_document;
-//! use json_doc_print::show_sorted_document;
+//! use json_doc_print::{SortedLayout, show_sorted_document};
 //! use json_io::{VecSink, flush_all};
 //! use json_print::{BufferedWriter, OneLine};
 //! let doc = read_document(alloc, "{\"b\": [1], \"a\": null}")?;
 //! let mut out = BufferedWriter::new(alloc, VecSink::new(alloc))?;
-//! assert!(rt; show_sorted_document(doc.view(), alloc, OneLine, 0, &mut out).is_ok());
+//! let layout = SortedLayout { alloc, inner: OneLine };
+//! assert!(rt; show_sorted_document(doc.view(), layout, 0, &mut out).is_ok());
 //! flush_all(&mut out)?;
 //! assert_eq!(rt; out.into_inner().as_slice(), b"{\"a\":null,\"b\":[1]}".as_slice());
 //! ```
@@ -25,5 +26,7 @@ pub use emit_packed::{
 };
 pub use key_order::{Entry, Keys, entry_of, is_less, sort_by_key};
 pub use show_packed::{Showed, show_bool, show_document, show_elements, show_members, show_number};
-pub use show_sorted_packed::{show_sorted_document, show_sorted_elements, show_sorted_members};
+pub use show_sorted_packed::{
+    SortedLayout, show_sorted_document, show_sorted_elements, show_sorted_members,
+};
 pub use walk::{Stopped, Walked, taken};

@@ -17,20 +17,42 @@ use json_io::{Sink, SinkError};
 use json_print::{BufferedWriter, Layout, show_piece};
 use std::alloc::Global;
 
+/// A layout of texts in which the members of each object are sorted, and the memory for that: 16 bytes a member of an object
+/// whose keys are not in order, until its end was written.
+///
+/// ```
+/// use json_doc::read_document;
+/// use json_doc_print::{SortedLayout, show_sorted_document};
+/// use json_io::{VecSink, flush_all};
+/// use json_print::{BufferedWriter, ManyLines};
+/// let doc = read_document(alloc, "{\"b\": 1, \"a\": 2}")?;
+/// let mut out = BufferedWriter::new(alloc, VecSink::new(alloc))?;
+/// let layout = SortedLayout { alloc, inner: ManyLines::new(b" ") };
+/// assert!(rt; show_sorted_document(doc.view(), layout, 0, &mut out).is_ok());
+/// flush_all(&mut out)?;
+/// assert_eq!(rt; out.into_inner().as_slice(), b"{\n \"a\": 2,\n \"b\": 1\n}".as_slice());
+/// ```
+#[derive(Clone, Copy)]
+pub struct SortedLayout<L> {
+    /// Where an index of members is allocated.
+    pub alloc: Global,
+    /// The layout of the text.
+    pub inner: L,
+}
+
 /// Writes the text of the tree that is seen, sorted, with `level` containers around it. Fails with the sink's error, and with `NoMemory` if memory
 /// runs out for an index of members, or at 2^64 - 1 levels.
 pub fn show_sorted_document<W: Sink, L: Layout>(
     view: DocView<'_>,
-    alloc: Global,
-    layout: L,
+    layout: SortedLayout<L>,
     level: usize,
     out: &mut BufferedWriter<W>,
 ) -> Showed
     ensures { ShowsOrRunsOut (⟦<BufferedWriter<W> as Sink>⟧.state out.old)
         (⟦<BufferedWriter<W> as Sink>⟧.state out.new)
-        (shown (L.indent layout) level (sorted (view_tree view.entry))) result }
+        (shown (L.indent layout.inner) level (sorted (view_tree view.entry))) result }
 {
-    show_sorted_member(view, alloc, layout, level, out)
+    show_sorted_member(view, layout, level, out)
 }
 
 // The value of a member.
@@ -38,19 +60,18 @@ pub fn show_sorted_document<W: Sink, L: Layout>(
 #[inline(always)]
 fn show_sorted_member<W: Sink, L: Layout>(
     view: DocView<'_>,
-    alloc: Global,
-    layout: L,
+    layout: SortedLayout<L>,
     level: usize,
     out: &mut BufferedWriter<W>,
 ) -> Showed
     ensures { ShowsOrRunsOut (⟦<BufferedWriter<W> as Sink>⟧.state out.old)
         (⟦<BufferedWriter<W> as Sink>⟧.state out.new)
-        (shown (L.indent layout) level (sorted (view_tree view.entry))) result }
+        (shown (L.indent layout.inner) level (sorted (view_tree view.entry))) result }
 {
     match view.node() {
-        DocNode::Array(children) => show_sorted_children(children, alloc, layout, level, out),
-        DocNode::Object(_) => show_sorted_members(view, alloc, layout, level, out),
-        scalar => show_member(scalar, layout, level, out),
+        DocNode::Array(children) => show_sorted_children(children, layout, level, out),
+        DocNode::Object(_) => show_sorted_members(view, layout, level, out),
+        scalar => show_member(scalar, layout.inner, level, out),
     }
 }
 
@@ -59,27 +80,26 @@ fn show_sorted_member<W: Sink, L: Layout>(
 #[inline(always)]
 fn show_sorted_element<W: Sink, L: Layout>(
     view: DocView<'_>,
-    alloc: Global,
-    layout: L,
+    layout: SortedLayout<L>,
     level: usize,
     first: bool,
     out: &mut BufferedWriter<W>,
 ) -> Showed
     ensures { ShowsOrRunsOut (⟦<BufferedWriter<W> as Sink>⟧.state out.old)
         (⟦<BufferedWriter<W> as Sink>⟧.state out.new)
-        (lead (L.indent layout) level first ++ shown (L.indent layout) level
+        (lead (L.indent layout.inner) level first ++ shown (L.indent layout.inner) level
         (sorted (view_tree view.entry))) result }
 {
     match view.node() {
         DocNode::Array(children) => {
-            layout.lead(out, level, first)?;
-            show_sorted_children(children, alloc, layout, level, out)
+            layout.inner.lead(out, level, first)?;
+            show_sorted_children(children, layout, level, out)
         }
         DocNode::Object(_) => {
-            layout.lead(out, level, first)?;
-            show_sorted_members(view, alloc, layout, level, out)
+            layout.inner.lead(out, level, first)?;
+            show_sorted_members(view, layout, level, out)
         }
-        scalar => show_element(scalar, layout, level, first, out),
+        scalar => show_element(scalar, layout.inner, level, first, out),
     }
 }
 
@@ -87,14 +107,13 @@ fn show_sorted_element<W: Sink, L: Layout>(
 #[cycle(shown_sorted)]
 fn show_sorted_children<W: Sink, L: Layout>(
     children: DocChildren<'_>,
-    alloc: Global,
-    layout: L,
+    layout: SortedLayout<L>,
     level: usize,
     out: &mut BufferedWriter<W>,
 ) -> Showed
     ensures { ShowsOrRunsOut (⟦<BufferedWriter<W> as Sink>⟧.state out.old)
         (⟦<BufferedWriter<W> as Sink>⟧.state out.new)
-        (shown (L.indent layout) level
+        (shown (L.indent layout.inner) level
         (sorted (list (list_trees (children_left children.entry))))) result }
 {
     if level == usize::MAX {
@@ -103,10 +122,10 @@ fn show_sorted_children<W: Sink, L: Layout>(
     show_piece(out, b"[")?;
     let mut first = true;
     for child in children {
-        show_sorted_element(child, alloc, layout, level + 1, first, out)?;
+        show_sorted_element(child, layout, level + 1, first, out)?;
         first = false;
     }
-    layout.close(out, level, first, b']')
+    layout.inner.close(out, level, first, b']')
 }
 
 // Whether no key of the object that is seen is smaller than the key before it.
@@ -124,22 +143,21 @@ fn keys_in_order(view: DocView<'_>) -> bool
 #[cycle(shown_sorted)]
 pub fn show_sorted_members<W: Sink, L: Layout>(
     view: DocView<'_>,
-    alloc: Global,
-    layout: L,
+    layout: SortedLayout<L>,
     level: usize,
     out: &mut BufferedWriter<W>,
 ) -> Showed
     ensures { ShowsOrRunsOut (⟦<BufferedWriter<W> as Sink>⟧.state out.old)
         (⟦<BufferedWriter<W> as Sink>⟧.state out.new)
-        (shown (L.indent layout) level
+        (shown (L.indent layout.inner) level
         (sorted (pairs (list_pairs (members (view_tree view.entry)))))) result }
 {
     match view.node() {
         DocNode::Object(members) => {
             if keys_in_order(view) {
-                show_in_place(members, alloc, layout, level, out)
+                show_in_place(members, layout, level, out)
             } else {
-                show_by_places(view.doc(), members, alloc, layout, level, out)
+                show_by_places(view.doc(), members, layout, level, out)
             }
         }
         _ => show_piece(out, b"{}"),
@@ -150,15 +168,14 @@ pub fn show_sorted_members<W: Sink, L: Layout>(
 #[cycle(shown_sorted)]
 fn show_in_place<W: Sink, L: Layout>(
     members: DocPairs<'_>,
-    alloc: Global,
-    layout: L,
+    layout: SortedLayout<L>,
     level: usize,
     out: &mut BufferedWriter<W>,
 ) -> Showed
     requires { NeverFall (list_pairs (pairs_left members)) }
     ensures { ShowsOrRunsOut (⟦<BufferedWriter<W> as Sink>⟧.state out.old)
         (⟦<BufferedWriter<W> as Sink>⟧.state out.new)
-        (shown (L.indent layout) level
+        (shown (L.indent layout.inner) level
         (sorted (pairs (list_pairs (pairs_left members.entry))))) result }
 {
     if level == usize::MAX {
@@ -167,11 +184,11 @@ fn show_in_place<W: Sink, L: Layout>(
     show_piece(out, b"{")?;
     let mut first = true;
     for (key, value) in members {
-        layout.key(out, level + 1, first, key)?;
-        show_sorted_member(value, alloc, layout, level + 1, out)?;
+        layout.inner.key(out, level + 1, first, key)?;
+        show_sorted_member(value, layout, level + 1, out)?;
         first = false;
     }
-    layout.close(out, level, first, b'}')
+    layout.inner.close(out, level, first, b'}')
 }
 
 // An object of the document, by an index of its members.
@@ -179,56 +196,48 @@ fn show_in_place<W: Sink, L: Layout>(
 fn show_by_places<W: Sink, L: Layout>(
     doc: &Doc,
     members: DocPairs<'_>,
-    alloc: Global,
-    layout: L,
+    layout: SortedLayout<L>,
     level: usize,
     out: &mut BufferedWriter<W>,
 ) -> Showed
     requires { pairs_doc members ≡ doc.now }
     ensures { ShowsOrRunsOut (⟦<BufferedWriter<W> as Sink>⟧.state out.old)
         (⟦<BufferedWriter<W> as Sink>⟧.state out.new)
-        (shown (L.indent layout) level
+        (shown (L.indent layout.inner) level
         (sorted (pairs (list_pairs (pairs_left members.entry))))) result }
 {
     if level == usize::MAX {
         return Err(SinkError::NoMemory);
     }
-    let Ok(order) = packed_in_order(alloc, doc, members) else {
+    let Ok(order) = packed_in_order(layout.alloc, doc, members) else {
         return Err(SinkError::NoMemory);
     };
     show_piece(out, b"{")?;
     let mut first = true;
     for entry in &order {
         let key = doc.key(entry.number);
-        layout.key(out, level + 1, first, key)?;
-        show_sorted_member(
-            doc.view_at(entry.number as u32),
-            alloc,
-            layout,
-            level + 1,
-            out,
-        )?;
+        layout.inner.key(out, level + 1, first, key)?;
+        show_sorted_member(doc.view_at(entry.number as u32), layout, level + 1, out)?;
         first = false;
     }
-    layout.close(out, level, first, b'}')
+    layout.inner.close(out, level, first, b'}')
 }
 
 /// Writes the array of the elements that are seen, sorted. Fails with the sink's error, and with `NoMemory` if memory
 /// runs out for an index of members, or at 2^64 - 1 levels.
 pub fn show_sorted_elements<W: Sink, L: Layout>(
     view: DocView<'_>,
-    alloc: Global,
-    layout: L,
+    layout: SortedLayout<L>,
     level: usize,
     out: &mut BufferedWriter<W>,
 ) -> Showed
     ensures { ShowsOrRunsOut (⟦<BufferedWriter<W> as Sink>⟧.state out.old)
         (⟦<BufferedWriter<W> as Sink>⟧.state out.new)
-        (shown (L.indent layout) level
+        (shown (L.indent layout.inner) level
         (sorted (list (list_trees (elements (view_tree view.entry)))))) result }
 {
     match view.node() {
-        DocNode::Array(children) => show_sorted_children(children, alloc, layout, level, out),
+        DocNode::Array(children) => show_sorted_children(children, layout, level, out),
         _ => show_piece(out, b"[]"),
     }
 }

@@ -98,27 +98,18 @@ fn make(change: Change, value: &mut Value, alloc: Global) -> Result<bool> {
     }
 }
 
-// Whether a change is done, and the child and the compact text are then these.
-fn leaves(
-    value: &mut Value,
-    alloc: Global,
-    doc: &Doc,
-    change: Change,
-    child: Child,
-    then: &str,
-) -> Result<bool> {
-    Ok(make(change, value, alloc)? && stands_at(value, child, doc) && shows(alloc, value, then)?)
-}
-
-fn leaves_in(alloc: Global, json: &str, change: Change, child: Child, then: &str) -> Result<bool> {
+// Whether a change of the value of the document of a text is done, and the child and the compact text
+// are then these.
+fn leaves(alloc: Global, json: &str, change: Change, child: Child, then: &str) -> Result<bool> {
     let doc = read(alloc, json)?;
     let mut value = whole(alloc, &doc)?;
-    leaves(&mut value, alloc, &doc, change, child, then)
+    let done = make(change, &mut value, alloc)?;
+    Ok(done && stands_at(&value, child, &doc) && shows(alloc, &value, then)?)
 }
 
-// The same of the value of the document of a text.
+// The same, where nothing fails.
 fn keeps(alloc: Global, json: &str, change: Change, child: Child, then: &str) -> bool {
-    matches!(leaves_in(alloc, json, change, child, then), Ok(true))
+    matches!(leaves(alloc, json, change, child, then), Ok(true))
 }
 
 fn reach_first(value: &mut Value, alloc: Global) -> Result<bool> {

@@ -12,23 +12,23 @@ use crate::key_order::{owned_in_order, owned_never_fall};
 use crate::pair::Pair;
 use crate::show_owned::show_key;
 use crate::value::Value;
-use json_doc_print::{Showed, show_bool, show_number, show_sorted_elements, show_sorted_members};
+use json_doc_print::{
+    Showed, SortedLayout, show_bool, show_number, show_sorted_elements, show_sorted_members,
+};
 use json_print::{BufferedWriter, Layout, show_piece, show_text};
 use json_text::{Sink, SinkError};
-use std::alloc::Global;
 
 /// Writes the text of the value's tree, sorted, with `level` containers around it.
 #[cycle(shown_sorted_value)]
 pub(crate) fn show_sorted_value<W: Sink, L: Layout>(
     value: &Value,
-    alloc: Global,
-    layout: L,
+    layout: SortedLayout<L>,
     level: usize,
     out: &mut BufferedWriter<W>,
 ) -> Showed
     ensures { ShowsOrRunsOut (⟦<BufferedWriter<W> as Sink>⟧.state out.old)
         (⟦<BufferedWriter<W> as Sink>⟧.state out.new)
-        (shown (L.indent layout) level (sorted (tree_of value.now))) result }
+        (shown (L.indent layout.inner) level (sorted (tree_of value.now))) result }
 {
     match value {
         Value::Null => show_piece(out, b"null"),
@@ -38,13 +38,13 @@ pub(crate) fn show_sorted_value<W: Sink, L: Layout>(
         Value::Text(text) => show_text(out, text.as_str()),
         Value::Array(array) => match &array.form {
             Form::Empty => show_piece(out, b"[]"),
-            Form::Owned(values) => show_sorted_values(values, alloc, layout, level, out),
-            Form::Packed(place) => show_sorted_elements(place.view(), alloc, layout, level, out),
+            Form::Owned(values) => show_sorted_values(values, layout, level, out),
+            Form::Packed(place) => show_sorted_elements(place.view(), layout, level, out),
         },
         Value::Object(object) => match &object.form {
             Form::Empty => show_piece(out, b"{}"),
-            Form::Owned(values) => show_sorted_pairs(values, alloc, layout, level, out),
-            Form::Packed(place) => show_sorted_members(place.view(), alloc, layout, level, out),
+            Form::Owned(values) => show_sorted_pairs(values, layout, level, out),
+            Form::Packed(place) => show_sorted_members(place.view(), layout, level, out),
         },
     }
 }
@@ -53,33 +53,31 @@ pub(crate) fn show_sorted_value<W: Sink, L: Layout>(
 #[cycle(shown_sorted_value)]
 fn show_sorted_item<W: Sink, L: Layout>(
     value: &Value,
-    alloc: Global,
-    layout: L,
+    layout: SortedLayout<L>,
     level: usize,
     first: bool,
     out: &mut BufferedWriter<W>,
 ) -> Showed
     ensures { ShowsOrRunsOut (⟦<BufferedWriter<W> as Sink>⟧.state out.old)
         (⟦<BufferedWriter<W> as Sink>⟧.state out.new)
-        (lead (L.indent layout) level first ++ shown (L.indent layout) level
+        (lead (L.indent layout.inner) level first ++ shown (L.indent layout.inner) level
         (sorted (tree_of value.now))) result }
 {
-    layout.lead(out, level, first)?;
-    show_sorted_value(value, alloc, layout, level, out)
+    layout.inner.lead(out, level, first)?;
+    show_sorted_value(value, layout, level, out)
 }
 
 // An array of these elements.
 #[cycle(shown_sorted_value)]
 fn show_sorted_values<W: Sink, L: Layout>(
     values: &Vec<Value>,
-    alloc: Global,
-    layout: L,
+    layout: SortedLayout<L>,
     level: usize,
     out: &mut BufferedWriter<W>,
 ) -> Showed
     ensures { ShowsOrRunsOut (⟦<BufferedWriter<W> as Sink>⟧.state out.old)
         (⟦<BufferedWriter<W> as Sink>⟧.state out.new)
-        (shown (L.indent layout) level
+        (shown (L.indent layout.inner) level
         (sorted (list (list_trees (map tree_of values.now.items))))) result }
 {
     if level == usize::MAX {
@@ -88,30 +86,29 @@ fn show_sorted_values<W: Sink, L: Layout>(
     show_piece(out, b"[")?;
     let mut first = true;
     for value in values {
-        show_sorted_item(value, alloc, layout, level + 1, first, out)?;
+        show_sorted_item(value, layout, level + 1, first, out)?;
         first = false;
     }
-    layout.close(out, level, first, b']')
+    layout.inner.close(out, level, first, b']')
 }
 
 // An object of these members.
 #[cycle(shown_sorted_value)]
 fn show_sorted_pairs<W: Sink, L: Layout>(
     values: &Vec<Pair>,
-    alloc: Global,
-    layout: L,
+    layout: SortedLayout<L>,
     level: usize,
     out: &mut BufferedWriter<W>,
 ) -> Showed
     ensures { ShowsOrRunsOut (⟦<BufferedWriter<W> as Sink>⟧.state out.old)
         (⟦<BufferedWriter<W> as Sink>⟧.state out.new)
-        (shown (L.indent layout) level
+        (shown (L.indent layout.inner) level
         (sorted (pairs (list_pairs (map pair_of values.now.items))))) result }
 {
     if owned_never_fall(values) {
-        show_in_place(values, alloc, layout, level, out)
+        show_in_place(values, layout, level, out)
     } else {
-        show_by_numbers(values, alloc, layout, level, out)
+        show_by_numbers(values, layout, level, out)
     }
 }
 
@@ -119,15 +116,14 @@ fn show_sorted_pairs<W: Sink, L: Layout>(
 #[cycle(shown_sorted_value)]
 fn show_in_place<W: Sink, L: Layout>(
     values: &Vec<Pair>,
-    alloc: Global,
-    layout: L,
+    layout: SortedLayout<L>,
     level: usize,
     out: &mut BufferedWriter<W>,
 ) -> Showed
     requires { NeverFall (list_pairs (map pair_of values.now.items)) }
     ensures { ShowsOrRunsOut (⟦<BufferedWriter<W> as Sink>⟧.state out.old)
         (⟦<BufferedWriter<W> as Sink>⟧.state out.new)
-        (shown (L.indent layout) level
+        (shown (L.indent layout.inner) level
         (sorted (pairs (list_pairs (map pair_of values.now.items))))) result }
 {
     if level == usize::MAX {
@@ -136,40 +132,39 @@ fn show_in_place<W: Sink, L: Layout>(
     show_piece(out, b"{")?;
     let mut first = true;
     for pair in values {
-        show_key(&pair.key, layout, level + 1, first, out)?;
-        show_sorted_value(&pair.value, alloc, layout, level + 1, out)?;
+        show_key(&pair.key, layout.inner, level + 1, first, out)?;
+        show_sorted_value(&pair.value, layout, level + 1, out)?;
         first = false;
     }
-    layout.close(out, level, first, b'}')
+    layout.inner.close(out, level, first, b'}')
 }
 
 // An object, by an index of its members.
 #[cycle(shown_sorted_value)]
 fn show_by_numbers<W: Sink, L: Layout>(
     values: &Vec<Pair>,
-    alloc: Global,
-    layout: L,
+    layout: SortedLayout<L>,
     level: usize,
     out: &mut BufferedWriter<W>,
 ) -> Showed
     ensures { ShowsOrRunsOut (⟦<BufferedWriter<W> as Sink>⟧.state out.old)
         (⟦<BufferedWriter<W> as Sink>⟧.state out.new)
-        (shown (L.indent layout) level
+        (shown (L.indent layout.inner) level
         (sorted (pairs (list_pairs (map pair_of values.now.items))))) result }
 {
     if level == usize::MAX {
         return Err(SinkError::NoMemory);
     }
-    let Ok(order) = owned_in_order(alloc, values) else {
+    let Ok(order) = owned_in_order(layout.alloc, values) else {
         return Err(SinkError::NoMemory);
     };
     show_piece(out, b"{")?;
     let mut first = true;
     for entry in &order {
         let pair = &values[entry.number];
-        show_key(&pair.key, layout, level + 1, first, out)?;
-        show_sorted_value(&pair.value, alloc, layout, level + 1, out)?;
+        show_key(&pair.key, layout.inner, level + 1, first, out)?;
+        show_sorted_value(&pair.value, layout, level + 1, out)?;
         first = false;
     }
-    layout.close(out, level, first, b'}')
+    layout.inner.close(out, level, first, b'}')
 }

@@ -37,7 +37,8 @@ use crate::show_sorted::show_sorted_value;
 use crate::value::Value;
 use json_doc::{Doc, DocView, JsonType};
 use json_doc_print::{
-    Showed, Stopped, Walked, emit_document, show_document, show_sorted_document, taken,
+    Showed, SortedLayout, Stopped, Walked, emit_document, show_document, show_sorted_document,
+    taken,
 };
 use json_number::Number;
 use json_print::{BufferedWriter, Events, Layout, answered, show_piece};
@@ -319,7 +320,11 @@ impl<'a> View<'a> {
             (⟦<BufferedWriter<W> as Sink>⟧.state out.new)
             (shown (L.indent layout) 0 (sorted (seen self.entry))) result }
     {
-        answered(show_sorted(self, alloc, layout, out))
+        let layout = SortedLayout {
+            alloc,
+            inner: layout,
+        };
+        answered(show_sorted(self, layout, out))
     }
 }
 
@@ -337,17 +342,16 @@ fn show<W: Sink, L: Layout>(view: View<'_>, layout: L, out: &mut BufferedWriter<
 
 fn show_sorted<W: Sink, L: Layout>(
     view: View<'_>,
-    alloc: Global,
-    layout: L,
+    layout: SortedLayout<L>,
     out: &mut BufferedWriter<W>,
 ) -> Showed
     ensures { ShowsOrRunsOut (⟦<BufferedWriter<W> as Sink>⟧.state out.old)
         (⟦<BufferedWriter<W> as Sink>⟧.state out.new)
-        (shown (L.indent layout) 0 (sorted (seen view.entry))) result }
+        (shown (L.indent layout.inner) 0 (sorted (seen view.entry))) result }
 {
     match view.form {
-        ViewForm::Packed(packed) => show_sorted_document(packed.view, alloc, layout, 0, out),
-        ViewForm::Whole(value) => show_sorted_value(value, alloc, layout, 0, out),
+        ViewForm::Packed(packed) => show_sorted_document(packed.view, layout, 0, out),
+        ViewForm::Whole(value) => show_sorted_value(value, layout, 0, out),
         ViewForm::Absent => show_piece(out, b"null"),
     }
 }

@@ -17,30 +17,38 @@ use json_text::{Result, Rules, Sink, Source};
 use json_value::{Edit, Value};
 use std::alloc::Global;
 
+// By which rules the input is read, and in which style the text is printed.
+#[derive(Clone, Copy)]
+struct Forms<'a> {
+    rules: Rules,
+    style: Style<'a>,
+}
+
 // Reads, edits and writes.
-fn pass<S: Source, K: Sink>(
+fn read_edit_write<S: Source, K: Sink>(
     alloc: Global,
     source: &mut S,
     sink: &mut K,
     edits: &[Edit],
-    style: Style<'_>,
-    rules: Rules,
+    forms: Forms<'_>,
 ) -> Result<()>
     requires few { length edits.now < 2 ^ 32 }
-    ensures done { OnOk result (Reshapes (rules_of rules) (map edit_of edits.now)
-        (layout_of style.entry) (S.state source.old) (S.state source.new)
+    ensures done { OnOk result (Reshapes (rules_of forms.entry.rules)
+        (map edit_of edits.now) (layout_of forms.entry.style)
+        (S.state source.old) (S.state source.new)
         (K.state sink.old) (K.state sink.new)) }
-    ensures refused { IfErr result (λ e. ReshapingRefuses (rules_of rules) (map edit_of edits.now)
-        (layout_of style.entry) (S.state source.old) (S.state source.new)
+    ensures refused { IfErr result (λ e. ReshapingRefuses (rules_of forms.entry.rules)
+        (map edit_of edits.now) (layout_of forms.entry.style)
+        (S.state source.old) (S.state source.new)
         (K.state sink.old) (K.state sink.new) e.code e.place) }
     ensures taken { TakesOneBeyond max_bytes (S.state source.old) (S.state source.new) }
     ensures read_told { ReturnsReadError (S.state source.old) (S.state source.new) result }
     ensures write_told { ReturnsWriteError (K.state sink.old) (K.state sink.new) result }
 {
-    let doc = read_document_from(alloc, source, rules)?;
+    let doc = read_document_from(alloc, source, forms.rules)?;
     let mut value = Value::from_place(alloc, &doc, doc.root())?;
     apply_all(alloc, &mut value, edits)?;
-    print_value(alloc, &value, style, sink)
+    print_value(alloc, &value, forms.style, sink)
 }
 
 /// Reads all of the source by the rules, applies the edits in turn, and writes the text in the style,
@@ -78,7 +86,7 @@ pub fn reshape_with<S: Source, K: Sink>(
     ensures exact { ReturnsFault (rules_of rules)
         (S.state source.old) (S.state source.new) result }
 {
-    pass(alloc, source, sink, edits, style, rules)
+    read_edit_write(alloc, source, sink, edits, Forms { rules, style })
 }
 
 /// `reshape_with` by the usual rules: input of 254 levels at most, in which the keys of an object

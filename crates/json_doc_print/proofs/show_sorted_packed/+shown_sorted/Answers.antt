@@ -35,7 +35,7 @@ show_sorted_member-show_sorted_children-requires g t c κs within =
 pub show_sorted_member-returns-in-Array : goal.show_sorted_member-returns-in-Array
 show_sorted_member-returns-in-Array g t c =
     let a = c.in-Array.ensures.tree in
-    Shows-same _ _ _ _ _ (ap (λ u. shown (g.L.Layout.indent c.args.layout) c.args.level (sorted u)) (list_seen (view_tree c.args.view) a.0 (children_left c.in-Array.children) a.1 a.2)) c.show_sorted_children.ensures
+    Shows-same _ _ _ _ _ (ap (λ u. shown (g.L.Layout.indent c.args.layout.inner) c.args.level (sorted u)) (list_seen (view_tree c.args.view) a.0 (children_left c.in-Array.children) a.1 a.2)) c.show_sorted_children.ensures
 
 pub show_sorted_member-show_sorted_members-requires : goal.show_sorted_member-show_sorted_members-requires
 show_sorted_member-show_sorted_members-requires g t c κs within =
@@ -45,11 +45,11 @@ show_sorted_member-show_sorted_members-requires g t c κs within =
 pub show_sorted_member-returns-in-Object : goal.show_sorted_member-returns-in-Object
 show_sorted_member-returns-in-Object g t c =
     let o = c.in-Object.ensures.tree in let v = view_tree c.args.view in
-    Shows-same _ _ _ _ _ (ap (λ u. shown (g.L.Layout.indent c.args.layout) c.args.level (sorted u)) (pairs_seen v o.0 (members v) o.1 (ap members o.1))) c.show_sorted_members.ensures
+    Shows-same _ _ _ _ _ (ap (λ u. shown (g.L.Layout.indent c.args.layout.inner) c.args.level (sorted u)) (pairs_seen v o.0 (members v) o.1 (ap members o.1))) c.show_sorted_members.ensures
 
 pub show_sorted_member-returns-in_default : goal.show_sorted_member-returns-in_default
 show_sorted_member-returns-in_default g t c =
-    Shows-same _ _ _ _ _ (ap (λ u. shown (g.L.Layout.indent c.args.layout) c.args.level u) (shows_scalar c.node.result (view_tree c.args.view) c.node.ensures.tree c.in_default.not-Array c.in_default.not-Object)) (shows_anywhere _ _ _ _ c.show_member.ensures)
+    Shows-same _ _ _ _ _ (ap (λ u. shown (g.L.Layout.indent c.args.layout.inner) c.args.level u) (shows_scalar c.node.result (view_tree c.args.view) c.node.ensures.tree c.in_default.not-Array c.in_default.not-Object)) (shows_anywhere _ _ _ _ c.show_member.ensures)
 
 -- ---- an element
 
@@ -66,7 +66,7 @@ pub show_sorted_element-returns-in_ok-lead-in-Array : goal.show_sorted_element-r
 show_sorted_element-returns-in_ok-lead-in-Array g t c =
     let a = c.in-Array.ensures.tree in
     Shows-then _ _ _ _ _ _ _ (added_shows _ _ _ _ c.in_ok-lead-in-Array.ensures)
-    (Shows-same _ _ _ _ _ (ap (λ u. shown (g.L.Layout.indent c.args.layout) c.args.level (sorted u)) (list_seen (view_tree c.args.view) a.0 (children_left c.in-Array.children) a.1 a.2)) c.show_sorted_children.ensures)
+    (Shows-same _ _ _ _ _ (ap (λ u. shown (g.L.Layout.indent c.args.layout.inner) c.args.level (sorted u)) (list_seen (view_tree c.args.view) a.0 (children_left c.in-Array.children) a.1 a.2)) c.show_sorted_children.ensures)
 
 pub show_sorted_element-returns-in_err-lead-in-Object : goal.show_sorted_element-returns-in_err-lead-in-Object
 show_sorted_element-returns-in_err-lead-in-Object g t c =
@@ -81,11 +81,11 @@ pub show_sorted_element-returns-in_ok-lead-in-Object : goal.show_sorted_element-
 show_sorted_element-returns-in_ok-lead-in-Object g t c =
     let o = c.in-Object.ensures.tree in let v = view_tree c.args.view in
     Shows-then _ _ _ _ _ _ _ (added_shows _ _ _ _ c.in_ok-lead-in-Object.ensures)
-    (Shows-same _ _ _ _ _ (ap (λ u. shown (g.L.Layout.indent c.args.layout) c.args.level (sorted u)) (pairs_seen v o.0 (members v) o.1 (ap members o.1))) c.show_sorted_members.ensures)
+    (Shows-same _ _ _ _ _ (ap (λ u. shown (g.L.Layout.indent c.args.layout.inner) c.args.level (sorted u)) (pairs_seen v o.0 (members v) o.1 (ap members o.1))) c.show_sorted_members.ensures)
 
 pub show_sorted_element-returns-in_default : goal.show_sorted_element-returns-in_default
 show_sorted_element-returns-in_default g t c =
-    let i = g.L.Layout.indent c.args.layout in
+    let i = g.L.Layout.indent c.args.layout.inner in
     Shows-same _ _ _ _ _ (ap (λ u. lead i c.args.level c.args.first ++ shown i c.args.level u) (shows_scalar c.node.result (view_tree c.args.view) c.node.ensures.tree c.in_default.not-Array c.in_default.not-Object)) (shows_anywhere _ _ _ _ c.show_element.ensures)
 
 -- ---- an array
@@ -93,11 +93,11 @@ show_sorted_element-returns-in_default g t c =
 pub show_sorted_children-returns-in_err-show_piece : goal.show_sorted_children-returns-in_err-show_piece
 show_sorted_children-returns-in_err-show_piece g t c =
     let p = err_from_is_err_and c.from_residual.result c.from_residual.ensures.1 in
-    rw (p.1, p.2) (Shows-same _ _ _ _ _ (sorted_array_is (g.L.Layout.indent c.args.layout) c.args.level (children_left c.args.children)) (Shows-first _ _ (91 ∷ []) _ _ (added_shows _ _ _ _ c.in_err-show_piece.ensures)))
+    rw (p.1, p.2) (Shows-same _ _ _ _ _ (sorted_array_is (g.L.Layout.indent c.args.layout.inner) c.args.level (children_left c.args.children)) (Shows-first _ _ (91 ∷ []) _ _ (added_shows _ _ _ _ c.in_err-show_piece.ensures)))
 
 pub show_sorted_children-loop-child-init : goal.show_sorted_children-loop-child-init
 show_sorted_children-loop-child-init g t c =
-    let i = g.L.Layout.indent c.args.layout in let d = c.args.level in let e = c.into_iter-child-iterator.ensures.into_iter_gives in (
+    let i = g.L.Layout.indent c.args.layout.inner in let d = c.args.level in let e = c.into_iter-child-iterator.ensures.into_iter_gives in (
       tt,
       tt,
       omega (arith, ap (λ (s : DocChildren). trees_nodes (list_trees (children_left s))) e),
@@ -112,7 +112,7 @@ show_sorted_children-show_sorted_element-requires g t c κs within =
 pub show_sorted_children-returns-in_err-show_sorted_element : goal.show_sorted_children-returns-in_err-show_sorted_element
 show_sorted_children-returns-in_err-show_sorted_element g t c =
     let p = err_from_is_err_and c.from_residual-in_err-show_sorted_element.result c.from_residual-in_err-show_sorted_element.ensures.1 in let u = sorted (view_tree c.in-Some.child) in
-    rw (p.1, p.2) (element_failed _ _ _ (g.L.Layout.indent c.args.layout) c.args.level (c.args.level + 1) c.loop-child.first u u _ _ _ _ c.loop-child.invariant.3 (ap (map sorted) c.in-Some.ensures.steps.0) refl c.in_err-show_sorted_element.ensures)
+    rw (p.1, p.2) (element_failed _ _ _ (g.L.Layout.indent c.args.layout.inner) c.args.level (c.args.level + 1) c.loop-child.first u u _ _ _ _ c.loop-child.invariant.3 (ap (map sorted) c.in-Some.ensures.steps.0) refl c.in_err-show_sorted_element.ensures)
 
 pub show_sorted_children-loop-child-preserved : goal.show_sorted_children-loop-child-preserved
 show_sorted_children-loop-child-preserved g t c =
@@ -120,12 +120,12 @@ show_sorted_children-loop-child-preserved g t c =
       tt,
       tt,
       omega (arith, b, c.loop-child.invariant.2),
-      element_on _ _ _ (g.L.Layout.indent c.args.layout) c.args.level (c.args.level + 1) c.loop-child.first u u _ _ _ _ c.loop-child.invariant.3 (ap (map sorted) c.in-Some.ensures.steps.0) refl c.in_ok-show_sorted_element.ensures,
+      element_on _ _ _ (g.L.Layout.indent c.args.layout.inner) c.args.level (c.args.level + 1) c.loop-child.first u u _ _ _ _ c.loop-child.invariant.3 (ap (map sorted) c.in-Some.ensures.steps.0) refl c.in_ok-show_sorted_element.ensures,
     )
 
 pub show_sorted_children-returns : goal.show_sorted_children-returns
 show_sorted_children-returns g t c =
-    goes_last _ _ _ _ _ _ _ _ _ c.loop-child.invariant.3 (sym (ap (λ ts. elements_left (g.L.Layout.indent c.args.layout) c.args.level (c.args.level + 1) c.loop-child.first (map sorted ts)) c.in-None.ensures.steps.0.0)) c.close.ensures
+    goes_last _ _ _ _ _ _ _ _ _ c.loop-child.invariant.3 (sym (ap (λ ts. elements_left (g.L.Layout.indent c.args.layout.inner) c.args.level (c.args.level + 1) c.loop-child.first (map sorted ts)) c.in-None.ensures.steps.0.0)) c.close.ensures
 
 -- ---- an object
 
@@ -142,23 +142,23 @@ show_sorted_members-show_by_places-requires g t c κs within =
 pub show_sorted_members-returns-then-keys_in_order : goal.show_sorted_members-returns-then-keys_in_order
 show_sorted_members-returns-then-keys_in_order g t c =
     let o = c.in-Object.ensures.tree in
-    Shows-same _ _ _ _ _ (ap (λ ps. shown (g.L.Layout.indent c.args.layout) c.args.level (sorted (pairs (list_pairs ps)))) (o.2 ∙ sym (ap members o.1))) c.show_in_place.ensures
+    Shows-same _ _ _ _ _ (ap (λ ps. shown (g.L.Layout.indent c.args.layout.inner) c.args.level (sorted (pairs (list_pairs ps)))) (o.2 ∙ sym (ap members o.1))) c.show_in_place.ensures
 
 pub show_sorted_members-returns-else-keys_in_order : goal.show_sorted_members-returns-else-keys_in_order
 show_sorted_members-returns-else-keys_in_order g t c =
     let o = c.in-Object.ensures.tree in
-    Shows-same _ _ _ _ _ (ap (λ ps. shown (g.L.Layout.indent c.args.layout) c.args.level (sorted (pairs (list_pairs ps)))) (o.2 ∙ sym (ap members o.1))) c.show_by_places.ensures
+    Shows-same _ _ _ _ _ (ap (λ ps. shown (g.L.Layout.indent c.args.layout.inner) c.args.level (sorted (pairs (list_pairs ps)))) (o.2 ∙ sym (ap members o.1))) c.show_by_places.ensures
 
 -- ---- an object whose keys stand in order
 
 pub show_in_place-returns-in_err-show_piece : goal.show_in_place-returns-in_err-show_piece
 show_in_place-returns-in_err-show_piece g t c =
     let p = err_from_is_err_and c.from_residual.result c.from_residual.ensures.1 in let ps = pairs_left c.args.members in
-    rw (p.1, p.2) (Shows-same _ _ _ _ _ (sorted_object_is (g.L.Layout.indent c.args.layout) c.args.level ps (map sorted_pair ps) (in_place ps c.requires)) (Shows-first _ _ (123 ∷ []) _ _ (added_shows _ _ _ _ c.in_err-show_piece.ensures)))
+    rw (p.1, p.2) (Shows-same _ _ _ _ _ (sorted_object_is (g.L.Layout.indent c.args.layout.inner) c.args.level ps (map sorted_pair ps) (in_place ps c.requires)) (Shows-first _ _ (123 ∷ []) _ _ (added_shows _ _ _ _ c.in_err-show_piece.ensures)))
 
 pub show_in_place-loop-key-init : goal.show_in_place-loop-key-init
 show_in_place-loop-key-init g t c =
-    let i = g.L.Layout.indent c.args.layout in let d = c.args.level in let e = c.into_iter-key-iterator.ensures.into_iter_gives in let ps = pairs_left c.args.members in (
+    let i = g.L.Layout.indent c.args.layout.inner in let d = c.args.level in let e = c.into_iter-key-iterator.ensures.into_iter_gives in let ps = pairs_left c.args.members in (
       tt,
       tt,
       omega (arith, ap (λ (s : DocPairs). pairs_nodes (list_pairs (pairs_left s))) e),
@@ -168,7 +168,7 @@ show_in_place-loop-key-init g t c =
 pub show_in_place-returns-in_err-key : goal.show_in_place-returns-in_err-key
 show_in_place-returns-in_err-key g t c =
     let p = err_from_is_err_and c.from_residual-in_err-key.result c.from_residual-in_err-key.ensures.1 in
-    rw (p.1, p.2) (key_failed _ _ _ (g.L.Layout.indent c.args.layout) c.args.level (c.args.level + 1) c.loop-key.first c.in-Some.key.now (sorted (view_tree c.in-Some.value)) _ _ _ _ c.loop-key.invariant.3 (ap (map sorted_pair) c.in-Some.ensures.steps.0) c.in_err-key.ensures)
+    rw (p.1, p.2) (key_failed _ _ _ (g.L.Layout.indent c.args.layout.inner) c.args.level (c.args.level + 1) c.loop-key.first c.in-Some.key.now (sorted (view_tree c.in-Some.value)) _ _ _ _ c.loop-key.invariant.3 (ap (map sorted_pair) c.in-Some.ensures.steps.0) c.in_err-key.ensures)
 
 pub show_in_place-show_sorted_member-requires : goal.show_in_place-show_sorted_member-requires
 show_in_place-show_sorted_member-requires g t c κs within =
@@ -178,7 +178,7 @@ show_in_place-show_sorted_member-requires g t c κs within =
 pub show_in_place-returns-in_err-show_sorted_member : goal.show_in_place-returns-in_err-show_sorted_member
 show_in_place-returns-in_err-show_sorted_member g t c =
     let p = err_from_is_err_and c.from_residual-in_err-show_sorted_member.result c.from_residual-in_err-show_sorted_member.ensures.1 in let u = sorted (view_tree c.in-Some.value) in
-    rw (p.1, p.2) (value_failed _ _ _ _ (g.L.Layout.indent c.args.layout) c.args.level (c.args.level + 1) c.loop-key.first c.in-Some.key.now u u _ _ _ _ _ c.loop-key.invariant.3 (ap (map sorted_pair) c.in-Some.ensures.steps.0) refl c.in_ok-key.ensures c.in_err-show_sorted_member.ensures)
+    rw (p.1, p.2) (value_failed _ _ _ _ (g.L.Layout.indent c.args.layout.inner) c.args.level (c.args.level + 1) c.loop-key.first c.in-Some.key.now u u _ _ _ _ _ c.loop-key.invariant.3 (ap (map sorted_pair) c.in-Some.ensures.steps.0) refl c.in_ok-key.ensures c.in_err-show_sorted_member.ensures)
 
 pub show_in_place-loop-key-preserved : goal.show_in_place-loop-key-preserved
 show_in_place-loop-key-preserved g t c =
@@ -186,12 +186,12 @@ show_in_place-loop-key-preserved g t c =
       tt,
       tt,
       omega (arith, b, c.loop-key.invariant.2),
-      member_on _ _ _ _ (g.L.Layout.indent c.args.layout) c.args.level (c.args.level + 1) c.loop-key.first c.in-Some.key.now u u _ _ _ _ _ c.loop-key.invariant.3 (ap (map sorted_pair) c.in-Some.ensures.steps.0) refl c.in_ok-key.ensures c.in_ok-show_sorted_member.ensures,
+      member_on _ _ _ _ (g.L.Layout.indent c.args.layout.inner) c.args.level (c.args.level + 1) c.loop-key.first c.in-Some.key.now u u _ _ _ _ _ c.loop-key.invariant.3 (ap (map sorted_pair) c.in-Some.ensures.steps.0) refl c.in_ok-key.ensures c.in_ok-show_sorted_member.ensures,
     )
 
 pub show_in_place-returns : goal.show_in_place-returns
 show_in_place-returns g t c =
-    goes_last _ _ _ _ _ _ _ _ _ c.loop-key.invariant.3 (sym (ap (λ ps. members_left (g.L.Layout.indent c.args.layout) c.args.level (c.args.level + 1) c.loop-key.first (map sorted_pair ps)) c.in-None.ensures.steps.0.0)) c.close.ensures
+    goes_last _ _ _ _ _ _ _ _ _ c.loop-key.invariant.3 (sym (ap (λ ps. members_left (g.L.Layout.indent c.args.layout.inner) c.args.level (c.args.level + 1) c.loop-key.first (map sorted_pair ps)) c.in-None.ensures.steps.0.0)) c.close.ensures
 
 -- ---- an object by an index of its members
 
@@ -199,21 +199,21 @@ pub show_by_places-returns-in_err-show_piece : goal.show_by_places-returns-in_er
 show_by_places-returns-in_err-show_piece g t c =
     let p = err_from_is_err_and c.from_residual.result c.from_residual.ensures.1 in
     let d = c.args.doc.now in let ns = numbers_in c.in-Ok.order.items in
-    rw (p.1, p.2) (Shows-same _ _ _ _ _ (sorted_object_is (g.L.Layout.indent c.args.layout) c.args.level (pairs_left c.args.members) (map (member_in d) ns) (places_sorted d (pairs_doc c.args.members) (places_of_pairs c.args.members) ns c.requires c.in-Ok.ensures.order))
+    rw (p.1, p.2) (Shows-same _ _ _ _ _ (sorted_object_is (g.L.Layout.indent c.args.layout.inner) c.args.level (pairs_left c.args.members) (map (member_in d) ns) (places_sorted d (pairs_doc c.args.members) (places_of_pairs c.args.members) ns c.requires c.in-Ok.ensures.order))
     (Shows-first _ _ (123 ∷ []) _ _ (added_shows _ _ _ _ c.in_err-show_piece.ensures)))
 
 pub show_by_places-loop-entry-init : goal.show_by_places-loop-entry-init
 show_by_places-loop-entry-init g t c =
     let d = c.args.doc.now in let ns = numbers_in c.deref-entry-items.result.now in
     let is = subst (λ es. IsKeyOrder (place_key d) (places_of_pairs c.args.members) (numbers_in es)) (sym c.deref-entry-items.ensures.value) c.in-Ok.ensures.order in
-    goes_from _ _ _ 123 _ _ _ c.in_ok-show_piece.ensures (sorted_object_is (g.L.Layout.indent c.args.layout) c.args.level (pairs_left c.args.members) (map (member_in d) ns) (places_sorted d (pairs_doc c.args.members) (places_of_pairs c.args.members) ns c.requires is))
+    goes_from _ _ _ 123 _ _ _ c.in_ok-show_piece.ensures (sorted_object_is (g.L.Layout.indent c.args.layout.inner) c.args.level (pairs_left c.args.members) (map (member_in d) ns) (places_sorted d (pairs_doc c.args.members) (places_of_pairs c.args.members) ns c.requires is))
 
 pub show_by_places-returns-in_err-key : goal.show_by_places-returns-in_err-key
 show_by_places-returns-in_err-key g t c =
     let p = err_from_is_err_and c.from_residual-in_err-key.result c.from_residual-in_err-key.ensures.1 in
     let d = c.args.doc.now in let es = c.deref-entry-items.result.now in let i = c.loop-entry.entry-index in let n = number_of es i in let qs = map (member_in d) (numbers_in es) in
-    rw (p.1, p.2) (key_failed _ _ _ (g.L.Layout.indent c.args.layout) c.args.level (c.args.level + 1) c.loop-entry.first (place_key d n) (sorted (doc_tree d n)) _ (drop (i + 1) qs) _ _ c.loop-entry.invariant (there qs i (member_in d n) (entry_there (member_in d) es i c.loop-entry-test.true))
-    (Adds-same _ _ _ _ _ (ap (key_shown (g.L.Layout.indent c.args.layout) (c.args.level + 1) c.loop-entry.first) c.key-key.ensures) c.in_err-key.ensures))
+    rw (p.1, p.2) (key_failed _ _ _ (g.L.Layout.indent c.args.layout.inner) c.args.level (c.args.level + 1) c.loop-entry.first (place_key d n) (sorted (doc_tree d n)) _ (drop (i + 1) qs) _ _ c.loop-entry.invariant (there qs i (member_in d n) (entry_there (member_in d) es i c.loop-entry-test.true))
+    (Adds-same _ _ _ _ _ (ap (key_shown (g.L.Layout.indent c.args.layout.inner) (c.args.level + 1) c.loop-entry.first) c.key-key.ensures) c.in_err-key.ensures))
 
 pub show_by_places-overflow_cast-entry : goal.show_by_places-overflow_cast-entry
 show_by_places-overflow_cast-entry g t c =
@@ -238,14 +238,14 @@ show_by_places-show_sorted_member-requires g t c κs within =
 
 pub show_by_places-returns-in_err-show_sorted_member : goal.show_by_places-returns-in_err-show_sorted_member
 show_by_places-returns-in_err-show_sorted_member g t c =
-    let p = err_from_is_err_and c.from_residual-in_err-show_sorted_member.result c.from_residual-in_err-show_sorted_member.ensures.1 in let l = g.L.Layout.indent c.args.layout in let e = c.args.level + 1 in
+    let p = err_from_is_err_and c.from_residual-in_err-show_sorted_member.result c.from_residual-in_err-show_sorted_member.ensures.1 in let l = g.L.Layout.indent c.args.layout.inner in let e = c.args.level + 1 in
     let d = c.args.doc.now in let es = c.deref-entry-items.result.now in let i = c.loop-entry.entry-index in let n = number_of es i in let qs = map (member_in d) (numbers_in es) in
     rw (p.1, p.2) (value_failed _ _ _ _ l c.args.level e c.loop-entry.first (place_key d n) (sorted (view_tree c.view_at.result)) (sorted (doc_tree d n)) _ (drop (i + 1) qs) _ _ _ c.loop-entry.invariant
     (there qs i (member_in d n) (entry_there (member_in d) es i c.loop-entry-test.true)) (ap sorted c.view_at.ensures.tree) (Adds-same _ _ _ _ _ (ap (key_shown l e c.loop-entry.first) c.key-key.ensures) c.in_ok-key.ensures) c.in_err-show_sorted_member.ensures)
 
 pub show_by_places-loop-entry-preserved : goal.show_by_places-loop-entry-preserved
 show_by_places-loop-entry-preserved g t c =
-    let l = g.L.Layout.indent c.args.layout in let e = c.args.level + 1 in
+    let l = g.L.Layout.indent c.args.layout.inner in let e = c.args.level + 1 in
     let d = c.args.doc.now in let es = c.deref-entry-items.result.now in let i = c.loop-entry.entry-index in let n = number_of es i in let qs = map (member_in d) (numbers_in es) in
     member_on _ _ _ _ l c.args.level e c.loop-entry.first (place_key d n) (sorted (view_tree c.view_at.result)) (sorted (doc_tree d n)) _ (drop (i + 1) qs) _ _ _ c.loop-entry.invariant
     (there qs i (member_in d n) (entry_there (member_in d) es i c.loop-entry-test.true)) (ap sorted c.view_at.ensures.tree) (Adds-same _ _ _ _ _ (ap (key_shown l e c.loop-entry.first) c.key-key.ensures) c.in_ok-key.ensures) c.in_ok-show_sorted_member.ensures
@@ -254,4 +254,4 @@ pub show_by_places-returns : goal.show_by_places-returns
 show_by_places-returns g t c =
     let es = c.deref-entry-items.result.now in let i = c.loop-entry.entry-index in
     let e = none_there (map (member_in c.args.doc.now) (numbers_in es)) i (entries_end (member_in c.args.doc.now) es i c.loop-entry-test.false) in
-    goes_last _ _ _ _ _ _ _ _ _ c.loop-entry.invariant (sym (ap (members_left (g.L.Layout.indent c.args.layout) c.args.level (c.args.level + 1) c.loop-entry.first) e)) c.close.ensures
+    goes_last _ _ _ _ _ _ _ _ _ c.loop-entry.invariant (sym (ap (members_left (g.L.Layout.indent c.args.layout.inner) c.args.level (c.args.level + 1) c.loop-entry.first) e)) c.close.ensures

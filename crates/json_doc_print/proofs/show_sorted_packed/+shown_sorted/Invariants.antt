@@ -33,19 +33,19 @@ decreases-show_by_places g l = 3 * pairs_nodes (list_pairs (pairs_left l.members
 
 abbrev pub invariant-show_sorted_children-loop-child : goal.invariant-show_sorted_children-loop-child
 invariant-show_sorted_children-loop-child g l =
-    let i = g.L.Layout.indent l.layout in
+    let i = g.L.Layout.indent l.layout.inner in
     (goal.iterator-show_sorted_children-loop-child g).can_next l.child-iterator × (goal.iterator-show_sorted_children-loop-child g).is_finite l.child-iterator
     × (trees_nodes (list_trees (children_left l.child-iterator)) ≤ trees_nodes (list_trees (children_left l.fn.children)))
     × GoesSorted (held g.W.Sink.state l.fn.out) (held g.W.Sink.state l.out) (elements_left i l.level (l.level + 1) l.first (map sorted (children_left l.child-iterator))) (shown i l.level (sorted (list (list_trees (children_left l.fn.children)))))
 
 abbrev pub invariant-show_in_place-loop-key : goal.invariant-show_in_place-loop-key
 invariant-show_in_place-loop-key g l =
-    let i = g.L.Layout.indent l.layout in
+    let i = g.L.Layout.indent l.layout.inner in
     (goal.iterator-show_in_place-loop-key g).can_next l.key-iterator × (goal.iterator-show_in_place-loop-key g).is_finite l.key-iterator
     × (pairs_nodes (list_pairs (pairs_left l.key-iterator)) ≤ pairs_nodes (list_pairs (pairs_left l.fn.members)))
     × GoesSorted (held g.W.Sink.state l.fn.out) (held g.W.Sink.state l.out) (members_left i l.level (l.level + 1) l.first (map sorted_pair (pairs_left l.key-iterator))) (shown i l.level (sorted (pairs (list_pairs (pairs_left l.fn.members)))))
 
 abbrev pub invariant-show_by_places-loop-entry : goal.invariant-show_by_places-loop-entry
 invariant-show_by_places-loop-entry g l =
-    let i = g.L.Layout.indent l.layout in let qs = map (paired (place_key l.fn.doc) (sorted_at (doc_tree l.fn.doc))) (numbers_in l.entry-items) in
+    let i = g.L.Layout.indent l.layout.inner in let qs = map (paired (place_key l.fn.doc) (sorted_at (doc_tree l.fn.doc))) (numbers_in l.entry-items) in
     GoesSorted (held g.W.Sink.state l.fn.out) (held g.W.Sink.state l.out) (members_left i l.level (l.level + 1) l.first (drop l.entry-index qs)) (shown i l.level (sorted (pairs (list_pairs (pairs_left l.fn.members)))))

@@ -45,7 +45,7 @@ show_sorted_value-show_sorted_values-requires g t c κs within =
 
 pub show_sorted_value-returns-in-Owned : goal.show_sorted_value-returns-in-Owned
 show_sorted_value-returns-in-Owned g t c =
-    Shows-same _ _ _ _ _ (ap (λ u. shown (g.L.Layout.indent c.args.layout) c.args.level (sorted u)) (sym (array_there _ c.in-Array.array _ c.in-Array.is c.in-Owned.is))) c.show_sorted_values.ensures
+    Shows-same _ _ _ _ _ (ap (λ u. shown (g.L.Layout.indent c.args.layout.inner) c.args.level (sorted u)) (sym (array_there _ c.in-Array.array _ c.in-Array.is c.in-Owned.is))) c.show_sorted_values.ensures
 
 pub show_sorted_value-show_sorted_pairs-requires : goal.show_sorted_value-show_sorted_pairs-requires
 show_sorted_value-show_sorted_pairs-requires g t c κs within =
@@ -54,7 +54,7 @@ show_sorted_value-show_sorted_pairs-requires g t c κs within =
 
 pub show_sorted_value-returns-in-Owned-form : goal.show_sorted_value-returns-in-Owned-form
 show_sorted_value-returns-in-Owned-form g t c =
-    Shows-same _ _ _ _ _ (ap (λ u. shown (g.L.Layout.indent c.args.layout) c.args.level (sorted u)) (sym (object_there _ c.in-Object.object _ c.in-Object.is c.in-Owned-form.is))) c.show_sorted_pairs.ensures
+    Shows-same _ _ _ _ _ (ap (λ u. shown (g.L.Layout.indent c.args.layout.inner) c.args.level (sorted u)) (sym (object_there _ c.in-Object.object _ c.in-Object.is c.in-Owned-form.is))) c.show_sorted_pairs.ensures
 
 -- ---- an element
 
@@ -70,10 +70,10 @@ show_sorted_item-returns g t c = Shows-then _ _ _ _ _ _ _ (added_shows _ _ _ _ c
 pub show_sorted_values-returns-in_err-show_piece : goal.show_sorted_values-returns-in_err-show_piece
 show_sorted_values-returns-in_err-show_piece g t c =
     let p = err_from_is_err_and c.from_residual.result c.from_residual.ensures.1 in
-    rw (p.1, p.2) (Shows-same _ _ _ _ _ (sorted_array_is (g.L.Layout.indent c.args.layout) c.args.level (map tree_of c.args.values.now.items)) (Shows-first _ _ (91 ∷ []) _ _ (added_shows _ _ _ _ c.in_err-show_piece.ensures)))
+    rw (p.1, p.2) (Shows-same _ _ _ _ _ (sorted_array_is (g.L.Layout.indent c.args.layout.inner) c.args.level (map tree_of c.args.values.now.items)) (Shows-first _ _ (91 ∷ []) _ _ (added_shows _ _ _ _ c.in_err-show_piece.ensures)))
 
 pub show_sorted_values-loop-value-init : goal.show_sorted_values-loop-value-init
-show_sorted_values-loop-value-init g t c = goes_from _ _ _ 91 _ _ _ c.in_ok-show_piece.ensures (sorted_array_is (g.L.Layout.indent c.args.layout) c.args.level (map tree_of c.args.values.now.items))
+show_sorted_values-loop-value-init g t c = goes_from _ _ _ 91 _ _ _ c.in_ok-show_piece.ensures (sorted_array_is (g.L.Layout.indent c.args.layout.inner) c.args.level (map tree_of c.args.values.now.items))
 
 pub show_sorted_values-show_sorted_item-requires : goal.show_sorted_values-show_sorted_item-requires
 show_sorted_values-show_sorted_item-requires g t c κs within =
@@ -86,38 +86,38 @@ show_sorted_values-returns-in_err-show_sorted_item g t c =
     let p = err_from_is_err_and c.from_residual-in_err-show_sorted_item.result c.from_residual-in_err-show_sorted_item.ensures.1 in
     let xs = c.args.values.now.items in let i = c.loop-value.value-index in let u = tree_of c.value-item.result in
     let e = item_there tree_of _ xs i c.value-item.result c.deref-value-items.ensures.value c.loop-value-test.true c.value-item.is in
-    rw (p.1, p.2) (element_failed _ _ _ (g.L.Layout.indent c.args.layout) c.args.level (c.args.level + 1) c.loop-value.first (sorted u) (sorted u) _ (map sorted (drop (i + 1) (map tree_of xs))) _ _ c.loop-value.invariant (ap (map sorted) (there (map tree_of xs) i u e)) refl c.in_err-show_sorted_item.ensures)
+    rw (p.1, p.2) (element_failed _ _ _ (g.L.Layout.indent c.args.layout.inner) c.args.level (c.args.level + 1) c.loop-value.first (sorted u) (sorted u) _ (map sorted (drop (i + 1) (map tree_of xs))) _ _ c.loop-value.invariant (ap (map sorted) (there (map tree_of xs) i u e)) refl c.in_err-show_sorted_item.ensures)
 
 pub show_sorted_values-loop-value-preserved : goal.show_sorted_values-loop-value-preserved
 show_sorted_values-loop-value-preserved g t c =
     let xs = c.args.values.now.items in let i = c.loop-value.value-index in let u = tree_of c.value-item.result in
     let e = item_there tree_of _ xs i c.value-item.result c.deref-value-items.ensures.value c.loop-value-test.true c.value-item.is in
-    element_on _ _ _ (g.L.Layout.indent c.args.layout) c.args.level (c.args.level + 1) c.loop-value.first (sorted u) (sorted u) _ (map sorted (drop (i + 1) (map tree_of xs))) _ _ c.loop-value.invariant (ap (map sorted) (there (map tree_of xs) i u e)) refl c.in_ok-show_sorted_item.ensures
+    element_on _ _ _ (g.L.Layout.indent c.args.layout.inner) c.args.level (c.args.level + 1) c.loop-value.first (sorted u) (sorted u) _ (map sorted (drop (i + 1) (map tree_of xs))) _ _ c.loop-value.invariant (ap (map sorted) (there (map tree_of xs) i u e)) refl c.in_ok-show_sorted_item.ensures
 
 pub show_sorted_values-returns : goal.show_sorted_values-returns
 show_sorted_values-returns g t c =
     let xs = c.args.values.now.items in let i = c.loop-value.value-index in
     let e = none_there (map tree_of xs) i (items_end tree_of _ xs i c.deref-value-items.ensures.value c.loop-value-test.false) in
-    goes_last _ _ _ _ _ _ _ _ _ c.loop-value.invariant (sym (ap (λ ts. elements_left (g.L.Layout.indent c.args.layout) c.args.level (c.args.level + 1) c.loop-value.first (map sorted ts)) e)) c.close.ensures
+    goes_last _ _ _ _ _ _ _ _ _ c.loop-value.invariant (sym (ap (λ ts. elements_left (g.L.Layout.indent c.args.layout.inner) c.args.level (c.args.level + 1) c.loop-value.first (map sorted ts)) e)) c.close.ensures
 
 -- ---- an object whose keys stand in order
 
 pub show_in_place-returns-in_err-show_piece : goal.show_in_place-returns-in_err-show_piece
 show_in_place-returns-in_err-show_piece g t c =
     let p = err_from_is_err_and c.from_residual.result c.from_residual.ensures.1 in let ps = map pair_of c.args.values.now.items in
-    rw (p.1, p.2) (Shows-same _ _ _ _ _ (sorted_object_is (g.L.Layout.indent c.args.layout) c.args.level ps (map sorted_pair ps) (in_place ps c.requires)) (Shows-first _ _ (123 ∷ []) _ _ (added_shows _ _ _ _ c.in_err-show_piece.ensures)))
+    rw (p.1, p.2) (Shows-same _ _ _ _ _ (sorted_object_is (g.L.Layout.indent c.args.layout.inner) c.args.level ps (map sorted_pair ps) (in_place ps c.requires)) (Shows-first _ _ (123 ∷ []) _ _ (added_shows _ _ _ _ c.in_err-show_piece.ensures)))
 
 pub show_in_place-loop-pair-init : goal.show_in_place-loop-pair-init
 show_in_place-loop-pair-init g t c =
     let ps = map pair_of c.args.values.now.items in
-    goes_from _ _ _ 123 _ _ _ c.in_ok-show_piece.ensures (sorted_object_is (g.L.Layout.indent c.args.layout) c.args.level ps (map sorted_pair ps) (in_place ps c.requires))
+    goes_from _ _ _ 123 _ _ _ c.in_ok-show_piece.ensures (sorted_object_is (g.L.Layout.indent c.args.layout.inner) c.args.level ps (map sorted_pair ps) (in_place ps c.requires))
 
 pub show_in_place-returns-in_err-show_key : goal.show_in_place-returns-in_err-show_key
 show_in_place-returns-in_err-show_key g t c =
     let p = err_from_is_err_and c.from_residual-in_err-show_key.result c.from_residual-in_err-show_key.ensures.1 in
     let xs = c.args.values.now.items in let ps = map pair_of xs in let i = c.loop-pair.pair-index in let k = text_bytes c.pair-item.result.key in let u = tree_of c.pair-item.result.value in
     let e = item_there pair_of _ xs i c.pair-item.result c.deref-pair-items.ensures.value c.loop-pair-test.true c.pair-item.is in
-    rw (p.1, p.2) (key_failed _ _ _ (g.L.Layout.indent c.args.layout) c.args.level (c.args.level + 1) c.loop-pair.first k (sorted u) _ (map sorted_pair (drop (i + 1) ps)) _ _ c.loop-pair.invariant (ap (map sorted_pair) (there ps i (pair_of c.pair-item.result) e)) c.in_err-show_key.ensures)
+    rw (p.1, p.2) (key_failed _ _ _ (g.L.Layout.indent c.args.layout.inner) c.args.level (c.args.level + 1) c.loop-pair.first k (sorted u) _ (map sorted_pair (drop (i + 1) ps)) _ _ c.loop-pair.invariant (ap (map sorted_pair) (there ps i (pair_of c.pair-item.result) e)) c.in_err-show_key.ensures)
 
 pub show_in_place-show_sorted_value-requires : goal.show_in_place-show_sorted_value-requires
 show_in_place-show_sorted_value-requires g t c κs within =
@@ -130,32 +130,32 @@ show_in_place-returns-in_err-show_sorted_value g t c =
     let p = err_from_is_err_and c.from_residual-in_err-show_sorted_value.result c.from_residual-in_err-show_sorted_value.ensures.1 in
     let xs = c.args.values.now.items in let ps = map pair_of xs in let i = c.loop-pair.pair-index in let k = text_bytes c.pair-item.result.key in let u = sorted (tree_of c.pair-item.result.value) in
     let e = item_there pair_of _ xs i c.pair-item.result c.deref-pair-items.ensures.value c.loop-pair-test.true c.pair-item.is in
-    rw (p.1, p.2) (value_failed _ _ _ _ (g.L.Layout.indent c.args.layout) c.args.level (c.args.level + 1) c.loop-pair.first k u u _ (map sorted_pair (drop (i + 1) ps)) _ _ _ c.loop-pair.invariant (ap (map sorted_pair) (there ps i (pair_of c.pair-item.result) e)) refl c.in_ok-show_key.ensures c.in_err-show_sorted_value.ensures)
+    rw (p.1, p.2) (value_failed _ _ _ _ (g.L.Layout.indent c.args.layout.inner) c.args.level (c.args.level + 1) c.loop-pair.first k u u _ (map sorted_pair (drop (i + 1) ps)) _ _ _ c.loop-pair.invariant (ap (map sorted_pair) (there ps i (pair_of c.pair-item.result) e)) refl c.in_ok-show_key.ensures c.in_err-show_sorted_value.ensures)
 
 pub show_in_place-loop-pair-preserved : goal.show_in_place-loop-pair-preserved
 show_in_place-loop-pair-preserved g t c =
     let xs = c.args.values.now.items in let ps = map pair_of xs in let i = c.loop-pair.pair-index in let k = text_bytes c.pair-item.result.key in let u = sorted (tree_of c.pair-item.result.value) in
     let e = item_there pair_of _ xs i c.pair-item.result c.deref-pair-items.ensures.value c.loop-pair-test.true c.pair-item.is in
-    member_on _ _ _ _ (g.L.Layout.indent c.args.layout) c.args.level (c.args.level + 1) c.loop-pair.first k u u _ (map sorted_pair (drop (i + 1) ps)) _ _ _ c.loop-pair.invariant (ap (map sorted_pair) (there ps i (pair_of c.pair-item.result) e)) refl c.in_ok-show_key.ensures c.in_ok-show_sorted_value.ensures
+    member_on _ _ _ _ (g.L.Layout.indent c.args.layout.inner) c.args.level (c.args.level + 1) c.loop-pair.first k u u _ (map sorted_pair (drop (i + 1) ps)) _ _ _ c.loop-pair.invariant (ap (map sorted_pair) (there ps i (pair_of c.pair-item.result) e)) refl c.in_ok-show_key.ensures c.in_ok-show_sorted_value.ensures
 
 pub show_in_place-returns : goal.show_in_place-returns
 show_in_place-returns g t c =
     let xs = c.args.values.now.items in let i = c.loop-pair.pair-index in
     let e = none_there (map pair_of xs) i (items_end pair_of _ xs i c.deref-pair-items.ensures.value c.loop-pair-test.false) in
-    goes_last _ _ _ _ _ _ _ _ _ c.loop-pair.invariant (sym (ap (λ ps. members_left (g.L.Layout.indent c.args.layout) c.args.level (c.args.level + 1) c.loop-pair.first (map sorted_pair ps)) e)) c.close.ensures
+    goes_last _ _ _ _ _ _ _ _ _ c.loop-pair.invariant (sym (ap (λ ps. members_left (g.L.Layout.indent c.args.layout.inner) c.args.level (c.args.level + 1) c.loop-pair.first (map sorted_pair ps)) e)) c.close.ensures
 
 -- ---- an object by an index of its members
 
 pub show_by_numbers-returns-in_err-show_piece : goal.show_by_numbers-returns-in_err-show_piece
 show_by_numbers-returns-in_err-show_piece g t c =
     let p = err_from_is_err_and c.from_residual.result c.from_residual.ensures.1 in let xs = c.args.values.now.items in let ns = numbers_in c.in-Ok.order.items in
-    rw (p.1, p.2) (Shows-same _ _ _ _ _ (sorted_object_is (g.L.Layout.indent c.args.layout) c.args.level (map pair_of xs) (map (member_in xs) ns) (numbers_sorted xs ns c.in-Ok.ensures.order)) (Shows-first _ _ (123 ∷ []) _ _ (added_shows _ _ _ _ c.in_err-show_piece.ensures)))
+    rw (p.1, p.2) (Shows-same _ _ _ _ _ (sorted_object_is (g.L.Layout.indent c.args.layout.inner) c.args.level (map pair_of xs) (map (member_in xs) ns) (numbers_sorted xs ns c.in-Ok.ensures.order)) (Shows-first _ _ (123 ∷ []) _ _ (added_shows _ _ _ _ c.in_err-show_piece.ensures)))
 
 pub show_by_numbers-loop-entry-init : goal.show_by_numbers-loop-entry-init
 show_by_numbers-loop-entry-init g t c =
     let xs = c.args.values.now.items in let ns = numbers_in c.deref-entry-items.result.now in
     let is = subst (λ es. IsKeyOrder (owned_key xs) (numbers_from 0 (length xs)) (numbers_in es)) (sym c.deref-entry-items.ensures.value) c.in-Ok.ensures.order in
-    goes_from _ _ _ 123 _ _ _ c.in_ok-show_piece.ensures (sorted_object_is (g.L.Layout.indent c.args.layout) c.args.level (map pair_of xs) (map (member_in xs) ns) (numbers_sorted xs ns is))
+    goes_from _ _ _ 123 _ _ _ c.in_ok-show_piece.ensures (sorted_object_is (g.L.Layout.indent c.args.layout.inner) c.args.level (map pair_of xs) (map (member_in xs) ns) (numbers_sorted xs ns is))
 
 pub show_by_numbers-index-pair-requires : goal.show_by_numbers-index-pair-requires
 show_by_numbers-index-pair-requires g t c =
@@ -168,7 +168,7 @@ show_by_numbers-returns-in_err-show_key g t c =
     let p = err_from_is_err_and c.from_residual-in_err-show_key.result c.from_residual-in_err-show_key.ensures.1 in
     let xs = c.args.values.now.items in let es = c.deref-entry-items.result.now in let i = c.loop-entry.entry-index in let q = c.index-pair.result.now in
     let is = subst (λ es. IsKeyOrder (owned_key xs) (numbers_from 0 (length xs)) (numbers_in es)) (sym c.deref-entry-items.ensures.value) c.in-Ok.ensures.order in
-    rw (p.1, p.2) (key_failed _ _ _ (g.L.Layout.indent c.args.layout) c.args.level (c.args.level + 1) c.loop-entry.first (text_bytes q.key) (sorted (tree_of q.value)) _ (drop (i + 1) (members_in xs es)) _ _ c.loop-entry.invariant (entry_left xs es i q is c.loop-entry-test.true c.index-pair.ensures) c.in_err-show_key.ensures)
+    rw (p.1, p.2) (key_failed _ _ _ (g.L.Layout.indent c.args.layout.inner) c.args.level (c.args.level + 1) c.loop-entry.first (text_bytes q.key) (sorted (tree_of q.value)) _ (drop (i + 1) (members_in xs es)) _ _ c.loop-entry.invariant (entry_left xs es i q is c.loop-entry-test.true c.index-pair.ensures) c.in_err-show_key.ensures)
 
 pub show_by_numbers-show_sorted_value-requires : goal.show_by_numbers-show_sorted_value-requires
 show_by_numbers-show_sorted_value-requires g t c κs within =
@@ -183,16 +183,16 @@ show_by_numbers-returns-in_err-show_sorted_value g t c =
     let p = err_from_is_err_and c.from_residual-in_err-show_sorted_value.result c.from_residual-in_err-show_sorted_value.ensures.1 in
     let xs = c.args.values.now.items in let es = c.deref-entry-items.result.now in let i = c.loop-entry.entry-index in let q = c.index-pair.result.now in let u = sorted (tree_of q.value) in
     let is = subst (λ es. IsKeyOrder (owned_key xs) (numbers_from 0 (length xs)) (numbers_in es)) (sym c.deref-entry-items.ensures.value) c.in-Ok.ensures.order in
-    rw (p.1, p.2) (value_failed _ _ _ _ (g.L.Layout.indent c.args.layout) c.args.level (c.args.level + 1) c.loop-entry.first (text_bytes q.key) u u _ (drop (i + 1) (members_in xs es)) _ _ _ c.loop-entry.invariant (entry_left xs es i q is c.loop-entry-test.true c.index-pair.ensures) refl c.in_ok-show_key.ensures c.in_err-show_sorted_value.ensures)
+    rw (p.1, p.2) (value_failed _ _ _ _ (g.L.Layout.indent c.args.layout.inner) c.args.level (c.args.level + 1) c.loop-entry.first (text_bytes q.key) u u _ (drop (i + 1) (members_in xs es)) _ _ _ c.loop-entry.invariant (entry_left xs es i q is c.loop-entry-test.true c.index-pair.ensures) refl c.in_ok-show_key.ensures c.in_err-show_sorted_value.ensures)
 
 pub show_by_numbers-loop-entry-preserved : goal.show_by_numbers-loop-entry-preserved
 show_by_numbers-loop-entry-preserved g t c =
     let xs = c.args.values.now.items in let es = c.deref-entry-items.result.now in let i = c.loop-entry.entry-index in let q = c.index-pair.result.now in let u = sorted (tree_of q.value) in
     let is = subst (λ es. IsKeyOrder (owned_key xs) (numbers_from 0 (length xs)) (numbers_in es)) (sym c.deref-entry-items.ensures.value) c.in-Ok.ensures.order in
-    member_on _ _ _ _ (g.L.Layout.indent c.args.layout) c.args.level (c.args.level + 1) c.loop-entry.first (text_bytes q.key) u u _ (drop (i + 1) (members_in xs es)) _ _ _ c.loop-entry.invariant (entry_left xs es i q is c.loop-entry-test.true c.index-pair.ensures) refl c.in_ok-show_key.ensures c.in_ok-show_sorted_value.ensures
+    member_on _ _ _ _ (g.L.Layout.indent c.args.layout.inner) c.args.level (c.args.level + 1) c.loop-entry.first (text_bytes q.key) u u _ (drop (i + 1) (members_in xs es)) _ _ _ c.loop-entry.invariant (entry_left xs es i q is c.loop-entry-test.true c.index-pair.ensures) refl c.in_ok-show_key.ensures c.in_ok-show_sorted_value.ensures
 
 pub show_by_numbers-returns : goal.show_by_numbers-returns
 show_by_numbers-returns g t c =
     let xs = c.args.values.now.items in let es = c.deref-entry-items.result.now in let i = c.loop-entry.entry-index in
     let e = none_there (members_in xs es) i (entries_end (member_in xs) es i c.loop-entry-test.false) in
-    goes_last _ _ _ _ _ _ _ _ _ c.loop-entry.invariant (sym (ap (members_left (g.L.Layout.indent c.args.layout) c.args.level (c.args.level + 1) c.loop-entry.first) e)) c.close.ensures
+    goes_last _ _ _ _ _ _ _ _ _ c.loop-entry.invariant (sym (ap (members_left (g.L.Layout.indent c.args.layout.inner) c.args.level (c.args.level + 1) c.loop-entry.first) e)) c.close.ensures

@@ -32,15 +32,15 @@ decreases-show_by_numbers g l = 3 * pairs_nodes (list_pairs (map pair_of l.value
 
 abbrev pub invariant-show_sorted_values-loop-value : goal.invariant-show_sorted_values-loop-value
 invariant-show_sorted_values-loop-value g l =
-    let i = g.L.Layout.indent l.layout in let ts = map tree_of l.fn.values.items in
+    let i = g.L.Layout.indent l.layout.inner in let ts = map tree_of l.fn.values.items in
     GoesSorted (held g.W.Sink.state l.fn.out) (held g.W.Sink.state l.out) (elements_left i l.level (l.level + 1) l.first (map sorted (drop l.value-index ts))) (shown i l.level (sorted (list (list_trees ts))))
 
 abbrev pub invariant-show_in_place-loop-pair : goal.invariant-show_in_place-loop-pair
 invariant-show_in_place-loop-pair g l =
-    let i = g.L.Layout.indent l.layout in let ps = map pair_of l.fn.values.items in
+    let i = g.L.Layout.indent l.layout.inner in let ps = map pair_of l.fn.values.items in
     GoesSorted (held g.W.Sink.state l.fn.out) (held g.W.Sink.state l.out) (members_left i l.level (l.level + 1) l.first (map sorted_pair (drop l.pair-index ps))) (shown i l.level (sorted (pairs (list_pairs ps))))
 
 abbrev pub invariant-show_by_numbers-loop-entry : goal.invariant-show_by_numbers-loop-entry
 invariant-show_by_numbers-loop-entry g l =
-    let i = g.L.Layout.indent l.layout in let xs = l.fn.values.items in let qs = map (paired (owned_key xs) (sorted_at (owned_tree xs))) (numbers_in l.entry-items) in
+    let i = g.L.Layout.indent l.layout.inner in let xs = l.fn.values.items in let qs = map (paired (owned_key xs) (sorted_at (owned_tree xs))) (numbers_in l.entry-items) in
     GoesSorted (held g.W.Sink.state l.fn.out) (held g.W.Sink.state l.out) (members_left i l.level (l.level + 1) l.first (drop l.entry-index qs)) (shown i l.level (sorted (pairs (list_pairs (map pair_of xs)))))

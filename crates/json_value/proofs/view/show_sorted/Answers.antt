@@ -6,4 +6,4 @@ use Rattle.json_value.specs.Seen.{form_seen}
 use Rattle.json_value.proofs.view.show_sorted.Goals as goal
 
 pub returns-in-Absent : goal.returns-in-Absent
-returns-in-Absent g c = Shows-same _ _ _ _ _ (sym (ap (λ f. shown (g.L.Layout.indent c.args.layout) 0 (sorted (form_seen f))) c.in-Absent.is)) (added_shows _ _ _ _ c.show_piece.ensures)
+returns-in-Absent g c = Shows-same _ _ _ _ _ (sym (ap (λ f. shown (g.L.Layout.indent c.args.layout.inner) 0 (sorted (form_seen f))) c.in-Absent.is)) (added_shows _ _ _ _ c.show_piece.ensures)
