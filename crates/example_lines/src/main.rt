@@ -1,5 +1,5 @@
-//! Reads JSON Lines from standard input, and prints the sum of the numbers at `bytes`. A line without
-//! such a number counts as 0, and a line that is no JSON text is an error.
+//! Reads JSON Lines from standard input, and prints the sum of the numbers at `bytes`. A line
+//! without such a number counts as 0, and a line that is no JSON text is an error.
 //!
 //!     printf '{"bytes": 1}\n{"bytes": 41}\n' | example_lines
 #![tactic(auto)]

@@ -1,5 +1,5 @@
-//! Reads the servers of a site from standard input, stops those that are old, and writes the site. An
-//! error names the value that is wrong by its path, its line and its column.
+//! Reads the servers of a site from standard input, stops those that are old, and writes the site.
+//! An error names the value that is wrong by its path, its line and its column.
 //!
 //!     printf '{"name": "a", "servers": [{"host": "b", "port": 80}]}' | example_typed
 #![tactic(auto)]

@@ -8,8 +8,8 @@ ghost use Rattle.json_access.specs.Trees.{result_value};
 use crate::value_trait::JsonValueTrait;
 use json_value::{Array, Object, Value};
 
-/// What denotes a JSON value and lends the container that the value is. What is missing and what was
-/// refused are none.
+/// What denotes a JSON value and lends the container that the value is. What is missing and what
+/// was refused are none.
 ///
 /// ```
 /// use json_access::JsonContainerTrait;

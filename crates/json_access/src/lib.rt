@@ -1,5 +1,5 @@
-//! The traits by which anything that denotes a JSON value (RFC 8259, section 3) is read and written: a
-//! value, a view, or what may be missing or refused, which counts as null.
+//! The traits by which anything that denotes a JSON value (RFC 8259, section 3) is read and
+//! written: a value, a view, or what may be missing or refused, which counts as null.
 //!
 //! ```
 //! use json_access::{JsonValueMutTrait, JsonValueTrait};

@@ -3,7 +3,7 @@ ghost use Rattle.std.specs.Prelude.{◌≡◌, option_map, IfOk};
 ghost use Rattle.json_number.specs.Literals.{raw_literal};
 ghost use Rattle.json_value.specs.Seen.{seen};
 ghost use Rattle.json_access.specs.Trees.{spelling};
-ghost use Rattle.json_value.specs.Failures.{OnlyNoMemory};
+ghost use Rattle.json_io.specs.Errors.{OnlyNoMemory};
 
 use json_number::RawNumber;
 use json_text::Result;

@@ -12,16 +12,16 @@ ghost use Rattle.json_value.specs.Steps.{child, tree_at};
 ghost use Rattle.json_value.specs.Touched.{Exchanges, Same, KeptAlong};
 ghost use Rattle.json_value.specs.Written.{ArrayOpened, ObjectOpened};
 ghost use Rattle.json_value.specs.declared.value.Value.{Value, Array as ArrayValue, Object as ObjectValue};
-ghost use Rattle.json_value.specs.Failures.{OnlyNoMemory};
+ghost use Rattle.json_io.specs.Errors.{OnlyNoMemory};
 
 use crate::value_trait::JsonValueTrait;
 use json_text::Result;
 use json_value::{Array, Index, Object, PointerNode, Value};
 use std::alloc::Global;
 
-/// What denotes a JSON value and lends the places in it to be changed. What the caller leaves at a place is put there, and
-/// nothing else of the tree changes; a copy of one level is made of each packed container on the way, and nothing more changes on
-/// None and on a refusal.
+/// What denotes a JSON value and lends the places in it to be changed. What the caller leaves at a
+/// place is put there, and nothing else of the tree changes; a copy of one level is made of each
+/// packed container on the way, and nothing more changes on None and on a refusal.
 ///
 /// ```
 /// use json_access::JsonValueMutTrait;
@@ -59,8 +59,8 @@ pub trait JsonValueMutTrait: JsonValueTrait {
         ensures children { IfSome (lent result) (ObjectOpened (held self.old)) }
         ensures only { OnlyNoMemory result };
 
-    /// The value of the first member of a key, or the element of an index; none where the step leads nowhere.
-    /// Fails with `NoMemory` if memory runs out.
+    /// The value of the first member of a key, or the element of an index; none where the step
+    /// leads nowhere. Fails with `NoMemory` if memory runs out.
     fn get_mut<I: Index>(&mut self, alloc: Global, index: I) -> Result<Option<&mut Value>>
         ensures* writes_back { sem 𝓛 (LendsPart Self.row value_row self.entry result
             (λ n w. IfSome (lent result) (λ x.

@@ -8,7 +8,7 @@ ghost use Rattle.json_doc.specs.declared.json_type.JsonType.TheVariants as kind;
 ghost use Rattle.json_value.specs.Denotes.{tree_of};
 ghost use Rattle.json_value.specs.Seen.{seen};
 ghost use Rattle.json_access.specs.Trees.{option_tree, result_tree, spelling, i64_of, u64_of};
-ghost use Rattle.json_value.specs.Failures.{OnlyNoMemory};
+ghost use Rattle.json_io.specs.Errors.{OnlyNoMemory};
 
 use crate::raw::raw_number;
 use json_doc::JsonType;
@@ -48,8 +48,8 @@ pub trait JsonValueTrait {
     fn as_number(&self) -> Option<Number>
         ensures { option_map value_of result ≡ integer_of (tree self.now) };
 
-    /// The literal of the number: as it was written, or the decimal text of an integer of `u64` or `i64`; none of another kind.
-    /// Fails with `NoMemory` if memory runs out.
+    /// The literal of the number: as it was written, or the decimal text of an integer of `u64` or
+    /// `i64`; none of another kind. Fails with `NoMemory` if memory runs out.
     fn as_raw_number(&self, alloc: Global) -> json_text::Result<Option<RawNumber>>
         ensures literal { IfOk result (λ o. option_map raw_literal o
             ≡ spelling (tree self.now)) }

@@ -38,10 +38,10 @@ pub struct Arguments<'a> {
     pub files: Vec<&'a str>,
 }
 
-/// Returns what the arguments ask for: a command, options and operands of it in any order, and files;
-/// after `--` no argument is an option. Fails with `Invalid` at the first argument with which no list
-/// of arguments is valid, with `Incomplete` if more arguments would make the list valid, and with
-/// `OutOfMemory` if memory runs out.
+/// Returns what the arguments ask for: a command, options and operands of it in any order, and
+/// files; after `--` no argument is an option. Fails with `Invalid` at the first argument with
+/// which no list of arguments is valid, with `Incomplete` if more arguments would make the list
+/// valid, and with `OutOfMemory` if memory runs out.
 pub fn read_arguments(alloc: Global, words: &Words) -> Result<Arguments<'_>, ArgumentsError>
     ensures ok { IfOk result (λ a. ParsesTo words.now a) }
     ensures err { IfErr result (λ e. RefusesCommandLine words.now e) }

@@ -1,7 +1,7 @@
 // The edits that a command asks for.
 ghost use Rattle.std.specs.Prelude.{◌≡◌, ◌⊎◌, Some, None, map, IfOk, IfErr};
 ghost use Rattle.json_arguments.specs.Edits.{edits_tree, edit_tree};
-ghost use Rattle.json_io.specs.Errors.{no_memory};
+ghost use Rattle.json_io.specs.Errors.{no_memory, OnlyNoMemory};
 ghost use Rattle.json_value.specs.Denotes.{tree_of};
 ghost use Rattle.json_value.specs.Edits.{edit_of};
 ghost use Rattle.json_value.specs.EditTrees.{edits_in};
@@ -15,7 +15,7 @@ use std::alloc::Global;
 // Returns the value of one edit: an array of its name and its operands.
 fn edit_value(alloc: Global, verb: Verb, operands: Vec<Value>) -> Result<Value>
     ensures tree { IfOk result (λ v. tree_of v ≡ edit_tree verb (map tree_of operands.items)) }
-    ensures only { IfErr result (λ e. e ≡ no_memory) }
+    ensures only { OnlyNoMemory result }
 {
     let mut parts = operands;
     parts.insert(0, Value::from_static_str(verb.name()))?;
@@ -25,7 +25,7 @@ fn edit_value(alloc: Global, verb: Verb, operands: Vec<Value>) -> Result<Value>
 // Returns the value of all edits.
 fn edits_value(alloc: Global, verb: Verb, operands: Vec<Value>) -> Result<Value>
     ensures tree { IfOk result (λ v. tree_of v ≡ edits_tree verb (map tree_of operands.items)) }
-    ensures only { IfErr result (λ e. e ≡ no_memory) }
+    ensures only { OnlyNoMemory result }
 {
     let mut edits = operands;
     if verb == Verb::Edit && edits.len() == 1 {
@@ -37,9 +37,9 @@ fn edits_value(alloc: Global, verb: Verb, operands: Vec<Value>) -> Result<Value>
     Ok(Value::from_vec(vec![in alloc; edit]?))
 }
 
-/// Returns the edits that a command with these operands asks for: of `edit` those of its operand, and
-/// of `set`, `insert`, `push` and `remove` the one edit of that name. Fails with `TypeUnmatched` if
-/// they are no edits, and with `NoMemory` if memory runs out.
+/// Returns the edits that a command with these operands asks for: of `edit` those of its operand,
+/// and of `set`, `insert`, `push` and `remove` the one edit of that name. Fails with
+/// `TypeUnmatched` if they are no edits, and with `NoMemory` if memory runs out.
 ///
 /// ```
 /// use json_arguments::{Verb, edits_of};

@@ -200,8 +200,9 @@ fn report_of(alloc: Global, words: &Words, text: &str) -> Result<String, AllocEr
     }
 }
 
-/// Returns the report of arguments that are refused: the program, the command, and what is wrong with
-/// the argument that the error names, or what is missing; and a newline. Fails if memory runs out.
+/// Returns the report of arguments that are refused: the program, the command, and what is wrong
+/// with the argument that the error names, or what is missing; and a newline. Fails if memory runs
+/// out.
 ///
 /// ```
 /// use json_arguments::{arguments_report, read_arguments};

@@ -1,7 +1,7 @@
 // Arguments with what is reported of them.
 
-/// Worked examples, as `json_command::rows` reads them: an empty input, the status, an empty output,
-/// the report, and the arguments, each closed by `|`.
+/// Worked examples, as `json_command::rows` reads them: an empty input, the status, an empty
+/// output, the report, and the arguments, each closed by `|`.
 pub const ROWS: &str = r#"# valid
 |0|||fmt|
 |0|||fmt|--|--pretty|

@@ -1,5 +1,5 @@
-//! Compact texts in memory, to which tokens are written: each is appended with the comma or the colon
-//! before it.
+//! Compact texts in memory, to which tokens are written: each is appended with the comma or the
+//! colon before it.
 //!
 //! ```
 //! use json_buffer::TextWriter;

@@ -18,8 +18,8 @@ use json_text::{Error, ErrorCode, Place, Result};
 use std::alloc::Global;
 
 /// Writes the tokens of a value to a compact text in memory. A key or a value is appended with the
-/// comma or the colon before it. If memory runs out, a call fails with `NoMemory`, and so does every
-/// later one.
+/// comma or the colon before it. If memory runs out, a call fails with `NoMemory`, and so does
+/// every later one.
 ///
 /// ```
 /// use json_buffer::TextWriter;

@@ -16,8 +16,8 @@
 //! })?;
 //! assert_eq!(rt; differing, 1);
 //! ```
-ghost use Rattle.std.specs.Prelude.{◌≡◌, ◌≤◌, IfErr};
-ghost use Rattle.json_io.specs.Errors.{no_memory};
+ghost use Rattle.std.specs.Prelude.{◌≡◌, ◌≤◌};
+ghost use Rattle.json_io.specs.Errors.{OnlyNoMemory};
 
 use crate::status::Status;
 use json_text::{FakeSource, Result, VecSink, Words};
@@ -36,7 +36,7 @@ struct Row {
 
 // The field with each `«N PIECE»` as N times the piece.
 fn repeated(alloc: Global, field: &str) -> Result<String>
-    ensures { IfErr result (λ e. e ≡ no_memory) }
+    ensures { OnlyNoMemory result }
 {
     let mut text = String::new(alloc);
     'parts: for part in field.split('»') {
@@ -51,7 +51,7 @@ fn repeated(alloc: Global, field: &str) -> Result<String>
 
 // The bytes that a field spells.
 fn decoded(alloc: Global, field: &str) -> Result<Vec<u8>>
-    ensures { IfErr result (λ e. e ≡ no_memory) }
+    ensures { OnlyNoMemory result }
 {
     let mut bytes = Vec::new(alloc);
     let text = repeated(alloc, field)?;
@@ -61,7 +61,7 @@ fn decoded(alloc: Global, field: &str) -> Result<Vec<u8>>
 
 // The lines that the field of the errors spells.
 fn decoded_lines(alloc: Global, field: &str) -> Result<Vec<u8>>
-    ensures { IfErr result (λ e. e ≡ no_memory) }
+    ensures { OnlyNoMemory result }
 {
     let mut bytes = decoded(alloc, field)?;
     if !bytes.is_empty() {
@@ -72,7 +72,7 @@ fn decoded_lines(alloc: Global, field: &str) -> Result<Vec<u8>>
 
 // The row of a line; none where a field is missing or the status is no number.
 fn read_row(alloc: Global, line: &str) -> Result<Option<Row>>
-    ensures { IfErr result (λ e. e ≡ no_memory) }
+    ensures { OnlyNoMemory result }
 {
     let mut fields = line.split_terminator('|');
     let (Some(input), Some(status), Some(output), Some(errors)) = (
@@ -128,7 +128,7 @@ where
     F: Fn(Global, &Words, &mut FakeSource<'_>, &mut VecSink, &mut VecSink) -> u8,
     requires callable { F.IsAlwaysCallable run }
     requires some { 1 ≤ at_once }
-    ensures { IfErr result (λ e. e ≡ no_memory) }
+    ensures { OnlyNoMemory result }
 {
     let mut differing = 0u32;
     'rows: for line in rows.lines() {

@@ -1,6 +1,6 @@
 // The calls of arrays.
 ghost use Rattle.std.specs.Prelude.{◌≡◌, ◌+◌, ◌-◌, ◌≤◌, ◌<◌, ◌↔◌, List, [], ◌∷◌, ◌++◌, length, map};
-ghost use Rattle.std.specs.Prelude.{IfOk, IfErr, OnOk, OnErr, IsOk, IsNone, IsTrue, Some};
+ghost use Rattle.std.specs.Prelude.{IfOk, OnOk, OnErr, IsOk, IsNone, IsTrue, Some};
 ghost use Rattle.std.specs.Prelude.{take, drop, replicate, slice_get, slice_range, option_map};
 ghost use Rattle.std.specs.Option.{option_to_list};
 ghost use Rattle.std.specs.Vec.{vec_len, vec_capacity};
@@ -8,7 +8,7 @@ ghost use Rattle.std.specs.Borrow.{LendsSoOk, sem};
 ghost use Rattle.std.specs.Fn.{CalledAt, CalledAtMut};
 ghost use Rattle.std.specs.List.{insert, remove, remove_range, swap_remove, AppendsResults};
 ghost use Rattle.std.specs.List.Retain.{IsFiltered, RetainsInTurn};
-ghost use Rattle.json_io.specs.Errors.{no_memory};
+ghost use Rattle.json_io.specs.Errors.{OnlyNoMemory};
 ghost use Rattle.json_value.specs.Denotes.{tree_of, list_in};
 ghost use Rattle.json_value.specs.Places.{value_origin};
 ghost use Rattle.json_value.specs.Room.{spare_in};
@@ -32,7 +32,7 @@ use std::alloc::Global;
 fn copy_all(alloc: Global, items: &[Value]) -> Result<Vec<Value>>
     ensures list { IfOk result (λ v. map tree_of v.items ≡ map tree_of items.now) }
     ensures stands { IfOk result (λ v. map value_origin v.items ≡ map value_origin items.now) }
-    ensures only { IfErr result (λ e. e ≡ no_memory) }
+    ensures only { OnlyNoMemory result }
 {
     let mut copies = Vec::with_capacity(alloc, items.len())?;
     for item in items {
@@ -46,7 +46,7 @@ fn copies_of(alloc: Global, value: &Value, count: usize) -> Result<Vec<Value>>
     ensures list { IfOk result (λ v. map tree_of v.items ≡ replicate count (tree_of value.now)) }
     ensures stands { IfOk result (λ v. map value_origin v.items
         ≡ replicate count (value_origin value.now)) }
-    ensures only { IfErr result (λ e. e ≡ no_memory) }
+    ensures only { OnlyNoMemory result }
 {
     let mut copies = Vec::with_capacity(alloc, count)?;
     for _copy in 0..count {
@@ -73,7 +73,7 @@ fn take_range(list: &mut Vec<Value>, from: usize, to: usize) -> Result<Vec<Value
     ensures left { OnOk result (list.new.items ≡ remove_range list.old.items from to) }
     ensures taken { IfOk result (λ v. v.items ≡ slice_range list.old.items from to) }
     ensures kept { OnErr result (list.new.items ≡ list.old.items) }
-    ensures only { IfErr result (λ e. e ≡ no_memory) }
+    ensures only { OnlyNoMemory result }
 {
     let mut rest = list.split_off(to)?;
     match list.split_off(from) {
@@ -125,7 +125,7 @@ pub trait ArrayCalls {
         ensures same { ArrayStays (held self.old) (held self.new) }
         ensures free { additional ≤ spare_in (held self.old)
             → IsOk result × (held self.new ≡ held self.old) }
-        ensures only { IfErr result (λ e. e ≡ no_memory) };
+        ensures only { OnlyNoMemory result };
 
     /// Puts the element before the one at the index. Fails with `NoMemory`, and changes nothing, if
     /// memory runs out.
@@ -136,7 +136,7 @@ pub trait ArrayCalls {
         ensures children { OnOk result (ArrayBecame (λ items. insert items index element)
             (held self.old) (held self.new)) }
         ensures kept { ArrayStaysOnErr (held self.old) (held self.new) result }
-        ensures only { IfErr result (λ e. e ≡ no_memory) };
+        ensures only { OnlyNoMemory result };
 
     /// Appends the element. Fails with `NoMemory`, and changes nothing, if memory runs out.
     fn push(&mut self, alloc: Global, val: Value) -> Result<()>
@@ -147,7 +147,7 @@ pub trait ArrayCalls {
         ensures kept { ArrayStaysOnErr (held self.old) (held self.new) result }
         ensures free { 0 < spare_in (held self.old) → IsOk result }
         ensures room { TakesRoomForOne (held self.old) (held self.new) }
-        ensures only { IfErr result (λ e. e ≡ no_memory) };
+        ensures only { OnlyNoMemory result };
 
     /// Takes the element out; the others close up. Fails with `NoMemory`, and changes nothing, if
     /// memory runs out.
@@ -160,7 +160,7 @@ pub trait ArrayCalls {
             (held self.old) (held self.new)) }
         ensures kept { OnErr result (held self.new ≡ held self.old) }
         ensures free { (IsPlace (held self.old) → ⊥) → IsOk result }
-        ensures only { IfErr result (λ e. e ≡ no_memory) };
+        ensures only { OnlyNoMemory result };
 
     /// The array without elements, with room for so many. Fails with `NoMemory` if memory runs out.
     fn with_capacity(alloc: Global, capacity: usize) -> Result<Array>
@@ -168,7 +168,7 @@ pub trait ArrayCalls {
         ensures no_place { IfOk result (λ a. IsPlace a → ⊥) }
         ensures room { IfOk result (λ a. capacity ≤ spare_in a) }
         ensures free { capacity ≡ 0 → IsOk result }
-        ensures only { IfErr result (λ e. e ≡ no_memory) };
+        ensures only { OnlyNoMemory result };
 
     /// Takes the element out; the last one takes its place. Fails with `NoMemory`, and changes
     /// nothing, if memory runs out.
@@ -181,7 +181,7 @@ pub trait ArrayCalls {
             (held self.old) (held self.new)) }
         ensures kept { OnErr result (held self.new ≡ held self.old) }
         ensures free { (IsPlace (held self.old) → ⊥) → IsOk result }
-        ensures only { IfErr result (λ e. e ≡ no_memory) };
+        ensures only { OnlyNoMemory result };
 
     /// The first so many elements, or all. Fails with `NoMemory`, and changes nothing, if memory
     /// runs out.
@@ -190,7 +190,7 @@ pub trait ArrayCalls {
         ensures children { OnOk result (ArrayBecame (take len) (held self.old) (held self.new)) }
         ensures kept { OnErr result (held self.new ≡ held self.old) }
         ensures free { (IsPlace (held self.old) → ⊥) → IsOk result }
-        ensures only { IfErr result (λ e. e ≡ no_memory) };
+        ensures only { OnlyNoMemory result };
 
     /// The last element, taken out; none exactly of an array without elements. Fails with
     /// `NoMemory`, and changes nothing, if memory runs out.
@@ -203,7 +203,7 @@ pub trait ArrayCalls {
             (held self.old) (held self.new)) }
         ensures kept { OnErr result (held self.new ≡ held self.old) }
         ensures free { (IsPlace (held self.old) → ⊥) → IsOk result }
-        ensures only { IfErr result (λ e. e ≡ no_memory) };
+        ensures only { OnlyNoMemory result };
 
     /// No elements. An owned list keeps its room. Takes no memory.
     fn clear(&mut self)
@@ -223,7 +223,7 @@ pub trait ArrayCalls {
             (λ items now. (now ≡ take at items) × (own_elements a ≡ drop at items))
             (held self.old) (held self.new)) }
         ensures kept { ArrayStaysOnErr (held self.old) (held self.new) result }
-        ensures only { IfErr result (λ e. e ≡ no_memory) };
+        ensures only { OnlyNoMemory result };
 
     /// The elements of the range, taken out. Fails with `NoMemory`, and changes nothing, if memory
     /// runs out.
@@ -239,7 +239,7 @@ pub trait ArrayCalls {
             (now ≡ remove_range items from to) × (own_elements a ≡ slice_range items from to))
             (held self.old) (held self.new)) }
         ensures kept { ArrayStaysOnErr (held self.old) (held self.new) result }
-        ensures only { IfErr result (λ e. e ≡ no_memory) };
+        ensures only { OnlyNoMemory result };
 
     /// The other's elements, appended; the other has none then. Fails with `NoMemory`, and changes
     /// nothing, if memory runs out.
@@ -253,7 +253,7 @@ pub trait ArrayCalls {
         ensures no_place { OnOk result (IsPlace other.new → ⊥) }
         ensures kept { OnErr result (ArrayStays (held self.old) (held self.new)
             × ArrayStays other.old other.new) }
-        ensures only { IfErr result (λ e. e ≡ no_memory) };
+        ensures only { OnlyNoMemory result };
 
     /// Appends copies of these. Fails with `NoMemory`, and changes nothing, if memory runs out.
     fn extend(&mut self, alloc: Global, items: &[Value]) -> Result<()>
@@ -262,7 +262,7 @@ pub trait ArrayCalls {
         ensures children { OnOk result (ArrayChanged (AppendsCopies items.now)
             (held self.old) (held self.new)) }
         ensures kept { ArrayStaysOnErr (held self.old) (held self.new) result }
-        ensures only { IfErr result (λ e. e ≡ no_memory) };
+        ensures only { OnlyNoMemory result };
 
     /// Copies of that range, appended. Fails with `NoMemory`, and changes nothing, if memory runs
     /// out.
@@ -275,7 +275,7 @@ pub trait ArrayCalls {
             (λ items now. AppendsCopies (slice_range items from to) items now)
             (held self.old) (held self.new)) }
         ensures kept { ArrayStaysOnErr (held self.old) (held self.new) result }
-        ensures only { IfErr result (λ e. e ≡ no_memory) };
+        ensures only { OnlyNoMemory result };
 
     /// Cut to this length, or filled up with copies of the value. Fails with `NoMemory`, and
     /// changes nothing, if memory runs out.
@@ -287,7 +287,7 @@ pub trait ArrayCalls {
             AppendsCopies (replicate (new_len - length items) value.now) (take new_len items) now)
             (held self.old) (held self.new)) }
         ensures kept { ArrayStaysOnErr (held self.old) (held self.new) result }
-        ensures only { IfErr result (λ e. e ≡ no_memory) };
+        ensures only { OnlyNoMemory result };
 
     /// Keeps the elements for which `f` is true, in order. Fails with `NoMemory`, and changes
     /// nothing, if memory runs out.
@@ -299,7 +299,7 @@ pub trait ArrayCalls {
             (held self.old) (held self.new)) }
         ensures kept { OnErr result (held self.new ≡ held self.old) }
         ensures free { (IsPlace (held self.old) → ⊥) → IsOk result }
-        ensures only { IfErr result (λ e. e ≡ no_memory) };
+        ensures only { OnlyNoMemory result };
 
     /// The same, with what `f` writes. Fails with `NoMemory`, and changes nothing, if memory runs
     /// out.
@@ -309,7 +309,7 @@ pub trait ArrayCalls {
             (held self.old) (held self.new)) }
         ensures kept { OnErr result (held self.new ≡ held self.old) }
         ensures free { (IsPlace (held self.old) → ⊥) → IsOk result }
-        ensures only { IfErr result (λ e. e ≡ no_memory) };
+        ensures only { OnlyNoMemory result };
 
     /// Truncates to this length, or appends what `f` returns up to it, in order. Fails with
     /// `NoMemory`, and changes nothing, if memory runs out.
@@ -325,7 +325,7 @@ pub trait ArrayCalls {
             (λ items now. AppendsResults F.step (take new_len items) now f)
             (held self.old) (held self.new)) }
         ensures kept { ArrayStaysOnErr (held self.old) (held self.new) result }
-        ensures only { IfErr result (λ e. e ≡ no_memory) };
+        ensures only { OnlyNoMemory result };
 
     /// An iterator over all elements. After a refusal the array is gone.
     fn into_iter(self, alloc: Global) -> Result<IntoIter>
@@ -333,7 +333,7 @@ pub trait ArrayCalls {
         ensures children { IfOk result (λ it. FirstElements (held self) (values_left it)) }
         ensures shown { IfOk result (λ it. values_shown it ≡ values_left it) }
         ensures free { (IsPlace (held self) → ⊥) → IsOk result }
-        ensures only { IfErr result (λ e. e ≡ no_memory) };
+        ensures only { OnlyNoMemory result };
 
     /// All elements, to be changed. What is written through the slice is what the array has. Fails
     /// with `NoMemory`, and changes nothing, if memory runs out.
@@ -344,7 +344,7 @@ pub trait ArrayCalls {
         ensures list { IfOk result (λ s. map tree_of s.now ≡ list_in (held self.old)) }
         ensures children { IfOk result (λ s. FirstElements (held self.old) s.now) }
         ensures free { (IsPlace (held self.old) → ⊥) → IsOk result }
-        ensures only { IfErr result (λ e. e ≡ no_memory) };
+        ensures only { OnlyNoMemory result };
 }
 
 impl ArrayCalls for Array {

@@ -239,7 +239,8 @@ impl<'a> Entry<'a> {
         }
     }
 
-    /// Returns the value there, or inserts what `default` returns. It is called for a missing key alone.
+    /// Returns the value there, or inserts what `default` returns. It is called for a missing key
+    /// alone.
     pub fn or_insert_with<F: FnOnce() -> Value>(self, default: F) -> &'a mut Value
         requires { entry_value self ≡ None → F.pre default }
         ensures* writes_back { sem 𝓛 (entry_lends self.entry result) }

@@ -1,11 +1,11 @@
 // Lists of members: copies, members put in turn, and those that a closure keeps.
 ghost use Rattle.std.specs.Prelude.{◌≡◌, ◌+◌, ◌<◌, ◌≤◌, map};
-ghost use Rattle.std.specs.Prelude.{IfOk, IfErr, Some};
+ghost use Rattle.std.specs.Prelude.{IfOk, Some};
 ghost use Rattle.std.specs.Vec.{vec_len, vec_capacity};
 ghost use Rattle.json_grammar.specs.Tree.{list_pairs};
 ghost use Rattle.json_model.specs.Edit.{inserted};
 ghost use Rattle.json_model.specs.Merged.{inserted_all};
-ghost use Rattle.json_io.specs.Errors.{no_memory};
+ghost use Rattle.json_io.specs.Errors.{OnlyNoMemory};
 ghost use Rattle.json_value.specs.Denotes.{pair_of};
 ghost use Rattle.json_value.specs.Merged.{with_member, with_members};
 ghost use Rattle.json_value.specs.declared.value.Value.{Value};
@@ -21,7 +21,7 @@ use std::alloc::Global;
 pub(crate) fn copy_pairs(alloc: Global, pairs: &[Pair]) -> Result<Vec<Pair>>
     ensures pairs { IfOk result (λ v. map pair_of v.items ≡ map pair_of pairs.now) }
     ensures copies { IfOk result (λ v. map stood_member v.items ≡ map copied_member pairs.now) }
-    ensures only { IfErr result (λ e. e ≡ no_memory) }
+    ensures only { OnlyNoMemory result }
 {
     let mut copies = Vec::with_capacity(alloc, pairs.len())?;
     for pair in pairs {

@@ -1,13 +1,13 @@
 // The calls of objects.
 ghost use Rattle.std.specs.Prelude.{◌≡◌, ◌+◌, ◌<◌, ◌≤◌, ◌↔◌, List, [], length, map, set, false};
-ghost use Rattle.std.specs.Prelude.{IfOk, IfErr, IfSome, IfNone, OnOk, OnErr, IsOk, IsTrue, Some};
+ghost use Rattle.std.specs.Prelude.{IfOk, IfSome, IfNone, OnOk, OnErr, IsOk, IsTrue, Some};
 ghost use Rattle.std.specs.Prelude.{slice_get, option_map};
 ghost use Rattle.std.specs.Borrow.{LendsSoOk, RestsIfErr, sem};
 ghost use Rattle.std.specs.List.Retain.{RetainsInTurn};
 ghost use Rattle.json_grammar.specs.Tree.{list_pairs};
 ghost use Rattle.json_model.specs.Edit.{has_key, inserted, without_key};
 ghost use Rattle.json_model.specs.Merged.{inserted_all};
-ghost use Rattle.json_io.specs.Errors.{no_memory};
+ghost use Rattle.json_io.specs.Errors.{OnlyNoMemory};
 ghost use Rattle.json_value.specs.Denotes.{tree_of, pair_of, pairs_in};
 ghost use Rattle.json_value.specs.FirstMember.{IsFirstOf};
 ghost use Rattle.json_value.specs.Left.{members_left, members_sights_left};
@@ -49,7 +49,7 @@ fn seek(object: &mut Object, alloc: Global, key: &str) -> Result<Option<usize>>
         (λ i. IsFirstOf key.now (map pair_of (own_members object.new)) i)) }
     ensures none { IfOk result (λ o. IfNone o
         (has_key key.now (list_pairs (map pair_of (own_members object.new))) ≡ false)) }
-    ensures only { IfErr result (λ e. e ≡ no_memory) }
+    ensures only { OnlyNoMemory result }
     ensures free { (IsPlace object.old → ⊥) → IsOk result }
 {
     let pairs = object.pairs_mut(alloc)?;
@@ -63,7 +63,7 @@ fn make_room(object: &mut Object) -> Result<()>
     ensures owned { OwnsList object.new }
     ensures same { pairs_in object.new ≡ pairs_in object.old }
     ensures room { OnOk result (0 < spare_in object.new) }
-    ensures only { IfErr result (λ e. e ≡ no_memory) }
+    ensures only { OnlyNoMemory result }
 {
     let pairs = object.owned_mut();
     pairs.reserve(1)?;
@@ -91,8 +91,8 @@ fn value_of<'o>(object: &'o mut Object, alloc: Global, key: &str) -> Result<&'o 
     }
 }
 
-// A place that is lent, or none where there was none; only want of memory stays an error. The walk of `get_mut` can name
-// the contract of a function of its own crate alone, so this one is here too.
+// A place that is lent, or none where there was none; only want of memory stays an error. The walk
+// of `get_mut` can name the contract of a function of its own crate alone, so this one is here too.
 fn none_if_missing<'a>(r: Result<&'a mut Value>) -> Result<Option<&'a mut Value>>
     ensures missing_as_none { result ≡ missing_as_none r.entry }
 {
@@ -167,7 +167,7 @@ pub trait ObjectCalls {
         ensures found { IfOk result (λ o. option_map (λ x. tree_of x.now) o
             ≡ found key.now (pairs_in (held self.old))) }
         ensures free { (IsPlace (held self.old) → ⊥) → IsOk result }
-        ensures only { IfErr result (λ e. e ≡ no_memory) };
+        ensures only { OnlyNoMemory result };
 
     /// The member at the index, to be changed. Fails with `NoMemory`, and changes nothing, if
     /// memory runs out.
@@ -179,7 +179,7 @@ pub trait ObjectCalls {
         ensures pair { IfOk result (λ p. slice_get (pairs_in (held self.old)) i
             ≡ Some (pair_of p.now)) }
         ensures free { (IsPlace (held self.old) → ⊥) → IsOk result }
-        ensures only { IfErr result (λ e. e ≡ no_memory) };
+        ensures only { OnlyNoMemory result };
 
     /// Sets the value of the first member of the key, and returns the old one; or appends such a
     /// member. Fails with `NoMemory`, and changes nothing, if memory runs out.
@@ -191,7 +191,7 @@ pub trait ObjectCalls {
         ensures children { IfOk result (λ o. ObjectChanged (PutsValue key.now value o)
             (held self.old) (held self.new)) }
         ensures kept { ObjectStaysOnErr (held self.old) (held self.new) result }
-        ensures only { IfErr result (λ e. e ≡ no_memory) };
+        ensures only { OnlyNoMemory result };
 
     /// Keeps the members for which `f` is true, in order, with what it writes. Fails with
     /// `NoMemory`, and changes nothing, if memory runs out.
@@ -201,14 +201,14 @@ pub trait ObjectCalls {
             (held self.old) (held self.new)) }
         ensures kept { OnErr result (held self.new ≡ held self.old) }
         ensures free { (IsPlace (held self.old) → ⊥) → IsOk result }
-        ensures only { IfErr result (λ e. e ≡ no_memory) };
+        ensures only { OnlyNoMemory result };
 
     /// The object without members, with room for so many. Fails with `NoMemory` if memory runs out.
     fn with_capacity(alloc: Global, capacity: usize) -> Result<Object>
         ensures pairs { IfOk result (λ o. pairs_in o ≡ []) }
         ensures no_place { IfOk result (λ o. IsPlace o → ⊥) }
         ensures room { IfOk result (λ o. capacity ≤ spare_in o) }
-        ensures only { IfErr result (λ e. e ≡ no_memory) };
+        ensures only { OnlyNoMemory result };
 
     /// Room for at least as many more. Fails with `NoMemory`, and changes nothing, if memory runs
     /// out.
@@ -217,7 +217,7 @@ pub trait ObjectCalls {
         ensures same { ObjectStays (held self.old) (held self.new) }
         ensures free { additional ≤ spare_in (held self.old)
             → IsOk result × (held self.new ≡ held self.old) }
-        ensures only { IfErr result (λ e. e ≡ no_memory) };
+        ensures only { OnlyNoMemory result };
 
     /// No members. An owned list keeps its room. Takes no memory.
     fn clear(&mut self)
@@ -238,7 +238,7 @@ pub trait ObjectCalls {
         ensures key { IfOk result (λ o. IfSome o (λ p. p.0.now ≡ key.now)) }
         ensures kept { OnErr result (held self.new ≡ held self.old) }
         ensures free { (IsPlace (held self.old) → ⊥) → IsOk result }
-        ensures only { IfErr result (λ e. e ≡ no_memory) };
+        ensures only { OnlyNoMemory result };
 
     /// Copies of these, inserted in turn. Fails with `NoMemory`, and changes nothing, if memory
     /// runs out.
@@ -249,7 +249,7 @@ pub trait ObjectCalls {
             × AreCopies pairs.now more × (now ≡ with_members more items))
             (held self.old) (held self.new)) }
         ensures kept { ObjectStaysOnErr (held self.old) (held self.new) result }
-        ensures only { IfErr result (λ e. e ≡ no_memory) };
+        ensures only { OnlyNoMemory result };
 
     /// The other's members, inserted in turn; the other has none then. Fails with `NoMemory`, and
     /// changes nothing, if memory runs out.
@@ -263,7 +263,7 @@ pub trait ObjectCalls {
         ensures no_place { OnOk result (IsPlace other.new → ⊥) }
         ensures kept { OnErr result (ObjectStays (held self.old) (held self.new)
             × ObjectStays other.old other.new) }
-        ensures only { IfErr result (λ e. e ≡ no_memory) };
+        ensures only { OnlyNoMemory result };
 
     /// Takes out all members of the key. The value of the first. Fails with `NoMemory`, and changes
     /// nothing, if memory runs out.
@@ -276,7 +276,7 @@ pub trait ObjectCalls {
             (held self.old) (held self.new)) }
         ensures kept { OnErr result (held self.new ≡ held self.old) }
         ensures free { (IsPlace (held self.old) → ⊥) → IsOk result }
-        ensures only { IfErr result (λ e. e ≡ no_memory) };
+        ensures only { OnlyNoMemory result };
 
     /// The entry of the key. Fails with `NoMemory`, and changes nothing, if memory runs out.
     fn entry(&mut self, alloc: Global, key: &str) -> Result<Entry<'_>>
@@ -293,7 +293,7 @@ pub trait ObjectCalls {
             ≡ found key.now (pairs_in (held self.old))) }
         ensures update { IfOk result (λ e. (w : Value) → list_pairs (pairs_in (entry_with e w))
             ≡ inserted key.now (tree_of w) (list_pairs (pairs_in (held self.old)))) }
-        ensures only { IfErr result (λ e. e ≡ no_memory) };
+        ensures only { OnlyNoMemory result };
 }
 
 impl ObjectCalls for Object {

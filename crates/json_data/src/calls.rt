@@ -77,10 +77,10 @@ fn read_text<'a, T: Deserialize<'a> + Drop>(alloc: Global, text: &'a str, depth:
 
 /// Reads a value of the type from a JSON text of at most 254 levels (RFC 8259).
 ///
-/// Fails with `TooLarge` exactly above 4,294,967,295 bytes, else with the error of the whole text, if it
-/// has one. Only for a text that is valid it fails because its tree is no value of the type, at the
-/// beginning of the value: with `TypeUnmatched`, `NumberOutOfRange` or `ExpectedNumericKey`. Fails with
-/// `NoMemory` if memory runs out.
+/// Fails with `TooLarge` exactly above 4,294,967,295 bytes, else with the error of the whole text,
+/// if it has one. Only for a text that is valid it fails because its tree is no value of the type,
+/// at the beginning of the value: with `TypeUnmatched`, `NumberOutOfRange` or `ExpectedNumericKey`.
+/// Fails with `NoMemory` if memory runs out.
 pub fn from_str<'a, T: Deserialize<'a> + Drop>(alloc: Global, s: &'a str) -> Result<T>
     ensures ok { IfOk result (λ v. ReadsTypedText 254 T.from_tree s.now (gives (T.datum v))) }
     ensures place { IfOk result (T.placed IsPackedAtRoot) }
@@ -124,8 +124,8 @@ pub fn from_slice_unchecked<'a, T: Deserialize<'a> + Drop>(
     from_str(alloc, unsafe { from_utf8_unchecked(json) })
 }
 
-// The value of a text in which the names of each object have to differ. They are compared in a pass of its own, which
-// packs a document.
+// The value of a text in which the names of each object have to differ. They are compared in a pass
+// of its own, which packs a document.
 fn read_unique<'a, T: Deserialize<'a> + Drop>(
     alloc: Global,
     text: &'a str,
@@ -143,10 +143,10 @@ fn read_unique<'a, T: Deserialize<'a> + Drop>(
     read_text(alloc, text, rules.depth())
 }
 
-/// Reads a value from the bytes of a JSON text by rules, as [`from_slice`] does: the text has no more
-/// levels than they allow, and where they ask for unique names no object has a name twice (RFC 8259,
-/// sections 9 and 4). Of a bracket that opens a level too many and a name that repeats the first is
-/// reported, and either before every other error.
+/// Reads a value from the bytes of a JSON text by rules, as [`from_slice`] does: the text has no
+/// more levels than they allow, and where they ask for unique names no object has a name twice (RFC
+/// 8259, sections 9 and 4). Of a bracket that opens a level too many and a name that repeats the
+/// first is reported, and either before every other error.
 pub fn from_slice_with<'a, T: Deserialize<'a> + Drop>(
     alloc: Global,
     json: &'a [u8],
@@ -183,11 +183,11 @@ fn fill<S: Source>(alloc: Global, source: &mut S, room: &mut Vec<u8>) -> Result<
     Ok(())
 }
 
-/// The value of all that the source has left, as [`from_slice`]. The bytes go into `room`, from which the value may
-/// borrow; those that it had are dropped.
+/// The value of all that the source has left, as [`from_slice`]. The bytes go into `room`, from
+/// which the value may borrow; those that it had are dropped.
 ///
-/// `Io` at `Reading` comes where the source failed, and `TooLarge` where it has more than 4,294,967,295 bytes: `room` is
-/// as it was then.
+/// `Io` at `Reading` comes where the source failed, and `TooLarge` where it has more than
+/// 4,294,967,295 bytes: `room` is as it was then.
 pub fn from_reader<'a, S: Source, T: Deserialize<'a> + Drop>(
     alloc: Global,
     source: &mut S,

@@ -33,8 +33,8 @@ pub trait FromKey<S: Lent>: Sized + Ord {
     /// What the reading of a text returns.
     ghost from_text: { List ℕ → Reading };
 
-    /// Reads the key from a text. Fails without a place if the text is no such key, and with `NoMemory`
-    /// if memory runs out.
+    /// Reads the key from a text. Fails without a place if the text is no such key, and with
+    /// `NoMemory` if memory runs out.
     fn from_key(alloc: Global, key: &Piece<S>) -> Result<Self>
         ensures ok { IfOk result (λ k. (s : List ℕ) → Says s key.now.escaped (S.bytes key.now.text)
             → from_text s ≡ gives (key_datum k)) }

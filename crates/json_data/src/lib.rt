@@ -1,4 +1,5 @@
-//! Typed reading of JSON: values of many types from the tokens of a text or of a value. It also exports what `json_tokens` does.
+//! Typed reading of JSON: values of many types from the tokens of a text or of a value. It also
+//! exports what `json_tokens` does.
 //!
 //! ```
 //! use json_data::from_str;

@@ -51,8 +51,8 @@ pub trait Members<S: Lent>: Sized {
     /// What is read after that, of a name and its value.
     ghost step: { Datum → List ℕ → Tree → Reading };
 
-    /// Takes the value of the member of that name: it is read, or skipped where the name is unknown. A refusal of the
-    /// value comes after the whole of it was taken.
+    /// Takes the value of the member of that name: it is read, or skipped where the name is
+    /// unknown. A refusal of the value comes after the whole of it was taken.
     fn member<T: Tokens<S>>(&mut self, alloc: Global, name: &str, tokens: &mut T) -> Result<()>
         requires { WantsValue (T.stand tokens.old) }
         ensures ok { OnOk result (ReadsTree T.taken T.stand (step (so_far self.old) name.now)
@@ -110,8 +110,9 @@ fn read_rest<S: Lent, M: Members<S>, T: Tokens<S>>(
     }
 }
 
-/// Takes an object, each member in its order. `TypeUnmatched` comes where another value comes; a refusal of a member,
-/// after the whole object was taken. `NoMemory` comes where a name that has an escape cannot be copied.
+/// Takes an object, each member in its order. `TypeUnmatched` comes where another value comes; a
+/// refusal of a member, after the whole object was taken. `NoMemory` comes where a name that has an
+/// escape cannot be copied.
 #[inline(always)]
 pub fn read_members<S: Lent, M: Members<S>, T: Tokens<S>>(
     alloc: Global,

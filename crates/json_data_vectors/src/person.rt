@@ -10,7 +10,8 @@ use json_text::{ErrorCode, Result};
 use json_write::{Field, KeyRoom, Serialize, give_fields};
 use std::alloc::Global;
 
-/// A person: an object with the members `name` and `age`, and `phones` where there are any. Others are skipped.
+/// A person: an object with the members `name` and `age`, and `phones` where there are any. Others
+/// are skipped.
 #[derive(Drop)]
 pub struct Person {
     /// What the person is called.

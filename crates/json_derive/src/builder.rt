@@ -47,8 +47,8 @@ pub trait Builder<S: Lent>: Sized {
         ensures err { IfErr result (λ e. StopsReading T.taken T.stand
             (struct_step shape (list_datum (so_far self.old)) name.now) tokens.old tokens.new e) };
 
-    /// Returns the struct. Fails with `TypeUnmatched` if a member that must be there is missing, and
-    /// with `NoMemory` if memory for a default runs out.
+    /// Returns the struct. Fails with `TypeUnmatched` if a member that must be there is missing,
+    /// and with `NoMemory` if memory for a default runs out.
     fn build(self, alloc: Global) -> Result<Self::Built>
         ensures ok { IfOk result (λ v. made_struct shape (list_datum (so_far self))
             ≡ gives (struct_datum shape (values v))) }

@@ -9,8 +9,8 @@ ghost use Rattle.json_diff.specs.DiffWriting.{AppendsTrees, AppendsOperations};
 ghost use Rattle.json_patch.specs.Patch.{remove, patched};
 ghost use Rattle.json_patch.specs.Pointer.{slash, escaped_token};
 ghost use Rattle.json_value.specs.Denotes.{tree_of, pair_of};
-ghost use Rattle.json_value.specs.Failures.{OnlyNoMemory};
 ghost use Rattle.json_value.specs.Seen.{seen, elements_seen, members_seen};
+ghost use Rattle.json_io.specs.Errors.{OnlyNoMemory};
 
 use crate::merge_between::has_unique_keys;
 use itoa::Buffer;

@@ -7,9 +7,9 @@ ghost use Rattle.json_patch.specs.Merge.{members_or_none, is_null, merge_patched
 ghost use Rattle.json_diff.specs.MergeDiff.{has_unique_keys, is_object, is_same_as, removals, appended, merge_change, object_patch, differing_patch, changes, merge_patch_between, HasNoNullMember};
 ghost use Rattle.json_diff.specs.MergeDiffViews.{members_in};
 ghost use Rattle.json_value.specs.Denotes.{tree_of, pair_of};
-ghost use Rattle.json_value.specs.Failures.{OnlyNoMemory};
 ghost use Rattle.json_value.specs.Seen.{seen, members_seen};
 ghost use Rattle.json_value.specs.Steps.{tree_or_null};
+ghost use Rattle.json_io.specs.Errors.{OnlyNoMemory};
 
 use json_doc::JsonType;
 use json_patch::single_member;

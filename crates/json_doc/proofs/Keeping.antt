@@ -38,7 +38,7 @@ use Rattle.json_doc.specs.State.{VisitorState}
 use Rattle.json_doc.specs.Recorded.{visitor_state, Holds, SameRoom}
 use Rattle.json_doc.specs.Reading.{ReadingFails, ReadingFailsWith, RefusesName, EventIsNumber, Follows}
 use Rattle.json_doc.specs.OpenNames.{HasNames, TakesIn, Differ}
-use Rattle.json_doc.specs.Progress.{Keeps}
+use Rattle.json_doc.specs.Progress.{AreInStep}
 use Rattle.json_doc.specs.declared.open_keys.OpenKeys.{OpenKeys}
 use Rattle.json_doc.specs.declared.document_visitor.DocumentVisitor.{DocumentVisitor}
 use Rattle.json_grammar.proofs.TokenPrefixes.{reading_begins}
@@ -46,7 +46,7 @@ use Rattle.json_doc.proofs.Fitting.{recorded_bytes}
 use Rattle.json_doc.proofs.Numeric.{event_number}
 
 pub keeps_start : (limit : ℕ) (p : ParserState) (v : DocumentVisitor) (b : List ℕ) → p.text ≡ b → p.start ≡ 0 → p.limit ≡ limit → p.lossy ≡ false → HasGiven p [] → p.failure ≡ None
-    → visitor_state v ≡ record { cell_room = (length b + 1) / 2; text_room = length b; nodes = 0; bytes = 0; full = false } → Holds v [] → Keeps limit p v b []
+    → visitor_state v ≡ record { cell_room = (length b + 1) / 2; text_room = length b; nodes = 0; bytes = 0; full = false } → Holds v [] → AreInStep limit p v b []
 keeps_start most p v b reads start limit strict gave unfailed fresh held =
     let full : v.full ≡ false = ap (λ (s : VisitorState). s.full) fresh in
     record {
@@ -101,7 +101,7 @@ recorded_within p v ts h held =
     let order = h.order in
     omega (arith, length-take h.base (input p))
 
-module _ {limit : ℕ} {p q : ParserState} {v : DocumentVisitor} {b : List ℕ} {ts : List Token} {e : Event} (k : Keeps limit p v b ts) (other : e ≢ event.End) (goes : Goes p e q) (tight : IsTight p e q) (same : SameInput p q) where
+module _ {limit : ℕ} {p q : ParserState} {v : DocumentVisitor} {b : List ℕ} {ts : List Token} {e : Event} (k : AreInStep limit p v b ts) (other : e ≢ event.End) (goes : Goes p e q) (tight : IsTight p e q) (same : SameInput p q) where
   pub next_token : (x : Token) × Means e x × HasGiven q (ts ++ x ∷ [])
   next_token = goes_on p q e other goes ts k.gave
 
@@ -133,7 +133,7 @@ module _ {limit : ℕ} {p q : ParserState} {v : DocumentVisitor} {b : List ℕ} 
       let within = recorded_within p v ts k.gave (k.follows.held full) in
       omega (arith, t.room, goes_forward.1, k.text_room)
 
-  pub keeps_on : (w : DocumentVisitor) → Follows w (ts ++ next_token.0 ∷ []) → SameRoom v w → q.failure ≡ None → Keeps limit q w b (ts ++ next_token.0 ∷ [])
+  pub keeps_on : (w : DocumentVisitor) → Follows w (ts ++ next_token.0 ∷ []) → SameRoom v w → q.failure ≡ None → AreInStep limit q w b (ts ++ next_token.0 ∷ [])
   keeps_on w f room unfailed = record {
     reads = same.text ∙ k.reads;
     start = same.start ∙ k.start;
@@ -153,7 +153,7 @@ not_full true h = absurd (h refl)
 not_full false h = refl
 
 -- the builder holds the tree of the text
-pub keeps_end : (rules : Rules) (p q : ParserState) (v : DocumentVisitor) (o : OpenKeys) (b : List ℕ) (ts : List Token) → Keeps rules.limit p v b ts → Differ rules o ts → Goes p event.End q → (t : Tree) × is_text false t b × fits t rules × Holds v (tokens t)
+pub keeps_end : (rules : Rules) (p q : ParserState) (v : DocumentVisitor) (o : OpenKeys) (b : List ℕ) (ts : List Token) → AreInStep rules.limit p v b ts → Differ rules o ts → Goes p event.End q → (t : Tree) × is_text false t b × fits t rules × Holds v (tokens t)
 keeps_end rules p q v o b ts k d g =
     let whole = g.1 ts k.gave in
     let t = whole.0 in
@@ -181,7 +181,7 @@ stood_in p limit b ts reads start most strict h =
     (subst (λ y. Stood p.lossy p.limit y p.index p.open_kinds p.spot ts) here (subst (λ i. Stood p.lossy p.limit (drop p.start p.text) i p.open_kinds p.spot ts) index h)))
 
 -- the parser's fault is the one by the rules
-pub refused_fails : (rules : Rules) (p : ParserState) (v : DocumentVisitor) (o : OpenKeys) (b : List ℕ) (ts : List Token) (e : Error) → Keeps rules.limit p v b ts → Differ rules o ts → IsDue p e → ReadingFailsWith rules b e.code e.place
+pub refused_fails : (rules : Rules) (p : ParserState) (v : DocumentVisitor) (o : OpenKeys) (b : List ℕ) (ts : List Token) (e : Error) → AreInStep rules.limit p v b ts → Differ rules o ts → IsDue p e → ReadingFailsWith rules b e.code e.place
 refused_fails rules p v o b ts e k d due =
     let index : p.index - p.start ≡ p.index = let z = k.start in omega arith in
     let here : drop p.start p.text ≡ b = ap (λ (i : ℕ). drop i p.text) k.start ∙ k.reads in
@@ -221,7 +221,7 @@ same_key s t e = cc
 
 -- a name that repeats is refused at its opening quotation mark
 pub repeated_fails : (rules : Rules) (p q : ParserState) (v : DocumentVisitor) (o : OpenKeys) (b : List ℕ) (ts : List Token) (e : Event) (error : Error)
-    → rules.unique ≡ true → Keeps rules.limit p v b ts → Differ rules o ts → Goes p e q → IsTight p e q → SameInput p q
+    → rules.unique ≡ true → AreInStep rules.limit p v b ts → Differ rules o ts → Goes p e q → IsTight p e q → SameInput p q
     → RefusesName o e b q.index error → ReadingFailsWith rules b error.code error.place
 repeated_fails rules p q v o b ts e error u k d goes tight same (inl is) = subst (λ (x : Error). ReadingFailsWith rules b x.code x.place) (sym is) tt
 repeated_fails rules p q v o b ts e error u k d goes tight same (inr (n, is, repeats, told)) =

@@ -9,7 +9,7 @@ use Rattle.json_doc.specs.Recorded.{visitor_state}
 use Rattle.json_doc.specs.declared.document_visitor.DocumentVisitor.{DocumentVisitor}
 
 -- the parser has read a text up to here, and the builder was given the same tokens
-pub record Keeps (most : ℕ) (p : ParserState) (v : DocumentVisitor) (b : List ℕ) (ts : List Token) : Type 0 where
+pub record AreInStep (most : ℕ) (p : ParserState) (v : DocumentVisitor) (b : List ℕ) (ts : List Token) : Type 0 where
   pub reads : p.text ≡ b
   pub start : p.start ≡ 0
   pub limit : p.limit ≡ most
@@ -24,4 +24,4 @@ pub record Keeps (most : ℕ) (p : ParserState) (v : DocumentVisitor) (b : List 
 pub record IsReading (limit : ℕ) (b : List ℕ) (i : ℕ) (c : List Kind) (w : Spot) (v : DocumentVisitor) : Type 0 where
   pub most : ℕ
   pub so_far : List Token
-  pub kept : Keeps most (state_of b 0 false limit i c w None) v b so_far
+  pub kept : AreInStep most (state_of b 0 false limit i c w None) v b so_far

@@ -4,11 +4,12 @@ use crate::json_type::JsonType;
 
 /// One node of a document, or a key of an object.
 ///
-/// An integer of `u64` or `i64` is kept by value (RFC 8259, section 6), every other number as its literal.
-/// A literal and a text name bytes of the document's text, by their start and their length. The length of
-/// a container counts its elements or members. Its descendants follow its cell, in the order of the
-/// JSON text, and its link is the position after the last of them, or after its own cell if it is
-/// empty. The layout of cells is private to this crate; views read them.
+/// An integer of `u64` or `i64` is kept by value (RFC 8259, section 6), every other number as its
+/// literal. A literal and a text name bytes of the document's text, by their start and their
+/// length. The length of a container counts its elements or members. Its descendants follow its
+/// cell, in the order of the JSON text, and its link is the position after the last of them, or
+/// after its own cell if it is empty. The layout of cells is private to this crate; views read
+/// them.
 ///
 /// ```
 /// use json_doc::{Cell, read_document};

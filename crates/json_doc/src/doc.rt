@@ -5,10 +5,11 @@ ghost use Rattle.json_doc.specs.Shape.{CellsInPlace};
 use crate::cell::Cell;
 use crate::view::DocView;
 
-/// A packed document: one cell for each node and each key, and the texts, keys and literals in a row.
+/// A packed document: one cell for each node and each key, and the texts, keys and literals in a
+/// row.
 ///
-/// The cells are in the order of the JSON text, each container's before those of its elements or its
-/// keys and values. Each literal is a number (RFC 8259, section 6).
+/// The cells are in the order of the JSON text, each container's before those of its elements or
+/// its keys and values. Each literal is a number (RFC 8259, section 6).
 ///
 /// ```
 /// use json_doc::read_document;

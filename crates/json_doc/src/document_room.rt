@@ -1,9 +1,9 @@
 // Room that serves one document after another.
-ghost use Rattle.std.specs.Prelude.{◌≡◌, ◌+◌, ◌/◌, ◌<◌, ◌^◌, [], length, false, IfOk, IfErr};
+ghost use Rattle.std.specs.Prelude.{◌≡◌, ◌+◌, ◌/◌, ◌<◌, ◌^◌, [], length, false, IfOk};
 ghost use Rattle.json_grammar.specs.Tree.{Tree};
 ghost use Rattle.json_grammar.specs.Grammar.{is_text};
 ghost use Rattle.json_grammar.specs.Rules.{fits};
-ghost use Rattle.json_io.specs.Errors.{no_memory};
+ghost use Rattle.json_io.specs.Errors.{OnlyNoMemory};
 ghost use Rattle.json_text.specs.Ruled.{rules_of};
 ghost use Rattle.json_doc.specs.Docs.{IsDocOf};
 ghost use Rattle.json_doc.specs.Reading.{FailsByRules};
@@ -40,8 +40,8 @@ impl DocumentRoom {
     }
 
     /// Reads the document of a JSON text of at most 4,294,967,295 bytes by rules, as
-    /// `read_document_with` does, in place of the one before. Fails as that call does; then the room is
-    /// given back.
+    /// `read_document_with` does, in place of the one before. Fails as that call does; then the
+    /// room is given back.
     ///
     /// ```
     /// use json_doc::DocumentRoom;
@@ -76,7 +76,7 @@ impl DocumentRoom {
           full = false;
         }) }
         ensures held { IfOk result (λ v. Holds v []) }
-        ensures err { IfErr result (λ e. e ≡ no_memory) }
+        ensures err { OnlyNoMemory result }
     {
         match mem::replace(&mut self.doc, None) {
             Some(doc) => DocumentVisitor::in_room(doc.cells, doc.text.into_bytes(), text_len),

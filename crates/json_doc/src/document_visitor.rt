@@ -1,5 +1,5 @@
 // The builder of a document.
-ghost use Rattle.std.specs.Prelude.{◌≡◌, ◌+◌, ◌/◌, ◌<◌, ◌≤◌, ◌^◌, ◌↔◌, List, ℕ, [], ◌∷◌, ◌++◌, length, true, false, IsTrue, IfOk, IfErr, vec_len, vec_capacity, slice_index_or, slice_set};
+ghost use Rattle.std.specs.Prelude.{◌≡◌, ◌+◌, ◌/◌, ◌<◌, ◌≤◌, ◌^◌, ◌↔◌, List, ℕ, [], ◌∷◌, ◌++◌, length, true, false, IsTrue, IfOk, vec_len, vec_capacity, slice_index_or, slice_set};
 ghost use Rattle.json_grammar.specs.Grammar.{chars};
 ghost use Rattle.json_text.specs.Spelled.{NoEscape};
 ghost use Rattle.json_doc.specs.Lent.{IsLentBy, IsPieceAt};
@@ -19,8 +19,8 @@ const NOWHERE: u32 = u32::MAX;
 
 /// Packs a document from the events of its tree, and takes no memory for an event.
 ///
-/// Each node is written once, in the order of the events. An open container's cell keeps the place and
-/// the count of the container around it until it ends.
+/// Each node is written once, in the order of the events. An open container's cell keeps the place
+/// and the count of the container around it until it ends.
 ///
 /// ```
 /// use json_doc::{DocumentVisitor, JsonVisitor};
@@ -52,7 +52,7 @@ impl DocumentVisitor {
     ghost use Rattle.std.specs.List.{Contains};
     ghost use Rattle.json_grammar.specs.Tree.{Tree, Pairs, Token, key_token, tokens};
     ghost use Rattle.json_grammar.specs.Repeated.{names, open_keys};
-    ghost use Rattle.json_io.specs.Errors.{no_memory};
+    ghost use Rattle.json_io.specs.Errors.{OnlyNoMemory};
     ghost use Rattle.json_doc.specs.Docs.{IsDocOf};
     ghost use Rattle.json_doc.specs.OpenObject.{NamesText, KeyStands};
     ghost use Rattle.json_doc.specs.State.{VisitorState, Fits};
@@ -61,8 +61,8 @@ impl DocumentVisitor {
     ghost use Rattle.json_doc.specs.declared.cell.Cell.TheVariants.{Null as null_cell};
 
     /// Room for `(text_len + 1) / 2` nodes and keys and `text_len` bytes of text, as a JSON text of
-    /// so many bytes may need. `text_len` has to be at most 4,294,967,295. Memory may run out.
-    /// Fails with `NoMemory` if memory runs out.
+    /// so many bytes may need. `text_len` has to be at most 4,294,967,295. Fails with `NoMemory` if
+    /// memory runs out.
     pub fn new(alloc: Global, text_len: usize) -> Result<DocumentVisitor>
         requires { text_len < 2 ^ 32 }
         ensures room { IfOk result (λ v. ⟦<DocumentVisitor as JsonVisitor>⟧.state v
@@ -74,12 +74,13 @@ impl DocumentVisitor {
               full = false;
             }) }
         ensures held { IfOk result (λ v. ⟦<DocumentVisitor as JsonVisitor>⟧.holds v []) }
-        ensures err { IfErr result (λ e. e ≡ no_memory) }
+        ensures err { OnlyNoMemory result }
     {
         DocumentVisitor::with_room(alloc, (text_len + 1) / 2, text_len)
     }
 
-    /// Room for so many nodes and keys and so many bytes of text, each at most 4,294,967,295. Memory may run out.
+    /// Room for so many nodes and keys and so many bytes of text, each at most 4,294,967,295.
+    /// Fails with `NoMemory` if memory runs out.
     ///
     /// ```
     /// use json_doc::{DocumentVisitor, JsonVisitor};
@@ -91,9 +92,15 @@ impl DocumentVisitor {
         requires cells { cells < 2 ^ 32 }
         requires text { text_len < 2 ^ 32 }
         ensures room { IfOk result (λ v. ⟦<DocumentVisitor as JsonVisitor>⟧.state v
-            ≡ record { cell_room = cells; text_room = text_len; nodes = 0; bytes = 0; full = false }) }
+            ≡ record {
+              cell_room = cells;
+              text_room = text_len;
+              nodes = 0;
+              bytes = 0;
+              full = false;
+            }) }
         ensures held { IfOk result (λ v. ⟦<DocumentVisitor as JsonVisitor>⟧.holds v []) }
-        ensures err { IfErr result (λ e. e ≡ no_memory) }
+        ensures err { OnlyNoMemory result }
     {
         let room = cells;
         let cells = Vec::with_capacity(alloc, room)?;
@@ -124,7 +131,7 @@ impl DocumentVisitor {
           full = false;
         }) }
         ensures held { IfOk result (λ v. Holds v []) }
-        ensures err { IfErr result (λ e. e ≡ no_memory) }
+        ensures err { OnlyNoMemory result }
     {
         let room = (text_len + 1) / 2;
         let mut cells = old_cells;
@@ -243,8 +250,8 @@ impl DocumentVisitor {
         self.count = 0;
     }
 
-    // The cell of the innermost open container is finished. The one around it is the innermost now, and
-    // has one value more.
+    // The cell of the innermost open container is finished. The one around it is the innermost now,
+    // and has one value more.
     #[inline(always)]
     fn close(&mut self, cell: Cell)
         requires is_open { self.old.parent < length self.old.cells.items }
@@ -301,8 +308,8 @@ impl DocumentVisitor {
         false
     }
 
-    /// Whether the key that was recorded last is an earlier key of its object too (RFC 8259, section 4).
-    /// The last event has to be a recorded key. Asks each key of the object once.
+    /// Whether the key that was recorded last is an earlier key of its object too (RFC 8259,
+    /// section 4). The last event has to be a recorded key. Asks each key of the object once.
     ///
     /// ```
     /// use json_doc::{DocumentVisitor, JsonVisitor};
@@ -326,12 +333,13 @@ impl DocumentVisitor {
         self.has_key(self.parent as usize + 1, self.cells.len() - 1)
     }
 
-    /// The document of the tree whose events were recorded, which has to be whole. Memory may run out.
+    /// Returns the document of the tree whose events were recorded, which has to be whole. Fails
+    /// with `NoMemory` if memory runs out.
     pub fn finish(self, alloc: Global) -> Result<Rc<Doc>>
         requires { (t : Tree) × ⟦<DocumentVisitor as JsonVisitor>⟧.holds self (tokens t) }
         ensures ok { IfOk result (λ d. (t : Tree)
             → ⟦<DocumentVisitor as JsonVisitor>⟧.holds self (tokens t) → IsDocOf d.value t) }
-        ensures err { IfErr result (λ e. e ≡ no_memory) }
+        ensures err { OnlyNoMemory result }
     {
         Ok(Rc::new(alloc, self.into_doc())?)
     }

@@ -13,8 +13,8 @@ pub fn tree_at_root()
     ensures { TreeAtRoot }
 {}
 
-/// The tree at each place of a document is proper: its literals are numbers (RFC 8259, section 6), and its
-/// texts and keys UTF-8.
+/// The tree at each place of a document is proper: its literals are numbers (RFC 8259, section 6),
+/// and its texts and keys UTF-8.
 pub fn trees_are_proper(_doc: &Doc)
     ensures { TreesAreProper _doc.now }
 {}

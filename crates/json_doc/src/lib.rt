@@ -1,4 +1,5 @@
-//! Packed documents of JSON (RFC 8259): a text is read once into an array of cells, and views read them without a copy.
+//! Packed documents of JSON (RFC 8259): a text is read once into an array of cells, and views read
+//! them without a copy.
 //!
 //! ```
 //! use json_doc::{JsonType, read_document};

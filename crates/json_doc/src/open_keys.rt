@@ -1,10 +1,10 @@
 // The names so far of the objects that stand open in a text.
-ghost use Rattle.std.specs.Prelude.{◌≡◌, ◌<◌, ◌≤◌, List, ℕ, [], ◌∷◌, length, drop, get_or, false, IfOk, IfErr, OnOk};
+ghost use Rattle.std.specs.Prelude.{◌≡◌, ◌<◌, ◌≤◌, List, ℕ, [], ◌∷◌, length, drop, get_or, false, IfOk, OnOk};
 ghost use Rattle.std.specs.Cow.{cow_str_bytes};
 ghost use Rattle.json_grammar.specs.Tree.{key_token};
 ghost use Rattle.json_grammar.specs.Grammar.{chars};
 ghost use Rattle.json_grammar.specs.Repeated.{Keys, outer_keys};
-ghost use Rattle.json_io.specs.Errors.{no_memory};
+ghost use Rattle.json_io.specs.Errors.{OnlyNoMemory};
 ghost use Rattle.json_doc.specs.OpenNames.{front_of, row_has, names_have, HasNames, HasSomeNames, TakesIn};
 
 use json_text::{Result, Span};
@@ -27,8 +27,9 @@ fn byte_at(bytes: &[u8], at: usize) -> u8
     }
 }
 
-/// Returns the number of a name's first eight bytes, the first byte the highest, with zeros after the
-/// name's end. Of two names whose numbers differ the one of the lower number has the lower bytes.
+/// Returns the number of a name's first eight bytes, the first byte the highest, with zeros after
+/// the name's end. Of two names whose numbers differ the one of the lower number has the lower
+/// bytes.
 ///
 /// ```
 /// use json_doc::front_number;
@@ -62,12 +63,14 @@ pub struct OuterKeys<'a> {
 
 /// The names so far of each open container. The first names of an object are in a list and are
 /// compared one by one; all others are in an ordered set, so that a name of an object of n members
-/// takes no more than some log n comparisons. There the number of its first bytes comes before it, so
-/// that few comparisons look at the name itself, and it is lent by the text, unless it has escapes.
+/// takes no more than some log n comparisons. There the number of its first bytes comes before it,
+/// so that few comparisons look at the name itself, and it is lent by the text, unless it has
+/// escapes.
 #[derive(Drop)]
 pub struct OpenKeys<'a> {
     alloc: Global,
-    // names that stand in the text as they are, at most 16 of each open container, those of the innermost last
+    // names that stand in the text as they are, at most 16 of each open container, those of the
+    // innermost last
     few: Vec<&'a str>,
     // where those of the innermost begin
     start: usize,
@@ -90,11 +93,11 @@ impl<'a> OpenKeys<'a> {
         }
     }
 
-    /// A container begins. Memory may run out.
+    /// A container begins. Fails with `NoMemory` if memory runs out.
     pub fn begin(&mut self) -> Result<()>
         ensures ok { OnOk result ((all : List Keys) → HasNames self.old all
             → HasNames self.new ([] ∷ all)) }
-        ensures err { IfErr result (λ e. e ≡ no_memory) }
+        ensures err { OnlyNoMemory result }
     {
         let many = mem::replace(&mut self.many, BTreeSet::new(self.alloc));
         let start = self.start;
@@ -140,7 +143,7 @@ impl<'a> OpenKeys<'a> {
         requires inside { 0 < length self.old.outer.items }
         ensures ok { IfOk result (λ had.
             TakesIn had self.old self.new (key_token (cow_str_bytes name.entry))) }
-        ensures err { IfErr result (λ e. e ≡ no_memory) }
+        ensures err { OnlyNoMemory result }
     {
         if self.in_row(name.as_str()) {
             return Ok(true);
@@ -155,7 +158,7 @@ impl<'a> OpenKeys<'a> {
         requires some { HasSomeNames self.old }
         requires inside { 0 < length self.old.outer.items }
         ensures ok { IfOk result (λ had. TakesIn had self.old self.new (key_token name.now)) }
-        ensures err { IfErr result (λ e. e ≡ no_memory) }
+        ensures err { OnlyNoMemory result }
     {
         if self.few.len() - self.start >= FEW {
             return self.take_into_set(CowStr::Borrowed(name));
@@ -174,7 +177,7 @@ impl<'a> OpenKeys<'a> {
         requires spelled { (s : List ℕ) × chars name.lossy s name.raw.now }
         ensures ok { IfOk result (λ had. (s : List ℕ) → chars name.entry.lossy s name.entry.raw.now
             → TakesIn had self.old self.new (key_token s)) }
-        ensures err { IfErr result (λ e. e ≡ no_memory) }
+        ensures err { OnlyNoMemory result }
     {
         let mut bytes = Vec::with_capacity(self.alloc, name.raw_len())?;
         name.unescape_into(&mut bytes);
@@ -189,7 +192,7 @@ impl<'a> OpenKeys<'a> {
         requires spelled { (s : List ℕ) × chars name.lossy s name.raw.now }
         ensures ok { IfOk result (λ had. (s : List ℕ) → chars name.entry.lossy s name.entry.raw.now
             → TakesIn had self.old self.new (key_token s)) }
-        ensures err { IfErr result (λ e. e ≡ no_memory) }
+        ensures err { OnlyNoMemory result }
     {
         if self.outer.is_empty() {
             return Ok(false);

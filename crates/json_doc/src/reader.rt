@@ -29,8 +29,8 @@ use json_text::{Cursor, Error, ErrorCode, Event, Kinds, Parser, Result, Rules, S
 use std::alloc::Global;
 use std::rc::Rc;
 
-// Records the number whose literal is in the input from `from` on: an integer by value, every other by
-// its literal. Returns whether there was room for it.
+// Records the number whose literal is in the input from `from` on: an integer by value, every other
+// by its literal. Returns whether there was room for it.
 #[inline(always)]
 fn record_number(visitor: &mut DocumentVisitor, literal: &str, input: &[u8], from: usize) -> bool
     requires number { number literal.now }
@@ -52,7 +52,8 @@ fn record_number(visitor: &mut DocumentVisitor, literal: &str, input: &[u8], fro
     }
 }
 
-// Whether the event was recorded, whose text begins in the input at `from`. There is nothing to record of the end.
+// Whether the event was recorded, whose text begins in the input at `from`. There is nothing to
+// record of the end.
 #[inline(always)]
 pub(crate) fn record_event<const USE: u8>(
     visitor: &mut DocumentVisitor,
@@ -83,8 +84,8 @@ pub(crate) fn record_event<const USE: u8>(
     }
 }
 
-// Where the text between the quotes of a string or a name begins, or a literal, if `end` is the offset
-// after the token.
+// Where the text between the quotes of a string or a name begins, or a literal, if `end` is the
+// offset after the token.
 #[inline(always)]
 pub(crate) fn lent_from(event: Event<'_>, end: usize) -> usize
     requires { length (event_bytes event) ≤ end }
@@ -210,10 +211,10 @@ pub(crate) fn read_by(
 }
 
 /// Reads the document of a JSON text of at most 4,294,967,295 bytes by rules: it has no more levels
-/// than they allow, and where they ask for unique names no object has a name twice (RFC 8259, sections
-/// 9 and 4). Fails with the first error of the text by the rules, at its place: of a bracket that opens
-/// a level too many and a name that repeats, the one that comes first, and either before all other
-/// errors. Fails with `NoMemory` if memory runs out.
+/// than they allow, and where they ask for unique names no object has a name twice (RFC 8259,
+/// sections 9 and 4). Fails with the first error of the text by the rules, at its place: of a
+/// bracket that opens a level too many and a name that repeats, the one that comes first, and
+/// either before all other errors. Fails with `NoMemory` if memory runs out.
 ///
 /// ```
 /// use json_doc::read_document_with;
@@ -233,9 +234,9 @@ pub fn read_document_with(alloc: Global, text: &str, rules: Rules) -> Result<Rc<
     Ok(Rc::new(alloc, doc)?)
 }
 
-/// Reads the document of a JSON text of at most 4,294,967,295 bytes and 254 levels (RFC 8259, section
-/// 9, lets a reader set such limits). Fails with the error of the text at its place, and with
-/// `NoMemory` if memory runs out.
+/// Reads the document of a JSON text of at most 4,294,967,295 bytes and 254 levels (RFC 8259,
+/// section 9, lets a reader set such limits). Fails with the error of the text at its place, and
+/// with `NoMemory` if memory runs out.
 pub fn read_document(alloc: Global, text: &str) -> Result<Rc<Doc>>
     requires { length text.now < 2 ^ 32 }
     ensures ok { IfOk result (λ d. (t : Tree) × is_text false t text.now × (depth t ≤ 254)
@@ -245,11 +246,11 @@ pub fn read_document(alloc: Global, text: &str) -> Result<Rc<Doc>>
     read_document_with(alloc, text, Rules::usual())
 }
 
-/// Reads the document of one value, whatever follows it: the parser, which has returned no event, goes
-/// on to the end of the value and is right after it, done. It reads in its mode, strict or lossy. Fails
-/// with the error of the value at its place in the text, and each later call of the parser's `next`
-/// returns that error again. Fails with `NoMemory` if memory runs out, and then the parser may be
-/// within the value.
+/// Reads the document of one value, whatever follows it: the parser, which has returned no event,
+/// goes on to the end of the value and is right after it, done. It reads in its mode, strict or
+/// lossy. Fails with the error of the value at its place in the text, and each later call of the
+/// parser's `next` returns that error again. Fails with `NoMemory` if memory runs out, and then the
+/// parser may be within the value.
 ///
 /// ```
 /// use json_doc::read_front;

@@ -53,7 +53,8 @@ fn levels_behind(event: Event<'_>, levels: usize) -> usize
     }
 }
 
-// Records a value from its first event on, which the parser handed out last, and goes on to its end.
+// Records a value from its first event on, which the parser handed out last, and goes on to its
+// end.
 pub(crate) fn record_value<'a>(
     visitor: &mut DocumentVisitor,
     parser: &mut Parser<'a>,
@@ -83,9 +84,9 @@ pub(crate) fn record_value<'a>(
     }
 }
 
-/// Reads the document of the value whose first event the parser returned last, whatever follows it: the
-/// parser goes on to the end of the value and is right after it. Fails with the parser's error, and
-/// with `NoMemory` if memory runs out.
+/// Reads the document of the value whose first event the parser returned last, whatever follows it:
+/// the parser goes on to the end of the value and is right after it. Fails with the parser's error,
+/// and with `NoMemory` if memory runs out.
 ///
 /// ```
 /// use json_doc::read_value;

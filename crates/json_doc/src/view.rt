@@ -84,7 +84,8 @@ impl<'a> DocView<'a> {
         self.cell().as_bool()
     }
 
-    /// The number, where it is an integer of `u64` or `i64` (RFC 8259, section 6); none of another, nor of another kind.
+    /// The number, where it is an integer of `u64` or `i64` (RFC 8259, section 6); none of another,
+    /// nor of another kind.
     #[inline]
     pub fn as_number(self) -> Option<Number>
         ensures value { option_map value_of result ≡ integer_of (view_tree self.entry) }
@@ -97,8 +98,8 @@ impl<'a> DocView<'a> {
         }
     }
 
-    /// The literal of the number that is no integer of `u64` or `i64`, itself a number (RFC 8259, section 6); none of an
-    /// integer by value, nor of another kind.
+    /// The literal of the number that is no integer of `u64` or `i64`, itself a number (RFC 8259,
+    /// section 6); none of an integer by value, nor of another kind.
     #[inline]
     pub fn literal(self) -> Option<&'a str>
         ensures literal { option_map (λ s. s.now) result ≡ literal_of (view_tree self.entry) }
@@ -187,7 +188,8 @@ impl<'a> DocView<'a> {
         }
     }
 
-    /// The key of the pair `i`, counted from 0, as a string of its own; none of another kind, or past the last.
+    /// The key of the pair `i`, counted from 0, as a string of its own; none of another kind, or
+    /// past the last.
     #[inline]
     pub fn key_view(self, i: usize) -> Option<DocView<'a>>
         ensures tree { option_map view_tree result

@@ -13,9 +13,9 @@ use json_text::Span;
 
 /// Takes the events of one tree in turn.
 ///
-/// Each call returns whether the event was recorded. None is recorded where the room is full, nor after
-/// one that was not. While all were recorded, the events so far and this one begin the events of a tree.
-/// No event takes memory.
+/// Each call returns whether the event was recorded. None is recorded where the room is full, nor
+/// after one that was not. While all were recorded, the events so far and this one begin the events
+/// of a tree. No event takes memory.
 ///
 /// ```
 /// use json_doc::{DocumentVisitor, JsonVisitor};
@@ -73,7 +73,8 @@ pub trait JsonVisitor {
             (HoldsMore (holds self.old) (holds self.new) (num_token (signed_decimal n))) }
         ensures memory { keeps_memory self.old self.new };
 
-    /// A number by its literal, which has to be a number (RFC 8259, section 6) that is no integer of `u64` or `i64`.
+    /// A number by its literal, which has to be a number (RFC 8259, section 6) that is no integer
+    /// of `u64` or `i64`.
     fn visit_raw_number(&mut self, literal: &str) -> bool
         requires number { number literal.now }
         requires raw { integer_in literal.now ≡ None }

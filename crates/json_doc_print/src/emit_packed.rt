@@ -94,7 +94,8 @@ pub fn emit_no_pairs<E: Events>(out: &mut E) -> Walked
     taken(out.end_object())
 }
 
-/// Writes the tokens of the array of the elements that are seen. Stops at the first call that fails.
+/// Writes the tokens of the array of the elements that are seen. Stops at the first call that
+/// fails.
 pub fn emit_elements<E: Events>(view: DocView<'_>, out: &mut E) -> Walked
     requires { AcceptsValue (E.failed out.old) (E.stand (E.state out.old)) }
     ensures { Walks E.after E.stopped (E.state out.old) (E.state out.new)
@@ -107,7 +108,8 @@ pub fn emit_elements<E: Events>(view: DocView<'_>, out: &mut E) -> Walked
     }
 }
 
-/// Writes the tokens of the object of the members that are seen. Stops at the first call that fails.
+/// Writes the tokens of the object of the members that are seen. Stops at the first call that
+/// fails.
 pub fn emit_members<E: Events>(view: DocView<'_>, out: &mut E) -> Walked
     requires { AcceptsValue (E.failed out.old) (E.stand (E.state out.old)) }
     ensures { Walks E.after E.stopped (E.state out.old) (E.state out.new)

@@ -1,5 +1,5 @@
 // The members of an object of a document in the order of their keys, by the places of their values.
-ghost use Rattle.std.specs.Prelude.{◌≡◌, ℕ, List, IfOk, IsTrue, map, IfErr};
+ghost use Rattle.std.specs.Prelude.{◌≡◌, ℕ, List, IfOk, IsTrue, map};
 ghost use Rattle.std.specs.Cmp.Lexicographic.{slice_cmp};
 ghost use Rattle.std.specs.Ordering.{nat_cmp, ordering_then};
 ghost use Rattle.json_grammar.specs.Tree.{list_pairs};
@@ -7,15 +7,15 @@ ghost use Rattle.json_model.specs.Sort.{bytes_less, NeverFall};
 ghost use Rattle.json_doc.specs.Left.{pairs_doc, pairs_left, places_of_pairs};
 ghost use Rattle.json_print.specs.Orders.{Rise};
 ghost use Rattle.json_doc_print.specs.KeyOrder.{key_and_number, AreEntries, IsEntry, IsKeyOrder, place_key, numbers_in};
-ghost use Rattle.json_io.specs.Errors.{no_memory};
+ghost use Rattle.json_io.specs.Errors.{OnlyNoMemory};
 
 use json_doc::{Doc, DocPairs, front_number};
 use json_io::Result;
 use std::alloc::Global;
 use std::cmp::Ordering;
 
-/// A member in an index. Most keys differ in their first eight bytes, whose number is kept here: then no look is needed at
-/// the keys, which lie far apart in memory.
+/// A member in an index. Most keys differ in their first eight bytes, whose number is kept here:
+/// then no look is needed at the keys, which lie far apart in memory.
 #[derive(Clone, Copy)]
 pub struct Entry {
     front: u64,
@@ -119,7 +119,7 @@ pub(crate) fn packed_never_fall(pairs: DocPairs<'_>) -> bool
 fn entries_of_doc(alloc: Global, doc: &Doc, pairs: DocPairs<'_>) -> Result<Vec<Entry>>
     ensures places { IfOk result (λ v. numbers_in v.items ≡ places_of_pairs pairs.entry) }
     ensures entries { IfOk result (λ v. AreEntries (place_key doc.now) v.items) }
-    ensures only { IfErr result (λ e. e ≡ no_memory) }
+    ensures only { OnlyNoMemory result }
 {
     let mut entries = Vec::with_capacity(alloc, pairs.len())?;
     for (_, value) in pairs {
@@ -133,7 +133,7 @@ pub(crate) fn packed_in_order(alloc: Global, doc: &Doc, pairs: DocPairs<'_>) -> 
     requires { pairs_doc pairs ≡ doc.now }
     ensures order { IfOk result (λ order. IsKeyOrder (place_key doc.now)
         (places_of_pairs pairs.entry) (numbers_in order.items)) }
-    ensures only { IfErr result (λ e. e ≡ no_memory) }
+    ensures only { OnlyNoMemory result }
 {
     let mut entries = entries_of_doc(alloc, doc, pairs)?;
     sort_by_key(doc, &mut entries);

@@ -1,4 +1,5 @@
-// The text of a document's tree, written from left to right: what surrounds each part is known from its position.
+// The text of a document's tree, written from left to right: what surrounds each part is known from
+// its position.
 ghost use Rattle.json_grammar.specs.Tree.{list, list_trees, pairs, list_pairs};
 ghost use Rattle.json_grammar.specs.Grammar.{boolean_bytes};
 ghost use Rattle.json_model.specs.Print.{shown};
@@ -20,8 +21,8 @@ use json_print::{BufferedWriter, Layout, show_piece, show_signed, show_text, sho
 /// What printing returns: an error of the sink, or that there is none.
 pub type Showed = std::result::Result<(), SinkError>;
 
-/// Writes the text of the tree that is seen, with `level` containers around it. Fails with the sink's error, and with
-/// `NoMemory` at 2^64 - 1 levels.
+/// Writes the text of the tree that is seen, with `level` containers around it. Fails with the
+/// sink's error, and with `NoMemory` at 2^64 - 1 levels.
 pub fn show_document<W: Sink, L: Layout>(
     view: DocView<'_>,
     layout: L,

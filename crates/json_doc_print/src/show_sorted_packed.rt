@@ -1,4 +1,5 @@
-// The text of a document's tree with the members of each object in the order of their keys, written from left to right.
+// The text of a document's tree with the members of each object in the order of their keys, written
+// from left to right.
 ghost use Rattle.std.specs.Prelude.{◌≡◌, ◌++◌, IsTrue};
 ghost use Rattle.json_grammar.specs.Tree.{list, list_trees, pairs, list_pairs};
 ghost use Rattle.json_model.specs.Print.{shown};
@@ -17,8 +18,8 @@ use json_io::{Sink, SinkError};
 use json_print::{BufferedWriter, Layout, show_piece};
 use std::alloc::Global;
 
-/// A layout of texts in which the members of each object are sorted, and the memory for that: 16 bytes a member of an object
-/// whose keys are not in order, until its end was written.
+/// A layout of texts in which the members of each object are sorted, and the memory for that: 16
+/// bytes a member of an object whose keys are not in order, until its end was written.
 ///
 /// ```
 /// use json_doc::read_document;
@@ -40,8 +41,9 @@ pub struct SortedLayout<L> {
     pub inner: L,
 }
 
-/// Writes the text of the tree that is seen, sorted, with `level` containers around it. Fails with the sink's error, and with `NoMemory` if memory
-/// runs out for an index of members, or at 2^64 - 1 levels.
+/// Writes the text of the tree that is seen, sorted, with `level` containers around it. Fails with
+/// the sink's error, and with `NoMemory` if memory runs out for an index of members, or at 2^64 - 1
+/// levels.
 pub fn show_sorted_document<W: Sink, L: Layout>(
     view: DocView<'_>,
     layout: SortedLayout<L>,
@@ -138,8 +140,8 @@ fn keys_in_order(view: DocView<'_>) -> bool
     }
 }
 
-/// Writes the object of the members that are seen, sorted. Fails with the sink's error, and with `NoMemory` if memory
-/// runs out for an index of members, or at 2^64 - 1 levels.
+/// Writes the object of the members that are seen, sorted. Fails with the sink's error, and with
+/// `NoMemory` if memory runs out for an index of members, or at 2^64 - 1 levels.
 #[cycle(shown_sorted)]
 pub fn show_sorted_members<W: Sink, L: Layout>(
     view: DocView<'_>,
@@ -223,8 +225,8 @@ fn show_by_places<W: Sink, L: Layout>(
     layout.inner.close(out, level, first, b'}')
 }
 
-/// Writes the array of the elements that are seen, sorted. Fails with the sink's error, and with `NoMemory` if memory
-/// runs out for an index of members, or at 2^64 - 1 levels.
+/// Writes the array of the elements that are seen, sorted. Fails with the sink's error, and with
+/// `NoMemory` if memory runs out for an index of members, or at 2^64 - 1 levels.
 pub fn show_sorted_elements<W: Sink, L: Layout>(
     view: DocView<'_>,
     layout: SortedLayout<L>,

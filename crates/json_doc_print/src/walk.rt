@@ -1,5 +1,6 @@
-// How a walk over a tree ends. The events keep the error that they meet, and answer it to each later call. A walk passes
-// on no more than that there is one: an error as a whole is copied from level to level at each token, met or not.
+// How a walk over a tree ends. The events keep the error that they meet, and answer it to each
+// later call. A walk passes on no more than that there is one: an error as a whole is copied from
+// level to level at each token, met or not.
 ghost use Rattle.std.specs.Prelude.{◌≡◌, is_ok};
 
 use json_io::Result;

@@ -1,5 +1,5 @@
-//! Callers that write into what is lent to them, to copy from. What they promise is proved from the clauses of `json_value`
-//! alone: by itself, or by one line (`proofs/callers/replace`).
+//! Callers that write into what is lent to them, to copy from. What they promise is proved from the
+//! clauses of `json_value` alone: by itself, or by one line (`proofs/callers/replace`).
 ghost use Rattle.std.specs.Prelude.{◌≡◌, slice_set, map, IfOk, OnOk, OnErr, Some};
 ghost use Rattle.json_grammar.specs.Tree.{boolean};
 ghost use Rattle.json_model.specs.Edit.{set_at, edited_once};
@@ -12,7 +12,8 @@ use json_value::{Array, Places, PointerNode, Value, put};
 use std::alloc::Global;
 use std::mem;
 
-/// Puts a value in the place of the first element, if there is one. Fails with `NoMemory` if memory runs out.
+/// Puts a value in the place of the first element, if there is one. Fails with `NoMemory` if memory
+/// runs out.
 ///
 /// ```
 /// use json_containers::ArrayCalls;
@@ -31,7 +32,8 @@ pub fn put_first(array: &mut Array, alloc: Global, new: Value) -> Result<()>
     Ok(())
 }
 
-/// Puts a value at the place to which the steps lead, and answers the one that was there. Fails as `Places::place_mut` does.
+/// Puts a value at the place to which the steps lead, and answers the one that was there. Fails as
+/// `Places::place_mut` does.
 pub fn replace<V: Places>(
     target: &mut V,
     alloc: Global,

@@ -93,7 +93,8 @@ fn a_clone_from_before_a_first_write_stays_a_place(rt: HostRuntime) {
     assert!(rt; changes_to(rt.alloc(), json, Change::CloneAndWrite, json));
 }
 
-// Whether the first member has this key and is the place of this cell; its value is null from then on.
+// Whether the first member has this key and is the place of this cell; its value is null from then
+// on.
 fn first_is(members: &mut Vec<Pair>, key: &str, at: u32) -> bool {
     match members.first_mut() {
         Some(first) => {

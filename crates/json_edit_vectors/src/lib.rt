@@ -1,6 +1,7 @@
-//! Callers that write into what is lent to them, to copy from ([`callers`]), and tests: worked examples of values that are made,
-//! edited and copied, and of places that are lent. They stand here and not
-//! in their libraries, since a library with tests is proved twice; what is read and printed is tested in `json_value_vectors`.
+//! Callers that write into what is lent to them, to copy from ([`callers`]), and tests: worked
+//! examples of values that are made, edited and copied, and of places that are lent. They stand
+//! here and not in their libraries, since a library with tests is proved twice; what is read and
+//! printed is tested in `json_value_vectors`.
 #![tactic(auto)]
 
 pub mod callers;

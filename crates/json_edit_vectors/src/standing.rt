@@ -98,8 +98,8 @@ fn make(change: Change, value: &mut Value, alloc: Global) -> Result<bool> {
     }
 }
 
-// Whether a change of the value of the document of a text is done, and the child and the compact text
-// are then these.
+// Whether a change of the value of the document of a text is done, and the child and the compact
+// text are then these.
 fn leaves(alloc: Global, json: &str, change: Change, child: Child, then: &str) -> Result<bool> {
     let doc = read(alloc, json)?;
     let mut value = whole(alloc, &doc)?;

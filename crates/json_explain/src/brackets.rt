@@ -22,8 +22,8 @@ fn begin_kind(kind: Kind) -> TokenKind
     }
 }
 
-// Takes the bracket that opens a container of the kind, and returns whether it came. Another value is
-// taken whole.
+// Takes the bracket that opens a container of the kind, and returns whether it came. Another value
+// is taken whole.
 pub(crate) fn open<S: Lent, T: Tokens<S>>(tokens: &mut T, kind: Kind) -> Result<bool>
     requires { WantsValue (T.stand tokens.old) }
     ensures begun { IfOk result (λ b. b ≡ true

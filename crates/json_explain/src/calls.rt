@@ -62,8 +62,8 @@ impl Explanation {
         self.error
     }
 
-    /// Returns where the text's value is refused, and what was wanted there. It is `None` if the text has
-    /// no value.
+    /// Returns where the text's value is refused, and what was wanted there. It is `None` if the
+    /// text has no value.
     pub fn refusal(&self) -> Option<&Refusal>
         ensures { option_map (λ r. r.now) result ≡ self.now.refusal }
     {
@@ -77,8 +77,8 @@ impl Explanation {
         self.found
     }
 
-    /// Returns the line of the innermost value that is refused, or of the fault of the text, counted
-    /// from 1.
+    /// Returns the line of the innermost value that is refused, or of the fault of the text,
+    /// counted from 1.
     pub fn line(&self) -> Option<usize>
         ensures { result ≡ line_of self.now.place }
     {
@@ -244,9 +244,10 @@ fn explained<'a, T: Explain<&'a str>>(alloc: Global, text: &'a str, error: Error
     }
 }
 
-/// Returns the value of a JSON text of at most 254 levels, as `json_data::from_str` does. If the type
-/// refuses the text's value, the error has the path to the innermost value that is refused, and its
-/// line and column. Fails with `NoMemory` if memory runs out, also while a refusal is explained.
+/// Returns the value of a JSON text of at most 254 levels, as `json_data::from_str` does. If the
+/// type refuses the text's value, the error has the path to the innermost value that is refused,
+/// and its line and column. Fails with `NoMemory` if memory runs out, also while a refusal is
+/// explained.
 pub fn from_str<'a, T: Explain<&'a str>>(
     alloc: Global,
     text: &'a str,

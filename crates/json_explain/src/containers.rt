@@ -2,7 +2,7 @@
 ghost use Rattle.std.specs.Prelude.{◌≡◌, ℕ, List, Bool, Some, true, OnOk, IfOk, IfErr};
 ghost use Rattle.json_grammar.specs.declared.Kind.TheVariants.{Array as array, Object as object};
 ghost use Rattle.json_grammar.specs.Tree.{begin as begin_token};
-ghost use Rattle.json_io.specs.Errors.{no_memory};
+ghost use Rattle.json_io.specs.Errors.{OnlyNoMemory};
 ghost use Rattle.json_tokens.specs.Pieces.{Says};
 ghost use Rattle.json_data.specs.Reader.{GivesUp, GivesUpOnErr};
 ghost use Rattle.json_tokens.specs.Spots.{IsOpen, InArray, InObject};
@@ -57,8 +57,8 @@ pub trait ExplainMembers<S: Lent>: Sized {
     /// Which fields were seen.
     ghost seen: { Self → List Bool };
 
-    /// Takes the value of the member of that key, whose text is `name`, and returns where it is refused,
-    /// or `None` if it is read.
+    /// Takes the value of the member of that key, whose text is `name`, and returns where it is
+    /// refused, or `None` if it is read.
     fn member<T: Tokens<S>>(
         &mut self,
         alloc: Global,
@@ -73,11 +73,11 @@ pub trait ExplainMembers<S: Lent>: Sized {
         ensures seen { OnOk result (seen self.new ≡ reading.seen (seen self.old) name.now) }
         ensures err { GivesUpOnErr (T.stand tokens.old) (T.stand tokens.new) result };
 
-    /// Returns the refusal of the object in which no member is left, if a member is missing. Fails with
-    /// `NoMemory` if memory runs out.
+    /// Returns the refusal of the object in which no member is left, if a member is missing. Fails
+    /// with `NoMemory` if memory runs out.
     fn missing(&self, alloc: Global) -> Result<Option<Refusal>>
         ensures ok { IfOk result (λ o. refused_in o ≡ reading.missing (seen self.now)) }
-        ensures only { IfErr result (λ e. e ≡ no_memory) };
+        ensures only { OnlyNoMemory result };
 }
 
 // The refusal of a part, as seen from the container, whose rest is taken.
@@ -176,8 +176,8 @@ fn explain_rest<S: Lent, M: ExplainMembers<S>, T: Tokens<S>>(
     }
 }
 
-/// Takes one tree and returns where it is refused as an object with these members, or `None` if it is
-/// read.
+/// Takes one tree and returns where it is refused as an object with these members, or `None` if it
+/// is read.
 pub fn explain_members<S: Lent, M: ExplainMembers<S>, T: Tokens<S>>(
     alloc: Global,
     members: &mut M,

@@ -21,7 +21,8 @@ use std::alloc::Global;
 /// assert_eq!(rt; format!(in alloc; "{refusal}")?.as_str(), "/1");
 /// ```
 ///
-/// `tools/derive` writes the impl of a struct. A type that refuses whole values alone needs one call:
+/// `tools/derive` writes the impl of a struct. A type that refuses whole values alone needs one
+/// call:
 ///
 /// ```text
 /// impl<S: Lent> Explain<S> for Colour {

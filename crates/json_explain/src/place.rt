@@ -81,7 +81,8 @@ fn enter_array(parser: &mut Parser<'_>, index: usize, events: usize) -> bool
     true
 }
 
-// Takes what comes before the value of the first member with this key in the object that comes next.
+// Takes what comes before the value of the first member with this key in the object that comes
+// next.
 fn enter_object(alloc: Global, parser: &mut Parser<'_>, key: &str, events: usize) -> bool
     ensures { result ≡ true → (b : List ℕ) (q : Trail) → StandsAt b parser.old q
         → StandsAt b parser.new (Some (key_step key.now) ∷ q) }

@@ -1,6 +1,6 @@
 // Where a value is refused.
-ghost use Rattle.std.specs.Prelude.{◌≡◌, Some, None, IfOk, IfErr, option_map};
-ghost use Rattle.json_io.specs.Errors.{no_memory};
+ghost use Rattle.std.specs.Prelude.{◌≡◌, Some, None, IfOk, option_map};
+ghost use Rattle.json_io.specs.Errors.{OnlyNoMemory};
 ghost use Rattle.json_explain.specs.Refused.{here as spec_here, lacks_member, refused_within as spec_within};
 ghost use Rattle.json_explain.specs.Explaining.{explained_step, refused_of};
 
@@ -102,8 +102,8 @@ impl fmt::Display for Wanted {
     }
 }
 
-/// Where a value is refused: the path to the innermost value that is refused, why, and what is wanted
-/// there. It is displayed as a JSON Pointer (RFC 6901).
+/// Where a value is refused: the path to the innermost value that is refused, why, and what is
+/// wanted there. It is displayed as a JSON Pointer (RFC 6901).
 ///
 /// ```
 /// use json_explain::{Wanted, from_str};
@@ -150,7 +150,7 @@ impl Refusal {
     /// `NoMemory` if memory runs out.
     pub fn lacks(alloc: Global, member: &str) -> Result<Refusal>
         ensures ok { IfOk result (λ r. refused_of r ≡ lacks_member member.now) }
-        ensures only { IfErr result (λ e. e ≡ no_memory) }
+        ensures only { OnlyNoMemory result }
     {
         let member = String::from_str(alloc, member)?;
         Ok(Refusal {
@@ -161,12 +161,12 @@ impl Refusal {
         })
     }
 
-    /// Returns the refusal as seen from the container around it. Fails with `NoMemory` if memory runs
-    /// out.
+    /// Returns the refusal as seen from the container around it. Fails with `NoMemory` if memory
+    /// runs out.
     pub fn within(self, step: Step) -> Result<Refusal>
         ensures ok { IfOk result (λ r. refused_of r
             ≡ spec_within (explained_step step) (refused_of self)) }
-        ensures only { IfErr result (λ e. e ≡ no_memory) }
+        ensures only { OnlyNoMemory result }
     {
         let Refusal {
             mut steps,
@@ -207,8 +207,8 @@ impl Refusal {
         }
     }
 
-    /// Returns what is wanted in place of the value. It is `None` if the key of the value is refused, or
-    /// if a member is missing.
+    /// Returns what is wanted in place of the value. It is `None` if the key of the value is
+    /// refused, or if a member is missing.
     pub fn wanted(&self) -> Option<Wanted>
         ensures { result ≡ self.now.wanted }
     {

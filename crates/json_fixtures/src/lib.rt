@@ -1,4 +1,5 @@
-//! What tests of values read, and how they look at it. No clause says what is made here: tests compare it with what they expect.
+//! What tests of values read, and how they look at it. No clause says what is made here: tests
+//! compare it with what they expect.
 //!
 //! ```
 //! use json_fixtures::becomes;

@@ -1,4 +1,5 @@
-// Examples: texts with their trees, and inputs that are no text with their faults, in the strict mode and with at most 254 levels.
+// Examples: texts with their trees, and inputs that are no text with their faults, in the strict
+// mode and with at most 254 levels.
 ghost use Rattle.json_grammar.specs.Examples.{ObjectText, NumbersText, EscapesText, RepeatedNamesText, WhitespaceText, DeepText, LossyText, BreaksOff, LiteralRefused, LeadingZeroRefused, ColonRefused, ElementEndRefused, MemberEndRefused, NameRefused, TrailingCommaRefused, ElementRefused, ByteOrderMarkRefused, ControlCharacterRefused, EscapeRefused, SurrogateRefused, TrailingCharactersRefused, TooDeepRefused, SmallTreeCounted, SmallTreeTold, ValueRead};
 
 /// `{"a": 1, "b": true, "c": null}` is a text of its three members, in their order.
@@ -6,7 +7,8 @@ pub fn object_text()
     ensures { ObjectText }
 {}
 
-/// `[-0,1.0,1e400,12345678901234567890123,18446744073709551615]`: each number is its own literal (RFC 8259, section 6).
+/// `[-0,1.0,1e400,12345678901234567890123,18446744073709551615]`: each number is its own literal
+/// (RFC 8259, section 6).
 pub fn numbers_text()
     ensures { NumbersText }
 {}
@@ -21,7 +23,8 @@ pub fn repeated_names_text()
     ensures { RepeatedNamesText }
 {}
 
-/// A space and a tab, `[`, a line feed, `]` and a carriage return are a text of an empty array (section 2).
+/// A space and a tab, `[`, a line feed, `]` and a carriage return are a text of an empty array
+/// (section 2).
 pub fn whitespace_text()
     ensures { WhitespaceText }
 {}

@@ -66,12 +66,14 @@ pub fn text_has_no_fault()
     ensures { TextHasNoFault }
 {}
 
-/// A text of n bytes has at most (n + 1) / 2 nodes, and its strings, names and number literals are at most n bytes.
+/// A text of n bytes has at most (n + 1) / 2 nodes, and its strings, names and number literals are
+/// at most n bytes.
 pub fn text_fits()
     ensures { TextFits }
 {}
 
-/// The tokens of a prefix bring no more nodes than it has bytes, and no more bytes of strings, names and literals.
+/// The tokens of a prefix bring no more nodes than it has bytes, and no more bytes of strings,
+/// names and literals.
 pub fn prefix_fits()
     ensures { PrefixFits }
 {}

@@ -1,7 +1,8 @@
 // Examples of inputs that are refused by rules, in the strict mode, and of one that is not.
 ghost use Rattle.json_grammar.specs.RulesExamples.{RepeatedNameRefused, BrokenNameRefused, FirstRefused, InnerNameFits};
 
-/// `{"a":1,"b":2,"\u0061":3}` repeats its first name at offset 13, and `{"a":1,"a":}` at 7, whatever follows it.
+/// `{"a":1,"b":2,"\u0061":3}` repeats its first name at offset 13, and `{"a":1,"a":}` at 7,
+/// whatever follows it.
 pub fn repeated_name_refused()
     ensures { RepeatedNameRefused }
 {}
@@ -11,7 +12,8 @@ pub fn broken_name_refused()
     ensures { BrokenNameRefused }
 {}
 
-/// Where one level is allowed, `[{"a":1,"a":2}]` has its second one before a name repeats, and `{"a":1,"a":[]}` after it.
+/// Where one level is allowed, `[{"a":1,"a":2}]` has its second one before a name repeats, and
+/// `{"a":1,"a":[]}` after it.
 pub fn first_refused()
     ensures { FirstRefused }
 {}

@@ -6,7 +6,8 @@ pub fn tokens_of_tree()
     ensures { TokensOfTree }
 {}
 
-/// One token more repeats a name where one before it did, or where it is a name that its object has.
+/// One token more repeats a name where one before it did, or where it is a name that its object
+/// has.
 pub fn one_token_more()
     ensures { OneTokenMore }
 {}
@@ -37,8 +38,8 @@ pub fn fault_stands()
     ensures { FaultStands }
 {}
 
-/// Each name that is whole was returned, where only whitespace, a comma or a colon was passed since,
-/// and a part of one token.
+/// Each name that is whole was returned, where only whitespace, a comma or a colon was passed
+/// since, and a part of one token.
 pub fn names_are_told()
     ensures { NamesAreTold }
 {}
@@ -48,7 +49,8 @@ pub fn no_name_within()
     ensures { NoNameWithin }
 {}
 
-/// Behind whole members of an object and one more name, that name is the last token, and theirs are the names before it.
+/// Behind whole members of an object and one more name, that name is the last token, and theirs are
+/// the names before it.
 pub fn key_inside()
     ensures { KeyInside }
 {}

@@ -6,7 +6,6 @@ ghost use Rattle.json_grammar.specs.Tree.{list_pairs};
 ghost use Rattle.json_model.specs.Edit.{index_step, key_step};
 ghost use Rattle.json_value.specs.Denotes.{tree_of, text_bytes};
 ghost use Rattle.json_value.specs.Edits.{edit_of, edit_path, path_steps};
-ghost use Rattle.json_value.specs.Failures.{OnlyNoMemory};
 ghost use Rattle.json_value.specs.Seen.{seen, members_seen};
 ghost use Rattle.json_value.specs.SightParts.{members_sights};
 ghost use Rattle.json_value.specs.Sights.{sight_of, whole_value};
@@ -15,6 +14,7 @@ ghost use Rattle.json_history.specs.Change.{change, members_named};
 ghost use Rattle.json_history.specs.ChangeTrees.{tree_change_of, removed_member};
 ghost use Rattle.json_history.specs.SharedParts.{SharesWith, MemberShares, SharesParts, ChangeShares};
 ghost use Rattle.json_history.specs.Target.{change_in, insert_change_in, push_change_in, remove_change_in};
+ghost use Rattle.json_io.specs.Errors.{OnlyNoMemory};
 
 use crate::change::Change;
 use crate::path_copy::{copy_path, path_with_key};

@@ -3,7 +3,6 @@ ghost use Rattle.std.specs.Prelude.{◌≡◌, IfOk, Ok, OnOk, OnErr, [], length
 ghost use Rattle.json_model.specs.Edit.{edited_once};
 ghost use Rattle.json_value.specs.Denotes.{tree_of};
 ghost use Rattle.json_value.specs.Edits.{edit_of, edit_path, FailsAs};
-ghost use Rattle.json_value.specs.Failures.{OnlyNoMemory};
 ghost use Rattle.json_value.specs.Touched.{Touches, KeepsOnRefusal};
 ghost use Rattle.json_history.specs.History.{IsValidLog, new_log, log_edit, log_call, undo, redo, is_nonempty};
 ghost use Rattle.json_history.specs.History.{new_history, after_call, edit as edits, history_of};
@@ -11,6 +10,7 @@ ghost use Rattle.json_history.specs.Limits.{limit_changes, limit_past, without_r
 ghost use Rattle.json_history.specs.Logs.{log_in, changes_of};
 ghost use Rattle.json_history.specs.Restores.{UndoTouches, UndoKeeps, RedoTouches, RedoKeeps};
 ghost use Rattle.json_history.specs.SharedParts.{AppendsChange, MovesToRedos, MovesToChanges};
+ghost use Rattle.json_io.specs.Errors.{OnlyNoMemory};
 
 use crate::change::Change;
 use crate::redo::Redo;

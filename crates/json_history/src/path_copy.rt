@@ -3,7 +3,7 @@ ghost use Rattle.std.specs.Prelude.{◌≡◌, ◌++◌, ◌∷◌, [], IfOk};
 ghost use Rattle.json_model.specs.Edit.{key_step};
 ghost use Rattle.json_value.specs.Denotes.{text_bytes};
 ghost use Rattle.json_value.specs.Edits.{path_steps, step_of, steps_of};
-ghost use Rattle.json_value.specs.Failures.{OnlyNoMemory};
+ghost use Rattle.json_io.specs.Errors.{OnlyNoMemory};
 
 use json_text::Result;
 use json_value::{Path, PointerNode, Text};

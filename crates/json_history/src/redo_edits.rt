@@ -5,13 +5,13 @@ ghost use Rattle.json_model.specs.Edit.{within, set_at, insert_at, push_at};
 ghost use Rattle.json_grammar.specs.Tree.{list_pairs, list_trees};
 ghost use Rattle.json_value.specs.Denotes.{tree_of};
 ghost use Rattle.json_value.specs.Edits.{edit_of, path_steps};
-ghost use Rattle.json_value.specs.Failures.{OnlyNoMemory};
 ghost use Rattle.json_value.specs.Seen.{seen, members_seen, elements_seen};
 ghost use Rattle.json_value.specs.SightParts.{elements_sights, members_sights};
 ghost use Rattle.json_value.specs.Sights.{Sight, sight_of, whole_value};
 ghost use Rattle.json_history.specs.Change.{redo_edit, edit_of_last, last_member, last_element, edit_of_removal};
 ghost use Rattle.json_history.specs.ChangeTrees.{tree_change_of, removed_members};
 ghost use Rattle.json_history.specs.SharedParts.{EditShares, EditSharesParts, EditSharesElement, EditSharesMember};
+ghost use Rattle.json_io.specs.Errors.{OnlyNoMemory};
 
 use crate::change::Change;
 use crate::path_copy::copy_path;

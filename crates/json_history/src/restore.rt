@@ -5,13 +5,13 @@ ghost use Rattle.json_grammar.specs.Tree.{list_pairs};
 ghost use Rattle.json_model.specs.Edit.{on_list, on_pairs};
 ghost use Rattle.json_value.specs.Denotes.{tree_of, pair_of, list_in, pairs_in, KeepsTreeOnErr};
 ghost use Rattle.json_value.specs.Edits.{Makes};
-ghost use Rattle.json_value.specs.Failures.{OnlyNoMemory};
 ghost use Rattle.json_value.specs.Places.{value_origin};
 ghost use Rattle.json_value.specs.Touched.{ArrayTouched, ObjectTouched, ArrayKept, ObjectKept, Same, Along, KeptAlong};
 ghost use Rattle.json_history.specs.Change.{undone, without_last, insert_element_at, insert_members};
 ghost use Rattle.json_history.specs.ChangeTrees.{tree_change_of, change_path, removed_member, removed_members};
 ghost use Rattle.json_history.specs.Restores.{DropsLast, InsertsAt, InsertsMembers, ElementsTouched, MembersTouched, RestoresAt, RestoreKeeps, origins_of, with_restored_members};
 ghost use Rattle.json_history.specs.Target.{undone_in, all_but_last};
+ghost use Rattle.json_io.specs.Errors.{OnlyNoMemory};
 
 use crate::change::Change;
 use crate::taken::{Taken, copy_members};

@@ -4,7 +4,6 @@ ghost use Rattle.std.specs.Vec.{vec_len, vec_capacity};
 ghost use Rattle.json_model.specs.Edit.{edited_once};
 ghost use Rattle.json_value.specs.Denotes.{tree_of};
 ghost use Rattle.json_value.specs.Edits.{edit_of, edit_path, FailsAs, Makes};
-ghost use Rattle.json_value.specs.Failures.{OnlyNoMemory};
 ghost use Rattle.json_value.specs.Sights.{whole_value};
 ghost use Rattle.json_value.specs.Touched.{Along, KeptAlong, Touches, KeepsOnRefusal};
 ghost use Rattle.json_history.specs.Change.{undone, redo_edit};
@@ -13,6 +12,7 @@ ghost use Rattle.json_history.specs.History.{IsValidLog, log_edit, log_call, und
 ghost use Rattle.json_history.specs.Logs.{log_in};
 ghost use Rattle.json_history.specs.SharedParts.{AppendsChange, EditSharesParts, MovesToRedos, MovesToChanges};
 ghost use Rattle.json_history.specs.Restores.{RestoresAt, RestoreKeeps, UndoTouches, UndoKeeps, RedoTouches, RedoKeeps};
+ghost use Rattle.json_io.specs.Errors.{OnlyNoMemory};
 
 use crate::change::Change;
 use crate::edit_change::change_of_edit;

@@ -1,9 +1,9 @@
 // Members that an edit removed from an object.
 ghost use Rattle.std.specs.Prelude.{◌≡◌, ◌<◌, length, Some, slice_get, IfOk, map};
 ghost use Rattle.json_value.specs.Denotes.{pair_of};
-ghost use Rattle.json_value.specs.Failures.{OnlyNoMemory};
 ghost use Rattle.json_history.specs.ChangeTrees.{removed_members, removed_member};
 ghost use Rattle.json_history.specs.Restores.{member_origin, origins_of};
+ghost use Rattle.json_io.specs.Errors.{OnlyNoMemory};
 
 use json_text::Result;
 use json_value::{Pair, Text};

@@ -1,7 +1,7 @@
 //! The program `mezdruk history`: reads a JSON text from standard input, makes the edits, undos and
-//! redos that its argument asks for, and writes the text of the value after them to standard output.
-//! `run_history` of the library `json_history` does all of it; what is here hands it the arguments and
-//! the streams.
+//! redos that its argument asks for, and writes the text of the value after them to standard
+//! output. `run_history` of the library `json_history` does all of it; what is here hands it the
+//! arguments and the streams.
 //!
 //!     printf '[0]' | mezdruk history '[["push", [], 1], ["undo"], ["redo"]]'
 #![tactic(auto)]

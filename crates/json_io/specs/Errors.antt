@@ -1,5 +1,5 @@
 -- The codes' names, numbers and categories, and the refusals that carry no offset, by name.
-use Rattle.std.specs.Prelude.{ℕ, List, Some, None, codes}
+use Rattle.std.specs.Prelude.{◌≡◌, ℕ, List, Some, None, Result, IfErr, codes}
 use Rattle.std.specs.declared.option.Option.{Option}
 use Rattle.json_io.specs.declared.error.Error.{Error}
 use Rattle.json_io.specs.declared.error.ErrorCode.{ErrorCode}
@@ -70,6 +70,10 @@ column_of _ = None
 -- memory ran out
 abbrev pub no_memory : Error
 no_memory = record { code = code.NoMemory; place = place.None }
+
+-- a call fails only because memory runs out
+abbrev pub OnlyNoMemory : {A : Type 0} → Result A Error → Type 0
+OnlyNoMemory r = IfErr r (λ e. e ≡ no_memory)
 
 -- the source failed
 abbrev pub reading_failed : Error

@@ -1,4 +1,5 @@
-// Bytes appended where there is room for them. std's append of a slice does not say that the capacity stays.
+// Bytes appended where there is room for them. std's append of a slice does not say that the
+// capacity stays.
 ghost use Rattle.std.specs.Prelude.{◌≡◌, ◌+◌, ◌-◌, ◌≤◌, ◌++◌, length, slice_range, vec_len, vec_capacity};
 
 use std::mem;
@@ -124,7 +125,8 @@ pub fn append_few(out: &mut Vec<u8>, bytes: &[u8])
     }
 }
 
-/// Appends four to 8 bytes by two blocks that may overlap: what the last one brings again is taken back first.
+/// Appends four to 8 bytes by two blocks that may overlap: what the last one brings again is taken
+/// back first.
 #[inline(always)]
 fn append_by_four(out: &mut Vec<u8>, bytes: &[u8])
     requires long { 4 ≤ length bytes.now }
@@ -141,7 +143,8 @@ fn append_by_four(out: &mut Vec<u8>, bytes: &[u8])
     append_four(out, bytes, back);
 }
 
-/// Appends eight to 16 bytes by two blocks that may overlap: what the last one brings again is taken back first.
+/// Appends eight to 16 bytes by two blocks that may overlap: what the last one brings again is
+/// taken back first.
 #[inline(always)]
 fn append_by_eight(out: &mut Vec<u8>, bytes: &[u8])
     requires long { 8 ≤ length bytes.now }
@@ -158,7 +161,8 @@ fn append_by_eight(out: &mut Vec<u8>, bytes: &[u8])
     append_eight(out, bytes, back);
 }
 
-/// Appends sixteen to 32 bytes by two blocks that may overlap: what the last one brings again is taken back first.
+/// Appends sixteen to 32 bytes by two blocks that may overlap: what the last one brings again is
+/// taken back first.
 #[inline(always)]
 fn append_by_sixteen(out: &mut Vec<u8>, bytes: &[u8])
     requires long { 16 ≤ length bytes.now }
@@ -175,8 +179,8 @@ fn append_by_sixteen(out: &mut Vec<u8>, bytes: &[u8])
     append_sixteen(out, bytes, back);
 }
 
-/// The vector with 16 bytes or more appended by blocks, the last of them up to the end: what it brings again is taken
-/// back first.
+/// The vector with 16 bytes or more appended by blocks, the last of them up to the end: what it
+/// brings again is taken back first.
 #[inline(never)]
 fn extended_long(mut out: Vec<u8>, bytes: &[u8]) -> Vec<u8>
     requires long { 16 ≤ length bytes.now }
@@ -244,8 +248,9 @@ pub fn extend_reserved(out: &mut Vec<u8>, bytes: &[u8])
     *out = text;
 }
 
-/// Appends the bytes from `start` up to `end` as `extend_reserved` does. At most 16 are one block where as many follow
-/// `start` and as many have room, so that nothing depends on how many they are.
+/// Appends the bytes from `start` up to `end` as `extend_reserved` does. At most 16 are one block
+/// where as many follow `start` and as many have room, so that nothing depends on how many they
+/// are.
 ///
 /// ```
 /// use json_io::extend_reserved_from;
@@ -269,8 +274,9 @@ pub fn extend_reserved_from(out: &mut Vec<u8>, bytes: &[u8], start: usize, end: 
     extend_reserved(out, &bytes[start..end]);
 }
 
-/// Appends the bytes from `start` up to `end` as `extend_reserved` does. At most 32 are two blocks of 16 where as many
-/// follow `start` and as many have room, so that nothing depends on how many they are.
+/// Appends the bytes from `start` up to `end` as `extend_reserved` does. At most 32 are two blocks
+/// of 16 where as many follow `start` and as many have room, so that nothing depends on how many
+/// they are.
 ///
 /// ```
 /// use json_io::extend_reserved_blocks;

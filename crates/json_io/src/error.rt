@@ -80,7 +80,8 @@ pub enum ErrorCode {
 pub enum Category {
     /// A read or a write failed.
     Io,
-    /// The input breaks the grammar, is not UTF-8 or repeats a name, or the words of the command line have another form.
+    /// The input breaks the grammar, is not UTF-8 or repeats a name, or the words of the command
+    /// line have another form.
     Syntax,
     /// The input ends before its value does.
     Eof,
@@ -105,7 +106,8 @@ pub enum Category {
 pub enum Place {
     /// No place is known.
     None,
-    /// A place in the input: the offset in bytes from 0, the line from 1, and the column in bytes from 1.
+    /// A place in the input: the offset in bytes from 0, the line from 1, and the column in bytes
+    /// from 1.
     At {
         offset: usize,
         line: usize,

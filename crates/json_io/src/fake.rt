@@ -18,8 +18,8 @@ fn next_fails(calls: &mut u64, fail: &[u64]) -> bool
     fail.contains(&call)
 }
 
-/// A source of bytes in memory, which gives a few a call, and fails at the calls with these numbers,
-/// counted from 0. Contracts see its bytes and its counts.
+/// A source of bytes in memory, which gives a few a call, and fails at the calls with these
+/// numbers, counted from 0. Contracts see its bytes and its counts.
 ///
 /// ```
 /// use json_io::{Failed, FakeSource, Source};
@@ -46,14 +46,21 @@ impl<'a> Model for FakeSource<'a> {
 
     ghost Value = { FakeSourceView };
 
-    ghost view = { λ s. record { left = s.rest.now; most = s.most; fail = s.fail.now; calls = s.calls; given = s.given; faults = s.faults } };
+    ghost view = { λ s. record {
+      left = s.rest.now;
+      most = s.most;
+      fail = s.fail.now;
+      calls = s.calls;
+      given = s.given;
+      faults = s.faults;
+    } };
 
     ghost invariant = { λ s. 1 ≤ s.most };
 }
 
 impl<'a> FakeSource<'a> {
-    /// A source of these bytes, at most `most` a call. Calls are counted from 0; one beyond the last
-    /// `u64` has that number.
+    /// A source of these bytes, at most `most` a call. Calls are counted from 0; one beyond the
+    /// last `u64` has that number.
     pub fn new(bytes: &'a [u8], most: usize, fail: &'a [u64]) -> FakeSource<'a>
         requires { 1 ≤ most }
         ensures { result ≡ record {
@@ -102,8 +109,8 @@ impl Source for FakeSource<'_> {
     }
 }
 
-/// A sink in memory, which takes a few bytes a call, and fails at the calls with these numbers, counted
-/// from 0. Contracts see its bytes and its counts.
+/// A sink in memory, which takes a few bytes a call, and fails at the calls with these numbers,
+/// counted from 0. Contracts see its bytes and its counts.
 ///
 /// ```
 /// use json_io::{FakeSink, Place, put_all};
@@ -128,14 +135,21 @@ impl<'a> Model for FakeSink<'a> {
 
     ghost Value = { FakeSinkView };
 
-    ghost view = { λ s. record { gained = s.bytes.items; most = s.most; fail = s.fail.now; calls = s.calls; faults = s.faults; lacks = s.lacks } };
+    ghost view = { λ s. record {
+      gained = s.bytes.items;
+      most = s.most;
+      fail = s.fail.now;
+      calls = s.calls;
+      faults = s.faults;
+      lacks = s.lacks;
+    } };
 
     ghost invariant = { λ s. 1 ≤ s.most };
 }
 
 impl<'a> FakeSink<'a> {
-    /// A sink that takes at most `most` bytes a call. Writes and flushes are counted together, from 0; a
-    /// call beyond the last `u64` has that number.
+    /// A sink that takes at most `most` bytes a call. Writes and flushes are counted together, from
+    /// 0; a call beyond the last `u64` has that number.
     pub fn new(alloc: Global, most: usize, fail: &'a [u64]) -> FakeSink<'a>
         requires { 1 ≤ most }
         ensures { result ≡ record {
@@ -166,7 +180,13 @@ impl<'a> FakeSink<'a> {
 }
 
 impl Sink for FakeSink<'_> {
-    ghost state = { λ s. record { gained = Some s.gained; faults = s.faults; lacks = s.lacks; unflushed = false; loan = None } };
+    ghost state = { λ s. record {
+      gained = Some s.gained;
+      faults = s.faults;
+      lacks = s.lacks;
+      unflushed = false;
+      loan = None;
+    } };
 
     fn write(&mut self, piece: &[u8]) -> Result<usize, SinkError>
         ensures bound { WritesAtMost result piece.now }

@@ -6,8 +6,9 @@ ghost use Rattle.json_io.specs.Lending.{lent_as, ComesBack};
 use crate::{Sink, SinkError};
 use std::snapshot::Snapshot;
 
-/// A borrowed sink that keeps in mind what the lender had gained. A caller who has it back from a writer that held bytes back
-/// knows that the lender gained what was sent, and has all that it had before.
+/// A borrowed sink that keeps in mind what the lender had gained. A caller who has it back from a
+/// writer that held bytes back knows that the lender gained what was sent, and has all that it had
+/// before.
 ///
 /// ```
 /// use json_io::{LentSink, VecSink, put_all};
@@ -46,7 +47,8 @@ impl<'a, K: Sink> LentSink<'a, K> {
 }
 
 impl<K: Sink> Sink for LentSink<'_, K> {
-    ghost state = { λ l. lent_as (K.state l.sink.now) l.sink.ghost_name (K.state l.start.value).gained };
+    ghost state = { λ l. lent_as (K.state l.sink.now) l.sink.ghost_name
+        (K.state l.start.value).gained };
 
     #[inline(always)]
     fn write(&mut self, piece: &[u8]) -> Result<usize, SinkError> {

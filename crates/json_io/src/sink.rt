@@ -37,11 +37,12 @@ pub enum SinkError {
 /// ```
 pub trait Sink {
     /// The bytes gained, where they are known, how many calls failed and how many found no memory,
-    /// whether bytes may wait for a flush, and the loan of a borrowed sink. No call changes the loan.
+    /// whether bytes may wait for a flush, and the loan of a borrowed sink. No call changes the
+    /// loan.
     ghost state: { Self → SinkState };
 
-    /// Takes a prefix of the piece, and returns its number of bytes: at least one if the piece has one.
-    /// A call that fails takes nothing.
+    /// Takes a prefix of the piece, and returns its number of bytes: at least one if the piece has
+    /// one. A call that fails takes nothing.
     fn write(&mut self, piece: &[u8]) -> Result<usize, SinkError>
         ensures bound { WritesAtMost result piece.now }
         ensures writes { Writes (state self.old) (state self.new) piece.now result };
@@ -154,8 +155,8 @@ impl Sink for VecSink {
     }
 }
 
-/// A sink over any writer. Its bytes are not known. Each error of the writer, and a write of nothing
-/// of a piece that is not empty, is a failed call.
+/// A sink over any writer. Its bytes are not known. Each error of the writer, and a write of
+/// nothing of a piece that is not empty, is a failed call.
 ///
 /// ```
 /// use json_io::{StdSink, flush_all, put_all};
@@ -166,9 +167,9 @@ impl Sink for VecSink {
 /// assert_eq!(rt; bytes.as_slice(), b"true\n".as_slice());
 /// ```
 //
-// This is the edge to the system. What is known of the writer's bytes is passed on, so no byte is dropped
-// or made up; that a call fails only where the writer did, and that `flush` flushes the writer, is trusted,
-// since no clause of `Write` says when it fails or what a flush does.
+// This is the edge to the system. What is known of the writer's bytes is passed on, so no byte is
+// dropped or made up; that a call fails only where the writer did, and that `flush` flushes the
+// writer, is trusted, since no clause of `Write` says when it fails or what a flush does.
 #[derive(Drop)]
 pub struct StdSink<W: Write> {
     writer: W,

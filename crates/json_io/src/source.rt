@@ -28,11 +28,12 @@ pub struct Failed;
 /// assert_eq!(rt; source.read(&mut buf), Ok(0));
 /// ```
 pub trait Source {
-    /// The bytes still to come, where they are known, how many were given, and how many calls failed.
+    /// The bytes still to come, where they are known, how many were given, and how many calls
+    /// failed.
     ghost state: { Self → SourceState };
 
-    /// Fills a prefix of the buffer, and returns its number of bytes: 0, for a buffer with room, is the
-    /// end of the input. A call that fails gives nothing.
+    /// Fills a prefix of the buffer, and returns its number of bytes: 0, for a buffer with room, is
+    /// the end of the input. A call that fails gives nothing.
     fn read(&mut self, buf: &mut [u8]) -> Result<usize, Failed>
         ensures bound { ReadsAtMost result buf.new }
         ensures reads { Reads (state self.old) (state self.new) buf.new result };
@@ -92,9 +93,9 @@ impl Source for SliceSource<'_> {
 /// assert_eq!(rt; check_utf8(&bytes)?, "\"é\"");
 /// ```
 //
-// This is the edge to the system. What is known of the reader's bytes is passed on, and nothing else is
-// answered; that a read fails only where the reader did is trusted, since no clause of `Read` says
-// when it fails.
+// This is the edge to the system. What is known of the reader's bytes is passed on, and nothing
+// else is answered; that a read fails only where the reader did is trusted, since no clause of
+// `Read` says when it fails.
 #[derive(Drop)]
 pub struct StdSource<R: Read> {
     reader: R,

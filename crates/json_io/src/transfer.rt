@@ -13,10 +13,11 @@ const PIECE: usize = 65536;
 // Room for so many bytes is there from the first read on, so that what was read is seldom moved.
 const FIRST_ROOM: usize = 1048576;
 
-/// All bytes up to the end of the source, which are at most `limit`. Takes at most `limit + 1` bytes.
+/// All bytes up to the end of the source, which are at most `limit`. Takes at most `limit + 1`
+/// bytes.
 ///
-/// `TooLarge` comes where the source has more, `Io` at `Reading` where a read failed, and `NoMemory` where
-/// there is no room.
+/// `TooLarge` comes where the source has more, `Io` at `Reading` where a read failed, and
+/// `NoMemory` where there is no room.
 pub fn read_all<S: Source>(alloc: Global, source: &mut S, limit: usize) -> Result<Vec<u8>>
     requires { limit < usize.MAX }
 
@@ -44,8 +45,8 @@ pub fn read_all<S: Source>(alloc: Global, source: &mut S, limit: usize) -> Resul
     })
 }
 
-// One read of at most `most` bytes after the first `filled`. Room is made first, so that no byte is lost
-// where there is none. What follows the bytes read is then room for more.
+// One read of at most `most` bytes after the first `filled`. Room is made first, so that no byte is
+// lost where there is none. What follows the bytes read is then room for more.
 fn read_piece<S: Source>(
     source: &mut S,
     bytes: &mut Vec<u8>,
@@ -117,8 +118,8 @@ fn sink_refusal(error: SinkError) -> Error
 
 /// Puts the whole piece into the sink. An empty piece makes no call.
 ///
-/// `Io` at `Writing` comes where the sink failed, and `NoMemory` where it found none; a prefix of the
-/// piece was gained then.
+/// `Io` at `Writing` comes where the sink failed, and `NoMemory` where it found none; a prefix of
+/// the piece was gained then.
 #[inline(always)]
 pub fn put_all<K: Sink>(sink: &mut K, piece: &[u8]) -> Result<()>
     ensures { Puts (K.state sink.old) (K.state sink.new) piece.now result }

@@ -1,4 +1,5 @@
-// Pieces put into a sink, answered as the sink answers: an answer that can hold a place in the input costs more.
+// Pieces put into a sink, answered as the sink answers: an answer that can hold a place in the
+// input costs more.
 ghost use Rattle.std.specs.Prelude.{◌≡◌, ◌≤◌, ℕ, List, length, drop};
 ghost use Rattle.json_io.specs.Errors.{no_memory, writing_failed};
 ghost use Rattle.json_io.specs.Outside.{SinkState};
@@ -52,7 +53,8 @@ fn add_rest<W: Sink>(sink: &mut W, piece: &[u8], from: usize) -> Added
     send(sink, piece, &mut sent)
 }
 
-// Why a call of the sink failed, to a caller. It is built in place: a result of a call would be cleared at each token.
+// Why a call of the sink failed, to a caller. It is built in place: a result of a call would be
+// cleared at each token.
 #[inline(always)]
 pub(crate) fn refusal(error: SinkError) -> Error
     ensures failed { error ≡ SinkError.Failed → result ≡ writing_failed }
@@ -70,8 +72,8 @@ pub(crate) fn refusal(error: SinkError) -> Error
     }
 }
 
-/// Returns what a write came to as a `Result` of the library: its error is `Io` at `Writing` where a
-/// call of the sink failed, and `NoMemory` where memory ran out.
+/// Returns what a write came to as a `Result` of the library: its error is `Io` at `Writing` where
+/// a call of the sink failed, and `NoMemory` where memory ran out.
 #[inline(always)]
 pub fn into_result(added: Added) -> Result<()>
     ensures { (old new : SinkState) (piece : List ℕ) → Adds old new piece added

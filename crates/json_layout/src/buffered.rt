@@ -1,7 +1,7 @@
 // A sink that holds bytes back and sends many at once.
 ghost use Rattle.std.specs.Prelude.{◌≡◌, ◌≤◌, ◌<◌, ◌+◌, ◌++◌, length, IfErr, IfOk, OnOk, List, ℕ, drop, take};
 ghost use Rattle.std.specs.Io.{WritesAtMost};
-ghost use Rattle.json_io.specs.Errors.{no_memory};
+ghost use Rattle.json_io.specs.Errors.{OnlyNoMemory};
 ghost use Rattle.json_io.specs.Outside.{Writes};
 ghost use Rattle.std.specs.Prelude.{◌∷◌, [], IsTrue, Ok, Err, false};
 ghost use Rattle.json_grammar.specs.Given.{piece};
@@ -40,7 +40,7 @@ pub struct Buffer {
 impl Buffer {
     /// Takes its bytes at once: `NoMemory` comes where they are not there.
     pub fn new(alloc: Global) -> Result<Buffer>
-        ensures only { IfErr result (λ e. e ≡ no_memory) }
+        ensures only { OnlyNoMemory result }
     {
         let bytes = vec![in alloc; 0; CAPACITY]?;
         Ok(Buffer { bytes })
@@ -49,8 +49,8 @@ impl Buffer {
 
 /// A sink that holds up to 8,192 bytes back and sends them to the inner sink at once.
 ///
-/// It has gained the inner sink's bytes and then those that it holds. Where the inner sink fails, the bytes that it took are not sent
-/// again, and the others stay held.
+/// It has gained the inner sink's bytes and then those that it holds. Where the inner sink fails,
+/// the bytes that it took are not sent again, and the others stay held.
 ///
 /// ```
 /// use json_layout::BufferedWriter;
@@ -65,7 +65,8 @@ impl Buffer {
 pub struct BufferedWriter<W> {
     inner: W,
     buffer: Vec<u8>,
-    // Held are the bytes of the buffer from `sent` up to `end`. Those before `sent` are the inner sink's already.
+    // Held are the bytes of the buffer from `sent` up to `end`. Those before `sent` are the inner
+    // sink's already.
     sent: usize,
     end: usize,
     ghost order: { sent ≤ end },
@@ -113,12 +114,13 @@ fn fill(buffer: &mut [u8], at: usize, piece: &[u8])
 }
 
 impl<W: Sink> BufferedWriter<W> {
-    /// A sink over the inner one that holds nothing yet. It takes its 8,192 bytes at once: `NoMemory` comes where they are not there.
+    /// A sink over the inner one that holds nothing yet. It takes its 8,192 bytes at once:
+    /// `NoMemory` comes where they are not there.
     pub fn new(alloc: Global, inner: W) -> Result<BufferedWriter<W>>
     where
         W: Drop,
         ensures starts { IfOk result (λ b. ⟦<BufferedWriter<W> as Sink>⟧.state b ≡ W.state inner) }
-        ensures only { IfErr result (λ e. e ≡ no_memory) }
+        ensures only { OnlyNoMemory result }
     {
         let buffer = Buffer::new(alloc)?;
         Ok(BufferedWriter::with_buffer(buffer, inner))
@@ -144,8 +146,8 @@ impl<W: Sink> BufferedWriter<W> {
         self.inner
     }
 
-    // Puts a short string that needs no escape after a comma, unless it is the first, by one test of room. Where
-    // that cannot be done nothing is put.
+    // Puts a short string that needs no escape after a comma, unless it is the first, by one test
+    // of room. Where that cannot be done nothing is put.
     #[inline(always)]
     pub(crate) fn put_item(&mut self, first: bool, text: &[u8]) -> bool
         ensures put { IsTrue result → Adds (⟦<BufferedWriter<W> as Sink>⟧.state self.old)
@@ -291,7 +293,8 @@ impl<W: Sink> BufferedWriter<W> {
         Ok(self.hold_blocks(text, at))
     }
 
-    // Puts the blocks of a string, and returns the offset of the rest, which is shorter than a block.
+    // Puts the blocks of a string, and returns the offset of the rest, which is shorter than a
+    // block.
     #[inline(always)]
     fn put_blocks(&mut self, text: &[u8]) -> std::result::Result<usize, SinkError>
         ensures left { IfOk result (λ at. (at ≤ length text.now) × (length text.now < at + 16)) }

@@ -17,7 +17,8 @@ use json_scan::plain_run;
 // How many bytes go by tables after a long run.
 const FEW: usize = 4;
 
-// The end of the run of plain bytes from an offset on, where it is long: a short one goes by tables, with what is after it.
+// The end of the run of plain bytes from an offset on, where it is long: a short one goes by
+// tables, with what is after it.
 fn long_run(value: &[u8], from: usize) -> usize
     requires { from ≤ length value.now }
     ensures within { (from ≤ result) × (result ≤ length value.now) }
@@ -27,7 +28,8 @@ fn long_run(value: &[u8], from: usize) -> usize
     if end - from < BATCH { from } else { end }
 }
 
-// How far the bytes after a run go by tables: a few after a long run, whose next bytes are likely plain as well.
+// How far the bytes after a run go by tables: a few after a long run, whose next bytes are likely
+// plain as well.
 #[inline(always)]
 fn batch_end(value: &[u8], from: usize, run: usize) -> usize
     requires order { from ≤ run }
@@ -104,8 +106,8 @@ fn add_quoted<W: Sink>(writer: &mut W, value: &[u8]) -> Added
     }
 }
 
-/// Writes the characters, escaped where they have to be, and between quotes if `need_quote` is true.
-/// Fails with the error of the sink.
+/// Writes the characters, escaped where they have to be, and between quotes if `need_quote` is
+/// true. Fails with the error of the sink.
 #[inline(always)]
 pub fn add_string<W: Sink>(writer: &mut W, value: &str, need_quote: bool) -> Added
     ensures { Adds (W.state writer.old) (W.state writer.new)

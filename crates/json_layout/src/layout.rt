@@ -10,8 +10,8 @@ use crate::escape::add_number;
 use crate::indent::{Indent, add_break};
 use json_io::Sink;
 
-/// Writes what comes before an element or a key: a comma unless it is the first, and then a new line
-/// with `level` indents if there is an indent. Fails with the error of the sink.
+/// Writes what comes before an element or a key: a comma unless it is the first, and then a new
+/// line with `level` indents if there is an indent. Fails with the error of the sink.
 #[inline(always)]
 pub fn add_start<W: Sink>(
     writer: &mut W,
@@ -42,8 +42,8 @@ fn add_end_line<W: Sink>(
     add(writer, &[bracket])
 }
 
-/// Writes a closing bracket. It is on a line of its own if there is an indent and `flag` says that the
-/// container holds something. Fails with the error of the sink.
+/// Writes a closing bracket. It is on a line of its own if there is an indent and `flag` says that
+/// the container holds something. Fails with the error of the sink.
 #[inline]
 pub fn add_end<W: Sink>(
     writer: &mut W,
@@ -99,8 +99,8 @@ fn add_byte_elements<W: Sink>(
     Ok(())
 }
 
-/// Writes the bytes as an array of numbers. Its elements are after `level` indents and its end is after
-/// `outer`, if there is an indent. Fails with the error of the sink.
+/// Writes the bytes as an array of numbers. Its elements are after `level` indents and its end is
+/// after `outer`, if there is an indent. Fails with the error of the sink.
 pub fn add_byte_array<W: Sink>(
     writer: &mut W,
     indent: Option<Indent<'_>>,

@@ -1,4 +1,5 @@
-// Short strings stored into memory that has room for them, each by one test of its bytes as they are copied.
+// Short strings stored into memory that has room for them, each by one test of its bytes as they
+// are copied.
 ghost use Rattle.std.specs.Prelude.{◌≡◌, ◌≤◌, ◌<◌, ◌+◌, ◌++◌, ◌∷◌, [], length, take, IsTrue, IfSome};
 ghost use Rattle.json_model.specs.Print.{quoted};
 ghost use Rattle.json_layout.specs.Pieces.{comma};
@@ -70,7 +71,8 @@ pub(crate) fn place_text(buffer: &mut [u8], at: usize, text: &[u8]) -> bool
     }
 }
 
-// Stores a comma after the first `end` bytes, unless it is the first, and a quote. Returns the end of these.
+// Stores a comma after the first `end` bytes, unless it is the first, and a quote. Returns the end
+// of these.
 #[inline(always)]
 pub(crate) fn place_lead(buffer: &mut [u8], end: usize, first: bool) -> usize
     requires { end + 2 ≤ length buffer.old }
@@ -84,8 +86,8 @@ pub(crate) fn place_lead(buffer: &mut [u8], end: usize, first: bool) -> usize
     at + 1
 }
 
-// Stores a short string between quotes after the first `end` bytes, and a comma before it unless it is the first. The end
-// of it comes, or none where it is not short or has to be escaped.
+// Stores a short string between quotes after the first `end` bytes, and a comma before it unless it
+// is the first. The end of it comes, or none where it is not short or has to be escaped.
 #[inline(always)]
 pub(crate) fn place_item(buffer: &mut [u8], end: usize, first: bool, text: &[u8]) -> Option<usize>
     requires { end + 36 ≤ length buffer.old }

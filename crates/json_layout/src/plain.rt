@@ -48,7 +48,8 @@ fn is_plain_block<const N: usize>(bytes: &[u8], at: usize) -> bool
     is_none(escaped_lanes::<N>(bytes, at))
 }
 
-// Whether no byte has to be escaped, of N bytes up to twice as many, by two blocks that may overlap.
+// Whether no byte has to be escaped, of N bytes up to twice as many, by two blocks that may
+// overlap.
 #[inline(always)]
 pub(crate) fn is_plain_by<const N: usize>(text: &[u8]) -> bool
     requires lanes { N ≤ 64 }

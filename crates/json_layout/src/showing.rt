@@ -1,4 +1,5 @@
-// The parts of a text whose places are known where they are written, so that nothing of them is kept.
+// The parts of a text whose places are known where they are written, so that nothing of them is
+// kept.
 ghost use Rattle.std.specs.Prelude.{◌≡◌, ◌+◌, ◌∷◌, ◌++◌, [], ℕ, List, Option, None, Some, length, IsErrOf};
 ghost use Rattle.std.specs.Fmt.{decimal, signed_decimal};
 ghost use Rattle.json_model.specs.Print.{quoted, colon_bytes};
@@ -15,8 +16,8 @@ use crate::escape::{add_number, add_unsigned};
 use crate::indent::{Indent, add_break};
 use json_io::{Result, Sink};
 
-/// How the parts of a text are laid out: what comes before elements and keys, after keys, and before
-/// closing brackets.
+/// How the parts of a text are laid out: what comes before elements and keys, after keys, and
+/// before closing brackets.
 ///
 /// ```
 /// use json_layout::{BufferedWriter, Layout, ManyLines, answered, show_unsigned};
@@ -67,8 +68,8 @@ pub trait Layout: Copy {
         ensures { Adds (⟦<BufferedWriter<W> as Sink>⟧.state out.old)
             (⟦<BufferedWriter<W> as Sink>⟧.state out.new) (colon_bytes (indent self)) result };
 
-    /// Writes a closing bracket, and what comes before it. `empty` says that no element and no member
-    /// came.
+    /// Writes a closing bracket, and what comes before it. `empty` says that no element and no
+    /// member came.
     fn close<W: Sink>(
         self,
         out: &mut BufferedWriter<W>,
@@ -173,7 +174,8 @@ impl Layout for OneLine {
     }
 }
 
-/// Each element and each member on a line of its own, after one indent for each container around it.
+/// Each element and each member on a line of its own, after one indent for each container around
+/// it.
 ///
 /// ```
 /// use json_layout::{BufferedWriter, Layout, ManyLines, answered};
@@ -289,8 +291,8 @@ pub fn show_signed<W: Sink>(out: &mut BufferedWriter<W>, number: i64) -> Added
     add_number(out, number)
 }
 
-/// Returns the error of a write: `Io` at `Writing` where a call of the sink failed, and `NoMemory` where
-/// memory ran out.
+/// Returns the error of a write: `Io` at `Writing` where a call of the sink failed, and `NoMemory`
+/// where memory ran out.
 pub fn answered(shown: Added) -> Result<()>
     ensures text { (level : ℕ) (old new : SinkState) (text : List ℕ)
         → Shows level old new text shown → WritesText old new text result }

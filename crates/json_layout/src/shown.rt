@@ -1,4 +1,5 @@
-// Bytes of a string as they are shown, by tables: where many have to be escaped, no branch could foretell which.
+// Bytes of a string as they are shown, by tables: where many have to be escaped, no branch could
+// foretell which.
 ghost use Rattle.std.specs.Prelude.{◌≡◌, ◌+◌, ◌++◌, ◌≤◌, length, take};
 ghost use Rattle.json_model.specs.Print.{shown_byte, shown_bytes};
 ghost use Rattle.json_layout.specs.Adding.{Adds};
@@ -13,7 +14,8 @@ pub(crate) const BATCH: usize = 16;
 // What a batch takes at most, six bytes each. Eight are stored of each, so the last takes two more.
 const ROOM: usize = 6 * BATCH + 2;
 
-// The six bytes of `\u` and four digits that show each control character without a letter, the first the lowest.
+// The six bytes of `\u` and four digits that show each control character without a letter, the
+// first the lowest.
 const U00: u64 = 0x3030_3030_755c;
 
 const U01: u64 = 0x3130_3030_755c;

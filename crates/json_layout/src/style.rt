@@ -5,8 +5,8 @@ ghost use Rattle.json_layout.specs.Indents.{indent_is_prop};
 
 use json_scan::ws_run;
 
-/// How a JSON text is laid out: an indent of whitespace, or none for no whitespace between the tokens,
-/// and whether the members of each object are sorted by their keys.
+/// How a JSON text is laid out: an indent of whitespace, or none for no whitespace between the
+/// tokens, and whether the members of each object are sorted by their keys.
 ///
 /// ```
 /// use json_layout::Style;
@@ -26,8 +26,8 @@ impl<'a> Style<'a> {
     ghost use Rattle.std.specs.Prelude.{◌≡◌, MatchOption};
     ghost use Rattle.json_layout.specs.Styles.{indent_of, is_sorted};
 
-    /// A style of this indent, which is sorted or not. `None` comes exactly where a byte of the indent is no whitespace (RFC 8259,
-    /// section 2).
+    /// A style of this indent, which is sorted or not. `None` comes exactly where a byte of the
+    /// indent is no whitespace (RFC 8259, section 2).
     pub fn new(indent: Option<&'a str>, sorted: bool) -> Option<Style<'a>>
         ensures { let i = option_map (λ s. s.now) indent.entry in
             MatchOption result (¬ (IsIndent i)) (λ s. (indent_of s ≡ i) × (is_sorted s ≡ sorted)) }

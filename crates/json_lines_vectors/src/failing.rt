@@ -15,8 +15,8 @@ const READ_AFTER_ERROR: &str =
 const WRITE_AFTER_ERROR: &str =
     "2: InvalidJsonValue at offset 0, line 1 column 1\nIo while writing\n";
 
-// The 5 bytes come by 5 calls. The second line ends at call 3. The end comes twice: to the last line,
-// which has no newline, and to the call after it.
+// The 5 bytes come by 5 calls. The second line ends at call 3. The end comes twice: to the last
+// line, which has no newline, and to the call after it.
 #[test]
 fn a_source_that_fails_at_each_call(rt: HostRuntime) -> Result<(), Fail> {
     let alloc = rt.alloc();

@@ -11,7 +11,8 @@ pub fn elements_in_order()
     ensures { ElementsInOrder }
 {}
 
-/// The tree of rows has a member for each row, in their order: the text of its key, and the tree of its value.
+/// The tree of rows has a member for each row, in their order: the text of its key, and the tree of
+/// its value.
 pub fn rows_in_order()
     ensures { RowsInOrder }
 {}

@@ -55,8 +55,8 @@ fn narrowed(integer: IntegerLiteral) -> Option<Number>
     }
 }
 
-/// Returns the integer that a number's literal denotes: `None` for `-0`, for a fraction or an exponent,
-/// and for what lies neither in `i64` nor in `u64`.
+/// Returns the integer that a number's literal denotes: `None` for `-0`, for a fraction or an
+/// exponent, and for what lies neither in `i64` nor in `u64`.
 ///
 /// ```
 /// use json_number::{JsonNumberTrait, integer_of};
@@ -84,8 +84,8 @@ pub(crate) fn integer_by_call(literal: &str) -> Option<Number>
     integer_of(literal)
 }
 
-/// Returns what `integer_of` returns, for a literal whose bytes are those of the input from `from` on.
-/// It reads a block of 16 bytes of the input, also beyond the literal's end.
+/// Returns what `integer_of` returns, for a literal whose bytes are those of the input from `from`
+/// on. It reads a block of 16 bytes of the input, also beyond the literal's end.
 ///
 /// ```
 /// use json_number::{JsonNumberTrait, integer_of_in};

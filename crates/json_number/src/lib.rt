@@ -1,4 +1,5 @@
-//! Numbers of JSON (RFC 8259, section 6), never rounded: integers of 64 bits by value, and every other number by its literal.
+//! Numbers of JSON (RFC 8259, section 6), never rounded: integers of 64 bits by value, and every
+//! other number by its literal.
 //!
 //! ```
 //! use json_number::{JsonNumberTrait, RawNumber, integer_of};

@@ -25,7 +25,8 @@ pub enum Integer {
     Negative(i64),
 }
 
-/// An integer that lies in `i64` or in `u64`: from -2^63 to 2^64 - 1. Equal integers are equal numbers.
+/// An integer that lies in `i64` or in `u64`: from -2^63 to 2^64 - 1. Equal integers are equal
+/// numbers.
 ///
 /// ```
 /// use json_number::Number;

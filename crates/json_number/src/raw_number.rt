@@ -5,7 +5,7 @@ ghost use Rattle.std.specs.Cmp.Rules.{comparing};
 ghost use Rattle.std.specs.Ordering.{on};
 ghost use Rattle.std.proofs.Common.{rules};
 ghost use Rattle.json_grammar.specs.Grammar.{number};
-ghost use Rattle.json_io.specs.Errors.{no_memory};
+ghost use Rattle.json_io.specs.Errors.{no_memory, OnlyNoMemory};
 ghost use Rattle.json_number.specs.Errors.{invalid_number};
 ghost use Rattle.json_number.specs.Integers.{integer_in};
 ghost use Rattle.json_number.specs.Tests.{is_number};
@@ -15,8 +15,8 @@ use crate::number::Number;
 use json_text::{Error, ErrorCode, Place, Result, is_number};
 use std::alloc::Global;
 
-/// A number as the literal that spells it (RFC 8259, section 6), of any size and precision. Equal numbers have equal literals:
-/// `1.0` and `1.00` are two.
+/// A number as the literal that spells it (RFC 8259, section 6), of any size and precision. Equal
+/// numbers have equal literals: `1.0` and `1.00` are two.
 ///
 /// ```
 /// use json_number::RawNumber;
@@ -36,8 +36,8 @@ impl RawNumber {
     ghost use Rattle.json_number.specs.Literals.{raw_literal};
     ghost use Rattle.json_number.specs.Numbers.{value_of};
 
-    /// The number that the literal spells. Answers `InvalidNumber` where the text is no number, else `NoMemory` where
-    /// memory runs out.
+    /// The number that the literal spells. Answers `InvalidNumber` where the text is no number,
+    /// else `NoMemory` where memory runs out.
     pub fn new(alloc: Global, literal: &str) -> Result<RawNumber>
         ensures ok { IfOk result (λ r. raw_literal r ≡ literal.now) }
         ensures number { OnOk result (number literal.now) }
@@ -53,7 +53,8 @@ impl RawNumber {
         RawNumber::from_literal(alloc, literal)
     }
 
-    /// Returns the number of a literal that is known to be one. `NoMemory` comes where memory runs out.
+    /// Returns the number of a literal that is known to be one. `NoMemory` comes where memory runs
+    /// out.
     ///
     /// ```
     /// use json_number::RawNumber;
@@ -63,7 +64,7 @@ impl RawNumber {
     pub fn from_literal(alloc: Global, literal: &str) -> Result<RawNumber>
         requires { number literal.now }
         ensures ok { IfOk result (λ r. raw_literal r ≡ literal.now) }
-        ensures err { IfErr result (λ e. e ≡ no_memory) }
+        ensures err { OnlyNoMemory result }
     {
         Ok(RawNumber {
             literal: String::from_str(alloc, literal)?,
@@ -96,7 +97,7 @@ impl RawNumber {
     /// Another number of the same literal. `NoMemory` comes where memory runs out.
     pub fn clone(&self, alloc: Global) -> Result<RawNumber>
         ensures ok { IfOk result (λ r. raw_literal r ≡ raw_literal self.now) }
-        ensures err { IfErr result (λ e. e ≡ no_memory) }
+        ensures err { OnlyNoMemory result }
     {
         RawNumber::from_literal(alloc, self.as_str())
     }
@@ -115,7 +116,7 @@ impl Number {
     /// ```
     pub fn to_raw(&self, alloc: Global) -> Result<RawNumber>
         ensures ok { IfOk result (λ r. raw_literal r ≡ text_of_number self.now) }
-        ensures err { IfErr result (λ e. e ≡ no_memory) }
+        ensures err { OnlyNoMemory result }
     {
         let text = format!(in alloc; "{self}")?;
         RawNumber::from_literal(alloc, text.as_str())

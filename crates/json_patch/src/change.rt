@@ -13,7 +13,7 @@ ghost use Rattle.json_patch.specs.Patch.{insert_at_index, with_element, with_chi
 ghost use Rattle.json_patch.specs.Touched.{InsertsMember, InsertsElement, AddTouches, RemovesChild, TouchesAt, AddsValue, RemovesValue, ReplacesValue};
 ghost use Rattle.json_value.specs.Denotes.{tree_of, list_in, pairs_in, pair_of};
 ghost use Rattle.json_value.specs.Edits.{steps_of, Makes, FailsAs};
-ghost use Rattle.json_value.specs.Failures.{OnlyNoMemory};
+ghost use Rattle.json_io.specs.Errors.{OnlyNoMemory};
 
 use crate::lookup::{LookupError, find_value, index_at_most};
 use crate::path::{path_to, pointer_node};

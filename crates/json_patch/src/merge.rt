@@ -6,11 +6,11 @@ ghost use Rattle.json_model.specs.Same.{first_value};
 ghost use Rattle.json_patch.specs.KeyIndex.{HasStarts};
 ghost use Rattle.json_patch.specs.Merge.{merge_patched, pairs_merged, members_or_none};
 ghost use Rattle.json_value.specs.Denotes.{tree_of, pair_of, pairs_in};
-ghost use Rattle.json_value.specs.Failures.{OnlyNoMemory};
 ghost use Rattle.json_value.specs.Seen.{seen, members_seen};
 ghost use Rattle.json_value.specs.Steps.{tree_or_null};
 ghost use Rattle.json_patch.specs.Errors.{no_memory_in_patch};
 ghost use Rattle.json_patch.specs.Merge.{member_merged};
+ghost use Rattle.json_io.specs.Errors.{OnlyNoMemory};
 
 use crate::change::object_mut_in;
 use crate::error::{PatchCode, PatchError};

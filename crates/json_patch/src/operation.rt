@@ -4,10 +4,10 @@ ghost use Rattle.json_grammar.specs.Tree.{list_pairs};
 ghost use Rattle.json_patch.specs.Pointer.{pointer_of};
 ghost use Rattle.json_patch.specs.Patch.{single_value, string_in, pointer_in, is_proper_prefix, tokens_eq, move_allowed, operation_named, operation_of};
 ghost use Rattle.json_value.specs.Denotes.{tree_of};
-ghost use Rattle.json_value.specs.Failures.{OnlyNoMemory};
 ghost use Rattle.json_value.specs.Seen.{seen, members_seen};
 ghost use Rattle.json_patch.specs.Operations.{model_operation, moved_from, both_of, path_and_value_of, from_and_path_of};
 ghost use Rattle.json_patch.specs.Lookups.{pointer_tokens};
+ghost use Rattle.json_io.specs.Errors.{OnlyNoMemory};
 
 use crate::error::PatchCode;
 use crate::pointer::Pointer;

@@ -1,11 +1,11 @@
 // JSON Pointer (RFC 6901).
 ghost use Rattle.std.specs.Prelude.{◌≡◌, ◌++◌, Some, None, OnOk, IfOk, IfErr, map, option_map, string_bytes, false, []};
 ghost use Rattle.std.specs.Result.{result_ok};
-ghost use Rattle.json_value.specs.Failures.{OnlyNoMemory};
 ghost use Rattle.json_value.specs.Seen.{seen};
 ghost use Rattle.json_patch.specs.Pointer.{pointer_of, pointer_text, unescaped_after, unescaped_tokens, split_at_slashes, value_at_pointer, escaped_token, tilde, Lacks};
 ghost use Rattle.json_patch.specs.Errors.{PointerFails};
 ghost use Rattle.json_patch.specs.Lookups.{pointer_tokens};
+ghost use Rattle.json_io.specs.Errors.{OnlyNoMemory};
 
 use crate::error::{PatchCode, PatchError};
 use crate::lookup::find_value;

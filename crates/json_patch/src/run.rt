@@ -1,10 +1,9 @@
 // The top call.
 ghost use Rattle.std.specs.Prelude.{◌≡◌, ◌≢◌, ◌⊎◌, ◌<◌, ℕ, Option, IsErrOf, string_bytes, OnOk, IfOk, IfErr};
-ghost use Rattle.json_io.specs.Errors.{reading_failed, writing_failed};
+ghost use Rattle.json_io.specs.Errors.{reading_failed, writing_failed, OnlyNoMemory};
 ghost use Rattle.json_io.specs.Transfer.{TakesOneBeyond};
 ghost use Rattle.json_io.specs.declared.error.ErrorCode.{ErrorCode};
 ghost use Rattle.json_io.specs.declared.error.Place.{Place};
-ghost use Rattle.json_value.specs.Failures.{OnlyNoMemory};
 ghost use Rattle.json_command.specs.Input.{max_bytes};
 ghost use Rattle.json_command.specs.Reporting.{StatusReports};
 ghost use Rattle.json_command.specs.Statuses.{status_of, ReturnsReadStatus, ReturnsWriteStatus};

@@ -1,6 +1,6 @@
-//! The program `json_patch`: reads a JSON text from standard input, changes it by a patch, and writes
-//! it to standard output. `run_patch` of the library `json_patch` does all of it; what is here hands
-//! it the arguments and the streams.
+//! The program `json_patch`: reads a JSON text from standard input, changes it by a patch, and
+//! writes it to standard output. `run_patch` of the library `json_patch` does all of it; what is
+//! here hands it the arguments and the streams.
 //!
 //!     printf '{"a": 1}' | json_patch --merge='{"b": 2}'
 #![tactic(auto)]

@@ -53,7 +53,8 @@ const PATCHES: &str =
 {"a": 1, "b": 2, "a": 3} → [{"op": "remove", "path": "/a"}] → {"b":2}
 {"a": {"b": {"c": {}}}} → [{"op": "move", "from": "/a/b/c", "path": "/a/b"}, {"op": "add", "path": "/a/b/d", "value": -0}] → {"a":{"b":{"d":-0}}}"#;
 
-// Documents, patches that fail, the number of the code, and the operation: RFC 6902, appendix A, and more.
+// Documents, patches that fail, the number of the code, and the operation: RFC 6902, appendix A,
+// and more.
 const FAILING: &str = r#"{"baz": "qux"} → [{"op": "test", "path": "/baz", "value": "bar"}] → 31 0
 {"foo": "bar"} → [{"op": "add", "path": "/baz/bat", "value": "qux"}] → 19 0
 {"foo": "bar"} → [{"op": "add", "path": "/baz", "value": "qux", "op": "remove"}] → 30 0
@@ -116,7 +117,8 @@ fn apply(alloc: Global, value: &mut Value, patch: View<'_>) -> Result<(), PatchE
     }
 }
 
-// Whether the pointer of this text references a value with this compact text, and is spelled so again.
+// Whether the pointer of this text references a value with this compact text, and is spelled so
+// again.
 fn references(alloc: Global, document: &Doc, text: &str, want: &str) -> TextResult<bool> {
     let Ok(pointer) = Pointer::parse(alloc, text) else {
         return Ok(false);

@@ -33,7 +33,8 @@ const NONE: &str = r#"{} → {"a": null}
 {"a": 1, "a": 2} → {"a": 1}
 {} → {"a": 1, "a": 2}"#;
 
-// Whether the merge patch between the values has this compact text, and makes of the first the second.
+// Whether the merge patch between the values has this compact text, and makes of the first the
+// second.
 fn is_merge_patch(alloc: Global, from: &str, to: &str, want: &str) -> TextResult<bool> {
     let (first, second) = (read(alloc, from)?, read(alloc, to)?);
     let (mut value, to) = (whole(alloc, &first)?, whole(alloc, &second)?);

@@ -11,8 +11,8 @@ ghost use Rattle.json_print.specs.Taking.{Takes};
 
 use json_io::Result;
 
-/// What comes next of a value's parts. The contracts of [`Events`] say by it which call may come; no
-/// call returns it.
+/// What comes next of a value's parts. The contracts of [`Events`] say by it which call may come;
+/// no call returns it.
 ///
 /// ```
 /// use json_print::Turn;
@@ -34,11 +34,12 @@ pub enum Turn {
     Done,
 }
 
-/// Takes the parts of one value from left to right, a call for each. An integer is given by its value, all else as a
-/// token. What is taken does not depend on a hint of how many elements or members come.
+/// Takes the parts of one value from left to right, a call for each. An integer is given by its
+/// value, all else as a token. What is taken does not depend on a hint of how many elements or
+/// members come.
 ///
-/// Errors are sticky: a call that meets an error returns it, and each later call returns it again and
-/// changes nothing.
+/// Errors are sticky: a call that meets an error returns it, and each later call returns it again
+/// and changes nothing.
 ///
 /// ```
 /// use json_print::{Events, Serializer};

@@ -9,7 +9,8 @@ use json_io::{Result, Sink};
 
 /// Writes the parts of a JSON text (RFC 8259): each call appends one piece to the writer.
 ///
-/// `Io` at `Writing` comes where the writer failed, and `NoMemory` where it found none; a prefix of the piece was gained then.
+/// `Io` at `Writing` comes where the writer failed, and `NoMemory` where it found none; a prefix of
+/// the piece was gained then.
 ///
 /// ```
 /// use json_print::{Formatter, PrettyFormatter};

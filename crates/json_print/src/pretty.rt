@@ -9,8 +9,8 @@ use json_layout::{
     into_result,
 };
 
-/// A formatter that writes each element and each key on a line of its own, after one indent for each
-/// container around it. An empty container is `[]` or `{}`, and `: ` follows a key.
+/// A formatter that writes each element and each key on a line of its own, after one indent for
+/// each container around it. An empty container is `[]` or `{}`, and `: ` follows a key.
 ///
 /// ```
 /// use json_print::{Events, PrettyFormatter, Serializer};

@@ -27,8 +27,8 @@ type Step = std::result::Result<(), Halted>;
 
 /// Writes the text of a value (RFC 8259) from its parts, by the calls of a formatter.
 ///
-/// Calls fail with `Io` at `Writing` where the writer fails, and with `NoMemory` where memory runs out.
-/// Errors are sticky: after an error each call returns the same error and writes nothing.
+/// Calls fail with `Io` at `Writing` where the writer fails, and with `NoMemory` where memory runs
+/// out. Errors are sticky: after an error each call returns the same error and writes nothing.
 ///
 /// ```
 /// use json_print::{Events, Serializer};
@@ -100,8 +100,8 @@ impl<W: Sink, F: Formatter> Serializer<W, F> {
         }
     }
 
-    /// Writes the members of each object in the order of their unescaped keys' bytes, those of one key as they came. Nothing was written
-    /// yet. An object's members wait in memory for its end.
+    /// Writes the members of each object in the order of their unescaped keys' bytes, those of one
+    /// key as they came. Nothing was written yet. An object's members wait in memory for its end.
     pub fn sort_map_keys(mut self) -> Serializer<W, F>
         requires { IsFresh (out_of W.state self) }
         ensures sorts { out_of W.state result ≡ record (out_of W.state self) { sorts = true } }
@@ -111,10 +111,11 @@ impl<W: Sink, F: Formatter> Serializer<W, F> {
         self
     }
 
-    /// Returns the writer. If the calls were those of the tokens of a tree, it has gained the text of the
-    /// tree in the layout of the formatter; if they were the first of these, or an error was returned
-    /// after them, a prefix of that text. Of any formatter it has gained the pieces of the calls that
-    /// reached it, in order. `Io` at `Writing` was returned exactly if a call of the writer failed.
+    /// Returns the writer. If the calls were those of the tokens of a tree, it has gained the text
+    /// of the tree in the layout of the formatter; if they were the first of these, or an error was
+    /// returned after them, a prefix of that text. Of any formatter it has gained the pieces of the
+    /// calls that reached it, in order. `Io` at `Writing` was returned exactly if a call of the
+    /// writer failed.
     pub fn into_inner(self) -> W
     where
         F: Drop,

@@ -1,6 +1,6 @@
 // An open object whose members wait for its end, to be put in the order of their keys.
-ghost use Rattle.std.specs.Prelude.{◌≡◌, ◌<◌, length, slice_get, None, Some, true, false, OnOk, IfOk, IfErr, ◌^◌, ◌-◌};
-ghost use Rattle.json_io.specs.Errors.{no_memory};
+ghost use Rattle.std.specs.Prelude.{◌≡◌, ◌<◌, length, slice_get, None, Some, true, false, OnOk, IfOk, ◌^◌, ◌-◌};
+ghost use Rattle.json_io.specs.Errors.{OnlyNoMemory};
 ghost use Rattle.json_io.specs.Transfer.{Puts};
 ghost use Rattle.json_print.specs.Parts.{meaning};
 ghost use Rattle.json_print.specs.Printer.{key_more, no_layer, pair_filed, row_with, text_put};
@@ -110,7 +110,7 @@ impl SortedObject {
             (F.form.piece formatter.old (meaning part.entry))) }
         ensures next { OnOk result (formatter.new ≡
             F.form.next formatter.old (meaning part.entry)) }
-        ensures err { IfErr result (λ e. e ≡ no_memory) }
+        ensures err { OnlyNoMemory result }
     {
         write_part(formatter, &mut self.texts, part)
     }
@@ -118,7 +118,7 @@ impl SortedObject {
     // More of the key of the open member.
     pub(crate) fn push_key(&mut self, key: &str) -> Result<()>
         ensures ok { OnOk result (self.new ≡ key_more self.old key.now) }
-        ensures err { IfErr result (λ e. e ≡ no_memory) }
+        ensures err { OnlyNoMemory result }
     {
         self.keys.push_str(key)?;
         Ok(())
@@ -127,7 +127,7 @@ impl SortedObject {
     // The open member is finished.
     pub(crate) fn file(&mut self) -> Result<()>
         ensures ok { OnOk result (self.new ≡ pair_filed self.old) }
-        ensures err { IfErr result (λ e. e ≡ no_memory) }
+        ensures err { OnlyNoMemory result }
     {
         let key_to = self.keys.len();
         let text_to = self.texts.bytes.len();
@@ -156,7 +156,7 @@ impl SortedObject {
     // The finished members in the order of their keys.
     pub(crate) fn in_order(&self, alloc: Global) -> Result<Vec<Numbered<'_>>>
         ensures ok { IfOk result (λ order. IsOrderOf order.items self.now.rows) }
-        ensures err { IfErr result (λ e. e ≡ no_memory) }
+        ensures err { OnlyNoMemory result }
     {
         let mut order = Vec::with_capacity(alloc, self.members.len())?;
         for number in 0..self.members.len() {
@@ -182,7 +182,7 @@ impl SortedObject {
         ensures ok { OnOk result (self.new ≡ text_put self.old
             (members_bytes F.form formatter.old object.now)) }
         ensures next { OnOk result (formatter.new ≡ members_next F.form formatter.old object.now) }
-        ensures err { IfErr result (λ e. e ≡ no_memory) }
+        ensures err { OnlyNoMemory result }
     {
         put_rows(formatter, &mut self.texts, object, order)
     }

@@ -1,4 +1,5 @@
-// What no clause says of the edge to the system: each call of a writer or a reader that fails is reported.
+// What no clause says of the edge to the system: each call of a writer or a reader that fails is
+// reported.
 use json_print::{BufferedWriter, Events, Serializer};
 use json_text::{
     Error, ErrorCode, Failed, Place, Result, Sink, SinkError, Source, StdSink, StdSource,

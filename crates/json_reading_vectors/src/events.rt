@@ -80,7 +80,8 @@ fn escapes_spelled_out(rt: HostRuntime) {
     assert!(rt; matches!(told, Ok(true)), "{told:?}");
 }
 
-// The first text whose surrogate is not refused as it should be, or means something else in the lossy mode.
+// The first text whose surrogate is not refused as it should be, or means something else in the
+// lossy mode.
 fn wrong_surrogate(alloc: Global) -> Result<Option<&'static str>> {
     let table = [
         ("\"\\uDA51\\uD83D\\uDE04\"", "\u{fffd}\u{1f604}", 10),

@@ -23,8 +23,8 @@ enum Run {
     FewDigits,
 }
 
-// Where a reader stops in that many turns: after the last event or at what it refuses, in bytes from the beginning of
-// the text. It begins with two bytes that are read before these.
+// Where a reader stops in that many turns: after the last event or at what it refuses, in bytes
+// from the beginning of the text. It begins with two bytes that are read before these.
 fn stop_of_reader(front: [u8; 2], turns: usize, bytes: &[u8]) -> Option<usize>
     requires { length bytes.now ≤ 142 }
 {
@@ -44,8 +44,8 @@ fn stop_of_reader(front: [u8; 2], turns: usize, bytes: &[u8]) -> Option<usize>
     Some(parser.index())
 }
 
-// Whether the run that begins here ends there. A gap is what a reader skips after a number, and few digits are those of
-// an exponent.
+// Whether the run that begins here ends there. A gap is what a reader skips after a number, and few
+// digits are those of an exponent.
 fn ends_at(run: Run, bytes: &[u8], from: usize, end: usize) -> bool
     requires order { (from ≤ end) × (end ≤ length bytes.now) }
     requires few { length bytes.now ≤ 142 }
@@ -85,7 +85,8 @@ fn row(inside: &[u8], outside: &[u8], stop: usize) -> [u8; ROW] {
     bytes
 }
 
-// The first length at which a run does not end before these others, or a run alone does not end where the bytes do.
+// The first length at which a run does not end before these others, or a run alone does not end
+// where the bytes do.
 fn wrong_length(run: Run, inside: &[u8], outside: &[u8]) -> Option<usize>
     requires { length outside.now ≤ 2 }
 {

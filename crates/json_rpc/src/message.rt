@@ -1,9 +1,9 @@
 // Reads a line.
 ghost use Rattle.std.specs.Prelude.{◌≤◌, ◌↔◌, IfOk, IsTrue, length};
 ghost use Rattle.json_grammar.specs.Grammar.{ws};
-ghost use Rattle.json_value.specs.Failures.{OnlyNoMemory};
 ghost use Rattle.json_rpc.specs.Serving.{IsMessage, max_line_bytes};
 ghost use Rattle.json_rpc.specs.Denoted.{message_denoted};
+ghost use Rattle.json_io.specs.Errors.{OnlyNoMemory};
 
 use json_doc::read_document;
 use json_text::{ErrorCode, Result, check_utf8, ws_run};

@@ -4,11 +4,11 @@ ghost use Rattle.std.specs.Result.{result_map_both};
 ghost use Rattle.json_number.specs.Numbers.{value_of};
 ghost use Rattle.json_value.specs.Edits.{step_of, path_steps};
 ghost use Rattle.json_value.specs.EditTrees.{each_in, index_of, step_in, path_in};
-ghost use Rattle.json_value.specs.Failures.{OnlyNoMemory};
 ghost use Rattle.json_value.specs.Seen.{seen, elements_seen};
 ghost use Rattle.json_rpc.specs.Methods.{is_edit, positional_params, operation_with, requested_operation};
 ghost use Rattle.json_rpc.specs.Denoted.{request_seen, operation_denoted};
 ghost use Rattle.json_rpc.specs.declared.error.RpcError.TheVariants.{InvalidParams};
+ghost use Rattle.json_io.specs.Errors.{OnlyNoMemory};
 
 use crate::error::RpcError;
 use crate::request::Request;

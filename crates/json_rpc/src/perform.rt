@@ -4,11 +4,11 @@ ghost use Rattle.std.specs.Result.{result_map_both};
 ghost use Rattle.json_model.specs.Edit.{edited_once};
 ghost use Rattle.json_value.specs.Denotes.{tree_of};
 ghost use Rattle.json_value.specs.Edits.{step_of, steps_of, path_steps, edit_of};
-ghost use Rattle.json_value.specs.Failures.{OnlyNoMemory};
 ghost use Rattle.json_value.specs.Seen.{seen};
 ghost use Rattle.json_rpc.specs.Methods.{rpc_error_of, step_into, tree_at_path, get as get_at, change as change_by, performed};
 ghost use Rattle.json_rpc.specs.Perform.{container_type, Applies};
 ghost use Rattle.json_rpc.specs.Serving.{responded};
+ghost use Rattle.json_io.specs.Errors.{OnlyNoMemory};
 
 use crate::error::RpcError;
 use crate::response::{Respond, error_response, result_response};

@@ -2,10 +2,10 @@
 ghost use Rattle.std.specs.Prelude.{◌≡◌, IfOk, codes, option_map};
 ghost use Rattle.json_grammar.specs.Tree.{text};
 ghost use Rattle.json_value.specs.Denotes.{tree_of, pair_of};
-ghost use Rattle.json_value.specs.Failures.{OnlyNoMemory};
 ghost use Rattle.json_value.specs.Seen.{seen};
 ghost use Rattle.json_rpc.specs.Requests.{version};
 ghost use Rattle.json_rpc.specs.Responses.{error_object, response as response_of, result_response, error_response};
+ghost use Rattle.json_io.specs.Errors.{OnlyNoMemory};
 
 use crate::error::RpcError;
 use json_text::Result;
@@ -17,7 +17,6 @@ pub(crate) trait Respond: Sized + Drop {
     ghost use Rattle.std.specs.Prelude.{◌≡◌, IfOk};
     ghost use Rattle.json_grammar.specs.Tree.{Tree};
     ghost use Rattle.json_value.specs.Denotes.{tree_of};
-    ghost use Rattle.json_value.specs.Failures.{OnlyNoMemory};
     ghost use Rattle.json_rpc.specs.Responses.{result_response, error_response};
 
     /// The response object.

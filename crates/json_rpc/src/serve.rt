@@ -3,13 +3,13 @@ ghost use Rattle.std.specs.Prelude.{◌≡◌, IfOk, OnErr, Some, false, true, m
 ghost use Rattle.std.specs.List.{list_all};
 ghost use Rattle.json_grammar.specs.Tree.{null};
 ghost use Rattle.json_value.specs.Denotes.{tree_of};
-ghost use Rattle.json_value.specs.Failures.{OnlyNoMemory};
 ghost use Rattle.json_value.specs.Seen.{seen, elements_seen};
 ghost use Rattle.json_rpc.specs.Responses.{error_response};
 ghost use Rattle.json_rpc.specs.Methods.{is_edit};
 ghost use Rattle.json_rpc.specs.Serving.{responded, executed, member_served, batch_served, batch_reply, whole_batch_served, served_tree, member_only_reads, tree_only_reads};
 ghost use Rattle.json_rpc.specs.Denoted.{request_seen};
 ghost use Rattle.json_rpc.specs.declared.error.RpcError.TheVariants.{InvalidRequest};
+ghost use Rattle.json_io.specs.Errors.{OnlyNoMemory};
 
 use crate::error::RpcError;
 use crate::operation::{Operation, is_edit, read_operation};

@@ -2,11 +2,11 @@
 ghost use Rattle.std.specs.Prelude.{◌≡◌, IfOk, OnErr, option_map, true};
 ghost use Rattle.json_grammar.specs.Tree.{null};
 ghost use Rattle.json_value.specs.Denotes.{tree_of};
-ghost use Rattle.json_value.specs.Failures.{OnlyNoMemory};
 ghost use Rattle.json_rpc.specs.Responses.{error_response};
 ghost use Rattle.json_rpc.specs.Serving.{LineIsMessage, OnlyReads, Serves, message_only_reads, served};
 ghost use Rattle.json_rpc.specs.Denoted.{message_denoted};
 ghost use Rattle.json_rpc.specs.declared.error.RpcError.TheVariants.{ParseError};
+ghost use Rattle.json_io.specs.Errors.{OnlyNoMemory};
 
 use crate::error::RpcError;
 use crate::message::{Message, read_message};

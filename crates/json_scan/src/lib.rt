@@ -1,5 +1,6 @@
-//! Scanners: how far bytes of one class go on in an input, by blocks of 16, 8 and 4 bytes. The classes are whitespace, digits, and what
-//! denotes itself in a string (RFC 8259, sections 2, 6 and 7).
+//! Scanners: how far bytes of one class go on in an input, by blocks of 16, 8 and 4 bytes. The
+//! classes are whitespace, digits, and what denotes itself in a string (RFC 8259, sections 2, 6 and
+//! 7).
 //!
 //! ```
 //! use json_scan::{digit_run, plain_run, ws_run};

@@ -159,8 +159,8 @@ fn plain_end(bytes: &[u8], from: usize) -> usize
     plain_end_by_blocks(bytes, from + BLOCK)
 }
 
-/// Returns the first offset from `from` on whose byte does not denote itself in a string (section 7),
-/// or the length: a byte below 20 (hexadecimal), a quote or a backslash.
+/// Returns the first offset from `from` on whose byte does not denote itself in a string (section
+/// 7), or the length: a byte below 20 (hexadecimal), a quote or a backslash.
 #[inline(always)]
 pub fn plain_run(bytes: &[u8], from: usize) -> usize
     requires { from ≤ length bytes.now }

@@ -14,8 +14,8 @@ use json_text::{Parser, Repaired, Result, check_utf8};
 use std::alloc::Global;
 use std::marker::Model;
 
-/// Reads the values of one input one after another. There need be no whitespace between them, and what
-/// follows a value is not looked at. Errors have their places in the whole input.
+/// Reads the values of one input one after another. There need be no whitespace between them, and
+/// what follows a value is not looked at. Errors have their places in the whole input.
 ///
 /// ```
 /// use json_stream::Deserializer;
@@ -56,7 +56,8 @@ impl<'a> Model for Deserializer<'a> {
 }
 
 impl<'a> Deserializer<'a> {
-    /// Stands at the beginning of the bytes, which are at most 4,294,967,295. Whether they are UTF-8 is tested here, once.
+    /// Stands at the beginning of the bytes, which are at most 4,294,967,295. Whether they are
+    /// UTF-8 is tested here, once.
     pub fn from_slice(s: &'a [u8]) -> Deserializer<'a>
         requires { length s.now < 2 ^ 32 }
         ensures { result ≡ record { text = s.now; index = 0; lossy = false; repaired = None } }
@@ -78,8 +79,8 @@ impl<'a> Deserializer<'a> {
         Deserializer::of_text(s, false, None)
     }
 
-    /// Returns a reader of the repaired text, which has at most 4,294,967,295 bytes, in the lossy mode.
-    /// Offsets, lines and columns are those of the input that was repaired.
+    /// Returns a reader of the repaired text, which has at most 4,294,967,295 bytes, in the lossy
+    /// mode. Offsets, lines and columns are those of the input that was repaired.
     pub fn from_repaired(r: &'a Repaired) -> Deserializer<'a>
         requires { length r.now.text < 2 ^ 32 }
         ensures state { result ≡ record {
@@ -114,8 +115,9 @@ impl<'a> Deserializer<'a> {
         self
     }
 
-    /// Returns the same reader in the lossy mode, in which no surrogate is an error: the escape of one
-    /// that is alone is U+FFFD (RFC 8259, section 8.2). Bytes that are no UTF-8 are an error as before.
+    /// Returns the same reader in the lossy mode, in which no surrogate is an error: the escape of
+    /// one that is alone is U+FFFD (RFC 8259, section 8.2). Bytes that are no UTF-8 are an error as
+    /// before.
     pub fn utf8_lossy(self) -> Deserializer<'a>
         ensures { result ≡ record self.entry { lossy = true } }
     {
@@ -125,8 +127,8 @@ impl<'a> Deserializer<'a> {
         }
     }
 
-    /// Returns its offset in bytes from the beginning of the input; of a repaired text, where that place
-    /// comes from.
+    /// Returns its offset in bytes from the beginning of the input; of a repaired text, where that
+    /// place comes from.
     pub fn index(&self) -> usize
         ensures { result ≡ offset_in self.now.repaired self.now.index }
     {
@@ -139,11 +141,11 @@ impl<'a> Deserializer<'a> {
     /// Reads the value that comes next.
     ///
     /// Fails with `InvalidUTF8` exactly if the whole input is no UTF-8, and with a code from
-    /// `EofWhileParsing` to `InvalidSurrogate` or `RecursionLimitExceeded` for the error of what is left,
-    /// as a value of at most 254 levels. Else it fails if the tree is no value of the type, at the first
-    /// byte of the value: with `TypeUnmatched`, `NumberOutOfRange` or `ExpectedNumericKey`. Fails with
-    /// `NoMemory` if memory runs out. After a value, or an error of its tree, the reader is after that
-    /// value; after any other error it is where it was.
+    /// `EofWhileParsing` to `InvalidSurrogate` or `RecursionLimitExceeded` for the error of what is
+    /// left, as a value of at most 254 levels. Else it fails if the tree is no value of the type,
+    /// at the first byte of the value: with `TypeUnmatched`, `NumberOutOfRange` or
+    /// `ExpectedNumericKey`. Fails with `NoMemory` if memory runs out. After a value, or an error
+    /// of its tree, the reader is after that value; after any other error it is where it was.
     pub fn deserialize<T: Deserialize<'a>>(&mut self, alloc: Global) -> Result<T>
         ensures ok { IfOk result (λ v.
             TakesNextValue T.from_tree self.old (gives (T.datum v)) self.new) }
@@ -157,8 +159,8 @@ impl<'a> Deserializer<'a> {
         }
     }
 
-    /// Whether only whitespace is left. `InvalidUTF8` comes as in `deserialize`, else `TrailingCharacters` exactly at
-    /// the next other byte (RFC 8259, section 2). It does not move.
+    /// Whether only whitespace is left. `InvalidUTF8` comes as in `deserialize`, else
+    /// `TrailingCharacters` exactly at the next other byte (RFC 8259, section 2). It does not move.
     pub fn end(&mut self) -> Result<()>
         ensures utf8 { OnOk result (IsUtf8 self.old.text) }
         ensures ok { OnOk result (NothingLeft (standing self.old)) }
@@ -174,9 +176,10 @@ impl<'a> Deserializer<'a> {
         }
     }
 
-    /// Takes whitespace and `]`, where the caller reads the elements of an array (RFC 8259, section 5). `InvalidUTF8`
-    /// comes as in `deserialize`, else `EofWhileParsing` where only whitespace is left, else `ExpectedArrayCommaOrEnd`,
-    /// both at the next byte that is no whitespace; then it does not move.
+    /// Takes whitespace and `]`, where the caller reads the elements of an array (RFC 8259, section
+    /// 5). `InvalidUTF8` comes as in `deserialize`, else `EofWhileParsing` where only whitespace is
+    /// left, else `ExpectedArrayCommaOrEnd`, both at the next byte that is no whitespace; then it
+    /// does not move.
     pub fn end_seq(&mut self) -> Result<()>
         ensures ok { OnOk result (PassesEnd self.old Kind.Array self.new) }
         ensures err { IfErr result (EndFails self.old (LacksEnd (standing self.old) Kind.Array)) }
@@ -197,9 +200,10 @@ impl<'a> Deserializer<'a> {
         }
     }
 
-    /// Takes whitespace and `}`, where the caller reads the members of an object (RFC 8259, section 4). `InvalidUTF8`
-    /// comes as in `deserialize`, else `EofWhileParsing` where only whitespace is left, `TrailingComma` at a comma, and
-    /// else `ExpectedObjectCommaOrEnd`, each at the next byte that is no whitespace; then it does not move.
+    /// Takes whitespace and `}`, where the caller reads the members of an object (RFC 8259, section
+    /// 4). `InvalidUTF8` comes as in `deserialize`, else `EofWhileParsing` where only whitespace is
+    /// left, `TrailingComma` at a comma, and else `ExpectedObjectCommaOrEnd`, each at the next byte
+    /// that is no whitespace; then it does not move.
     pub fn end_map(&mut self) -> Result<()>
         ensures ok { OnOk result (PassesEnd self.old Kind.Object self.new) }
         ensures err { IfErr result (EndFails self.old (LacksEnd (standing self.old) Kind.Object)) }

@@ -1,4 +1,5 @@
-//! Values of one input, one after another: each is read as the caller asks, and what follows it is not looked at.
+//! Values of one input, one after another: each is read as the caller asks, and what follows it is
+//! not looked at.
 //!
 //! ```
 //! use json_stream::Deserializer;

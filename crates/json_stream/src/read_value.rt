@@ -23,8 +23,9 @@ fn tokens_at<'a>(text: &'a str, lossy: bool, from: usize) -> TextTokens<'a>
     if lossy { tokens.lossy() } else { tokens }
 }
 
-/// Reads the value that comes next in the text from `at` on, in either mode. `at` becomes the offset after
-/// it if it was taken. A text that was repaired is read so too, and its errors have places of the input.
+/// Reads the value that comes next in the text from `at` on, in either mode. `at` becomes the
+/// offset after it if it was taken. A text that was repaired is read so too, and its errors have
+/// places of the input.
 pub(crate) fn read_value<'a, T: Deserialize<'a>>(
     alloc: Global,
     text: &'a str,

@@ -48,9 +48,9 @@ impl<'a, T: Deserialize<'a>> StreamDeserializer<'a, T> {
         }
     }
 
-    /// Returns the next value, or why there is none, as [`Deserializer::deserialize`] does: where only
-    /// whitespace is left `EofWhileParsing`, at the length of the input. Returns `None` exactly after an
-    /// `Err`, and again.
+    /// Returns the next value, or why there is none, as [`Deserializer::deserialize`] does: where
+    /// only whitespace is left `EofWhileParsing`, at the length of the input. Returns `None`
+    /// exactly after an `Err`, and again.
     pub fn next(&mut self, alloc: Global) -> Option<Result<T>>
         ensures none { MatchOption result (self.old.ended ≡ true) (λ _. self.old.ended ≡ false) }
         ensures after { result ≡ None → self.new ≡ self.old }

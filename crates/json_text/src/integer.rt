@@ -260,8 +260,8 @@ pub(crate) fn integer_at(bytes: &[u8], from: usize) -> Option<Digits>
     Some(digits)
 }
 
-/// Returns the number that the digits write of the longest number that begins at `from`, if it has a
-/// minus, at most 19 digits and nothing else.
+/// Returns the number that the digits write of the longest number that begins at `from`, if it has
+/// a minus, at most 19 digits and nothing else.
 #[inline(always)]
 pub(crate) fn negative_at(bytes: &[u8], from: usize) -> Option<Digits>
     requires { from ≤ length bytes.now }

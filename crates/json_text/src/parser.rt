@@ -34,8 +34,8 @@ pub use negatives::NegativeInteger;
 /// The most levels of a tree, where the caller chooses none (RFC 8259, section 9).
 const LEVELS: usize = 254;
 
-/// Hands out the events of a text one after another, up to a refusal, which comes again at each later call.
-/// Takes no memory.
+/// Hands out the events of a text one after another, up to a refusal, which comes again at each
+/// later call. Takes no memory.
 ///
 /// ```
 /// use json_text::{Event, Parser};
@@ -69,7 +69,8 @@ impl<'a> Model for Parser<'a> {
 
     ghost view = { λ a. state_of a.text.now a.start a.lossy a.limit a.at a.kinds a.spot a.failure };
 
-    ghost invariant = { λ a. IsSound a.rest.now (state_of a.text.now a.start a.lossy a.limit a.at a.kinds a.spot a.failure) };
+    ghost invariant = { λ a. IsSound a.rest.now
+        (state_of a.text.now a.start a.lossy a.limit a.at a.kinds a.spot a.failure) };
 }
 
 // Why a container of the kind does not end at a byte.
@@ -89,8 +90,8 @@ fn no_end(kind: Kind, byte: u8) -> ErrorCode
 }
 
 impl<'a> Parser<'a> {
-    /// Stands at the beginning, where a value must come. A value of at most 254 levels is read, where `depth` chooses
-    /// none: `[]` has 1.
+    /// Stands at the beginning, where a value must come. A value of at most 254 levels is read,
+    /// where `depth` chooses none: `[]` has 1.
     pub fn new(text: &'a str) -> Parser<'a>
         ensures text { result.text ≡ text.now }
         ensures start { (result.start ≡ 0) × (result.index ≡ 0) }
@@ -112,8 +113,8 @@ impl<'a> Parser<'a> {
     }
 
     /// Returns a parser that begins at this offset of the text, in bytes, where a value must come,
-    /// with the limit of `new`. What is before the offset is not looked at. Errors have their places
-    /// in the whole text.
+    /// with the limit of `new`. What is before the offset is not looked at. Errors have their
+    /// places in the whole text.
     ///
     /// ```
     /// use json_text::{Event, Parser};
@@ -153,8 +154,8 @@ impl<'a> Parser<'a> {
         }
     }
 
-    /// The same parser for values of so many levels at most, which are at most 1,024. It has handed out no event and
-    /// refused nothing.
+    /// The same parser for values of so many levels at most, which are at most 1,024. It has handed
+    /// out no event and refused nothing.
     pub fn depth(self, depth: u32) -> Parser<'a>
         requires most { depth ≤ 1024 }
         requires fresh { HasGiven self [] × (self.failure ≡ None) }
@@ -167,10 +168,10 @@ impl<'a> Parser<'a> {
         }
     }
 
-    /// Returns the parser in the lossy mode, in which no surrogate is an error (RFC 8259, section 8.2):
-    /// the escape of a low surrogate that is alone, or of a high one that no escape of a low one
-    /// follows at once, is U+FFFD, and reading goes on after that escape. All else is as before. To be
-    /// called before the first event.
+    /// Returns the parser in the lossy mode, in which no surrogate is an error (RFC 8259, section
+    /// 8.2): the escape of a low surrogate that is alone, or of a high one that no escape of a low
+    /// one follows at once, is U+FFFD, and reading goes on after that escape. All else is as
+    /// before. To be called before the first event.
     ///
     /// ```
     /// use json_text::{Event, Parser};
@@ -192,9 +193,9 @@ impl<'a> Parser<'a> {
         }
     }
 
-    /// Returns the offset after what was taken, in bytes from the beginning of the text. After an event
-    /// it is right after the event's token: neither the colon after a name nor the comma or the
-    /// whitespace after a value is taken.
+    /// Returns the offset after what was taken, in bytes from the beginning of the text. After an
+    /// event it is right after the event's token: neither the colon after a name nor the comma or
+    /// the whitespace after a value is taken.
     #[inline(always)]
     pub fn index(&self) -> usize
         ensures { result ≡ self.now.index }
@@ -202,7 +203,8 @@ impl<'a> Parser<'a> {
         self.start + self.at
     }
 
-    /// Returns the number of bytes from where the parser began up to the end of the text, taken or not.
+    /// Returns the number of bytes from where the parser began up to the end of the text, taken or
+    /// not.
     pub fn input_len(&self) -> usize
         ensures length { result ≡ length (input self.now) }
         ensures within { (self.now.start ≤ self.now.index)
@@ -282,14 +284,15 @@ impl<'a> Parser<'a> {
         }
     }
 
-    /// Returns the next event: `End` once the value is whole and only whitespace is left, and from then
-    /// on at each call.
+    /// Returns the next event: `End` once the value is whole and only whitespace is left, and from
+    /// then on at each call.
     ///
-    /// Fails with one of the codes from `EofWhileParsing` to `RecursionLimitExceeded`, at the offset
-    /// after the longest prefix that some text begins with; with the last code, at the bracket that
-    /// opens a level too many. The error comes at the event that needs the byte at that offset, at none
-    /// before, and again at each later call. While the value is not whole, it is the error of the value,
-    /// whatever would follow it; once it is whole, the parser is right after it.
+    /// Fails with one of the codes from `EofWhileParsing` to `RecursionLimitExceeded`, at the
+    /// offset after the longest prefix that some text begins with; with the last code, at the
+    /// bracket that opens a level too many. The error comes at the event that needs the byte at
+    /// that offset, at none before, and again at each later call. While the value is not whole, it
+    /// is the error of the value, whatever would follow it; once it is whole, the parser is right
+    /// after it.
     #[inline(always)]
     pub fn next(&mut self) -> Result<Event<'a>>
         ensures same { SameInput self.old self.new }
@@ -300,7 +303,8 @@ impl<'a> Parser<'a> {
         ensures needs { FailsWhenDue self.old result }
         ensures inside { FailsInValue self.old result }
         ensures in_value { IfErr result (λ e. ¬ (IsWhole self.old)
-            → ValueFaultFrom self.old.lossy self.old.limit self.old.start self.old.text e.code e.place) }
+            → ValueFaultFrom self.old.lossy self.old.limit self.old.start self.old.text
+            e.code e.place) }
         ensures whole { EndsWhole self.old result }
         ensures reads { ReadsWhenWhole self.old self.new result }
         ensures begins { EventsBeginTexts self.new }
@@ -321,7 +325,8 @@ impl<'a> Parser<'a> {
         ensures needs { FailsWhenDue self.old result }
         ensures inside { FailsInValue self.old result }
         ensures in_value { IfErr result (λ e. ¬ (IsWhole self.old)
-            → ValueFaultFrom self.old.lossy self.old.limit self.old.start self.old.text e.code e.place) }
+            → ValueFaultFrom self.old.lossy self.old.limit self.old.start self.old.text
+            e.code e.place) }
         ensures whole { EndsWhole self.old result }
         ensures reads { ReadsWhenWhole self.old self.new result }
         ensures begins { EventsBeginTexts self.new }
@@ -370,8 +375,8 @@ impl<'a> Parser<'a> {
         }
     }
 
-    /// Whether only whitespace is left. `TrailingCharacters` comes exactly at the next other byte (RFC 8259, section 2).
-    /// The parser does not move.
+    /// Whether only whitespace is left. `TrailingCharacters` comes exactly at the next other byte
+    /// (RFC 8259, section 2). The parser does not move.
     pub fn end(&mut self) -> Result<()>
         ensures ok { OnOk result (NothingLeft self.old) }
         ensures err { IfErr result (TrailsAt self.old) }
@@ -385,7 +390,8 @@ impl<'a> Parser<'a> {
         }
     }
 
-    /// Takes whitespace and the bracket that closes a container of this kind, and begins anew after it.
+    /// Takes whitespace and the bracket that closes a container of this kind, and begins anew after
+    /// it.
     fn end_of(&mut self, kind: Kind) -> Result<()>
         ensures ok { OnOk result (ReadsEnd self.old kind self.new) }
         ensures err { IfErr result (LacksEnd self.old kind) }
@@ -403,9 +409,10 @@ impl<'a> Parser<'a> {
         Ok(())
     }
 
-    /// Takes whitespace and `]`, where the caller reads the elements of an array by one parser each (RFC 8259,
-    /// section 5). Where only whitespace is left `EofWhileParsing` comes, else `ExpectedArrayCommaOrEnd`, both at the
-    /// next byte that is no whitespace; then the parser does not move. Behind `]` it is a new parser of the same limit and mode.
+    /// Takes whitespace and `]`, where the caller reads the elements of an array by one parser each
+    /// (RFC 8259, section 5). Where only whitespace is left `EofWhileParsing` comes, else
+    /// `ExpectedArrayCommaOrEnd`, both at the next byte that is no whitespace; then the parser does
+    /// not move. Behind `]` it is a new parser of the same limit and mode.
     pub fn end_seq(&mut self) -> Result<()>
         requires { HasGiven self.old [] ⊎ IsWhole self.old }
         ensures ok { OnOk result (ReadsEnd self.old Kind.Array self.new) }
@@ -415,10 +422,10 @@ impl<'a> Parser<'a> {
         self.end_of(Kind::Array)
     }
 
-    /// Takes whitespace and `}`, where the caller reads the members of an object (RFC 8259, section 4). Where only
-    /// whitespace is left `EofWhileParsing` comes, at a comma `TrailingComma`, else `ExpectedObjectCommaOrEnd`, each at
-    /// the next byte that is no whitespace; then the parser does not move. Behind `}` it is a new parser of the same
-    /// limit and mode.
+    /// Takes whitespace and `}`, where the caller reads the members of an object (RFC 8259, section
+    /// 4). Where only whitespace is left `EofWhileParsing` comes, at a comma `TrailingComma`, else
+    /// `ExpectedObjectCommaOrEnd`, each at the next byte that is no whitespace; then the parser
+    /// does not move. Behind `}` it is a new parser of the same limit and mode.
     pub fn end_map(&mut self) -> Result<()>
         requires { HasGiven self.old [] ⊎ IsWhole self.old }
         ensures ok { OnOk result (ReadsEnd self.old Kind.Object self.new) }

@@ -1,8 +1,8 @@
 // Text from bytes that are not UTF-8 throughout.
-ghost use Rattle.std.specs.Prelude.{◌≡◌, ℕ, ◌≤◌, length, IfOk, IfErr, IfSome};
+ghost use Rattle.std.specs.Prelude.{◌≡◌, ℕ, ◌≤◌, length, IfOk, IfSome};
 ghost use Rattle.std.specs.List.Sorted.{IsNonDecreasingBy};
 ghost use Rattle.std.specs.Str.Lossy.{utf8_lossy};
-ghost use Rattle.json_io.specs.Errors.{no_memory};
+ghost use Rattle.json_io.specs.Errors.{OnlyNoMemory};
 ghost use Rattle.json_text.specs.declared.repaired.IllFormed.{IllFormed};
 ghost use Rattle.json_text.specs.Repaired.{origin_at, origin_of, last_shown as spec_last_shown};
 
@@ -14,7 +14,8 @@ use std::marker::Model;
 /// How many bytes U+FFFD has in UTF-8.
 const REPLACEMENT_LEN: usize = 3;
 
-/// A run of ill-formed bytes, from `from` up to `end` in the input, and where the U+FFFD that replaced it begins.
+/// A run of ill-formed bytes, from `from` up to `end` in the input, and where the U+FFFD that
+/// replaced it begins.
 #[derive(Clone, Copy)]
 pub(crate) struct IllFormed {
     pub shown: usize,
@@ -44,16 +45,18 @@ impl Model for Repaired {
 
     ghost view = { λ a. record { text = string_bytes a.text; runs = a.runs.items } };
 
-    ghost invariant = { λ a. IsRepaired (record { text = string_bytes a.text; runs = a.runs.items }) };
+    ghost invariant = { λ a. IsRepaired
+        (record { text = string_bytes a.text; runs = a.runs.items }) };
 }
 
-/// The text of the bytes, with U+FFFD for each ill-formed run, as std's lossy conversion cuts them (the Unicode
-/// Standard, section 3.9, "U+FFFD substitution of maximal subparts"); or memory runs out.
+/// Returns the text of the bytes, with U+FFFD for each ill-formed run, as std's lossy conversion
+/// cuts them (the Unicode Standard, section 3.9, "U+FFFD substitution of maximal subparts"). Fails
+/// with `NoMemory` if memory runs out.
 pub fn repair(alloc: Global, bytes: &[u8]) -> Result<Repaired>
     ensures text { IfOk result (λ r. r.text ≡ utf8_lossy bytes.now) }
     ensures origin { IfOk result (λ r. (k : ℕ) → k ≤ length r.text
         → origin_of r k ≡ origin_at bytes.now k) }
-    ensures err { IfErr result (λ e. e ≡ no_memory) }
+    ensures err { OnlyNoMemory result }
 {
     let mut text = String::with_capacity(alloc, bytes.len())?;
     let mut runs = Vec::new(alloc);
@@ -96,9 +99,9 @@ impl Repaired {
         self.text.as_str()
     }
 
-    /// Where a place of the repaired text comes from, both in bytes: of bytes that were copied their place in the
-    /// input, of a place within a U+FFFD that replaced a run the beginning of that run, and of the end the input's
-    /// length.
+    /// Where a place of the repaired text comes from, both in bytes: of bytes that were copied
+    /// their place in the input, of a place within a U+FFFD that replaced a run the beginning of
+    /// that run, and of the end the input's length.
     pub fn origin(&self, offset: usize) -> usize
         requires { offset ≤ length self.now.text }
         ensures { result ≡ origin_of self.now offset }

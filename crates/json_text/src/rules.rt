@@ -1,8 +1,8 @@
 // What a reader may be asked to refuse.
 ghost use Rattle.std.specs.Prelude.{◌≤◌};
 
-/// The most levels of a value that a reader takes (RFC 8259, section 9), and whether the names of each object
-/// have to differ, once they are unescaped (section 4).
+/// The most levels of a value that a reader takes (RFC 8259, section 9), and whether the names of
+/// each object have to differ, once they are unescaped (section 4).
 ///
 /// ```
 /// use json_text::Rules;
@@ -21,8 +21,8 @@ impl Rules {
     ghost use Rattle.std.specs.Prelude.{◌≡◌, ◌<◌, MatchOption};
     ghost use Rattle.json_text.specs.Ruled.{rules_of, usual_rules};
 
-    /// So many levels at most, and names that have to differ or may repeat. `None` comes exactly where the levels
-    /// are more than 1,024.
+    /// So many levels at most, and names that have to differ or may repeat. `None` comes exactly
+    /// where the levels are more than 1,024.
     pub fn new(depth: u32, unique: bool) -> Option<Rules>
         ensures { MatchOption result (1024 < depth)
             (λ r. (depth ≤ 1024) × (rules_of r ≡ record { limit = depth; unique = unique })) }

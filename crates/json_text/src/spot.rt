@@ -23,7 +23,8 @@ use json_grammar::{Kind, Spot};
 use json_io::ErrorCode;
 use json_scan::{byte_is, ws_end};
 
-/// The offset in bytes at which the next part begins, and what it may be. What may not be is refused there.
+/// The offset in bytes at which the next part begins, and what it may be. What may not be is
+/// refused there.
 #[derive(Clone, Copy)]
 pub(crate) struct Stand {
     pub at: usize,

@@ -25,11 +25,12 @@ pub(crate) fn is_whole(spot: Spot, kind: Option<Kind>) -> bool
     }
 }
 
-/// The next event of a text, for a loop that keeps the place in bytes, what may come there and the open containers
-/// itself. Where the caller knows what may come, no choice by it is left. Each use has a copy of its own.
+/// The next event of a text, for a loop that keeps the place in bytes, what may come there and the
+/// open containers itself. Where the caller knows what may come, no choice by it is left. Each use
+/// has a copy of its own.
 ///
-/// `End` comes where the value is whole and only whitespace is left. A fault has one of the codes from
-/// `EofWhileParsing` to `RecursionLimitExceeded`, as `Parser::next` returns it, at its offset.
+/// `End` comes where the value is whole and only whitespace is left. A fault has one of the codes
+/// from `EofWhileParsing` to `RecursionLimitExceeded`, as `Parser::next` returns it, at its offset.
 ///
 /// ```
 /// use json_grammar::Spot;

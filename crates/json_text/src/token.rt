@@ -86,8 +86,8 @@ pub(crate) fn string_at<'a>(text: &'a str, at: usize, lossy: bool) -> Result<Quo
     }
 }
 
-/// One more part of a text, the offset in bytes after it, and what may come there. The parser returns
-/// the event.
+/// One more part of a text, the offset in bytes after it, and what may come there. The parser
+/// returns the event.
 ///
 /// ```
 /// use json_grammar::Spot;
@@ -237,7 +237,8 @@ fn open<'a>(
     requires bracket { ByteAt text.now at (spec_bracket kind) }
     requires most { limit ≤ 1024 }
     ensures ok { (lossy : Bool) (w : Spot) → TakesValue w
-        → IfOk result (λ r. From lossy limit text.now at kinds.old w r.event r.end kinds.new r.spot) }
+        → IfOk result (λ r. From lossy limit text.now at kinds.old w r.event r.end
+        kinds.new r.spot) }
     ensures tight { ReadsTightInBoth text.now at result }
     ensures err { (lossy : Bool) (w : Spot) (ts : List Token) → TakesValue w
         → Stood lossy limit text.now at kinds.old w ts
@@ -281,7 +282,8 @@ fn value<'a>(
     requires byte { ¬ (IsWhitespace (get_or text.now at 0)) }
     requires most { limit ≤ 1024 }
     ensures ok { (w : Spot) → TakesValue w
-        → IfOk result (λ r. From lossy limit text.now at kinds.old w r.event r.end kinds.new r.spot) }
+        → IfOk result (λ r. From lossy limit text.now at kinds.old w r.event r.end
+        kinds.new r.spot) }
     ensures tight { ReadsTight lossy text.now at result }
     ensures err { (w : Spot) (ts : List Token) → TakesValue w → NoEnd text.now at kinds.old w
         → Stood lossy limit text.now at kinds.old w ts
@@ -411,7 +413,8 @@ fn key_or_end<'a>(
     requires byte { ¬ (IsWhitespace (get_or text.now at 0)) }
     requires open { top kinds.old ≡ Some Kind.Object }
     ensures ok { (limit : ℕ)
-        → IfOk result (λ r. From lossy limit text.now at kinds.old Spot.KeyOrEnd r.event r.end kinds.new r.spot) }
+        → IfOk result (λ r. From lossy limit text.now at kinds.old Spot.KeyOrEnd r.event r.end
+        kinds.new r.spot) }
     ensures tight { ReadsTight lossy text.now at result }
     ensures err { (limit : ℕ) (ts : List Token)
         → Stood lossy limit text.now at kinds.old Spot.KeyOrEnd ts
@@ -434,7 +437,8 @@ fn behind_value<'a>(text: &'a str, at: usize, kinds: &mut Kinds) -> Result<Read<
     requires byte { ¬ (IsWhitespace (get_or text.now at 0)) }
     requires apart { top kinds.old ≢ None → ¬ (ByteAt text.now at 44) }
     ensures ok { (lossy : Bool) (limit : ℕ)
-        → IfOk result (λ r. From lossy limit text.now at kinds.old Spot.Done r.event r.end kinds.new r.spot) }
+        → IfOk result (λ r. From lossy limit text.now at kinds.old Spot.Done r.event r.end
+        kinds.new r.spot) }
     ensures tight { ReadsTightInBoth text.now at result }
     ensures err { (lossy : Bool) (limit : ℕ) (ts : List Token)
         → Stood lossy limit text.now at kinds.old Spot.Done ts

@@ -1,5 +1,5 @@
-//! Sources of tokens: the tokens of a text or of a value, one after another, and the pieces of text that they lend. Contracts say which
-//! tokens a call takes, and why it fails.
+//! Sources of tokens: the tokens of a text or of a value, one after another, and the pieces of text
+//! that they lend. Contracts say which tokens a call takes, and why it fails.
 //!
 //! ```
 //! use json_tokens::{TextTokens, Token, TokenKind, Tokens};

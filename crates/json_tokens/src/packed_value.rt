@@ -12,7 +12,8 @@ use json_text::{Event, Parser, Result};
 use json_value::Value;
 use std::alloc::Global;
 
-/// The value whose first event the parser handed out last, packed as one document. The parser goes on to its end.
+/// The value whose first event the parser handed out last, packed as one document. The parser goes
+/// on to its end.
 pub(crate) fn packed_value<'a>(
     alloc: Global,
     parser: &mut Parser<'a>,

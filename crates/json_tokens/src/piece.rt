@@ -1,7 +1,7 @@
 // Texts as a source of tokens lends them.
-ghost use Rattle.std.specs.Prelude.{◌≡◌, ◌↔◌, ℕ, List, None, IsSome, IfOk, IfErr, IfSome, string_bytes};
+ghost use Rattle.std.specs.Prelude.{◌≡◌, ◌↔◌, ℕ, List, None, IsSome, IfOk, IfSome, string_bytes};
 ghost use Rattle.std.specs.Cow.{cow_str_bytes, IsBorrowedStr};
-ghost use Rattle.json_io.specs.Errors.{no_memory};
+ghost use Rattle.json_io.specs.Errors.{OnlyNoMemory};
 ghost use Rattle.json_text.specs.Spelled.{NoEscape};
 ghost use Rattle.json_tokens.specs.Pieces.{Says};
 
@@ -66,12 +66,13 @@ impl<S: Lent> Piece<S> {
         }
     }
 
-    /// Returns the text, lent where it needs no unescaping. Fails with `NoMemory` if memory runs out.
+    /// Returns the text, lent where it needs no unescaping. Fails with `NoMemory` if memory runs
+    /// out.
     #[inline(always)]
     pub fn to_text(&self, alloc: Global) -> Result<CowStr<'_>>
         ensures ok { IfOk result (λ v. (s : List ℕ)
             → Says s self.now.escaped (S.bytes self.now.text) → s ≡ cow_str_bytes v) }
-        ensures err { IfErr result (λ e. e ≡ no_memory) }
+        ensures err { OnlyNoMemory result }
     {
         match self.escaped {
             None => Ok(CowStr::Borrowed(self.text.as_text())),
@@ -84,7 +85,7 @@ impl<S: Lent> Piece<S> {
     pub fn copy(self, alloc: Global) -> Result<String>
         ensures ok { IfOk result (λ v. (s : List ℕ) → Says s self.escaped (S.bytes self.text)
             → s ≡ string_bytes v) }
-        ensures err { IfErr result (λ e. e ≡ no_memory) }
+        ensures err { OnlyNoMemory result }
     {
         let Some(lossy) = self.escaped else {
             return Ok(String::from_str(alloc, self.text.as_text())?);
@@ -108,7 +109,7 @@ pub fn lend<'a>(piece: Piece<&'a str>, alloc: Global) -> Result<CowStr<'a>>
     ensures ok { IfOk result (λ v. (s : List ℕ) → Says s piece.entry.escaped piece.entry.text.now
         → s ≡ cow_str_bytes v) }
     ensures lent { IfOk result (λ v. IsBorrowedStr v ↔ (piece.entry.escaped ≡ None)) }
-    ensures err { IfErr result (λ e. e ≡ no_memory) }
+    ensures err { OnlyNoMemory result }
 {
     match piece.lent() {
         Some(text) => Ok(CowStr::Borrowed(text)),

@@ -52,13 +52,22 @@ impl<'a> Model for TextTokens<'a> {
 
     ghost Value = { TextTokensState };
 
-    ghost view = { λ a. record { parser = a.parser; ahead = option_map (λ h. h.event) a.ahead; failed = a.failed } };
+    ghost view = { λ a. record {
+      parser = a.parser;
+      ahead = option_map (λ h. h.event) a.ahead;
+      failed = a.failed;
+    } };
 
-    ghost invariant = { λ a. IsReadingText (record { parser = a.parser; ahead = option_map (λ h. h.event) a.ahead; failed = a.failed }) };
+    ghost invariant = { λ a. IsReadingText (record {
+      parser = a.parser;
+      ahead = option_map (λ h. h.event) a.ahead;
+      failed = a.failed;
+    }) };
 }
 
 impl<'a> TextTokens<'a> {
-    /// Stands at the beginning of the text. A value of at most 254 levels is read, where `depth` chooses none.
+    /// Stands at the beginning of the text. A value of at most 254 levels is read, where `depth`
+    /// chooses none.
     pub fn new(text: &'a str) -> TextTokens<'a>
         ensures text { result.parser.text ≡ text.now }
         ensures start { (result.parser.start ≡ 0) × (result.parser.limit ≡ 254) }
@@ -72,8 +81,8 @@ impl<'a> TextTokens<'a> {
         }
     }
 
-    /// Returns the tokens of the value at this offset of the text, in bytes, with the limit of `new`.
-    /// Errors have their places in the whole text.
+    /// Returns the tokens of the value at this offset of the text, in bytes, with the limit of
+    /// `new`. Errors have their places in the whole text.
     pub fn at(text: &'a str, index: usize) -> TextTokens<'a>
         requires { IsCharBoundary text.now index }
         ensures text { result.parser.text ≡ text.now }
@@ -106,8 +115,8 @@ impl<'a> TextTokens<'a> {
         }
     }
 
-    /// Returns the same tokens in the lossy mode, in which no surrogate is an error: the escape of one
-    /// that is alone is U+FFFD (RFC 8259, section 8.2). To be called before the first token.
+    /// Returns the same tokens in the lossy mode, in which no surrogate is an error: the escape of
+    /// one that is alone is U+FFFD (RFC 8259, section 8.2). To be called before the first token.
     pub fn lossy(self) -> TextTokens<'a>
         requires { IsFreshReader self }
         ensures text { result.parser.text ≡ self.entry.parser.text }
@@ -123,8 +132,8 @@ impl<'a> TextTokens<'a> {
         }
     }
 
-    /// Returns the error that was returned in place of a token: `NoMemory`, or the error of the value,
-    /// which comes at the first token that needs the byte at its place.
+    /// Returns the error that was returned in place of a token: `NoMemory`, or the error of the
+    /// value, which comes at the first token that needs the byte at its place.
     pub fn failure(&self) -> Option<Error>
         ensures same { result ≡ self.now.failed }
         ensures cause { IfSome self.now.failed (TextFails self.now.parser) }
@@ -132,8 +141,8 @@ impl<'a> TextTokens<'a> {
         self.failed
     }
 
-    /// Returns the offset right after the value, which was taken, in bytes from the beginning of the
-    /// text.
+    /// Returns the offset right after the value, which was taken, in bytes from the beginning of
+    /// the text.
     pub fn index(&self) -> usize
         requires over { (text_tokens_state self.now).spot ≡ state_in [] }
         requires told { (text_tokens_state self.now).told ≡ None }
@@ -144,8 +153,8 @@ impl<'a> TextTokens<'a> {
         self.parser.index()
     }
 
-    /// Takes the rest of the text, after the value, which was taken. Fails with the fault of the text if
-    /// more than whitespace follows.
+    /// Takes the rest of the text, after the value, which was taken. Fails with the fault of the
+    /// text if more than whitespace follows.
     pub fn finish(self) -> Result<()>
         requires over { (text_tokens_state self).spot ≡ state_in [] }
         requires told { (text_tokens_state self).told ≡ None }
@@ -208,7 +217,8 @@ impl<'a> TextTokens<'a> {
             (λ k. Peeks (text_tokens_state self.old) (text_tokens_state self.new) k) }
         ensures none { OnOk result (TakesTokens text_taken self.old [] self.new) }
         ensures unfailed { OnOk result (self.new.failed ≡ None) }
-        ensures err { FailsWithTokens (text_tokens_state self.old) (text_tokens_state self.new) result }
+        ensures err { FailsWithTokens
+            (text_tokens_state self.old) (text_tokens_state self.new) result }
         ensures cause { self.old.failed ≡ None → IfErr result (HasFault self.new.parser) }
         ensures again { ReturnsAgain self.old.failed result }
     {
@@ -234,7 +244,8 @@ impl<'a> TextTokens<'a> {
         ensures ok { IfOk result (λ y. (x : Tok) × DenotesToken (λ s. s.now) y x
             × TakesOne text_taken text_tokens_state self.old self.new x) }
         ensures unfailed { OnOk result (self.new.failed ≡ None) }
-        ensures err { FailsWithTokens (text_tokens_state self.old) (text_tokens_state self.new) result }
+        ensures err { FailsWithTokens
+            (text_tokens_state self.old) (text_tokens_state self.new) result }
         ensures cause { self.old.failed ≡ None → IfErr result (HasFault self.new.parser) }
         ensures again { ReturnsAgain self.old.failed result }
     {
@@ -255,7 +266,8 @@ impl<'a> TextTokens<'a> {
             TakesTree text_taken text_tokens_state self.old self.new (tree_of v)) }
         ensures place { IfOk result IsPackedAtRoot }
         ensures unfailed { OnOk result (self.new.failed ≡ None) }
-        ensures err { FailsWithTokens (text_tokens_state self.old) (text_tokens_state self.new) result }
+        ensures err { FailsWithTokens
+            (text_tokens_state self.old) (text_tokens_state self.new) result }
         ensures cause { self.old.failed ≡ None → IfErr result (TextFails self.new.parser) }
         ensures again { ReturnsAgain self.old.failed result }
     {
@@ -279,7 +291,8 @@ impl<'a> TextTokens<'a> {
         requires { IsOpen (text_tokens_state self.old).spot }
         ensures ok { OnOk result (Leaves text_taken text_tokens_state self.old self.new) }
         ensures unfailed { OnOk result (self.new.failed ≡ None) }
-        ensures err { FailsWithTokens (text_tokens_state self.old) (text_tokens_state self.new) result }
+        ensures err { FailsWithTokens
+            (text_tokens_state self.old) (text_tokens_state self.new) result }
         ensures cause { self.old.failed ≡ None → IfErr result (HasFault self.new.parser) }
         ensures again { ReturnsAgain self.old.failed result }
     {
@@ -303,7 +316,8 @@ impl<'a> TextTokens<'a> {
         ensures ok { OnOk result ((t : Tree)
             × TakesTree text_taken text_tokens_state self.old self.new t) }
         ensures unfailed { OnOk result (self.new.failed ≡ None) }
-        ensures err { FailsWithTokens (text_tokens_state self.old) (text_tokens_state self.new) result }
+        ensures err { FailsWithTokens
+            (text_tokens_state self.old) (text_tokens_state self.new) result }
         ensures cause { self.old.failed ≡ None → IfErr result (HasFault self.new.parser) }
         ensures again { ReturnsAgain self.old.failed result }
     {

@@ -18,8 +18,8 @@ use json_text::Result;
 use json_value::Value;
 use std::alloc::Global;
 
-/// Gives the tokens of a value from left to right. Errors are sticky: after an error every later call returns it again, or
-/// finds nothing.
+/// Gives the tokens of a value from left to right. Errors are sticky: after an error every later
+/// call returns it again, or finds nothing.
 ///
 /// ```
 /// use json_tokens::{TextTokens, Token, Tokens};
@@ -65,8 +65,8 @@ pub trait Tokens<S: Lent> {
         ensures cause { FailsForCause (stand self.old) (causes self.new) result }
         ensures again { IfSome (stand self.old).failed (λ e. result ≡ Err e) };
 
-    /// Takes the tokens of one tree, and returns a value of it: each member is kept, and each literal of
-    /// a number. Fails with `NoMemory` if memory runs out.
+    /// Takes the tokens of one tree, and returns a value of it: each member is kept, and each
+    /// literal of a number. Fails with `NoMemory` if memory runs out.
     fn value(&mut self, alloc: Global) -> Result<Value>
         requires { WantsValue (stand self.old) }
         ensures ok { IfOk result (λ v. TakesTree taken stand self.old self.new (tree_of v)) }
@@ -97,8 +97,8 @@ pub trait Tokens<S: Lent> {
         ensures cause { FailsForCause (stand self.old) (causes self.new) result }
         ensures again { IfSome (stand self.old).failed (λ e. result ≡ Err e) };
 
-    /// Takes the next token if it is an integer from 0 to `most` that is found at once. Otherwise nothing
-    /// is taken: `peek` and `next` return what comes.
+    /// Takes the next token if it is an integer from 0 to `most` that is found at once. Otherwise
+    /// nothing is taken: `peek` and `next` return what comes.
     fn integer(&mut self, most: u64) -> Option<u64>
         requires { NotWhole (stand self.old) }
         ensures most { IfSome result (λ n. n ≤ most) }
@@ -111,8 +111,9 @@ pub trait Tokens<S: Lent> {
         None
     }
 
-    /// Takes the next token if it is an integer below 0 that is found at once, and returns its magnitude,
-    /// which is at most `least`. Otherwise nothing is taken: `peek` and `next` return what comes.
+    /// Takes the next token if it is an integer below 0 that is found at once, and returns its
+    /// magnitude, which is at most `least`. Otherwise nothing is taken: `peek` and `next` return
+    /// what comes.
     fn negative(&mut self, least: u64) -> Option<u64>
         requires whole { NotWhole (stand self.old) }
         requires fits { least ≤ 2 ^ 63 }
@@ -171,8 +172,8 @@ pub trait Tokens<S: Lent> {
         None
     }
 
-    /// Takes the next token where it is the bracket that opens a container of the kind and is found at once. Else nothing
-    /// is taken.
+    /// Takes the next token where it is the bracket that opens a container of the kind and is found
+    /// at once. Else nothing is taken.
     fn begins(&mut self, kind: Kind) -> bool
         requires { NotWhole (stand self.old) }
         ensures begun { result ≡ true
@@ -185,8 +186,8 @@ pub trait Tokens<S: Lent> {
         false
     }
 
-    /// Takes the next token where it is the bracket that closes a container of the kind and is found at once. Else nothing
-    /// is taken.
+    /// Takes the next token where it is the bracket that closes a container of the kind and is
+    /// found at once. Else nothing is taken.
     fn ends(&mut self, kind: Kind) -> bool
         requires { NotWhole (stand self.old) }
         ensures ended { result ≡ true → TakesOne taken stand self.old self.new (end_token kind) }

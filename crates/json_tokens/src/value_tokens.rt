@@ -84,7 +84,11 @@ impl<'a> ValueTokens<'a> {
     // Goes from the value that comes next into what is left of it.
     fn enter(&mut self, level: Level<'a>) -> Result<()>
         ensures ok { let s = value_state self.old in OnOk result (value_state self.new
-            ≡ record s { next = None; levels = left_after_opening level.entry s.levels; told = false }) }
+            ≡ record s {
+              next = None;
+              levels = left_after_opening level.entry s.levels;
+              told = false;
+            }) }
         ensures err { IfErr result (λ e. (e ≡ no_memory)
             × Breaks (value_state self.old) (value_state self.new)) }
     {

@@ -22,5 +22,4 @@ pub mod ViewSpots
 pub mod Touched
 pub mod Lending
 pub mod Laws
-pub mod Failures
 pub mod EditTrees

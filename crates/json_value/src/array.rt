@@ -15,7 +15,7 @@ ghost use Rattle.json_value.specs.declared.value.Value.{Array as ArrayValue};
 ghost use Rattle.json_value.specs.Places.{places_in, array_places};
 ghost use Rattle.json_value.specs.Seen.{elements_seen};
 ghost use Rattle.json_value.specs.SightParts.{array_sights, elements_sights};
-ghost use Rattle.json_value.specs.Failures.{OnlyNoMemory};
+ghost use Rattle.json_io.specs.Errors.{OnlyNoMemory};
 
 use crate::array_view::{ArrayForm, ArrayView};
 use crate::container::{Container, Form};
@@ -108,8 +108,8 @@ impl Container<Value> {
         Value::Array(self)
     }
 
-    /// How many more elements it takes before it asks for memory: none where nothing was put in yet, and of a place of a document.
-    /// Takes no memory.
+    /// How many more elements it takes before it asks for memory: none where nothing was put in
+    /// yet, and of a place of a document. Takes no memory.
     pub fn spare(&self) -> usize
         ensures { result ≡ spare_in self.now }
     {
@@ -154,9 +154,10 @@ impl Container<Value> {
         Ok(())
     }
 
-    /// The elements, to be changed. On a place of a document this is the first write: each child becomes a value of its own,
-    /// or a place of the same document, and nothing deeper is copied. What is written through the list is what the array
-    /// becomes. Fails with `NoMemory` if memory runs out, which it can for a place of a document alone.
+    /// The elements, to be changed. On a place of a document this is the first write: each child
+    /// becomes a value of its own, or a place of the same document, and nothing deeper is copied.
+    /// What is written through the list is what the array becomes. Fails with `NoMemory` if memory
+    /// runs out, which it can for a place of a document alone.
     pub fn list_mut(&mut self, alloc: Global) -> Result<&mut Vec<Value>>
         ensures* writes_back { sem 𝓛 (LendsIfOk array_row (vec_row value_row) self.entry result
             owned self.old) }
@@ -206,8 +207,8 @@ impl Container<Value> {
         text_written(out)
     }
 
-    /// An array of the same elements, which no later write to this one reaches; places stay places of the same document.
-    /// Fails with `NoMemory` if memory runs out.
+    /// An array of the same elements, which no later write to this one reaches; places stay places
+    /// of the same document. Fails with `NoMemory` if memory runs out.
     pub fn clone(&self, alloc: Global) -> Result<Array>
         ensures list { IfOk result (λ a. list_in a ≡ list_in self.now) }
         ensures places { IfOk result (λ a. array_places a ≡ array_places self.now) }

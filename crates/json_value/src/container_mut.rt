@@ -2,7 +2,7 @@
 ghost use Rattle.std.specs.Prelude.{◌≡◌, ◌⊎◌, map, IfOk, OnOk, OnErr, [], ◌∷◌, Some, ◌++◌, length};
 ghost use Rattle.std.specs.Borrow.{LendsSoOk, sem};
 ghost use Rattle.json_grammar.specs.Tree.{list, pairs, list_trees, list_pairs};
-ghost use Rattle.json_io.specs.Errors.{not_found, type_unmatched};
+ghost use Rattle.json_io.specs.Errors.{not_found, type_unmatched, OnlyNoMemory};
 ghost use Rattle.json_model.specs.Edit.{key_step, index_step};
 ghost use Rattle.json_value.specs.Denotes.{tree_of, pair_of};
 ghost use Rattle.json_value.specs.Edits.{FailsAlong, FailsOnList, FailsOnPairs};
@@ -12,7 +12,6 @@ ghost use Rattle.json_value.specs.declared.value.Value.{Value, Null as NullValue
 ghost use Rattle.json_value.specs.Steps.{child, tree_or_null};
 ghost use Rattle.json_doc.specs.Readings.{type_of};
 ghost use Rattle.json_doc.specs.declared.json_type.JsonType.{JsonType};
-ghost use Rattle.json_value.specs.Failures.{OnlyNoMemory};
 
 use crate::container::{Container, Form};
 use crate::index::Index;

@@ -26,10 +26,10 @@ use crate::view::View;
 use json_doc::JsonType;
 use json_number::Number;
 
-/// Scalars are equal where their content is, numbers by their literals; arrays element by element; and objects of as many
-/// members where the first values of each key are, in any order of the keys. Allocates nothing. Where the
-/// keys of two objects come in another order each is searched for from the left, so the time grows with
-/// the square of the members.
+/// Scalars are equal where their content is, numbers by their literals; arrays element by element;
+/// and objects of as many members where the first values of each key are, in any order of the keys.
+/// Allocates nothing. Where the keys of two objects come in another order each is searched for from
+/// the left, so the time grows with the square of the members.
 impl PartialEq for Value {
     ghost eq = { on tree_of same };
 
@@ -212,8 +212,9 @@ pub(crate) fn are_objects_same(first: ObjectView<'_>, second: ObjectView<'_>) ->
     }
 }
 
-// Whether two objects of as many members are the same, where that shows member by member: the answer is open
-// where their keys differ at some place, or where values do after a key that was there before.
+// Whether two objects of as many members are the same, where that shows member by member: the
+// answer is open where their keys differ at some place, or where values do after a key that was
+// there before.
 #[cycle(same)]
 fn are_members_same(first: ObjectView<'_>, second: ObjectView<'_>) -> Option<bool>
     requires { length (members_seen first) ≡ length (members_seen second) }

@@ -15,8 +15,8 @@ use crate::value::Value;
 use json_text::Result;
 use std::alloc::Global;
 
-/// A step into a value: a key leads to the first member of an object with that key, an index to an element of an array,
-/// counted from 0.
+/// A step into a value: a key leads to the first member of an object with that key, an index to an
+/// element of an array, counted from 0.
 ///
 /// ```
 /// use json_value::{Index, Value};
@@ -38,10 +38,12 @@ pub trait Index: Drop {
     fn as_index(&self) -> Option<usize>
         ensures index { result ≡ index_in (step self.now) };
 
-    /// The place to which the step leads. A key that is missing is appended with null, and null counts as an empty object.
-    /// What is written there changes that place and no other; a packed container is copied by one level. Fails with `NotFound`
-    /// if the array has no such index, with `TypeUnmatched` for an index of what is no array or a key of what is neither an
-    /// object nor null, and with `NoMemory` if memory runs out. A refusal keeps the tree, and copies no more than that level.
+    /// The place to which the step leads. A key that is missing is appended with null, and null
+    /// counts as an empty object. What is written there changes that place and no other; a packed
+    /// container is copied by one level. Fails with `NotFound` if the array has no such index, with
+    /// `TypeUnmatched` for an index of what is no array or a key of what is neither an object nor
+    /// null, and with `NoMemory` if memory runs out. A refusal keeps the tree, and copies no more
+    /// than that level.
     final fn index_or_insert<'v>(&self, alloc: Global, v: &'v mut Value) -> Result<&'v mut Value>
         ensures* writes_back { sem 𝓛 (LendsSoOk value_row value_row v.entry result
             (λ n w. (put_or_insert (step self.now) (tree_of w) (tree_of v.old) ≡ Ok (tree_of n))

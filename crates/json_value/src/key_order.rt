@@ -3,9 +3,9 @@ ghost use Rattle.std.specs.Prelude.{◌≡◌, IfOk, IsTrue, length, map};
 ghost use Rattle.json_grammar.specs.Tree.{list_pairs};
 ghost use Rattle.json_model.specs.Sort.{NeverFall};
 ghost use Rattle.json_value.specs.Denotes.{pair_of};
-ghost use Rattle.json_value.specs.Failures.{OnlyNoMemory};
 ghost use Rattle.json_doc_print.specs.KeyOrder.{AreEntries, IsKeyOrder, numbers_in};
 ghost use Rattle.json_value.specs.OwnedKeys.{numbers_from, owned_key};
+ghost use Rattle.json_io.specs.Errors.{OnlyNoMemory};
 
 use crate::pair::Pair;
 use json_doc_print::{Entry, Keys, entry_of, is_less, sort_by_key};

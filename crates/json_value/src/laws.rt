@@ -8,7 +8,8 @@ ghost use Rattle.json_value.specs.Laws.{ChangeIsThere, ChangeRefusedThere, NoCha
 
 use crate::value::Value;
 
-/// The tree of each value is proper: its literals are numbers (RFC 8259, section 6), and its texts and keys UTF-8.
+/// The tree of each value is proper: its literals are numbers (RFC 8259, section 6), and its texts
+/// and keys UTF-8.
 pub fn values_are_proper(_value: &Value)
     ensures { IsProper (tree_of _value.now) }
 {}
@@ -35,8 +36,8 @@ pub fn packed_containers_stand()
     ensures object_only { ObjectStandsAsPlace }
 {}
 
-/// A container with a list of its own is no place of a document, and its parts are where those of its
-/// children are.
+/// A container with a list of its own is no place of a document, and its parts are where those of
+/// its children are.
 pub fn own_lists_are_no_places()
     ensures array { OwnArrayIsNoPlace }
     ensures object { OwnObjectIsNoPlace }
@@ -44,8 +45,9 @@ pub fn own_lists_are_no_places()
     ensures members { PlacesOfMembers }
 {}
 
-/// A change where steps lead is one of the tree to which they lead: it is there afterwards, and is refused where that tree
-/// refuses it or where the steps lead nowhere. Steps lead where the definition of edits says that a path leads.
+/// A change where steps lead is one of the tree to which they lead: it is there afterwards, and is
+/// refused where that tree refuses it or where the steps lead nowhere. Steps lead where the
+/// definition of edits says that a path leads.
 pub fn changes_are_where_steps_lead()
     ensures there { ChangeIsThere }
     ensures refused { ChangeRefusedThere }

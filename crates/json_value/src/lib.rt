@@ -1,5 +1,6 @@
-//! Values of JSON (RFC 8259, section 3) that can be edited: scalars, owned texts and containers, and places of shared
-//! packed documents. The first write to a packed container copies one level of it.
+//! Values of JSON (RFC 8259, section 3) that can be edited: scalars, owned texts and containers,
+//! and places of shared packed documents. The first write to a packed container copies one level of
+//! it.
 //!
 //! ```
 //! use json_doc::read_document;

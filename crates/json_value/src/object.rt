@@ -15,7 +15,7 @@ ghost use Rattle.json_value.specs.declared.value.Value.{Object as ObjectValue};
 ghost use Rattle.json_value.specs.Places.{member_places, object_places};
 ghost use Rattle.json_value.specs.Seen.{members_seen};
 ghost use Rattle.json_value.specs.SightParts.{object_sights, members_sights};
-ghost use Rattle.json_value.specs.Failures.{OnlyNoMemory};
+ghost use Rattle.json_io.specs.Errors.{OnlyNoMemory};
 
 use crate::container::{Container, Form};
 use crate::object_view::{ObjectForm, ObjectView};
@@ -118,8 +118,8 @@ impl Container<Keyed<Value>> {
         Value::Object(self)
     }
 
-    /// How many more members it takes before it asks for memory: none where nothing was put in yet, and of a place of a document.
-    /// Takes no memory.
+    /// How many more members it takes before it asks for memory: none where nothing was put in yet,
+    /// and of a place of a document. Takes no memory.
     pub fn spare(&self) -> usize
         ensures { result ≡ spare_in self.now }
     {
@@ -164,10 +164,11 @@ impl Container<Keyed<Value>> {
         Ok(())
     }
 
-    /// The members, to be changed. On a place of a document this is the first write: each key becomes a place of the same
-    /// document, each value a value of its own or a place of the same document, and nothing deeper is copied. What
-    /// is written through the list is what the object becomes. Fails with `NoMemory` if memory runs out, which it can for a
-    /// place of a document alone.
+    /// The members, to be changed. On a place of a document this is the first write: each key
+    /// becomes a place of the same document, each value a value of its own or a place of the same
+    /// document, and nothing deeper is copied. What is written through the list is what the object
+    /// becomes. Fails with `NoMemory` if memory runs out, which it can for a place of a document
+    /// alone.
     pub fn pairs_mut(&mut self, alloc: Global) -> Result<&mut Vec<Pair>>
         ensures* writes_back { sem 𝓛 (LendsIfOk object_row (vec_row pair_row) self.entry result
             owned self.old) }
@@ -217,8 +218,8 @@ impl Container<Keyed<Value>> {
         text_written(out)
     }
 
-    /// An object of the same members, which no later write to this one reaches; places stay places of the same document.
-    /// Fails with `NoMemory` if memory runs out.
+    /// An object of the same members, which no later write to this one reaches; places stay places
+    /// of the same document. Fails with `NoMemory` if memory runs out.
     pub fn clone(&self, alloc: Global) -> Result<Object>
         ensures pairs { IfOk result (λ o. pairs_in o ≡ pairs_in self.now) }
         ensures places { IfOk result (λ o. object_places o ≡ object_places self.now) }

@@ -1,4 +1,5 @@
-// A place of a document that is seen, and the counted reference to the document where a value holds one.
+// A place of a document that is seen, and the counted reference to the document where a value holds
+// one.
 ghost use Rattle.std.specs.Prelude.{◌≡◌, None, Some, IfSome, map, IfOk};
 ghost use Rattle.std.proofs.Props.{props};
 ghost use Rattle.json_doc.specs.Docs.{doc_tree};
@@ -6,7 +7,7 @@ ghost use Rattle.json_doc.specs.Seen.{view_doc, view_place, view_tree};
 ghost use Rattle.json_doc.specs.Left.{children_left, pairs_left};
 ghost use Rattle.json_value.specs.Denotes.{tree_of, pair_of};
 ghost use Rattle.json_value.specs.Spots.{spot_of};
-ghost use Rattle.json_value.specs.Failures.{OnlyNoMemory};
+ghost use Rattle.json_io.specs.Errors.{OnlyNoMemory};
 
 use crate::container::{Container, Form};
 use crate::literal::Literal;

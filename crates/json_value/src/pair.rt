@@ -11,7 +11,7 @@ ghost use Rattle.json_value.specs.Places.{value_origin};
 ghost use Rattle.json_value.specs.Touched.{Inserts, unkeyed, UpsertedAt};
 ghost use Rattle.json_value.specs.Merged.{with_member};
 ghost use Rattle.json_value.specs.Lending.{with_null_member};
-ghost use Rattle.json_value.specs.Failures.{OnlyNoMemory};
+ghost use Rattle.json_io.specs.Errors.{OnlyNoMemory};
 
 use crate::text::Text;
 use crate::value::Value;
@@ -80,8 +80,8 @@ impl Keyed<Value> {
     }
 }
 
-/// The index of the first member of the key (RFC 8259, section 4: names may repeat); none where no member has it. Takes no
-/// memory.
+/// The index of the first member of the key (RFC 8259, section 4: names may repeat); none where no
+/// member has it. Takes no memory.
 ///
 /// ```
 /// use json_value::{Pair, Text, Value, find_key};
@@ -151,7 +151,7 @@ pub(crate) fn put_pair(members: &mut Vec<Pair>, pair: Pair) -> Result<()>
     }
 }
 
-// Appends a member of the key with null where none has the key. The number of the first member of the key.
+// Appends a member of the key with null where none has it. The number of the first one of the key.
 pub(crate) fn find_or_insert(pairs: &mut Vec<Pair>, alloc: Global, key: &str) -> Result<usize>
     ensures first { IfOk result (λ i. IsFirstOf key.now (map pair_of pairs.new.items) i) }
     ensures pairs { IfOk result (λ i. list_pairs (map pair_of pairs.new.items)

@@ -1,7 +1,7 @@
 // Paths and edits.
 ghost use Rattle.std.specs.Prelude.{◌≡◌, [], ◌∷◌, ◌++◌, OnOk, OnErr};
 ghost use Rattle.json_value.specs.Edits.{step_of, steps_of, path_steps, edit_path, edit_of, edit_at};
-ghost use Rattle.json_value.specs.Failures.{OnlyNoMemory};
+ghost use Rattle.json_io.specs.Errors.{OnlyNoMemory};
 
 use crate::text::Text;
 use crate::value::Value;
@@ -42,7 +42,8 @@ pub struct Path {
     pub(crate) steps: Vec<PointerNode>,
 }
 
-/// A change of a value, at the place to which a path leads. One that does not apply is refused and changes nothing.
+/// A change of a value, at the place to which a path leads. One that does not apply is refused and
+/// changes nothing.
 ///
 /// ```
 /// use json_text::ErrorCode;

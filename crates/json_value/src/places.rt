@@ -33,10 +33,11 @@ pub trait Places {
     /// The value whose places are lent.
     ghost held: { Self → Value };
 
-    /// The place to which the steps lead. What is written there changes that place and no other; a copy of one level is made
-    /// of each packed container on the way. Fails with `NotFound` if a step names a key or an index that is missing, with
-    /// `TypeUnmatched` if a key meets no object or an index no array, and with `NoMemory` if memory runs out. A refusal keeps
-    /// the tree, and changes nothing but that packed containers on the way may have been copied by one level.
+    /// The place to which the steps lead. What is written there changes that place and no other; a
+    /// copy of one level is made of each packed container on the way. Fails with `NotFound` if a
+    /// step names a key or an index that is missing, with `TypeUnmatched` if a key meets no object
+    /// or an index no array, and with `NoMemory` if memory runs out. A refusal keeps the tree, and
+    /// changes nothing but that packed containers on the way may have been copied by one level.
     fn place_mut<'v>(&'v mut self, alloc: Global, path: &[PointerNode]) -> Result<&'v mut Value>
         ensures* writes_back { sem 𝓛 (LendsSoOk Self.row value_row self.entry result
             (λ n w. IfOk result (λ v. PutsAtPath (steps_of path.now) v.now w (held self.old)
@@ -53,8 +54,8 @@ impl Places for Value {
     }
 }
 
-/// Puts a value at the place to which the steps lead. Fails as `place_mut` does. A refusal keeps the
-/// tree.
+/// Puts a value at the place to which the steps lead. Fails as `place_mut` does. A refusal keeps
+/// the tree.
 pub fn put<V: Places>(target: &mut V, alloc: Global, path: &[PointerNode], new: Value) -> Result<()>
     ensures ok { OnOk result (Makes (edited_once (set_at (steps_of path.now) (tree_of new))
         (tree_of (V.held target.old))) (V.held target.new)) }
@@ -71,7 +72,8 @@ pub fn put<V: Places>(target: &mut V, alloc: Global, path: &[PointerNode], new: 
     Ok(())
 }
 
-/// Changes the value to which the steps lead, by a closure. Fails as `place_mut` does. A refusal keeps the tree.
+/// Changes the value to which the steps lead, by a closure. Fails as `place_mut` does. A refusal
+/// keeps the tree.
 pub fn update<V: Places, F: FnOnce(&mut Value)>(
     target: &mut V,
     alloc: Global,
@@ -142,8 +144,8 @@ pub(crate) fn reach_in<'v>(
     }
 }
 
-// A place that is lent, or none where a call found none; only `NoMemory` stays an error. So a search that answers
-// `NotFound` or `TypeUnmatched` becomes one that answers none.
+// A place that is lent, or none where a call found none; only `NoMemory` stays an error. So a
+// search that answers `NotFound` or `TypeUnmatched` becomes one that answers none.
 pub(crate) fn none_if_missing<'a>(r: Result<&'a mut Value>) -> Result<Option<&'a mut Value>>
     ensures missing_as_none { result ≡ missing_as_none r.entry }
 {

@@ -1,4 +1,5 @@
-// The text of a value's tree with the members of each object in the order of their keys, written from left to right.
+// The text of a value's tree with the members of each object in the order of their keys, written
+// from left to right.
 ghost use Rattle.std.specs.Prelude.{map, ◌++◌};
 ghost use Rattle.json_grammar.specs.Tree.{list, list_trees, pairs, list_pairs};
 ghost use Rattle.json_model.specs.Print.{shown};

@@ -4,7 +4,7 @@ ghost use Rattle.json_grammar.specs.Tree.{list, list_trees, pairs, list_pairs};
 ghost use Rattle.json_model.specs.Print.{shown};
 ghost use Rattle.json_layout.specs.Showing.{Shows};
 ghost use Rattle.json_value.specs.Denotes.{list_in, pairs_in};
-ghost use Rattle.json_value.specs.Failures.{OnlyNoMemory};
+ghost use Rattle.json_io.specs.Errors.{OnlyNoMemory};
 
 use crate::array::Array;
 use crate::container::Form;

@@ -1,7 +1,7 @@
 // Views of values.
 ghost use Rattle.std.specs.Prelude.{◌≡◌, None, Some, option_map, IfSome, ◌<◌, length, IfOk, IsErrOf};
 ghost use Rattle.json_grammar.specs.Tree.{num, null, tokens};
-ghost use Rattle.json_io.specs.Errors.{no_memory};
+ghost use Rattle.json_io.specs.Errors.{no_memory, OnlyNoMemory};
 ghost use Rattle.json_number.specs.Numbers.{value_of, text_of_number};
 ghost use Rattle.json_doc.specs.Readings.{type_of, bool_of, integer_of, literal_of, string_of};
 ghost use Rattle.json_doc.specs.Seen.{view_doc, view_place, view_tree};
@@ -24,7 +24,6 @@ ghost use Rattle.json_layout.specs.TextWriting.{WritesText};
 ghost use Rattle.json_print.specs.Given.{given_tokens};
 ghost use Rattle.json_doc_print.specs.Emitting.{Emits, Walks, tree_given};
 ghost use Rattle.json_doc_print.specs.ShowingSorted.{ShowsOrRunsOut};
-ghost use Rattle.json_value.specs.Failures.{OnlyNoMemory};
 
 use crate::array_view::ArrayView;
 use crate::emit::emit_value;
@@ -122,7 +121,8 @@ impl<'a> View<'a> {
         }
     }
 
-    /// The literal of the number that is no integer of `u64` or `i64`; none of such an integer, nor of another kind.
+    /// The literal of the number that is no integer of `u64` or `i64`; none of such an integer, nor
+    /// of another kind.
     #[inline]
     pub fn literal(self) -> Option<&'a str>
         ensures { option_map (λ s. s.now) result ≡ literal_of (seen self.entry) }
@@ -204,7 +204,8 @@ impl<'a> View<'a> {
         }
     }
 
-    /// The value of the first member of a key, or the element of an index; none where the step leads nowhere.
+    /// The value of the first member of a key, or the element of an index; none where the step
+    /// leads nowhere.
     pub fn get<I: Index>(self, index: I) -> Option<View<'a>>
         ensures tree { option_map seen result ≡ child (I.step index) (seen self.entry) }
         ensures sight { option_map sight_of result
@@ -232,7 +233,8 @@ impl<'a> View<'a> {
         Some(here)
     }
 
-    /// The value of the first member of a key, or the element of an index; null where the step leads nowhere.
+    /// The value of the first member of a key, or the element of an index; null where the step
+    /// leads nowhere.
     pub fn at<I: Index>(self, index: I) -> View<'a>
         ensures tree { seen result ≡ tree_or_null (child (I.step index) (seen self.entry)) }
         ensures sight { sight_of result
@@ -244,8 +246,8 @@ impl<'a> View<'a> {
         }
     }
 
-    /// The document and the place in it, where what is seen is a place of a document, or a value that is one; else none. The
-    /// value at that place is what is seen.
+    /// The document and the place in it, where what is seen is a place of a document, or a value
+    /// that is one; else none. The value at that place is what is seen.
     pub fn place(self) -> Option<(&'a Doc, u32)>
         ensures spot { option_map (λ p. spot_in p.0.now p.1) result ≡ spot_seen self.entry }
         ensures within { IfSome result (λ p. p.1 < length (doc_cells p.0.now)) }
@@ -258,9 +260,9 @@ impl<'a> View<'a> {
         }
     }
 
-    /// A value of the tree that is seen, which no later write to a value that is seen reaches: of a whole value a `clone`, of
-    /// a packed part of a value the value at that place of the same document, of a document alone a copy.
-    /// Fails with `NoMemory` if memory runs out.
+    /// A value of the tree that is seen, which no later write to a value that is seen reaches: of a
+    /// whole value a `clone`, of a packed part of a value the value at that place of the same
+    /// document, of a document alone a copy. Fails with `NoMemory` if memory runs out.
     pub fn to_value(self, alloc: Global) -> Result<Value>
         ensures tree { IfOk result (λ v. tree_of v ≡ seen self.entry) }
         ensures spot { IfOk result (λ v. spot_of v ≡ spot_kept self.entry) }
@@ -275,9 +277,9 @@ impl<'a> View<'a> {
         }
     }
 
-    /// Gives the tokens of the tree that is seen to `out`, an integer by value as that, up to the first
-    /// that meets an error, which is returned. Where the events had returned an error it is returned
-    /// again, and nothing changes; else a value may come there.
+    /// Gives the tokens of the tree that is seen to `out`, an integer by value as that, up to the
+    /// first that meets an error, which is returned. Where the events had returned an error it is
+    /// returned again, and nothing changes; else a value may come there.
     pub fn emit<E: Events>(self, out: &mut E) -> Result<()>
         requires { AcceptsValue (E.failed out.old) (E.stand (E.state out.old)) }
         ensures given { Emits E.after E.stopped (E.state out.old) (E.state out.new)
@@ -291,9 +293,9 @@ impl<'a> View<'a> {
         }
     }
 
-    /// Writes the text of the tree that is seen, in the layout. Fails as the writer's inner sink does; a
-    /// prefix of the text was written then. Fails with `NoMemory` where the sink finds none, or for a
-    /// text of 2^64 - 1 bytes or more.
+    /// Writes the text of the tree that is seen, in the layout. Fails as the writer's inner sink
+    /// does; a prefix of the text was written then. Fails with `NoMemory` where the sink finds
+    /// none, or for a text of 2^64 - 1 bytes or more.
     pub fn print<W: Sink, L: Layout>(self, layout: L, out: &mut BufferedWriter<W>) -> Result<()>
         ensures text { WritesText (⟦<BufferedWriter<W> as Sink>⟧.state out.old)
             (⟦<BufferedWriter<W> as Sink>⟧.state out.new)
@@ -306,10 +308,11 @@ impl<'a> View<'a> {
         answered(show(self, layout, out))
     }
 
-    /// Writes the text of the tree that is seen, with the members of each object in the order of their
-    /// keys and those of one key in the order of the text, in the layout. Allocates for an object whose
-    /// keys are not in order: 16 bytes a member, until its end was written. Fails as `print` does, and
-    /// with `NoMemory` where memory runs out; a prefix of the text was written then.
+    /// Writes the text of the tree that is seen, with the members of each object in the order of
+    /// their keys and those of one key in the order of the text, in the layout. Allocates for an
+    /// object whose keys are not in order: 16 bytes a member, until its end was written. Fails as
+    /// `print` does, and with `NoMemory` where memory runs out; a prefix of the text was written
+    /// then.
     pub fn print_sorted<W: Sink, L: Layout>(
         self,
         alloc: Global,

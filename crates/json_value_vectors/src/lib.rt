@@ -1,5 +1,6 @@
-//! Tests alone: worked examples of documents and numbers, and of what is read, compared and printed of values. They stand here and not
-//! in their libraries, since a library with tests is proved twice; what is written is in `json_edit_vectors`.
+//! Tests alone: worked examples of documents and numbers, and of what is read, compared and printed
+//! of values. They stand here and not in their libraries, since a library with tests is proved
+//! twice; what is written is in `json_edit_vectors`.
 #![tactic(auto)]
 
 #[cfg(test)]

@@ -75,7 +75,8 @@ fn values_made_by_hand_are_printed(rt: HostRuntime) {
     assert!(rt; matches!(made_prints(alloc, made(alloc), json), Ok(true)));
 }
 
-// Whether this is the compact text of what is seen with the members of each object in the order of their keys.
+// Whether this is the compact text of what is seen with the members of each object in the order of
+// their keys.
 fn prints_sorted(alloc: Global, view: View<'_>, json: &[u8]) -> Result<bool> {
     let mut out = BufferedWriter::new(alloc, VecSink::new(alloc))?;
     view.print_sorted(alloc, OneLine, &mut out)?;

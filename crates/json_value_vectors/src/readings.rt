@@ -25,7 +25,8 @@ fn kind<V: JsonValueTrait>(value: &V) -> Option<JsonType> {
     Some(value.get_type())
 }
 
-// Whether a value, a view of it, and what may be missing or refused but is this value are of this kind.
+// Whether a value, a view of it, and what may be missing or refused but is this value are of this
+// kind.
 fn are_of_kind(alloc: Global, json: &str, want: JsonType) -> json_text::Result<bool> {
     let value = value_of(alloc, json)?;
     let seen = kind(&value) == Some(want) && kind(&value.view()) == Some(want);
@@ -210,8 +211,8 @@ fn is_spelled<V: JsonValueTrait>(
     }
 }
 
-// Whether the literal of a value, of its view, of the value where it is lent, and of what may be missing but is this value is
-// this one.
+// Whether the literal of a value, of its view, of the value where it is lent, and of what may be
+// missing but is this value is this one.
 fn seen_are_spelled(alloc: Global, value: &Value, literal: &str) -> json_text::Result<bool> {
     let seen = is_spelled(alloc, value, literal)? && is_spelled(alloc, &value.view(), literal)?;
     Ok(seen && is_spelled(alloc, &value, literal)? && is_spelled(alloc, &Some(value), literal)?)

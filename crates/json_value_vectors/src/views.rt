@@ -117,7 +117,8 @@ fn stands_where(value: &Value, seen: View<'_>) -> bool {
     }
 }
 
-// Whether the second element of the member `k` of the second element is made a value of the same document, one more that holds it.
+// Whether the second element of the member `k` of the second element is made a value of the same
+// document, one more that holds it.
 fn part_is_shared(value: &Value, alloc: Global, doc: &Rc<Doc>) -> bool {
     let part = value.at(1_usize).at("k").at(1_usize);
     let before = Rc::strong_count(doc);

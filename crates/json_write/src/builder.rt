@@ -3,7 +3,7 @@ ghost use Rattle.std.specs.Prelude.{◌≡◌, ◌⊎◌, None, Some, false, tru
 ghost use Rattle.std.specs.Fmt.{decimal, signed_decimal};
 ghost use Rattle.json_grammar.specs.Tree.{Tree, num, null_token, begin, end, key_token};
 ghost use Rattle.json_grammar.specs.declared.Kind.TheVariants.{Array as array};
-ghost use Rattle.json_io.specs.Errors.{no_memory, out_of_range};
+ghost use Rattle.json_io.specs.Errors.{no_memory, out_of_range, OnlyNoMemory};
 ghost use Rattle.json_model.specs.Datum.{tree_of_datum as datum_tree};
 ghost use Rattle.json_model.specs.Merged.{merged};
 ghost use Rattle.json_print.specs.Data.{parts};
@@ -115,7 +115,7 @@ impl Builder {
     fn begin_level(&mut self, kind: Kind) -> Result<()>
         ensures ok { OnOk result (build_of self.new
             ≡ build_after (build_of self.old) (given (begin kind))) }
-        ensures err { IfErr result (λ e. e ≡ no_memory) }
+        ensures err { OnlyNoMemory result }
         ensures failed { self.new.failed ≡ self.old.failed }
     {
         self.nesting.begin(kind)?;
@@ -127,7 +127,7 @@ impl Builder {
     fn end_level(&mut self, kind: Kind) -> Result<()>
         ensures ok { OnOk result (build_of self.new
             ≡ build_after (build_of self.old) (given (end kind))) }
-        ensures err { IfErr result (λ e. e ≡ no_memory) }
+        ensures err { OnlyNoMemory result }
         ensures failed { self.new.failed ≡ self.old.failed }
     {
         self.nesting.end(kind);
@@ -263,10 +263,10 @@ impl Events for Builder {
     }
 }
 
-/// The value of the datum's tree, with each repeated key, at every object, at its first place with its last value.
-/// `NumberOutOfRange` comes exactly where an integer that is no key lies outside `i64` and `u64`, and
-/// `SerExpectKeyIsStrOrNum` exactly where a key has no text; where both are there, the first from the left decides.
-/// `NoMemory` comes where memory ran out.
+/// The value of the datum's tree, with each repeated key, at every object, at its first place with
+/// its last value. `NumberOutOfRange` comes exactly where an integer that is no key lies outside
+/// `i64` and `u64`, and `SerExpectKeyIsStrOrNum` exactly where a key has no text; where both are
+/// there, the first from the left decides. `NoMemory` comes where memory ran out.
 pub fn to_value<T: Serialize>(alloc: Global, value: &T) -> Result<Value>
     ensures ok { IfOk result (λ v.
         option_map merged (datum_tree (T.datum value.now)) ≡ Some (tree_of v)) }

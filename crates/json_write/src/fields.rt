@@ -27,8 +27,8 @@ pub trait Fields {
     /// Their keys and values.
     ghost rows: { Self → Rows };
 
-    /// Gives the members to `out`, up to the first that is refused or meets an error, which is answered. A key may come
-    /// there.
+    /// Gives the members to `out`, up to the first that is refused or meets an error, which is
+    /// answered. A key may come there.
     fn give<E: Events>(&self, out: &mut E) -> Result<()>
         requires { E.failed out.old ≡ None → AtKey (E.stand (E.state out.old)) }
         ensures { WritesDatumTokens E.after E.stopped (E.state out.old) (E.state out.new)

@@ -1,4 +1,5 @@
-// What a body gives, one call each. An error that the events answer is answered; what was given is a clause.
+// What a body gives, one call each. An error that the events answer is answered; what was given is
+// a clause.
 ghost use Rattle.std.specs.Prelude.{Some, [], ◌∷◌, pos};
 ghost use Rattle.std.specs.Fmt.{decimal, signed_decimal};
 ghost use Rattle.json_grammar.specs.Grammar.{number};

@@ -1,7 +1,7 @@
 // An open container.
-ghost use Rattle.std.specs.Prelude.{◌≡◌, [], ◌∷◌, OnOk, IfOk, IfErr};
+ghost use Rattle.std.specs.Prelude.{◌≡◌, [], ◌∷◌, OnOk, IfOk};
 ghost use Rattle.json_grammar.specs.Tree.{Tree};
-ghost use Rattle.json_io.specs.Errors.{no_memory};
+ghost use Rattle.json_io.specs.Errors.{OnlyNoMemory};
 ghost use Rattle.json_value.specs.Denotes.{text_bytes, tree_of};
 ghost use Rattle.json_write.specs.Building.{frame_of, new_frame, frame_key, frame_take, frame_tree};
 
@@ -41,7 +41,7 @@ impl Level {
     pub(crate) fn take(&mut self, value: Value) -> Result<()>
         ensures ok { OnOk result (frame_of self.new
             ≡ frame_take (frame_of self.old) (tree_of value)) }
-        ensures err { IfErr result (λ e. e ≡ no_memory) }
+        ensures err { OnlyNoMemory result }
     {
         match self.kind {
             Kind::Array => self.values.push(value)?,
@@ -55,7 +55,7 @@ impl Level {
 
     pub(crate) fn into_value(self, alloc: Global) -> Result<Value>
         ensures ok { IfOk result (λ v. tree_of v ≡ frame_tree (frame_of self)) }
-        ensures err { IfErr result (λ e. e ≡ no_memory) }
+        ensures err { OnlyNoMemory result }
     {
         match self.kind {
             Kind::Array => Ok(Value::from_vec(self.values)),

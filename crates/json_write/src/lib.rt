@@ -1,8 +1,10 @@
-//! Writes data of a program's own types as JSON (RFC 8259): as a text in memory, to any sink, or as a value.
+//! Writes data of a program's own types as JSON (RFC 8259): as a text in memory, to any sink, or as
+//! a value.
 //!
-//! What implements [`Serialize`] means a datum: null, a boolean, an integer, a text, a number's literal, a list, or
-//! rows of keys and values. Its tree has a member for each row, whose name is the text of the row's key: a text is its
-//! own, an integer has its decimal text, a boolean `true` or `false`.
+//! What implements [`Serialize`] means a datum: null, a boolean, an integer, a text, a number's
+//! literal, a list, or rows of keys and values. Its tree has a member for each row, whose name is
+//! the text of the row's key: a text is its own, an integer has its decimal text, a boolean `true`
+//! or `false`.
 //!
 //! ```
 //! use json_write::to_string;

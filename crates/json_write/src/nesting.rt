@@ -1,8 +1,8 @@
 // What may come next of tokens.
-ghost use Rattle.std.specs.Prelude.{◌≡◌, OnOk, IfErr};
+ghost use Rattle.std.specs.Prelude.{◌≡◌, OnOk};
 ghost use Rattle.json_grammar.specs.TokenStates.{initial_state, after_token};
 ghost use Rattle.json_grammar.specs.Tree.{null_token, begin, end, key_token};
-ghost use Rattle.json_io.specs.Errors.{no_memory};
+ghost use Rattle.json_io.specs.Errors.{OnlyNoMemory};
 ghost use Rattle.json_write.specs.Nesting.{nesting_stand};
 
 use json_grammar::Kind;
@@ -41,7 +41,7 @@ impl Nesting {
     pub(crate) fn begin(&mut self, kind: Kind) -> Result<()>
         ensures ok { OnOk result (nesting_stand self.new
             ≡ after_token (nesting_stand self.old) (begin kind)) }
-        ensures err { IfErr result (λ e. e ≡ no_memory) }
+        ensures err { OnlyNoMemory result }
     {
         self.opened.push(kind)?;
         self.turn = match kind {

@@ -9,8 +9,8 @@ use crate::KeyRoom;
 use json_print::Events;
 use json_text::Result;
 
-/// What can be written as JSON. It means a datum: null, a boolean, an integer, a text, a number's literal, a list, or
-/// rows of keys and values.
+/// What can be written as JSON. It means a datum: null, a boolean, an integer, a text, a number's
+/// literal, a list, or rows of keys and values.
 ///
 /// ```
 /// use json_write::to_string;
@@ -21,17 +21,18 @@ pub trait Serialize {
     /// What it means.
     ghost datum: { Self → Datum };
 
-    /// Gives the tokens of the datum's tree to `out`, up to the first that meets an error, which is answered. Where a
-    /// key has no text, those before the first such key are given, and `SerExpectKeyIsStrOrNum` is answered. Where the
-    /// events had answered an error it is answered again, and nothing changes; else a value may come there.
+    /// Gives the tokens of the datum's tree to `out`, up to the first that meets an error, which is
+    /// answered. Where a key has no text, those before the first such key are given, and
+    /// `SerExpectKeyIsStrOrNum` is answered. Where the events had answered an error it is answered
+    /// again, and nothing changes; else a value may come there.
     fn serialize<E: Events>(&self, out: &mut E) -> Result<()>
         requires { AcceptsValue (E.failed out.old) (E.stand (E.state out.old)) }
         ensures { WritesDatumTokens E.after E.stopped (E.state out.old) (E.state out.new)
             (E.failed out.old) (E.failed out.new)
             (parts (datum self.now)) result };
 
-    /// The text of the datum as a key: a text is its own, an integer has its decimal text, a boolean `true` or `false`,
-    /// and nothing else has one. Takes no memory.
+    /// The text of the datum as a key: a text is its own, an integer has its decimal text, a
+    /// boolean `true` or `false`, and nothing else has one. Takes no memory.
     fn key<'k>(&'k self, room: &'k mut KeyRoom) -> Option<&'k str>
         ensures { option_map (λ s. s.now) result ≡ key_of (datum self.now) };
 }

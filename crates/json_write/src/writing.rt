@@ -31,8 +31,9 @@ fn formatted<W: Sink, T: Serialize, F: Formatter + Drop>(
     (out.into_inner(), went)
 }
 
-/// Writes the compact text of the value's tree. The keys are tested first: where one has no text the sink gained
-/// nothing. Where the sink failed or memory ran out it may have gained a front of the text.
+/// Writes the compact text of the value's tree. The keys are tested first: where one has no text
+/// the sink gained nothing. Where the sink failed or memory ran out it may have gained a front of
+/// the text.
 pub fn to_writer<K: Sink, T: Serialize>(alloc: Global, writer: &mut K, value: &T) -> Result<()>
     ensures { WritesDatum (K.state writer.old) (K.state writer.new)
         None (T.datum value.now) result }
@@ -43,8 +44,9 @@ pub fn to_writer<K: Sink, T: Serialize>(alloc: Global, writer: &mut K, value: &T
     outcome
 }
 
-/// Writes the text of the value's tree, indented by two spaces. The keys are tested first: where one has no text the
-/// sink gained nothing. Where the sink failed or memory ran out it may have gained a front of the text.
+/// Writes the text of the value's tree, indented by two spaces. The keys are tested first: where
+/// one has no text the sink gained nothing. Where the sink failed or memory ran out it may have
+/// gained a front of the text.
 pub fn to_writer_pretty<K: Sink, T: Serialize>(
     alloc: Global,
     writer: &mut K,

@@ -26,7 +26,8 @@ pub fn is_value<T: Serialize>(alloc: Global, value: &T, text: &str) -> Result<bo
     Ok(shown.as_str() == text)
 }
 
-/// Whether the value is refused with this code as a text, in a sink, which then gained nothing, and as a value.
+/// Whether the value is refused with this code as a text, in a sink, which then gained nothing, and
+/// as a value.
 pub fn is_refused<T: Serialize>(alloc: Global, value: &T, code: ErrorCode) -> bool {
     let mut sink = VecSink::new(alloc);
     code_of(to_vec(alloc, value)) == Some(code)

@@ -1,5 +1,5 @@
 // The bytes of a result.
-ghost use Rattle.std.specs.Prelude.{◌≡◌, [], IfOk, IfErr};
+ghost use Rattle.std.specs.Prelude.{◌≡◌, [], IfOk};
 ghost use Rattle.mezdruk_c.specs.Shown.{shown_length, shown_at};
 
 use crate::owner::Owner;
@@ -21,7 +21,7 @@ pub struct Buffer {
 }
 
 impl Buffer {
-    ghost use Rattle.json_io.specs.Errors.{no_memory};
+    ghost use Rattle.json_io.specs.Errors.{OnlyNoMemory};
     ghost use Rattle.mezdruk_c.specs.Buffers.{buffer_bytes};
 
     /// A buffer of no bytes.
@@ -38,7 +38,7 @@ impl Buffer {
     /// A buffer of the bytes. Fails with `NoMemory` if memory runs out.
     pub fn of(alloc: Global, vec: Vec<u8>) -> Result<Buffer>
         ensures ok { IfOk result (λ b. buffer_bytes b ≡ vec.items) }
-        ensures only { IfErr result (λ e. e ≡ no_memory) }
+        ensures only { OnlyNoMemory result }
     {
         let (bytes, length) = (vec.as_ptr(), vec.len());
         match Box::new(alloc, Payload::Bytes(vec)) {

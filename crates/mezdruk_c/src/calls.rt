@@ -99,8 +99,8 @@ pub extern "C" fn mezdruk_member(
     }
 }
 
-/// Copies the bytes of a string, or the literal of a number that is no integer of 64 bits, and writes
-/// its length. It is copied only if there is room. Returns false if there is no such text.
+/// Copies the bytes of a string, or the literal of a number that is no integer of 64 bits, and
+/// writes its length. It is copied only if there is room. Returns false if there is no such text.
 #[unsafe(no_mangle)]
 pub extern "C" fn mezdruk_text(
     alloc: Global,

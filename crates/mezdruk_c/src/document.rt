@@ -1,5 +1,5 @@
 // A parsed document.
-ghost use Rattle.std.specs.Prelude.{◌≡◌, None, Some, IfOk, IfErr};
+ghost use Rattle.std.specs.Prelude.{◌≡◌, None, Some, IfOk};
 
 use crate::owner::Owner;
 use crate::payload::Payload;
@@ -19,7 +19,7 @@ pub struct Document {
 
 impl Document {
     ghost use Rattle.json_doc.specs.Docs.{doc_root};
-    ghost use Rattle.json_io.specs.Errors.{no_memory};
+    ghost use Rattle.json_io.specs.Errors.{OnlyNoMemory};
     ghost use Rattle.mezdruk_c.specs.Owned.{owned_payload};
     ghost use Rattle.mezdruk_c.specs.declared.payload.Payload.TheVariants.{Document as a_document};
 
@@ -37,7 +37,7 @@ impl Document {
     pub fn of(alloc: Global, doc: Rc<Doc>) -> Result<Document>
         ensures ok { IfOk result (λ d. owned_payload d.owner ≡ Some (a_document doc)) }
         ensures root { IfOk result (λ d. d.root ≡ doc_root doc.value) }
-        ensures only { IfErr result (λ e. e ≡ no_memory) }
+        ensures only { OnlyNoMemory result }
     {
         let root = doc.root();
         match Box::new(alloc, Payload::Document(doc)) {

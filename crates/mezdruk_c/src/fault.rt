@@ -88,8 +88,8 @@ impl Fault {
     }
 }
 
-/// Returns the status of an outcome, 0 for a success, and writes the buffer of a success or the fault
-/// of a failure.
+/// Returns the status of an outcome, 0 for a success, and writes the buffer of a success or the
+/// fault of a failure.
 pub fn give(outcome: Result<Buffer, Failure>, output: &mut Buffer, fault: &mut Fault) -> u8
     ensures { ReturnsBuffer outcome output.old output.new result fault.new }
 {

@@ -14,8 +14,8 @@ use std::rc::Rc;
 const MAX_BYTES: usize = 4_294_967_295;
 
 /// Returns the document of a text (RFC 8259). Fails with `TooLarge` if it has more than
-/// 4,294,967,295 bytes, with `InvalidUTF8` or a fault of the grammar by the rules at its offset, and
-/// with `NoMemory` if memory runs out.
+/// 4,294,967,295 bytes, with `InvalidUTF8` or a fault of the grammar by the rules at its offset,
+/// and with `NoMemory` if memory runs out.
 pub fn read_text(alloc: Global, text: &[u8], rules: Rules) -> Result<Rc<Doc>>
     ensures ok { IfOk result (λ d. IsInput (rules_of rules) text.now
         (doc_tree d.value (doc_root d.value))) }

@@ -41,8 +41,8 @@ fn keep(outcome: Result<Document, Failure>, document: &mut Document) -> Result<(
     }
 }
 
-/// Parses a JSON text. Returns 0, or else the status, and writes the fault: 1 for a text that is not
-/// valid, 2 for options that are not, and 6 if memory ran out. The document stays then.
+/// Parses a JSON text. Returns 0, or else the status, and writes the fault: 1 for a text that is
+/// not valid, 2 for options that are not, and 6 if memory ran out. The document stays then.
 #[unsafe(no_mangle)]
 pub extern "C" fn mezdruk_parse(
     alloc: Global,

@@ -83,7 +83,8 @@ pub extern "C" fn mezdruk_patch(
 
 /// Merges a patch into a JSON text (RFC 7396): returns the text of what the merge patch makes of
 /// its value in `output`. Returns 0, or else the status, and writes the fault: 1 for a text that is
-/// not valid, 2 for options or a patch that are not, and 6 if memory ran out. The output stays then.
+/// not valid, 2 for options or a patch that are not, and 6 if memory ran out. The output stays
+/// then.
 #[unsafe(no_mangle)]
 pub extern "C" fn mezdruk_merge(
     alloc: Global,

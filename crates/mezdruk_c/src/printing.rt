@@ -1,7 +1,7 @@
 // The text of a value, for C.
-ghost use Rattle.std.specs.Prelude.{◌≡◌, IfOk, IfErr};
+ghost use Rattle.std.specs.Prelude.{◌≡◌, IfOk};
 ghost use Rattle.json_layout.specs.Styles.{printed};
-ghost use Rattle.json_io.specs.Errors.{no_memory};
+ghost use Rattle.json_io.specs.Errors.{OnlyNoMemory};
 ghost use Rattle.json_value.specs.Denotes.{tree_of};
 ghost use Rattle.mezdruk_c.specs.Buffers.{buffer_bytes};
 
@@ -15,7 +15,7 @@ use std::alloc::Global;
 // Returns the text of a value.
 fn text_of_value(alloc: Global, value: &Value, style: Style<'_>) -> Result<Vec<u8>>
     ensures ok { IfOk result (λ v. v.items ≡ printed style.entry (tree_of value.now)) }
-    ensures only { IfErr result (λ e. e ≡ no_memory) }
+    ensures only { OnlyNoMemory result }
 {
     let mut sink = VecSink::new(alloc);
     match print_value(alloc, value, style, &mut sink) {
@@ -27,7 +27,7 @@ fn text_of_value(alloc: Global, value: &Value, style: Style<'_>) -> Result<Vec<u
 /// Returns the text of a value in a style. Fails with `NoMemory` if memory runs out.
 pub fn print_text(alloc: Global, value: &Value, style: Style<'_>) -> Result<Buffer>
     ensures ok { IfOk result (λ b. buffer_bytes b ≡ printed style.entry (tree_of value.now)) }
-    ensures only { IfErr result (λ e. e ≡ no_memory) }
+    ensures only { OnlyNoMemory result }
 {
     match text_of_value(alloc, value, style) {
         Ok(text) => Buffer::of(alloc, text),

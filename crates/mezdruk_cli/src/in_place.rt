@@ -7,8 +7,8 @@ use std::{fs, io};
 /// How many names are tried for the file beside.
 const NAMES: u32 = 100;
 
-// Writes the text into a new file, which gets the permissions of the file that it is to replace, and
-// its owner if the system allows that.
+// Writes the text into a new file, which gets the permissions of the file that it is to replace,
+// and its owner if the system allows that.
 fn fill(file: &mut File, text: &[u8], replaced: &Metadata) -> io::Result<()> {
     file.write_all(text)?;
     let _ = fchown(&*file, Some(replaced.uid()), Some(replaced.gid()));
@@ -31,9 +31,9 @@ fn create_beside(rt: &HostRuntime, path: &str) -> io::Result<(String, File)> {
     Err(io::Error::from(io::ErrorKind::AlreadyExists))
 }
 
-/// Replaces the content of a file. The text is written to a file beside it, which is synced, given the
-/// permissions of the file, and renamed over it; a link is followed to the file that it names. Where
-/// anything fails, the file is as it was, and the file beside it is removed.
+/// Replaces the content of a file. The text is written to a file beside it, which is synced, given
+/// the permissions of the file, and renamed over it; a link is followed to the file that it names.
+/// Where anything fails, the file is as it was, and the file beside it is removed.
 pub fn replace_content(rt: &HostRuntime, path: &str, text: &[u8]) -> io::Result<()> {
     let target = fs::canonicalize(rt, path)?;
     let replaced = fs::metadata(rt, target.as_path())?;

@@ -1,6 +1,6 @@
 // The programs that other commands run.
-ghost use Rattle.std.specs.Prelude.{◌≡◌, drop, IfOk, IfErr, IfNone};
-ghost use Rattle.json_io.specs.Errors.{no_memory};
+ghost use Rattle.std.specs.Prelude.{◌≡◌, drop, IfOk, IfNone};
+ghost use Rattle.json_io.specs.Errors.{OnlyNoMemory};
 
 use json_command::{About, Status};
 use json_history::run_history;
@@ -62,7 +62,7 @@ impl Program {
 // Copies the arguments after the first.
 fn later_words(alloc: Global, words: &Words) -> Result<Words>
     ensures ok { IfOk result (λ later. later ≡ drop 1 words.now) }
-    ensures only { IfErr result (λ e. e ≡ no_memory) }
+    ensures only { OnlyNoMemory result }
 {
     let mut later = Words::new(alloc);
     for i in 1..words.len() {
@@ -71,9 +71,9 @@ fn later_words(alloc: Global, words: &Words) -> Result<Words>
     Ok(later)
 }
 
-/// Runs the program that the first argument names, on the arguments after it, and returns the status.
-/// It prints what the program alone prints, also for `--help`, `--version` and invalid arguments.
-/// Returns `None` if the first argument names no such program.
+/// Runs the program that the first argument names, on the arguments after it, and returns the
+/// status. It prints what the program alone prints, also for `--help`, `--version` and invalid
+/// arguments. Returns `None` if the first argument names no such program.
 pub fn run_named<S: Source, K: Sink, E: Sink>(
     alloc: Global,
     words: &Words,

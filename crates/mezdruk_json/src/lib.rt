@@ -1,10 +1,10 @@
-//! JSON (RFC 8259) whose contracts are proved, in one crate: name `mezdruk_json` in `crates.txt`, and
-//! take from it what a program uses of the library.
+//! JSON (RFC 8259) whose contracts are proved, in one crate: name `mezdruk_json` in `crates.txt`,
+//! and take from it what a program uses of the library.
 //!
 //! # Reading
 //!
-//! A [`Value`] is read from a text, and keeps each number as it was written. A reading call borrows:
-//! nothing is copied until it is changed.
+//! A [`Value`] is read from a text, and keeps each number as it was written. A reading call
+//! borrows: nothing is copied until it is changed.
 //!
 //! ```
 //! use mezdruk_json::{Value, from_str};
@@ -36,8 +36,8 @@
 //!
 //! # Errors
 //!
-//! An [`Error`] has a code and a place. [`Rules`] choose how many levels a text may have, and whether
-//! the names of an object have to differ.
+//! An [`Error`] has a code and a place. [`Rules`] choose how many levels a text may have, and
+//! whether the names of an object have to differ.
 //!
 //! ```
 //! use mezdruk_json::{ErrorCode, Rules, read_document_with};
@@ -50,8 +50,9 @@
 //! # Structs, and errors that name the value
 //!
 //! A struct is read and written by a comment above it, `// json: derive`: `tools/derive` writes its
-//! impls. [`explain::from_str`] reads as [`from_str`] does. If the type refuses a value within the text,
-//! its error names the value by its path, its line and its column, or the member that is missing.
+//! impls. [`explain::from_str`] reads as [`from_str`] does. If the type refuses a value within the
+//! text, its error names the value by its path, its line and its column, or the member that is
+//! missing.
 //!
 //! ```
 //! use mezdruk_json::explain::from_str;

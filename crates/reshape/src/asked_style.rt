@@ -8,8 +8,8 @@ ghost use Rattle.reshape.specs.Asked.{layout_asked, rules_asked};
 use json_print::Style;
 use json_text::Rules;
 
-/// The style and the rules that the words ask for: compact and not sorted, and the usual rules, where they say nothing of
-/// them.
+/// The style and the rules that the words ask for: compact and not sorted, and the usual rules,
+/// where they say nothing of them.
 ///
 /// ```
 /// use json_text::Words;
@@ -51,7 +51,8 @@ impl AskedStyle {
         self.style
     }
 
-    /// The rules that the input is read by: 254 levels at most and keys that may repeat where the words say nothing of them.
+    /// The rules that the input is read by: 254 levels at most and keys that may repeat where the
+    /// words say nothing of them.
     pub fn rules(&self) -> Rules
         ensures { rules_of result ≡ rules_asked self.now }
     {

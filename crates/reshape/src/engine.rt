@@ -51,15 +51,17 @@ fn read_edit_write<S: Source, K: Sink>(
     print_value(alloc, &value, forms.style, sink)
 }
 
-/// Reads all of the source by the rules, applies the edits in turn, and writes the text in the style,
-/// flushed. Nothing is written before the whole input was found to be a text and every edit was applied.
-/// The edited tree may have any number of levels, and keys that repeat. There are fewer than 2^32 edits.
+/// Reads all of the source by the rules, applies the edits in turn, and writes the text in the
+/// style, flushed. Nothing is written before the whole input was found to be a text and every edit
+/// was applied. The edited tree may have any number of levels, and keys that repeat. There are
+/// fewer than 2^32 edits.
 ///
-/// Fails with each error of the reader at its place in the input, among them `RecursionLimitExceeded`
-/// past the levels of the rules and `DuplicateKey` where a key repeats that has to be unique, with
-/// `TooLarge` past 4,294,967,295 bytes, with `NotFound` and `TypeUnmatched` at the number of the first
-/// edit that does not apply, with `Io` where the source or the sink fails, and with `NoMemory`. Of bytes
-/// that are known, where nothing fails, the result is the one that they call for, or `NoMemory`.
+/// Fails with each error of the reader at its place in the input, among them
+/// `RecursionLimitExceeded` past the levels of the rules and `DuplicateKey` where a key repeats
+/// that has to be unique, with `TooLarge` past 4,294,967,295 bytes, with `NotFound` and
+/// `TypeUnmatched` at the number of the first edit that does not apply, with `Io` where the source
+/// or the sink fails, and with `NoMemory`. Of bytes that are known, where nothing fails, the result
+/// is the one that they call for, or `NoMemory`.
 pub fn reshape_with<S: Source, K: Sink>(
     alloc: Global,
     source: &mut S,

@@ -1,7 +1,8 @@
 // Laws of the words, over the definitions alone.
 ghost use Rattle.reshape.specs.Laws.{OneCommand, MadeAlone};
 
-/// The words of the command line ask for one command at most: for the same edits in the same layout.
+/// The words of the command line ask for one command at most: for the same edits in the same
+/// layout.
 pub fn one_command()
     ensures { OneCommand }
 {}

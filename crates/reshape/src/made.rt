@@ -1,7 +1,7 @@
 // A large input that is made from a number, and the summary of it and of its text.
 ghost use Rattle.std.specs.Prelude.{◌≡◌, ◌++◌, ◌≤◌, sum, decimal, OnOk, IfOk, IfErr};
 ghost use Rattle.json_grammar.specs.Tree.{Tree};
-ghost use Rattle.json_io.specs.Errors.{no_memory};
+ghost use Rattle.json_io.specs.Errors.{no_memory, OnlyNoMemory};
 ghost use Rattle.json_text.specs.Ruled.{usual_rules};
 ghost use Rattle.json_command.specs.Input.{IsInput};
 ghost use Rattle.reshape.specs.Reshape.{layout_of};
@@ -16,7 +16,8 @@ use json_print::Style;
 use json_text::{Result, Sink, SliceSource, VecSink};
 use std::alloc::Global;
 
-/// The style in which made input is printed: compact, with the members of each object in the order of their keys.
+/// The style in which made input is printed: compact, with the members of each object in the order
+/// of their keys.
 pub fn sorted_style() -> Style<'static>
     ensures { layout_of result ≡ sorted_compact }
 {
@@ -34,7 +35,7 @@ fn separator(number: u32) -> &'static [u8]
 
 fn push_record(text: &mut Vec<u8>, number: u32) -> Result<()>
     ensures ok { OnOk result (text.new.items ≡ text.old.items ++ made_record number) }
-    ensures err { IfErr result (λ e. e ≡ no_memory) }
+    ensures err { OnlyNoMemory result }
 {
     let mut buffer = Buffer::new();
     text.extend_from_slice(b"{\"n\": ")?;
@@ -46,7 +47,7 @@ fn push_record(text: &mut Vec<u8>, number: u32) -> Result<()>
 // An array of so many records, which are numbered from 0 on.
 fn make(alloc: Global, records: u32) -> Result<Vec<u8>>
     ensures ok { IfOk result (λ v. v.items ≡ spec.made records) }
-    ensures err { IfErr result (λ e. e ≡ no_memory) }
+    ensures err { OnlyNoMemory result }
 {
     let mut text = Vec::from_slice(alloc, b"[")?;
     'records: for number in 0..records {
@@ -81,7 +82,7 @@ fn sum_of(bytes: &[u8]) -> u128
 
 fn push_number(text: &mut Vec<u8>, number: u128) -> Result<()>
     ensures ok { OnOk result (text.new.items ≡ text.old.items ++ decimal number) }
-    ensures err { IfErr result (λ e. e ≡ no_memory) }
+    ensures err { OnlyNoMemory result }
 {
     let mut buffer = Buffer::new();
     text.extend_from_slice(buffer.format(number).as_bytes())?;
@@ -91,7 +92,7 @@ fn push_number(text: &mut Vec<u8>, number: u128) -> Result<()>
 // A name, how many bytes there are, and their sum.
 fn push_totals(text: &mut Vec<u8>, name: &[u8], bytes: &[u8]) -> Result<()>
     ensures ok { OnOk result (text.new.items ≡ text.old.items ++ totals name.now bytes.now) }
-    ensures err { IfErr result (λ e. e ≡ no_memory) }
+    ensures err { OnlyNoMemory result }
 {
     text.extend_from_slice(name)?;
     push_number(text, bytes.len() as u128)?;
@@ -105,7 +106,7 @@ fn push_totals(text: &mut Vec<u8>, name: &[u8], bytes: &[u8]) -> Result<()>
 fn summary(alloc: Global, records: u32) -> Result<Vec<u8>>
     requires { records ≤ 100000 }
     ensures ok { IfOk result (λ v. IsSummary records v.items) }
-    ensures err { IfErr result (λ e. e ≡ no_memory) }
+    ensures err { OnlyNoMemory result }
 {
     let input = make(alloc, records)?;
     let output = printed(alloc, &input)?;
@@ -115,9 +116,9 @@ fn summary(alloc: Global, records: u32) -> Result<Vec<u8>>
     Ok(text)
 }
 
-/// Makes an array of this number of records, at most 100,000, prints it compact and sorted, and writes
-/// how many bytes both have and their sums, a line each, flushed. Fails where the sink fails or memory
-/// runs out, and then the sink gained a prefix of this at most.
+/// Makes an array of this number of records, at most 100,000, prints it compact and sorted, and
+/// writes how many bytes both have and their sums, a line each, flushed. Fails where the sink fails
+/// or memory runs out, and then the sink gained a prefix of this at most.
 pub fn write_summary<K: Sink>(alloc: Global, records: u32, sink: &mut K) -> Result<()>
     requires { records ≤ 100000 }
     ensures ok { OnOk result (GainsSummary records (K.state sink.old) (K.state sink.new)) }

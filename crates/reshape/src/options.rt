@@ -77,8 +77,8 @@ fn made_of(word: &str) -> Option<u32>
     option_number(word, "--make", 100_000)
 }
 
-/// Returns the number of records of made input that the words ask for, if there is one word and it asks
-/// for them: 100,000 at most.
+/// Returns the number of records of made input that the words ask for, if there is one word and it
+/// asks for them: 100,000 at most.
 pub fn made_asked(words: &Words) -> Option<u32>
     ensures asks { MatchOption result (¬ (IsMaking words.now)) (AsksMade words.now) }
     ensures few { IfSome result (λ n. n ≤ 100000) }

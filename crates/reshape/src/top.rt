@@ -46,10 +46,10 @@ fn carry_out<S: Source, K: Sink>(
     }
 }
 
-/// Does all that the program does, and returns its status: 0 done, 1 the input is not valid, 2 the words
-/// are not valid, 3 an edit does not apply, 4 reading failed, 5 writing failed, 6 memory ran out. With 1
-/// to 6 the text of the error goes to `errs`. Where the words ask for made input nothing is read, and
-/// its summary is written.
+/// Does all that the program does, and returns its status: 0 done, 1 the input is not valid, 2 the
+/// words are not valid, 3 an edit does not apply, 4 reading failed, 5 writing failed, 6 memory ran
+/// out. With 1 to 6 the text of the error goes to `errs`. Where the words ask for made input
+/// nothing is read, and its summary is written.
 pub fn run<S: Source, K: Sink, E: Sink>(
     alloc: Global,
     words: &Words,

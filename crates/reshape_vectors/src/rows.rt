@@ -1,7 +1,7 @@
 // Inputs and words with what `run` comes to.
 
-/// Worked examples of the top call, as `json_command::rows` reads them: the input, the status, the output, the error, and the
-/// arguments, each closed by `|`.
+/// Worked examples of the top call, as `json_command::rows` reads them: the input, the status, the
+/// output, the error, and the arguments, each closed by `|`.
 pub const ROWS: &str = r#"# texts, compact
 {"a": 1, "b": true, "c": null}|0|{"a":1,"b":true,"c":null}||
 [-0,1.0,1e400,12345678901234567890123,18446744073709551615]|0|[-0,1.0,1e400,12345678901234567890123,18446744073709551615]||
@@ -249,6 +249,7 @@ x|0|in 84 4779%0Aout 61 3681%0A||--make=2|
 1|2||BadWords|[]|--make=1|
 "#;
 
-/// The row of the largest made input, apart: where nothing is optimised, as under `rt try --test`, it takes half a minute.
+/// The row of the largest made input, apart: where nothing is optimised, as under `rt try --test`,
+/// it takes half a minute.
 pub const LARGEST_MADE: &str =
     "x|0|in 4588890 254416828%0Aout 3388891 197916860%0A||--make=100000|";

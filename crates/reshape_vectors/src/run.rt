@@ -1,6 +1,6 @@
 // The worked examples of the top call, run.
-ghost use Rattle.std.specs.Prelude.{◌≡◌, IfErr};
-ghost use Rattle.json_io.specs.Errors.{no_memory};
+ghost use Rattle.std.specs.Prelude.{◌≡◌};
+ghost use Rattle.json_io.specs.Errors.{OnlyNoMemory};
 
 use crate::rows::ROWS;
 use json_command::rows::differing_rows;
@@ -13,7 +13,7 @@ const AT_ONCE: usize = 4_096;
 
 // How many of these rows `run` does not come to.
 fn differing(alloc: Global, rows: &str) -> Result<u32>
-    ensures { IfErr result (λ e. e ≡ no_memory) }
+    ensures { OnlyNoMemory result }
 {
     differing_rows(alloc, rows, AT_ONCE, |alloc, words, source, sink, errs| {
         run(alloc, words, source, sink, errs)
@@ -23,7 +23,7 @@ fn differing(alloc: Global, rows: &str) -> Result<u32>
 /// Runs the worked examples of `run`, and returns how many come to something else: none, where
 /// memory suffices.
 pub fn vectors(alloc: Global) -> Result<u32>
-    ensures { IfErr result (λ e. e ≡ no_memory) }
+    ensures { OnlyNoMemory result }
 {
     differing(alloc, ROWS)
 }

@@ -1,7 +1,7 @@
 // Room that grows.
-ghost use Rattle.std.specs.Prelude.{◌≡◌, ◌+◌, ◌≤◌, List, OnOk, IfErr};
+ghost use Rattle.std.specs.Prelude.{◌≡◌, ◌+◌, ◌≤◌, List, OnOk};
 ghost use Rattle.json_grammar.specs.Tree.{Token};
-ghost use Rattle.json_io.specs.Errors.{no_memory};
+ghost use Rattle.json_io.specs.Errors.{OnlyNoMemory};
 ghost use Rattle.json_doc.specs.Recorded.{visitor_state, Holds};
 
 use super::DocumentVisitor;
@@ -11,8 +11,8 @@ use json_text::{Error, ErrorCode, Place, Result};
 const MOST: usize = 4_294_967_295;
 
 impl DocumentVisitor {
-    /// Room for a node or a key and so many bytes of text more. `NoMemory` comes where memory runs out, or the document
-    /// would have more than 4,294,967,295 of either.
+    /// Room for a node or a key and so many bytes of text more. `NoMemory` comes where memory runs
+    /// out, or the document would have more than 4,294,967,295 of either.
     pub(crate) fn make_room(&mut self, bytes: usize) -> Result<()>
         ensures nodes { OnOk result ((visitor_state self.new).nodes + 1
             ≤ (visitor_state self.new).cell_room) }
@@ -20,7 +20,7 @@ impl DocumentVisitor {
             ≤ (visitor_state self.new).text_room) }
         ensures held { (ts : List Token) → Holds self.old ts → Holds self.new ts }
         ensures full { self.new.full ≡ self.old.full }
-        ensures err { IfErr result (λ e. e ≡ no_memory) }
+        ensures err { OnlyNoMemory result }
     {
         if self.cells.len() == MOST || bytes > MOST - self.text.len() {
             return Err(Error {

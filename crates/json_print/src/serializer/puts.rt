@@ -37,8 +37,8 @@ impl<W: Sink, F: Formatter> Serializer<W, F> {
         Halted
     }
 
-    // Keeps the error of a sink. It is made here of its code, since an error that is passed on as a whole is
-    // copied from level to level at each token, met or not.
+    // Keeps the error of a sink. It is made here of its code, since an error that is passed on as a
+    // whole is copied from level to level at each token, met or not.
     #[cold]
     #[inline(never)]
     pub(super) fn halt_by(&mut self, code: ErrorCode) -> Halted
@@ -48,8 +48,8 @@ impl<W: Sink, F: Formatter> Serializer<W, F> {
         Halted
     }
 
-    // A call of the formatter where members may wait: out of line, so that its answers are not cleared
-    // at each token.
+    // A call of the formatter where members may wait: out of line, so that its answers are not
+    // cleared at each token.
     #[inline(never)]
     pub(super) fn call_waiting(&mut self, part: Part<'_>) -> Step
         requires { self.old.failed ≡ None }

@@ -68,8 +68,8 @@ fn boolean_at(bytes: &[u8], from: usize) -> Option<bool>
 }
 
 impl<'a> Parser<'a> {
-    /// Takes the next event exactly if it is `true` or `false`, and returns which. If it returns none,
-    /// neither comes next and nothing is taken: `next` returns what comes.
+    /// Takes the next event exactly if it is `true` or `false`, and returns which. If it returns
+    /// none, neither comes next and nothing is taken: `next` returns what comes.
     #[inline(always)]
     pub fn next_bool(&mut self) -> Option<bool>
         requires fresh { self.old.failure ≡ None }

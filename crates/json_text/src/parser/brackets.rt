@@ -53,9 +53,9 @@ fn is_innermost(kinds: &Kinds, kind: Kind) -> bool
 }
 
 impl<'a> Parser<'a> {
-    /// Takes the next event if it is the bracket that opens a container of this kind, as a value and
-    /// within the limit, and returns whether it is. Otherwise nothing is taken, and `next` returns
-    /// what comes.
+    /// Takes the next event if it is the bracket that opens a container of this kind, as a value
+    /// and within the limit, and returns whether it is. Otherwise nothing is taken, and `next`
+    /// returns what comes.
     ///
     /// ```
     /// use json_grammar::Kind;
@@ -94,8 +94,9 @@ impl<'a> Parser<'a> {
         true
     }
 
-    /// Takes the next event if it is the bracket that closes the innermost container, which has this
-    /// kind, and returns whether it is. Otherwise nothing is taken, and `next` returns what comes.
+    /// Takes the next event if it is the bracket that closes the innermost container, which has
+    /// this kind, and returns whether it is. Otherwise nothing is taken, and `next` returns what
+    /// comes.
     #[inline(always)]
     pub fn next_end(&mut self, kind: Kind) -> bool
         requires fresh { self.old.failure ≡ None }

@@ -54,9 +54,9 @@ fn takes_key(spot: Spot) -> bool
 }
 
 impl<'a> Parser<'a> {
-    /// Takes the next event if it is a number of at most 19 digits, without a sign, a fraction or an
-    /// exponent, that is at most `most`, and returns it with its value. Returns `None` exactly if no
-    /// such number comes next; then nothing is taken, and `next` returns what comes.
+    /// Takes the next event if it is a number of at most 19 digits, without a sign, a fraction or
+    /// an exponent, that is at most `most`, and returns it with its value. Returns `None` exactly
+    /// if no such number comes next; then nothing is taken, and `next` returns what comes.
     ///
     /// ```
     /// use json_text::{Event, Parser};
@@ -106,8 +106,9 @@ impl<'a> Parser<'a> {
         })
     }
 
-    /// Takes the next event if it is a string that is a value. Returns `None` if no string comes next
-    /// as a value, or one that is not valid; then nothing is taken, and `next` returns what comes.
+    /// Takes the next event if it is a string that is a value. Returns `None` if no string comes
+    /// next as a value, or one that is not valid; then nothing is taken, and `next` returns what
+    /// comes.
     #[inline(always)]
     pub fn next_text(&mut self) -> Option<Span<'a>>
         requires fresh { self.old.failure ≡ None }

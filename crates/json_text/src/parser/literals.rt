@@ -27,7 +27,8 @@ pub(super) fn word_is(bytes: &[u8], from: usize, word: &[u8]) -> bool
 }
 
 impl<'a> Parser<'a> {
-    /// Takes the event of the literal exactly if it comes next as a value, and returns whether it does.
+    /// Takes the event of the literal exactly if it comes next as a value, and returns whether it
+    /// does.
     #[inline(always)]
     fn next_literal(&mut self, word: &[u8], event: Event<'a>) -> bool
         requires fresh { self.old.failure ≡ None }
@@ -57,8 +58,8 @@ impl<'a> Parser<'a> {
         true
     }
 
-    /// Takes the next event exactly if it is `null`, and returns whether it is. Else nothing is taken, and
-    /// `next` returns what comes.
+    /// Takes the next event exactly if it is `null`, and returns whether it is. Else nothing is
+    /// taken, and `next` returns what comes.
     ///
     /// ```
     /// use json_grammar::Kind;

@@ -27,10 +27,10 @@ pub struct NegativeInteger<'a> {
 }
 
 impl<'a> Parser<'a> {
-    /// Takes the next event exactly if it is a number below 0 of a minus and at most 19 digits, without a
-    /// fraction or an exponent, whose magnitude is at most `least`, and returns the magnitude too. If it
-    /// returns none, no such number comes next and nothing is taken: `next` returns what comes. `-0` is no
-    /// number below 0.
+    /// Takes the next event exactly if it is a number below 0 of a minus and at most 19 digits,
+    /// without a fraction or an exponent, whose magnitude is at most `least`, and returns the
+    /// magnitude too. If it returns none, no such number comes next and nothing is taken: `next`
+    /// returns what comes. `-0` is no number below 0.
     ///
     /// ```
     /// use json_text::{Event, Parser};

@@ -109,10 +109,11 @@ impl Value {
         }
     }
 
-    /// Changes the value by the edit. Fails with `NotFound` if a step of the path or of a removal names a key or an index
-    /// that is missing, with `TypeUnmatched` if a key step, an insertion or the removal of a key meets no object, or an index
-    /// step, a push or the removal of an index no array, and with `NoMemory` if memory runs out. A refusal keeps the tree, and
-    /// changes nothing but that a packed container on the way may have been copied by one level.
+    /// Changes the value by the edit. Fails with `NotFound` if a step of the path or of a removal
+    /// names a key or an index that is missing, with `TypeUnmatched` if a key step, an insertion or
+    /// the removal of a key meets no object, or an index step, a push or the removal of an index no
+    /// array, and with `NoMemory` if memory runs out. A refusal keeps the tree, and changes nothing
+    /// but that a packed container on the way may have been copied by one level.
     pub fn apply(&mut self, alloc: Global, edit: &Edit) -> Result<()>
         ensures ok { OnOk result (Makes (edited_once (edit_of edit.now) (tree_of self.old))
             self.new) }

@@ -12,7 +12,7 @@ ghost use Rattle.json_grammar.specs.Tree.{list, pairs, list_trees, list_pairs};
 ghost use Rattle.json_value.specs.Seen.{list_of, object_pairs};
 ghost use Rattle.json_value.specs.Written.{ArrayOpened, ObjectOpened};
 ghost use Rattle.json_value.specs.declared.value.Value.{Array as ArrayValue, Object as ObjectValue};
-ghost use Rattle.json_value.specs.Failures.{OnlyNoMemory};
+ghost use Rattle.json_io.specs.Errors.{OnlyNoMemory};
 
 use crate::array::Array;
 use crate::container_mut::{append_of, insert_of, step_of, type_unmatched};
@@ -51,9 +51,10 @@ fn none_if_no_object<'a>(r: Result<&'a mut Object>) -> Result<Option<&'a mut Obj
 }
 
 impl Value {
-    /// The place to which the steps lead; none where they lead nowhere. What is written there changes that place and no
-    /// other; a copy of one level is made of each packed container on the way, and nothing more changes on None and on a
-    /// refusal. Fails with `NoMemory` if memory runs out.
+    /// The place to which the steps lead; none where they lead nowhere. What is written there
+    /// changes that place and no other; a copy of one level is made of each packed container on the
+    /// way, and nothing more changes on None and on a refusal. Fails with `NoMemory` if memory runs
+    /// out.
     pub fn reach(&mut self, alloc: Global, path: &[PointerNode]) -> Result<Option<&mut Value>>
         ensures* writes_back { sem 𝓛 (LendsPlace self.entry result
             (λ x w n. PutsAtPath (steps_of path.now) x w self.old n)
@@ -65,9 +66,9 @@ impl Value {
         none_if_missing(reach_in(self, alloc, path))
     }
 
-    /// The place to which the step leads; none where it leads nowhere. What is written there changes that place and no
-    /// other; a packed container is copied by one level, and nothing more changes on None and on a refusal.
-    /// Fails with `NoMemory` if memory runs out.
+    /// The place to which the step leads; none where it leads nowhere. What is written there
+    /// changes that place and no other; a packed container is copied by one level, and nothing more
+    /// changes on None and on a refusal. Fails with `NoMemory` if memory runs out.
     pub fn step_mut<I: Index>(&mut self, alloc: Global, index: I) -> Result<Option<&mut Value>>
         ensures* writes_back { sem 𝓛 (LendsPlace self.entry result
             (λ x w n. PutsAtPath (I.step index ∷ []) x w self.old n)
@@ -79,8 +80,9 @@ impl Value {
         none_if_missing(step_of(self, alloc, index))
     }
 
-    /// Appends the value to the array, and lends its place. The value must be an array; a packed one is copied by one level.
-    /// A refusal keeps the tree, and copies no more than that level. Fails with `NoMemory` if memory runs out.
+    /// Appends the value to the array, and lends its place. The value must be an array; a packed
+    /// one is copied by one level. A refusal keeps the tree, and copies no more than that level.
+    /// Fails with `NoMemory` if memory runs out.
     pub fn append_value(&mut self, alloc: Global, val: Value) -> Result<&mut Value>
         requires { type_of (tree_of self.old) ≡ JsonType.Array }
         ensures* writes_back { sem 𝓛 (LendsSoOk value_row value_row self.entry result
@@ -91,9 +93,9 @@ impl Value {
         append_of(self, alloc, val)
     }
 
-    /// Puts the value at the first member of the key, or appends such a member, and lends its place. The value must be an
-    /// object; a packed one is copied by one level. A refusal keeps the tree, and copies no more than that level.
-    /// Fails with `NoMemory` if memory runs out.
+    /// Puts the value at the first member of the key, or appends such a member, and lends its
+    /// place. The value must be an object; a packed one is copied by one level. A refusal keeps the
+    /// tree, and copies no more than that level. Fails with `NoMemory` if memory runs out.
     pub fn insert(&mut self, alloc: Global, key: &str, val: Value) -> Result<&mut Value>
         requires { type_of (tree_of self.old) ≡ JsonType.Object }
         ensures* writes_back { sem 𝓛 (LendsSoOk value_row value_row self.entry result
@@ -137,9 +139,9 @@ impl Value {
         }
     }
 
-    /// The array, to be changed; none exactly for another kind. What is written there is the array that the value then is. A
-    /// packed array is copied by one level. None and a refusal change nothing.
-    /// Fails with `NoMemory` if memory runs out.
+    /// The array, to be changed; none exactly for another kind. What is written there is the array
+    /// that the value then is. A packed array is copied by one level. None and a refusal change
+    /// nothing. Fails with `NoMemory` if memory runs out.
     pub fn as_array_mut(&mut self, alloc: Global) -> Result<Option<&mut Array>>
         ensures* writes_back { sem 𝓛 (LendsPart value_row array_row self.entry result
             (λ n w. (tree_of n ≡ list (list_trees (list_in w))) × (n ≡ ArrayValue w))
@@ -152,9 +154,9 @@ impl Value {
         none_if_no_array(self.array_open(alloc))
     }
 
-    /// The object, to be changed; none exactly for another kind. What is written there is the object that the value then is. A
-    /// packed object is copied by one level. None and a refusal change nothing.
-    /// Fails with `NoMemory` if memory runs out.
+    /// The object, to be changed; none exactly for another kind. What is written there is the
+    /// object that the value then is. A packed object is copied by one level. None and a refusal
+    /// change nothing. Fails with `NoMemory` if memory runs out.
     pub fn as_object_mut(&mut self, alloc: Global) -> Result<Option<&mut Object>>
         ensures* writes_back { sem 𝓛 (LendsPart value_row object_row self.entry result
             (λ n w. (tree_of n ≡ pairs (list_pairs (pairs_in w))) × (n ≡ ObjectValue w))

@@ -15,7 +15,7 @@ ghost use Rattle.json_model.specs.Merged.{inserted_all};
 ghost use Rattle.json_value.specs.Merged.{with_members};
 ghost use Rattle.json_value.specs.Room.{room_in};
 ghost use Rattle.json_value.specs.Steps.{tree_or_null};
-ghost use Rattle.json_value.specs.Failures.{OnlyNoMemory};
+ghost use Rattle.json_io.specs.Errors.{OnlyNoMemory};
 
 use crate::container::{Container, Form};
 use crate::literal::Literal;
@@ -69,7 +69,8 @@ impl Value {
         Value::Number(n)
     }
 
-    /// The number: by value where it is an integer of `u64` or `i64`, else as its literal. Takes no memory.
+    /// The number: by value where it is an integer of `u64` or `i64`, else as its literal. Takes no
+    /// memory.
     pub fn from_raw_number(n: RawNumber) -> Value
         ensures tree { tree_of result ≡ num (raw_literal n) }
         ensures places { places_in result ≡ None ∷ [] }
@@ -142,7 +143,8 @@ impl Value {
         Value::Null
     }
 
-    /// A string of these characters, of its own: nothing is parsed. Fails with `NoMemory` if memory runs out.
+    /// A string of these characters, of its own: nothing is parsed. Fails with `NoMemory` if memory
+    /// runs out.
     pub fn from_str(alloc: Global, val: &str) -> Result<Value>
         ensures tree { IfOk result (λ v. tree_of v ≡ text val.now) }
         ensures places { IfOk result (λ v. places_in v ≡ None ∷ []) }
@@ -206,8 +208,9 @@ impl Value {
         Ok(Value::from_vec(copies))
     }
 
-    /// The object into which the pairs are put in turn, from the first on: a pair whose key is there gives the member its
-    /// value, another is appended. Fails with `NoMemory` if memory runs out.
+    /// The object into which the pairs are put in turn, from the first on: a pair whose key is
+    /// there gives the member its value, another is appended. Fails with `NoMemory` if memory runs
+    /// out.
     pub fn from_pairs(alloc: Global, pairs: Vec<Pair>) -> Result<Value>
         ensures tree { IfOk result (λ v. tree_of v
             ≡ object (inserted_all (map pair_of pairs.items) no_pairs)) }
