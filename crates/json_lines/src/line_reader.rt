@@ -1,6 +1,6 @@
 // Reads a source line by line.
 ghost use Rattle.std.specs.Prelude.{◌≡◌, ◌+◌, ◌-◌, ◌<◌, ◌≤◌, Bool, false, true, None, Some, length, take, IfOk, IfErr, IfNone, slice_range, vec_len};
-ghost use Rattle.json_io.specs.Errors.{no_memory};
+ghost use Rattle.json_io.specs.Errors.{OnlyNoMemory};
 ghost use Rattle.json_lines.specs.Lines.{IsFirstNewline, has_newline};
 ghost use Rattle.json_lines.specs.Ranges.{IsRangeFrom, IsLastRange};
 
@@ -8,8 +8,8 @@ use json_text::{Error, ErrorCode, Failed, Place, Result, Source};
 use memchr::memchr;
 use std::alloc::Global;
 
-// The buffer has this many bytes more than the limit, and one read asks for no more: what is read stays
-// in a cache until its lines are handled.
+// The buffer has this many bytes more than the limit, and one read asks for no more: what is read
+// stays in a cache until its lines are handled.
 const READ_AHEAD: usize = 65536;
 
 // The maximum number of bytes that one reader reads.
@@ -98,7 +98,7 @@ impl LineReader {
     pub fn new(alloc: Global, limit: usize) -> Result<LineReader>
         requires { limit ≤ 16777216 }
         ensures ok { IfOk result (λ r. line_reader_state r ≡ fresh_reader limit) }
-        ensures only { IfErr result (λ e. e ≡ no_memory) }
+        ensures only { OnlyNoMemory result }
     {
         let buffer = vec![in alloc; 0; limit + READ_AHEAD]?;
         Ok(LineReader {

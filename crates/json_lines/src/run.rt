@@ -24,8 +24,8 @@ pub(crate) trait RowWriter<K: Sink> {
     /// The outcomes that a line has.
     ghost has_outcome: { Self → List ℕ → Outcome → Type 0 };
 
-    /// Writes the row of a good line, whose document is read in the room, or returns the error text of
-    /// a bad one.
+    /// Writes the row of a good line, whose document is read in the room, or returns the error text
+    /// of a bad one.
     fn write_row(
         &self,
         room: &mut DocumentRoom,
@@ -42,12 +42,28 @@ pub(crate) trait RowWriter<K: Sink> {
 // How far a run has come.
 #[derive(Drop)]
 pub(crate) struct Tally {
+    // where memory comes from
+    pub(crate) alloc: Global,
     // the number of lines so far
     pub(crate) number: u64,
     // whether one of them was bad
     pub(crate) bad: bool,
     // whether a report failed, after which none is made
     pub(crate) muted: bool,
+}
+
+// What writes the rows of lines, and the room where their documents are read.
+#[derive(Drop)]
+struct RowRoom<'r, R> {
+    rows: &'r R,
+    documents: DocumentRoom,
+}
+
+// What the lines are read with, and their rows written with.
+#[derive(Drop)]
+struct LineRun<'r, R> {
+    reader: LineReader,
+    room: RowRoom<'r, R>,
 }
 
 // Reports one error, with the number of its line.
@@ -102,20 +118,20 @@ impl Tally {
     // Counts a line, and writes its row or reports its error.
     fn handle_line<R: RowWriter<K>, K: Sink, E: Sink>(
         &mut self,
-        room: &mut DocumentRoom,
-        rows: &R,
+        room: &mut RowRoom<'_, R>,
         line: Line<'_>,
         sink: &mut K,
         errs: &mut E,
     ) -> Result<()>
         requires few { self.old.number < u64.MAX }
         requires short { IsWithinLimit 1048576 line }
-        ensures ok { OnOk result (HandlesLine (LineHas (R.has_outcome rows.now) line.entry)
-            self.old self.new
+        ensures ok { OnOk result (HandlesLine
+            (LineHas (R.has_outcome room.old.rows.now) line.entry) self.old self.new
             (K.state sink.old) (K.state sink.new) (E.state errs.old) (E.state errs.new)) }
-        ensures err { IfErr result (λ e. LineFails (LineHas (R.has_outcome rows.now) line.entry)
-            self.old self.new
+        ensures err { IfErr result (λ e. LineFails
+            (LineHas (R.has_outcome room.old.rows.now) line.entry) self.old self.new
             (K.state sink.old) (K.state sink.new) (E.state errs.old) (E.state errs.new) e) }
+        ensures rows { room.new.rows.now ≡ room.old.rows.now }
     {
         self.number += 1;
         let bytes = match line {
@@ -125,7 +141,7 @@ impl Tally {
                 return Ok(());
             }
         };
-        match rows.write_row(room, bytes, sink) {
+        match room.rows.write_row(&mut room.documents, bytes, sink) {
             Ok(None) => Ok(()),
             Ok(Some(text)) => {
                 self.report_bad(errs, text.as_bytes());
@@ -138,33 +154,32 @@ impl Tally {
 
 // Reads and handles one line. Returns false if there is none.
 fn step<R: RowWriter<K>, S: Source, K: Sink, E: Sink>(
-    room: &mut DocumentRoom,
-    rows: &R,
-    reader: &mut LineReader,
+    run: &mut LineRun<'_, R>,
     source: &mut S,
     sink: &mut K,
     errs: &mut E,
     tally: &mut Tally,
 ) -> Result<bool>
     requires few { tally.old.number < u64.MAX }
-    requires limit { (line_reader_state reader.old).limit ≤ 1048576 }
-    ensures ok { IfOk result (λ more. StepResult (R.has_outcome rows.now)
-        (run_state reader.old
+    requires limit { (line_reader_state run.old.reader).limit ≤ 1048576 }
+    ensures ok { IfOk result (λ more. StepResult (R.has_outcome run.old.room.rows.now)
+        (run_state run.old.reader
         (S.state source.old) (K.state sink.old) (E.state errs.old) tally.old)
-        (run_state reader.new
+        (run_state run.new.reader
         (S.state source.new) (K.state sink.new) (E.state errs.new) tally.new) more) }
-    ensures err { IfErr result (λ e. StepFails (R.has_outcome rows.now)
-        (run_state reader.old
+    ensures err { IfErr result (λ e. StepFails (R.has_outcome run.old.room.rows.now)
+        (run_state run.old.reader
         (S.state source.old) (K.state sink.old) (E.state errs.old) tally.old)
-        (run_state reader.new
+        (run_state run.new.reader
         (S.state source.new) (K.state sink.new) (E.state errs.new) tally.new) e) }
+    ensures rows { run.new.room.rows.now ≡ run.old.room.rows.now }
 {
-    let line = match reader.next_line(source) {
+    let line = match run.reader.next_line(source) {
         Ok(Some(line)) => line,
         Ok(None) => return Ok(false),
         Err(error) => return Err(error),
     };
-    match tally.handle_line(room, rows, line, sink, errs) {
+    match tally.handle_line(&mut run.room, line, sink, errs) {
         Ok(()) => Ok(true),
         Err(error) => Err(error),
     }
@@ -172,33 +187,31 @@ fn step<R: RowWriter<K>, S: Source, K: Sink, E: Sink>(
 
 // Reads and handles all lines.
 fn write_rows<R: RowWriter<K>, S: Source, K: Sink, E: Sink>(
-    room: &mut DocumentRoom,
-    rows: &R,
-    reader: &mut LineReader,
+    run: &mut LineRun<'_, R>,
     source: &mut S,
     sink: &mut K,
     errs: &mut E,
     tally: &mut Tally,
 ) -> Result<()>
-    requires limit { (line_reader_state reader.old).limit ≤ 1048576 }
+    requires limit { (line_reader_state run.old.reader).limit ≤ 1048576 }
     requires fresh { IsFreshRun
-        (run_state reader.old
+        (run_state run.old.reader
         (S.state source.old) (K.state sink.old) (E.state errs.old) tally.old) }
     ensures ok { OnOk result (FinishesLines
-        (HasWithin (line_reader_state reader.old).limit (R.has_outcome rows.now))
-        (run_state reader.old
+        (HasWithin (line_reader_state run.old.reader).limit (R.has_outcome run.old.room.rows.now))
+        (run_state run.old.reader
         (S.state source.old) (K.state sink.old) (E.state errs.old) tally.old)
-        (run_state reader.new
+        (run_state run.new.reader
         (S.state source.new) (K.state sink.new) (E.state errs.new) tally.new)) }
     ensures err { IfErr result (λ e. FailsEarly
-        (HasWithin (line_reader_state reader.old).limit (R.has_outcome rows.now))
-        (run_state reader.old
+        (HasWithin (line_reader_state run.old.reader).limit (R.has_outcome run.old.room.rows.now))
+        (run_state run.old.reader
         (S.state source.old) (K.state sink.old) (E.state errs.old) tally.old)
-        (run_state reader.new
+        (run_state run.new.reader
         (S.state source.new) (K.state sink.new) (E.state errs.new) tally.new) e) }
 {
     'line: loop {
-        match step(room, rows, reader, source, sink, errs, tally) {
+        match step(run, source, sink, errs, tally) {
             Ok(true) => {}
             Ok(false) => return Ok(()),
             Err(error) => return Err(error),
@@ -208,7 +221,6 @@ fn write_rows<R: RowWriter<K>, S: Source, K: Sink, E: Sink>(
 
 /// Reads and handles all lines with a reader of their own, and flushes the sink.
 pub(crate) fn write_all_rows<R: RowWriter<K>, S: Source, K: Sink, E: Sink>(
-    alloc: Global,
     rows: &R,
     source: &mut S,
     sink: &mut K,
@@ -226,9 +238,11 @@ pub(crate) fn write_all_rows<R: RowWriter<K>, S: Source, K: Sink, E: Sink>(
         tally.new e) }
     ensures loan { (K.state sink.new).loan ≡ (K.state sink.old).loan }
 {
-    let mut reader = LineReader::new(alloc, MAX_LINE)?;
-    let mut room = DocumentRoom::new(alloc);
-    match write_rows(&mut room, rows, &mut reader, source, sink, errs, tally) {
+    let reader = LineReader::new(tally.alloc, MAX_LINE)?;
+    let documents = DocumentRoom::new(tally.alloc);
+    let room = RowRoom { rows, documents };
+    let mut run = LineRun { reader, room };
+    match write_rows(&mut run, source, sink, errs, tally) {
         Ok(()) => flush_all(sink),
         Err(error) => Err(error),
     }

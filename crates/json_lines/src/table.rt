@@ -4,7 +4,7 @@ ghost use Rattle.json_layout.specs.TextWriting.{WritesText};
 ghost use Rattle.json_doc.specs.Seen.{view_tree};
 ghost use Rattle.json_lines.specs.Cells.{cells, table_row};
 ghost use Rattle.json_grammar.specs.Grammar.{ws};
-ghost use Rattle.json_io.specs.Errors.{no_memory};
+ghost use Rattle.json_io.specs.Errors.{OnlyNoMemory};
 ghost use Rattle.json_io.specs.FaultText.{text_of};
 ghost use Rattle.json_io.specs.declared.error.ErrorCode.TheVariants.{NoMemory};
 ghost use Rattle.json_doc.specs.Docs.{doc_tree, doc_root};
@@ -49,7 +49,7 @@ pub(crate) struct Table {
 // Returns the error text of a line. Memory that ran out is no error of the line.
 fn line_error(error: Error) -> Result<Option<FaultText>>
     ensures ok { IfOk result (λ fault. (error.code ≢ NoMemory) × (fault ≡ Some (text_of error))) }
-    ensures err { IfErr result (λ e. e ≡ no_memory) }
+    ensures err { OnlyNoMemory result }
 {
     match error.code {
         ErrorCode::NoMemory => Err(Error {

@@ -23,7 +23,6 @@ use std::alloc::Global;
 
 // Writes the rows of all lines, through a buffer.
 fn write_table<S: Source, K: Sink, E: Sink>(
-    alloc: Global,
     table: &Table,
     source: &mut S,
     sink: &mut K,
@@ -40,9 +39,9 @@ fn write_table<S: Source, K: Sink, E: Sink>(
         (streams (S.state source.old) (K.state sink.old) (E.state errs.old))
         (streams (S.state source.new) (K.state sink.new) (E.state errs.new)) tally.new e) }
 {
-    let buffer = Buffer::new(alloc)?;
+    let buffer = Buffer::new(tally.alloc)?;
     let mut writer = BufferedWriter::with_buffer(buffer, LentSink::new(sink));
-    let outcome = write_all_rows(alloc, table, source, &mut writer, errs, tally);
+    let outcome = write_all_rows(table, source, &mut writer, errs, tally);
     let _sink = writer.into_inner().into_inner();
     outcome
 }
@@ -93,11 +92,12 @@ fn run_table<S: Source, K: Sink, E: Sink>(
         (streams (S.state source.new) (K.state sink.new) (E.state errs.new)) result }
 {
     let mut tally = Tally {
+        alloc,
         number: 0,
         bad: false,
         muted: false,
     };
-    match write_table(alloc, table, source, sink, errs, &mut tally) {
+    match write_table(table, source, sink, errs, &mut tally) {
         Ok(()) => done_status(tally.bad),
         Err(error) => {
             report_unless_muted(errs, tally.muted, &error);

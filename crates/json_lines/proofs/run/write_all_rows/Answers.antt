@@ -28,7 +28,7 @@ returns-in-Ok-clause-ok g c =
     let has = g.R.RowWriter.has_outcome c.args.rows.now in
     let limit = ap (λ s. s.limit) c.in_ok-reader.ensures.ok in
     let a = run_state c.in_ok-reader.reader (g.S.Source.state c.args.source.now) (g.K.Sink.state c.args.sink.now) (g.E.Sink.state c.args.errs.now) c.args.tally.now in
-    let n = run_state c.write_rows.new.reader (g.S.Source.state c.write_rows.new.source) (g.K.Sink.state c.write_rows.new.sink) (g.E.Sink.state c.write_rows.new.errs) c.write_rows.new.tally in
+    let n = run_state c.write_rows.new.run.reader (g.S.Source.state c.write_rows.new.source) (g.K.Sink.state c.write_rows.new.sink) (g.E.Sink.state c.write_rows.new.errs) c.write_rows.new.tally in
     flushed (HasWithin 1048576 has) a n (g.K.Sink.state c.flush_all.new.sink) c.flush_all.result
     (subst (λ m. FinishesLines (HasWithin m has) a n) limit c.in-Ok.ensures.ok) c.flush_all.ensures
 
@@ -37,6 +37,6 @@ returns-in-Ok-clause-err g c =
     let has = g.R.RowWriter.has_outcome c.args.rows.now in
     let limit = ap (λ s. s.limit) c.in_ok-reader.ensures.ok in
     let a = run_state c.in_ok-reader.reader (g.S.Source.state c.args.source.now) (g.K.Sink.state c.args.sink.now) (g.E.Sink.state c.args.errs.now) c.args.tally.now in
-    let n = run_state c.write_rows.new.reader (g.S.Source.state c.write_rows.new.source) (g.K.Sink.state c.write_rows.new.sink) (g.E.Sink.state c.write_rows.new.errs) c.write_rows.new.tally in
+    let n = run_state c.write_rows.new.run.reader (g.S.Source.state c.write_rows.new.source) (g.K.Sink.state c.write_rows.new.sink) (g.E.Sink.state c.write_rows.new.errs) c.write_rows.new.tally in
     unflushed (HasWithin 1048576 has) a n (g.K.Sink.state c.flush_all.new.sink) c.flush_all.result
     (subst (λ m. FinishesLines (HasWithin m has) a n) limit c.in-Ok.ensures.ok) c.flush_all.ensures

@@ -1,4 +1,4 @@
-use Rattle.std.proofs.Common.{ℕ, List, inl, inr, subst}
+use Rattle.std.proofs.Common.{ℕ, List, true, inl, inr, refl, ◌∙◌, subst}
 use Rattle.json_io.specs.declared.error.Error.{Error}
 use Rattle.json_lines.specs.Running.{run_state, FailsEarly}
 use Rattle.json_lines.specs.Rows.{Outcome, HasWithin}
@@ -11,28 +11,36 @@ fails has a b n e so_far (inl reading) = FailsEarly-reading has a b n e so_far r
 fails has a b n e so_far (inr handling) = FailsEarly-handling has a b n e so_far handling
 
 pub line-init : goal.line-init
-line-init g c = HandledLines-start _ _ c.requires.fresh
+line-init g c = record { handled = HandledLines-start _ _ c.requires.fresh; same_rows = refl }
 
 pub line-smaller : goal.line-smaller
 line-smaller g c =
-    let has = g.R.RowWriter.has_outcome c.args.rows.now in
-    let a = run_state c.args.reader.now (g.S.Source.state c.args.source.now) (g.K.Sink.state c.args.sink.now) (g.E.Sink.state c.args.errs.now) c.args.tally.now in
-    let b = run_state c.line.reader (g.S.Source.state c.line.source) (g.K.Sink.state c.line.sink) (g.E.Sink.state c.line.errs) c.line.tally in
-    let n = run_state c.step.new.reader (g.S.Source.state c.step.new.source) (g.K.Sink.state c.step.new.sink) (g.E.Sink.state c.step.new.errs) c.step.new.tally in
-    HandledLines-smaller has a b n c.line.invariant (subst (StepResult has b n) c.in-Ok-true.field-0-test c.in-Ok-true.ensures.ok)
+    let has = g.R.RowWriter.has_outcome in
+    let rows = c.args.run.now.room.rows.now in
+    let a = run_state c.args.run.now.reader (g.S.Source.state c.args.source.now) (g.K.Sink.state c.args.sink.now) (g.E.Sink.state c.args.errs.now) c.args.tally.now in
+    let b = run_state c.line.run.reader (g.S.Source.state c.line.source) (g.K.Sink.state c.line.sink) (g.E.Sink.state c.line.errs) c.line.tally in
+    let n = run_state c.step.new.run.reader (g.S.Source.state c.step.new.source) (g.K.Sink.state c.step.new.sink) (g.E.Sink.state c.step.new.errs) c.step.new.tally in
+    HandledLines-smaller (has rows) a b n c.line.invariant.handled
+    (subst (λ r. StepResult (has r) b n true) c.line.invariant.same_rows (subst (StepResult (has c.line.run.room.rows.now) b n) c.in-Ok-true.field-0-test c.in-Ok-true.ensures.ok))
 
 pub line-preserved : goal.line-preserved
 line-preserved g c =
-    let has = g.R.RowWriter.has_outcome c.args.rows.now in
-    let a = run_state c.args.reader.now (g.S.Source.state c.args.source.now) (g.K.Sink.state c.args.sink.now) (g.E.Sink.state c.args.errs.now) c.args.tally.now in
-    let b = run_state c.line.reader (g.S.Source.state c.line.source) (g.K.Sink.state c.line.sink) (g.E.Sink.state c.line.errs) c.line.tally in
-    let n = run_state c.step.new.reader (g.S.Source.state c.step.new.source) (g.K.Sink.state c.step.new.sink) (g.E.Sink.state c.step.new.errs) c.step.new.tally in
-    HandledLines-more has a b n c.line.invariant (subst (StepResult has b n) c.in-Ok-true.field-0-test c.in-Ok-true.ensures.ok)
+    let has = g.R.RowWriter.has_outcome in
+    let rows = c.args.run.now.room.rows.now in
+    let a = run_state c.args.run.now.reader (g.S.Source.state c.args.source.now) (g.K.Sink.state c.args.sink.now) (g.E.Sink.state c.args.errs.now) c.args.tally.now in
+    let b = run_state c.line.run.reader (g.S.Source.state c.line.source) (g.K.Sink.state c.line.sink) (g.E.Sink.state c.line.errs) c.line.tally in
+    let n = run_state c.step.new.run.reader (g.S.Source.state c.step.new.source) (g.K.Sink.state c.step.new.sink) (g.E.Sink.state c.step.new.errs) c.step.new.tally in
+    record {
+      handled = HandledLines-more (has rows) a b n c.line.invariant.handled
+          (subst (λ r. StepResult (has r) b n true) c.line.invariant.same_rows (subst (StepResult (has c.line.run.room.rows.now) b n) c.in-Ok-true.field-0-test c.in-Ok-true.ensures.ok));
+      same_rows = c.in-Ok-true.ensures.rows ∙ c.line.invariant.same_rows;
+    }
 
 pub returns-in-Err-clause-err : goal.returns-in-Err-clause-err
 returns-in-Err-clause-err g c =
-    let has = g.R.RowWriter.has_outcome c.args.rows.now in
-    let a = run_state c.args.reader.now (g.S.Source.state c.args.source.now) (g.K.Sink.state c.args.sink.now) (g.E.Sink.state c.args.errs.now) c.args.tally.now in
-    let b = run_state c.line.reader (g.S.Source.state c.line.source) (g.K.Sink.state c.line.sink) (g.E.Sink.state c.line.errs) c.line.tally in
-    let n = run_state c.step.new.reader (g.S.Source.state c.step.new.source) (g.K.Sink.state c.step.new.sink) (g.E.Sink.state c.step.new.errs) c.step.new.tally in
-    fails has a b n c.in-Err.error c.line.invariant c.in-Err.ensures.err
+    let has = g.R.RowWriter.has_outcome in
+    let rows = c.args.run.now.room.rows.now in
+    let a = run_state c.args.run.now.reader (g.S.Source.state c.args.source.now) (g.K.Sink.state c.args.sink.now) (g.E.Sink.state c.args.errs.now) c.args.tally.now in
+    let b = run_state c.line.run.reader (g.S.Source.state c.line.source) (g.K.Sink.state c.line.sink) (g.E.Sink.state c.line.errs) c.line.tally in
+    let n = run_state c.step.new.run.reader (g.S.Source.state c.step.new.source) (g.K.Sink.state c.step.new.sink) (g.E.Sink.state c.step.new.errs) c.step.new.tally in
+    fails (has rows) a b n c.in-Err.error c.line.invariant.handled (subst (λ r. StepFails (has r) b n c.in-Err.error) c.line.invariant.same_rows c.in-Err.ensures.err)

@@ -1,4 +1,4 @@
-use Rattle.std.proofs.Common.{◌+◌, ◌-◌, length}
+use Rattle.std.proofs.Common.{◌≡◌, ◌+◌, ◌-◌, length}
 use Rattle.json_lines.specs.Reading.{held_bytes}
 use Rattle.json_lines.specs.Running.{run_state}
 use Rattle.json_lines.proofs.HandledLines.{HandledLines}
@@ -6,9 +6,12 @@ use Rattle.json_lines.proofs.run.write_rows.Given as goal
 
 abbrev pub invariant-line : goal.invariant-line
 invariant-line g l =
-    HandledLines (g.R.RowWriter.has_outcome l.rows)
-    (run_state l.fn.reader (g.S.Source.state l.fn.source) (g.K.Sink.state l.fn.sink) (g.E.Sink.state l.fn.errs) l.fn.tally)
-    (run_state l.reader (g.S.Source.state l.source) (g.K.Sink.state l.sink) (g.E.Sink.state l.errs) l.tally)
+    record {
+      handled : HandledLines (g.R.RowWriter.has_outcome l.fn.run.room.rows.now)
+          (run_state l.fn.run.reader (g.S.Source.state l.fn.source) (g.K.Sink.state l.fn.sink) (g.E.Sink.state l.fn.errs) l.fn.tally)
+          (run_state l.run.reader (g.S.Source.state l.source) (g.K.Sink.state l.sink) (g.E.Sink.state l.errs) l.tally);
+      same_rows : l.run.room.rows.now ≡ l.fn.run.room.rows.now;
+    }
 
 abbrev pub decreases-line : goal.decreases-line
-decreases-line g l = 4294967295 - l.reader.received + length (held_bytes l.reader)
+decreases-line g l = 4294967295 - l.run.reader.received + length (held_bytes l.run.reader)

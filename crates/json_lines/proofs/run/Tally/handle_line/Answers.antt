@@ -8,7 +8,7 @@ pub returns-in-TooLong-clause-ok : goal.returns-in-TooLong-clause-ok
 returns-in-TooLong-clause-ok g c =
     record {
       outcome = line_too_long;
-      has_it = subst (λ l. LineHas (g.R.RowWriter.has_outcome c.args.rows.now) l line_too_long) (sym c.in-TooLong.is) refl;
+      has_it = subst (λ l. LineHas (g.R.RowWriter.has_outcome c.args.room.now.rows.now) l line_too_long) (sym c.in-TooLong.is) refl;
       row = WritesText-nil _;
       report = search rules;
       number = search rules;
