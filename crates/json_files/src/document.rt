@@ -4,7 +4,7 @@ ghost use Rattle.json_doc.specs.Docs.{doc_root, doc_tree};
 ghost use Rattle.json_command.specs.Input.{IsInput};
 ghost use Rattle.json_files.specs.Documents.{document_bytes};
 ghost use Rattle.json_files.specs.Running.{ReadingDocumentFails};
-ghost use Rattle.json_io.specs.Errors.{no_memory};
+ghost use Rattle.json_io.specs.Errors.{OnlyNoMemory};
 ghost use Rattle.json_text.specs.Ruled.{rules_of};
 
 use json_doc::{Doc, read_document_with};
@@ -35,7 +35,7 @@ impl Document {
     pub fn new(alloc: Global, name: &str, bytes: &[u8]) -> Result<Document>
         ensures name { IfOk result (λ d. string_bytes d.name ≡ name.now) }
         ensures bytes { IfOk result (λ d. document_bytes d ≡ Some bytes.now) }
-        ensures only { IfErr result (λ e. e ≡ no_memory) }
+        ensures only { OnlyNoMemory result }
     {
         Ok(Document {
             name: String::from_str(alloc, name)?,

@@ -1,8 +1,8 @@
 // The line of the input that an error is at, with a caret under its column.
-ghost use Rattle.std.specs.Prelude.{◌≡◌, ◌≤◌, ◌==◌, ◌+◌, ◌&&◌, ◌++◌, List, ℕ, [], length, map, codes, nat_le, nat_lt, OnOk, IfErr};
+ghost use Rattle.std.specs.Prelude.{◌≡◌, ◌≤◌, ◌==◌, ◌+◌, ◌&&◌, ◌++◌, List, ℕ, [], length, map, codes, nat_le, nat_lt, OnOk};
 ghost use Rattle.std.specs.List.{after_last, before_first, flat_map};
 ghost use Rattle.json_files.specs.Excerpts.{IsExcerpt, IsFront, IsBack, excerpt_byte, space_under};
-ghost use Rattle.json_io.specs.Errors.{no_memory};
+ghost use Rattle.json_io.specs.Errors.{OnlyNoMemory};
 
 use json_text::Result;
 
@@ -72,7 +72,7 @@ fn first_bytes(bytes: &[u8], max: usize) -> &[u8]
 // Appends bytes of the line, each of a control character as a space.
 fn push_shown(text: &mut Vec<u8>, part: &[u8]) -> Result<()>
     ensures ok { OnOk result (text.new.items ≡ text.old.items ++ map excerpt_byte part.now) }
-    ensures only { IfErr result (λ e. e ≡ no_memory) }
+    ensures only { OnlyNoMemory result }
 {
     for byte in part {
         let shown = if *byte < 32 || *byte == 127 {
@@ -88,7 +88,7 @@ fn push_shown(text: &mut Vec<u8>, part: &[u8]) -> Result<()>
 // Appends a space for each character.
 fn push_spaces(text: &mut Vec<u8>, part: &[u8]) -> Result<()>
     ensures ok { OnOk result (text.new.items ≡ text.old.items ++ flat_map space_under part.now) }
-    ensures only { IfErr result (λ e. e ≡ no_memory) }
+    ensures only { OnlyNoMemory result }
 {
     for byte in part {
         if !is_continuation(*byte) {
@@ -103,7 +103,7 @@ fn push_lines(text: &mut Vec<u8>, before: &[u8], after: &[u8]) -> Result<()>
     ensures ok { OnOk result (text.new.items ≡ text.old.items ++ map excerpt_byte before.now
         ++ map excerpt_byte after.now ++ codes "\n" ++ flat_map space_under before.now
         ++ codes "^\n") }
-    ensures only { IfErr result (λ e. e ≡ no_memory) }
+    ensures only { OnlyNoMemory result }
 {
     push_shown(text, before)?;
     push_shown(text, after)?;
@@ -119,7 +119,7 @@ pub(crate) fn push_excerpt(text: &mut Vec<u8>, bytes: &[u8], offset: usize) -> R
     requires { offset ≤ length bytes.now }
     ensures ok { OnOk result ((excerpt : List ℕ) × IsExcerpt bytes.now offset excerpt
         × (text.new.items ≡ text.old.items ++ excerpt)) }
-    ensures only { IfErr result (λ e. e ≡ no_memory) }
+    ensures only { OnlyNoMemory result }
 {
     let (head, tail) = bytes.split_at(offset);
     let line_before = last_line(head);

@@ -3,7 +3,7 @@ ghost use Rattle.std.specs.Prelude.{◌≡◌, false, IfOk, IfErr};
 ghost use Rattle.json_command.specs.Printing.{Prints, ReturnsWriteError};
 ghost use Rattle.json_doc.specs.Docs.{doc_root, doc_tree};
 ghost use Rattle.json_files.specs.Outcomes.{task_of, line_in, text_in};
-ghost use Rattle.json_io.specs.Errors.{no_memory};
+ghost use Rattle.json_io.specs.Errors.{OnlyNoMemory};
 ghost use Rattle.json_files.specs.Running.{IsMade, PrintsTree, PrintingStops, PrintsBytes, BytesStop};
 ghost use Rattle.json_files.specs.Writing.{WritesOutput};
 ghost use Rattle.json_files.specs.declared.job.InputForm.TheVariants.{One};
@@ -35,8 +35,8 @@ pub enum InputForm {
     One,
     /// A JSON text on each line. A line that has only whitespace is skipped.
     Lines,
-    /// Values one after another, which whitespace may separate. They are read by the usual rules, up
-    /// to the first fault.
+    /// Values one after another, which whitespace may separate. They are read by the usual rules,
+    /// up to the first fault.
     Stream,
 }
 
@@ -137,7 +137,7 @@ fn changed_value<C: Change>(
 ) -> Result<std::result::Result<Value, ChangeError>>
     ensures ok { IfOk result (λ made. IsMade
         (C.changed change.now (doc_tree doc.now.value (doc_root doc.now.value))) made) }
-    ensures only { IfErr result (λ e. e ≡ no_memory) }
+    ensures only { OnlyNoMemory result }
 {
     let mut value = Value::from_place(alloc, doc, doc.root())?;
     match change.apply(alloc, &mut value) {

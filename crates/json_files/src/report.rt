@@ -1,9 +1,9 @@
 // The reports of errors.
-ghost use Rattle.std.specs.Prelude.{◌≡◌, ◌≤◌, ◌+◌, ◌++◌, List, ℕ, Option, length, codes, decimal, IfOk, IfErr, OnOk, IfSome};
+ghost use Rattle.std.specs.Prelude.{◌≡◌, ◌≤◌, ◌+◌, ◌++◌, List, ℕ, Option, length, codes, decimal, IfOk, OnOk, IfSome};
 ghost use Rattle.json_files.specs.Excerpts.{IsExcerpt};
 ghost use Rattle.json_files.specs.Parts.{part_view, whole_part as spec_whole_part, HasFewLines};
 ghost use Rattle.json_files.specs.Reports.{IsReport, IsHeadline, IsExcerptAt, location, place_position, error_place, document_error_name, change_name, report_offset, position_of};
-ghost use Rattle.json_io.specs.Errors.{no_memory, name_of};
+ghost use Rattle.json_io.specs.Errors.{name_of, OnlyNoMemory};
 
 use crate::change_error::ChangeError;
 use crate::document_error::DocumentError;
@@ -55,7 +55,7 @@ fn sentence_of(code: ErrorCode) -> &'static str {
 // Appends a number in decimal.
 fn push_number(text: &mut Vec<u8>, n: usize) -> Result<()>
     ensures ok { OnOk result (text.new.items ≡ text.old.items ++ decimal n) }
-    ensures only { IfErr result (λ e. e ≡ no_memory) }
+    ensures only { OnlyNoMemory result }
 {
     let mut buffer = Buffer::new();
     text.extend_from_slice(buffer.format(n).as_bytes())?;
@@ -65,7 +65,7 @@ fn push_number(text: &mut Vec<u8>, n: usize) -> Result<()>
 // Appends the line and the column, if they are known.
 fn push_position(text: &mut Vec<u8>, position: Option<Position>) -> Result<()>
     ensures ok { OnOk result (text.new.items ≡ location text.old.items position) }
-    ensures only { IfErr result (λ e. e ≡ no_memory) }
+    ensures only { OnlyNoMemory result }
 {
     match position {
         Some(position) => {
@@ -88,7 +88,7 @@ fn headline(
     code: &[u8],
 ) -> Result<Vec<u8>>
     ensures ok { IfOk result (λ line. IsHeadline name.now position code.now line.items) }
-    ensures only { IfErr result (λ e. e ≡ no_memory) }
+    ensures only { OnlyNoMemory result }
 {
     let mut text = name.as_bytes().to_vec(alloc)?;
     push_position(&mut text, position)?;
@@ -118,7 +118,7 @@ fn input_headline(
     code: ErrorCode,
 ) -> Result<Vec<u8>>
     ensures ok { IfOk result (λ line. IsHeadline name.now position (name_of code) line.items) }
-    ensures only { IfErr result (λ e. e ≡ no_memory) }
+    ensures only { OnlyNoMemory result }
 {
     let line = name_line(code);
     let (name_of_code, _newline) = line.as_bytes().split_at(line.as_bytes().len() - 1);
@@ -133,7 +133,7 @@ fn input_headline(
 
 // Appends a word, a number and `: `.
 fn push_count(text: &mut Vec<u8>, word: &str, n: usize) -> Result<()>
-    ensures only { IfErr result (λ e. e ≡ no_memory) }
+    ensures only { OnlyNoMemory result }
 {
     text.extend_from_slice(word.as_bytes())?;
     text.extend_from_slice(b" ")?;
@@ -150,7 +150,7 @@ fn change_sentence(
     part_name: &str,
     error: &ChangeError,
 ) -> Result<Vec<u8>>
-    ensures only { IfErr result (λ e. e ≡ no_memory) }
+    ensures only { OnlyNoMemory result }
 {
     let mut text = Vec::new(alloc);
     if let Scope::Value(number) = scope {
@@ -214,7 +214,7 @@ fn push_excerpt_at(text: &mut Vec<u8>, bytes: &[u8], offset: Option<usize>) -> R
     requires { IfSome offset (λ offset. offset ≤ length bytes.now) }
     ensures ok { OnOk result ((excerpt : List ℕ) × IsExcerptAt bytes.now offset excerpt
         × (text.new.items ≡ text.old.items ++ excerpt)) }
-    ensures only { IfErr result (λ e. e ≡ no_memory) }
+    ensures only { OnlyNoMemory result }
 {
     match offset {
         Some(offset) => push_excerpt(text, bytes, offset),
@@ -225,7 +225,7 @@ fn push_excerpt_at(text: &mut Vec<u8>, bytes: &[u8], offset: Option<usize>) -> R
 // Appends a hint, if there is one.
 fn push_hint(text: &mut Vec<u8>, hint: Option<&str>) -> Result<()>
     ensures ok { OnOk result ((line : List ℕ) × (text.new.items ≡ text.old.items ++ line)) }
-    ensures only { IfErr result (λ e. e ≡ no_memory) }
+    ensures only { OnlyNoMemory result }
 {
     if let Some(hint) = hint {
         text.extend_from_slice(b"hint: ")?;
@@ -245,7 +245,7 @@ fn document_headline(
 ) -> Result<Vec<u8>>
     ensures ok { IfOk result (λ line. IsHeadline (part_view part.entry).name position
         (document_error_name error.now) line.items) }
-    ensures only { IfErr result (λ e. e ≡ no_memory) }
+    ensures only { OnlyNoMemory result }
 {
     match error {
         DocumentError::Input(error) => input_headline(alloc, part.name, position, error.code),
@@ -267,7 +267,7 @@ pub(crate) fn document_report(
 ) -> Result<Vec<u8>>
     requires few { HasFewLines (part_view part) }
     ensures ok { IfOk result (λ report. IsReport (part_view part.entry) error.now report.items) }
-    ensures only { IfErr result (λ e. e ≡ no_memory) }
+    ensures only { OnlyNoMemory result }
 {
     let offset = find_offset(part.bytes, place_of_error(part.scope, error));
     let position = find_position(part, offset);
@@ -293,7 +293,7 @@ pub(crate) fn document_report(
 pub fn error_report(alloc: Global, name: &str, error: &Error) -> Result<Vec<u8>>
     ensures ok { IfOk result (λ line. IsHeadline name.now (place_position error.now.place)
         (name_of error.now.code) line.items) }
-    ensures only { IfErr result (λ e. e ≡ no_memory) }
+    ensures only { OnlyNoMemory result }
 {
     let position = match error.place {
         Place::At { line, column, .. } => Some(Position { line, column }),
@@ -304,8 +304,8 @@ pub fn error_report(alloc: Global, name: &str, error: &Error) -> Result<Vec<u8>>
 
 /// Returns the report of an error of the document of this name and these bytes: the line of
 /// [`error_report`], and if the place has an offset in the bytes the line of the bytes there, cut
-/// to 76 bytes, a caret under the byte, and a hint at a usual cause. Fails with `NoMemory` if memory
-/// runs out.
+/// to 76 bytes, a caret under the byte, and a hint at a usual cause. Fails with `NoMemory` if
+/// memory runs out.
 ///
 /// ```
 /// use json_files::input_report;
@@ -320,7 +320,7 @@ pub fn error_report(alloc: Global, name: &str, error: &Error) -> Result<Vec<u8>>
 pub fn input_report(alloc: Global, name: &str, bytes: &[u8], error: &Error) -> Result<Vec<u8>>
     ensures ok { IfOk result (λ report. IsReport (spec_whole_part name.now bytes.now)
         (DocumentError.Input error.now) report.items) }
-    ensures only { IfErr result (λ e. e ≡ no_memory) }
+    ensures only { OnlyNoMemory result }
 {
     let part = whole_part(name, bytes);
     document_report(alloc, part, &DocumentError::Input(*error), "")

@@ -29,6 +29,8 @@ const READING_FAILED: DocumentError = DocumentError::Input(Error {
 // How far a run has come.
 #[derive(Drop)]
 pub(crate) struct Tally {
+    // where memory comes from
+    pub(crate) alloc: Global,
     // the greatest status so far
     pub(crate) status: u8,
     // whether a report failed, after which none is made
@@ -63,7 +65,6 @@ impl Tally {
     // Reports the error of a part of a document.
     fn report_error<E: Sink>(
         &mut self,
-        alloc: Global,
         part: Part<'_>,
         error: &DocumentError,
         part_name: &str,
@@ -75,7 +76,7 @@ impl Tally {
         ensures err { IfErr result (ReportingFails self.old self.new
             (E.state errs.old) (E.state errs.new)) }
     {
-        match document_report(alloc, part, error, part_name) {
+        match document_report(self.alloc, part, error, part_name) {
             Ok(text) => {
                 self.put_report(errs, error, &text);
                 Ok(())
@@ -87,7 +88,6 @@ impl Tally {
     // Prints a part of a document or reports its error.
     fn handle_part<C: Change, K: Sink, E: Sink>(
         &mut self,
-        alloc: Global,
         part: Part<'_>,
         job: &Job<'_, C>,
         sink: &mut K,
@@ -106,11 +106,9 @@ impl Tally {
             (K.state sink.old) (K.state sink.new) (E.state errs.old) (E.state errs.new)) }
         ensures told { ReturnsWriteError (K.state sink.old) (K.state sink.new) result }
     {
-        match print_bytes(alloc, part.bytes, job, sink) {
+        match print_bytes(self.alloc, part.bytes, job, sink) {
             Ok(None) => Ok(()),
-            Ok(Some(error)) => {
-                self.report_error(alloc, part, &error, job.change.part_name(), errs)
-            }
+            Ok(Some(error)) => self.report_error(part, &error, job.change.part_name(), errs),
             Err(error) => Err(error),
         }
     }
@@ -118,7 +116,6 @@ impl Tally {
     // Prints each line of a document or reports its error. Skips lines that have only whitespace.
     fn handle_lines<C: Change, K: Sink, E: Sink>(
         &mut self,
-        alloc: Global,
         whole: Part<'_>,
         job: &Job<'_, C>,
         sink: &mut K,
@@ -151,7 +148,7 @@ impl Tally {
             if is_blank(line) {
                 continue;
             }
-            match self.handle_part(alloc, part, job, sink, errs) {
+            match self.handle_part(part, job, sink, errs) {
                 Ok(()) => {}
                 Err(error) => return Err(error),
             }
@@ -160,13 +157,7 @@ impl Tally {
     }
 
     // Reports that no value can be read, unless memory ran out.
-    fn handle_fault<E: Sink>(
-        &mut self,
-        alloc: Global,
-        whole: Part<'_>,
-        error: Error,
-        errs: &mut E,
-    ) -> Result<()>
+    fn handle_fault<E: Sink>(&mut self, whole: Part<'_>, error: Error, errs: &mut E) -> Result<()>
         requires few { (part_view whole).before + length (part_view whole).bytes + 1 < 2 ^ 64 }
         ensures fault { OnOk result ((b : List ℕ) (i : ℕ) → ValueFails b i error.code error.place
             → ValueFaultFrom false 254 i b error.code error.place) }
@@ -177,15 +168,14 @@ impl Tally {
     {
         match (error.code, error.place) {
             (ErrorCode::NoMemory, Place::None) => Err(error),
-            (_, _) => self.report_error(alloc, whole, &DocumentError::Input(error), "", errs),
+            (_, _) => self.report_error(whole, &DocumentError::Input(error), "", errs),
         }
     }
 
-    // Prints the value at a place of a text or reports its error. Returns the offset after the value;
-    // `None` if no value can be read.
+    // Prints the value at a place of a text or reports its error. Returns the offset after the
+    // value; `None` if no value can be read.
     fn handle_value<C: Change, K: Sink, E: Sink>(
         &mut self,
-        alloc: Global,
         place: StreamPlace<'_>,
         job: &Job<'_, C>,
         sink: &mut K,
@@ -207,20 +197,20 @@ impl Tally {
         ensures told { ReturnsWriteError (K.state sink.old) (K.state sink.new) result }
     {
         let whole = whole_part(place.name, place.text.as_bytes());
-        let (doc, next) = match read_value_at(alloc, place.text, place.offset) {
+        let (doc, next) = match read_value_at(self.alloc, place.text, place.offset) {
             Ok(read) => read,
-            Err(error) => match self.handle_fault(alloc, whole, error, errs) {
+            Err(error) => match self.handle_fault(whole, error, errs) {
                 Ok(()) => return Ok(None),
                 Err(error) => return Err(error),
             },
         };
-        let error = match print_changed(alloc, &doc, job, sink) {
+        let error = match print_changed(self.alloc, &doc, job, sink) {
             Ok(None) => return Ok(Some(next)),
             Ok(Some(error)) => DocumentError::Change(error),
             Err(error) => return Err(error),
         };
         let part = value_part(place);
-        match self.report_error(alloc, part, &error, job.change.part_name(), errs) {
+        match self.report_error(part, &error, job.change.part_name(), errs) {
             Ok(()) => Ok(Some(next)),
             Err(error) => Err(error),
         }
@@ -229,7 +219,6 @@ impl Tally {
     // Prints each value of a text or reports its error, up to where no value can be read.
     fn handle_text<C: Change, K: Sink, E: Sink>(
         &mut self,
-        alloc: Global,
         start: StreamPlace<'_>,
         job: &Job<'_, C>,
         sink: &mut K,
@@ -256,7 +245,7 @@ impl Tally {
                 offset,
                 number,
             };
-            match self.handle_value(alloc, place, job, sink, errs) {
+            match self.handle_value(place, job, sink, errs) {
                 Ok(Some(next)) => {
                     offset = next;
                     number += 1;
@@ -271,7 +260,6 @@ impl Tally {
     // Prints each value of a document or reports its error.
     fn handle_values<C: Change, K: Sink, E: Sink>(
         &mut self,
-        alloc: Global,
         whole: Part<'_>,
         job: &Job<'_, C>,
         sink: &mut K,
@@ -295,18 +283,15 @@ impl Tally {
                     offset: 0,
                     number: 0,
                 };
-                self.handle_text(alloc, start, job, sink, errs)
+                self.handle_text(start, job, sink, errs)
             }
-            Err(error) => {
-                self.report_error(alloc, whole, &DocumentError::Input(error), "", errs)
-            }
+            Err(error) => self.report_error(whole, &DocumentError::Input(error), "", errs),
         }
     }
 
     // Prints what the bytes of a document have or reports their errors.
     fn handle_bytes<C: Change, K: Sink, E: Sink>(
         &mut self,
-        alloc: Global,
         whole: Part<'_>,
         job: &Job<'_, C>,
         sink: &mut K,
@@ -325,16 +310,15 @@ impl Tally {
         ensures told { ReturnsWriteError (K.state sink.old) (K.state sink.new) result }
     {
         match job.input {
-            InputForm::One => self.handle_part(alloc, whole, job, sink, errs),
-            InputForm::Lines => self.handle_lines(alloc, whole, job, sink, errs),
-            InputForm::Stream => self.handle_values(alloc, whole, job, sink, errs),
+            InputForm::One => self.handle_part(whole, job, sink, errs),
+            InputForm::Lines => self.handle_lines(whole, job, sink, errs),
+            InputForm::Stream => self.handle_values(whole, job, sink, errs),
         }
     }
 
     // Prints what a document has or reports its errors.
     fn handle_document<C: Change, K: Sink, E: Sink>(
         &mut self,
-        alloc: Global,
         document: &Document,
         job: &Job<'_, C>,
         sink: &mut K,
@@ -350,15 +334,14 @@ impl Tally {
     {
         let name = document.name.as_str();
         match &document.bytes {
-            Some(bytes) => self.handle_bytes(alloc, whole_part(name, bytes), job, sink, errs),
-            None => self.report_error(alloc, whole_part(name, b""), &READING_FAILED, "", errs),
+            Some(bytes) => self.handle_bytes(whole_part(name, bytes), job, sink, errs),
+            None => self.report_error(whole_part(name, b""), &READING_FAILED, "", errs),
         }
     }
 }
 
 // Prints each document or reports its error.
 fn print_each<C: Change, K: Sink, E: Sink>(
-    alloc: Global,
     documents: &[Document],
     job: &Job<'_, C>,
     sink: &mut K,
@@ -374,7 +357,7 @@ fn print_each<C: Change, K: Sink, E: Sink>(
     ensures told { ReturnsWriteError (K.state sink.old) (K.state sink.new) result }
 {
     for document in documents {
-        match tally.handle_document(alloc, document, job, sink, errs) {
+        match tally.handle_document(document, job, sink, errs) {
             Ok(()) => {}
             Err(error) => return Err(error),
         }
@@ -431,10 +414,11 @@ pub fn print_documents<C: Change, K: Sink, E: Sink>(
     ensures write_told { ReturnsWriteStatus (K.state sink.old) (K.state sink.new) result }
 {
     let mut tally = Tally {
+        alloc,
         status: 0,
         muted: false,
     };
-    match print_each(alloc, documents, job, sink, errs, &mut tally) {
+    match print_each(documents, job, sink, errs, &mut tally) {
         Ok(()) => tally.status,
         Err(error) => {
             report_unless_muted(errs, tally.muted, &error);

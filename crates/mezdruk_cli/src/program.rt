@@ -40,23 +40,6 @@ impl Program {
             Program::History => ABOUT_HISTORY,
         }
     }
-
-    // Runs the program on these arguments, and returns its status.
-    fn run<S: Source, K: Sink, E: Sink>(
-        self,
-        alloc: Global,
-        arguments: &Words,
-        source: &mut S,
-        sink: &mut K,
-        errs: &mut E,
-    ) -> u8 {
-        match self {
-            Program::Reshape => reshape::run(alloc, arguments, source, sink, errs),
-            Program::Lines => run_lines(alloc, arguments, source, sink, errs),
-            Program::Rpc => run_rpc(alloc, arguments, source, sink, errs),
-            Program::History => run_history(alloc, arguments, source, sink, errs),
-        }
-    }
 }
 
 // Copies the arguments after the first.
@@ -96,7 +79,12 @@ pub fn run_named<S: Source, K: Sink, E: Sink>(
     if let Some(status) = about.say_asked(&arguments, sink) {
         return Some(status.number());
     }
-    let status = program.run(alloc, &arguments, source, sink, errs);
+    let status = match program {
+        Program::Reshape => reshape::run(alloc, &arguments, source, sink, errs),
+        Program::Lines => run_lines(alloc, &arguments, source, sink, errs),
+        Program::Rpc => run_rpc(alloc, &arguments, source, sink, errs),
+        Program::History => run_history(alloc, &arguments, source, sink, errs),
+    };
     about.add_hint(status, errs);
     Some(status)
 }
