@@ -15,4 +15,6 @@ mod lanes;
 mod runs;
 
 pub use lanes::{BLOCK, digits_in_block};
-pub use runs::{byte_is, digit_is, digit_run, few_digits_run, plain_run, ws_end, ws_run};
+pub use runs::{
+    byte_is, digit_is, digit_run, few_digits_run, plain_run, short_digit_run, ws_end, ws_run,
+};

@@ -1,5 +1,5 @@
 // Runs of bytes of one kind.
-ghost use Rattle.std.specs.Prelude.{◌<◌, ◌≤◌, ◌↔◌, length, get_or, IsTrue};
+ghost use Rattle.std.specs.Prelude.{◌+◌, ◌<◌, ◌≤◌, ◌↔◌, length, get_or, IsTrue, IfSome};
 ghost use Rattle.json_grammar.specs.Grammar.{IsWhitespace, ws, IsDigit, digits};
 ghost use Rattle.json_scan.specs.Runs.{IsPlain, plain, ByteAt, EndsAt, RunEndsAt};
 
@@ -49,10 +49,10 @@ fn ws_end_by_blocks(bytes: &[u8], from: usize) -> usize
     let mut at = from;
     'scan: while bytes.len() - at >= BLOCK {
         let count = space_in_block(bytes, at);
-        at += count;
         if count < BLOCK {
-            return at;
+            return at + count;
         }
+        at += BLOCK;
     }
     ws_end_of_few(bytes, at)
 }
@@ -135,10 +135,10 @@ fn plain_end_by_blocks(bytes: &[u8], from: usize) -> usize
     let mut at = from;
     'scan: while bytes.len() - at >= BLOCK {
         let count = plain_in_block(bytes, at);
-        at += count;
         if count < BLOCK {
-            return at;
+            return at + count;
         }
+        at += BLOCK;
     }
     plain_end_by_half(bytes, at)
 }
@@ -191,10 +191,10 @@ fn digits_end_by_blocks(bytes: &[u8], from: usize) -> usize
     let mut at = from;
     'scan: while bytes.len() - at >= BLOCK {
         let count = digits_in_block(bytes, at);
-        at += count;
         if count < BLOCK {
-            return at;
+            return at + count;
         }
+        at += BLOCK;
     }
     digits_end_of_few(bytes, at)
 }
@@ -222,6 +222,22 @@ pub fn digit_run(bytes: &[u8], from: usize) -> usize
     ensures ends { RunEndsAt IsDigit digits bytes.now from result }
 {
     digits_end(bytes, from)
+}
+
+/// Returns what `digit_run` returns, by one block of 16 bytes, which may go beyond the digits:
+/// `None` where all of them are digits.
+#[inline(always)]
+pub fn short_digit_run(bytes: &[u8], from: usize) -> Option<usize>
+    requires { from + 16 ≤ length bytes.now }
+    ensures ends { IfSome result (λ e. RunEndsAt IsDigit digits bytes.now from e) }
+    ensures few { IfSome result (λ e. e < from + 16) }
+{
+    let count = digits_in_block(bytes, from);
+    if count < BLOCK {
+        Some(from + count)
+    } else {
+        None
+    }
 }
 
 /// Returns what `digit_run` returns, one byte after another: for the few digits of an integer.

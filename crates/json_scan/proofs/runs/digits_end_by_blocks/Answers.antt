@@ -10,8 +10,8 @@ returns-then-count-lt-BLOCK c =
 pub scan-preserved : goal.scan-preserved
 scan-preserved c = record {
   order = omega arith;
-  within = omega (arith, c.digits_in_block-count.ensures.few);
-  each = each_more IsDigit c.args.bytes.now c.args.from c.scan.at 16 c.digits_in_block-count.result c.scan.invariant.each c.digits_in_block-count.ensures;
+  within = omega arith;
+  each = λ k l m. each_more IsDigit c.args.bytes.now c.args.from c.scan.at 16 c.digits_in_block-count.result c.scan.invariant.each c.digits_in_block-count.ensures k l (omega (arith, c.digits_in_block-count.ensures.few));
 }
 
 pub returns : goal.returns
