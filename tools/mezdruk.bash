@@ -51,7 +51,7 @@ _mezdruk() {
     if ((COMP_CWORD == 1)); then
         words="$programs $_mezdruk_commands --help --version${script:+ --build}"
     elif [[ $script && $first == --build ]]; then
-        words="$programs mezdruk"
+        words="$programs mezdruk all"
     elif [[ " $programs " == *" $first "* ]]; then
         COMP_WORDS=("${COMP_WORDS[@]:1}")
         ((COMP_CWORD -= 1))
