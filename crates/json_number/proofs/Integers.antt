@@ -24,7 +24,7 @@ pub plain_is : (x : ℕ) (b : List ℕ) → x ≢ 45 → integer_in (x ∷ b) �
 unfolding integer_in
 plain_is x b h = rw (ne_eqb x 45 h) refl
 
-empty_is : integer_in [] ≡ None
+pub empty_is : integer_in [] ≡ None
 unfolding integer_in
 empty_is = refl
 
@@ -76,7 +76,7 @@ plain_spells x b n h = by (cases_Bool (all_ascii_digits (x ∷ b))) (cases_lt (d
     by (inl d) (inr k) e = let f : None ≡ Some n = sym (rw (d, le-ltb _ _ k) refl) ∙ e in cc
     by (inr d) k e = let f : None ≡ Some n = sym (rw d refl) ∙ e in cc
 
-below_zero_some : (v : ℕ) (n : ℤ) → below_zero v ≡ Some n → (0 < v) × (v ≤ 2 ^ 63) × (neg_ℤ (pos v) ≡ n)
+pub below_zero_some : (v : ℕ) (n : ℤ) → below_zero v ≡ Some n → (0 < v) × (v ≤ 2 ^ 63) × (neg_ℤ (pos v) ≡ n)
 below_zero_some v n e = by (cases_lt 0 v) (cases_lt (2 ^ 63) v)
   where
     by : (0 < v) ⊎ (v ≤ 0) → (2 ^ 63 < v) ⊎ (v ≤ 2 ^ 63) → (0 < v) × (v ≤ 2 ^ 63) × (neg_ℤ (pos v) ≡ n)

@@ -4,3 +4,5 @@ pub mod Integers
 pub mod LiteralDigits
 pub mod ShortDigits
 pub mod Widths
+pub mod Floats
+pub mod Doubles

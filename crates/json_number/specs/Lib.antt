@@ -6,3 +6,4 @@ pub mod Tests
 pub mod Literals
 pub mod Errors
 pub mod Laws
+pub mod Floats

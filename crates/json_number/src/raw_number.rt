@@ -1,5 +1,7 @@
 // Numbers by their literals.
-ghost use Rattle.std.specs.Prelude.{◌≡◌, ◌⊎◌, ◌==◌, true, string_bytes, option_map, IfOk, IfErr, OnOk};
+ghost use Rattle.std.specs.Prelude.{◌≡◌, ◌⊎◌, ◌==◌, true, Some, is_some, string_bytes, option_map, IfOk, IfErr, IfSome, OnOk};
+ghost use Rattle.std.specs.Float.{binary32, binary64, float_is_finite};
+ghost use Rattle.std.specs.Float.Parse.{parse_float};
 ghost use Rattle.std.specs.Cmp.Lexicographic.{pointwise};
 ghost use Rattle.std.specs.Cmp.Rules.{comparing};
 ghost use Rattle.std.specs.Ordering.{on};
@@ -7,12 +9,15 @@ ghost use Rattle.std.proofs.Common.{rules};
 ghost use Rattle.json_grammar.specs.Grammar.{number};
 ghost use Rattle.json_io.specs.Errors.{no_memory, OnlyNoMemory};
 ghost use Rattle.json_number.specs.Errors.{invalid_number};
+ghost use Rattle.json_number.specs.Floats.{float_in, if_finite, nearest_float};
 ghost use Rattle.json_number.specs.Integers.{integer_in};
 ghost use Rattle.json_number.specs.Tests.{is_number};
 
+use crate::float::f32_of;
 use crate::integer::integer_by_call;
 use crate::number::Number;
 use json_text::{Error, ErrorCode, Place, Result, is_number};
+use ryu::Buffer;
 use std::alloc::Global;
 
 /// A number as the literal that spells it (RFC 8259, section 6), of any size and precision. Equal
@@ -71,6 +76,60 @@ impl RawNumber {
         })
     }
 
+    /// Returns the number that the double is, as a literal whose nearest double it is, also -0:
+    /// `None` for a NaN and an infinity. `NoMemory` comes where memory runs out.
+    ///
+    /// ```
+    /// use json_number::RawNumber;
+    /// let tenth = RawNumber::from_f64(alloc, 0.1)?.ok_or("0.1 is finite")?;
+    /// assert_eq!(rt; tenth.as_str(), "0.1");
+    /// assert!(rt; RawNumber::from_f64(alloc, f64::NAN)?.is_none());
+    /// ```
+    pub fn from_f64(alloc: Global, double: f64) -> Result<Option<RawNumber>>
+        ensures finite { IfOk result (λ o. is_some o ≡ float_is_finite double) }
+        ensures number { IfOk result (λ o. IfSome o (λ r. number (raw_literal r))) }
+        ensures parses { IfOk result (λ o. IfSome o (λ r.
+            parse_float binary64 (raw_literal r) ≡ Some double)) }
+        ensures nearest { IfOk result (λ o. IfSome o (λ r. (n : number (raw_literal r))
+            → nearest_float binary64 (raw_literal r) n ≡ double)) }
+        ensures reads_back { IfOk result (λ o. IfSome o (λ r.
+            float_in binary64 (raw_literal r) ≡ Some double)) }
+        ensures err { OnlyNoMemory result }
+    {
+        if !double.is_finite() {
+            return Ok(None);
+        }
+        let mut buffer = Buffer::new();
+        Ok(Some(RawNumber::from_literal(alloc, buffer.format_finite(double))?))
+    }
+
+    /// Returns the number that the `f32` is, as a literal whose nearest `f32` it is, also -0: `None`
+    /// for a NaN and an infinity. `NoMemory` comes where memory runs out.
+    ///
+    /// ```
+    /// use json_number::RawNumber;
+    /// let tenth = RawNumber::from_f32(alloc, 0.1)?.ok_or("0.1 is finite")?;
+    /// assert_eq!(rt; tenth.as_str(), "0.1");
+    /// assert_eq!(rt; tenth.as_f32(), Some(0.1));
+    /// ```
+    pub fn from_f32(alloc: Global, single: f32) -> Result<Option<RawNumber>>
+        ensures finite { IfOk result (λ o. is_some o ≡ float_is_finite single) }
+        ensures number { IfOk result (λ o. IfSome o (λ r. number (raw_literal r))) }
+        ensures parses { IfOk result (λ o. IfSome o (λ r.
+            parse_float binary32 (raw_literal r) ≡ Some single)) }
+        ensures nearest { IfOk result (λ o. IfSome o (λ r. (n : number (raw_literal r))
+            → nearest_float binary32 (raw_literal r) n ≡ single)) }
+        ensures reads_back { IfOk result (λ o. IfSome o (λ r.
+            float_in binary32 (raw_literal r) ≡ Some single)) }
+        ensures err { OnlyNoMemory result }
+    {
+        if !single.is_finite() {
+            return Ok(None);
+        }
+        let mut buffer = Buffer::new();
+        Ok(Some(RawNumber::from_literal(alloc, buffer.format_finite(single))?))
+    }
+
     /// The literal.
     pub fn as_str(&self) -> &str
         ensures text { result.now ≡ raw_literal self.now }
@@ -92,6 +151,21 @@ impl RawNumber {
         ensures { option_map value_of result ≡ integer_in (raw_literal self.now) }
     {
         integer_by_call(self.as_str())
+    }
+
+    /// Returns the `f32` nearest to the number, of two that are equally near the even one, where
+    /// that is finite. It is rounded once, and not by way of an `f64`.
+    ///
+    /// ```
+    /// use json_number::RawNumber;
+    /// assert_eq!(rt; RawNumber::new(alloc, "12.10")?.as_f32(), Some(12.1));
+    /// ```
+    pub fn as_f32(&self) -> Option<f32>
+        ensures single { result ≡ float_in binary32 (raw_literal self.now) }
+        ensures nearest { (n : number (raw_literal self.now))
+            → result ≡ if_finite (nearest_float binary32 (raw_literal self.now) n) }
+    {
+        f32_of(self.as_str())
     }
 
     /// Another number of the same literal. `NoMemory` comes where memory runs out.
