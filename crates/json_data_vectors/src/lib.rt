@@ -1,14 +1,26 @@
-//! Tests alone: worked examples of typed reading, and a program's own types that are read. They
-//! stand here and not in `json_data`, since a library with tests is proved twice.
+//! Tests alone: worked examples of data that are read, explained and written, of the values of a
+//! stream, and of derived structs. They stand here and not in the crates that they test, since a
+//! library with tests is proved twice.
 #![tactic(auto)]
 
-pub mod damage;
-pub mod nested;
-pub mod person;
+#[cfg(test)]
+mod config;
+#[cfg(test)]
+mod derived;
+#[cfg(test)]
+mod explained;
+#[cfg(test)]
+mod kept;
+#[cfg(test)]
+mod keys;
+#[cfg(test)]
+mod looks;
 #[cfg(test)]
 mod rows;
 #[cfg(test)]
 mod streams;
+#[cfg(test)]
+mod texts;
 #[cfg(test)]
 mod trees;
 #[cfg(test)]

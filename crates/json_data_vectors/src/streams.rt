@@ -1,61 +1,73 @@
 // Values of one input, one after another.
 ghost use Rattle.std.specs.Prelude.{◌<◌, ◌^◌, length};
 
+use crate::looks::{Refused, Row, each_holds, holds, is_refused};
 use json_data::IgnoredAny;
 use json_stream::Deserializer;
 use json_text::{Error, ErrorCode, Place, Repaired, Result, repair};
 use std::alloc::Global;
 
-// Why it is refused, and at which offset, if so.
-fn told<T: Drop>(outcome: Result<T>) -> Option<(ErrorCode, Option<usize>)> {
-    match outcome {
-        Ok(_) => None,
-        Err(error) => Some((error.code, error.offset())),
-    }
-}
-
-fn is_refused<T: Drop>(outcome: Result<T>, code: ErrorCode, offset: usize) -> bool {
-    told(outcome) == Some((code, Some(offset)))
-}
-
 // How many values come, what is refused then, and whether nothing comes after that.
-fn drained(alloc: Global, text: &str) -> (usize, Option<(ErrorCode, Option<usize>)>, bool)
+fn drained(alloc: Global, text: &str) -> (usize, Refused, bool)
     requires { length text.now < 2 ^ 32 }
 {
     let mut values = Deserializer::from_str(text).into_stream::<IgnoredAny>();
     for count in 0..text.len() {
-        if let Some(refused) = values.next(alloc).and_then(told) {
-            return (count, Some(refused), values.next(alloc).is_none());
+        match values.next(alloc) {
+            Some(Ok(_)) => {}
+            Some(Err(error)) => {
+                let refused = Some((error.code, error.offset()));
+                return (count, refused, values.next(alloc).is_none());
+            }
+            None => return (count, None, false),
         }
     }
     (text.len(), None, false)
 }
 
-// The first text that holds others.
-fn wrong_stream(alloc: Global) -> Option<&'static str> {
-    let table = [
-        (
-            "{\"a\": 123, \"b\": \"foo\"} true [1, 2, 3] wrong chars",
-            3,
-            ErrorCode::InvalidJsonValue,
-            38,
-        ),
-        (" 1 ", 1, ErrorCode::EofWhileParsing, 3),
-        ("01", 0, ErrorCode::InvalidNumber, 1),
-    ];
-    for (text, count, code, offset) in table {
-        let want = (count, Some((code, Some(offset))), true);
-        if text.len() >= 100 || drained(alloc, text) != want {
-            return Some(text);
-        }
-    }
-    None
+// A text, how many values come of it, and what is refused then.
+struct Stream {
+    json: &'static str,
+    count: usize,
+    code: ErrorCode,
+    offset: usize,
 }
+
+impl Row for Stream {
+    fn text(&self) -> &'static str {
+        self.json
+    }
+
+    fn holds(&self, alloc: Global) -> bool {
+        let refused = Some((self.code, Some(self.offset)));
+        self.json.len() < 100 && drained(alloc, self.json) == (self.count, refused, true)
+    }
+}
+
+const STREAMS: &[Stream] = &[
+    Stream {
+        json: "{\"a\": 123, \"b\": \"foo\"} true [1, 2, 3] wrong chars",
+        count: 3,
+        code: ErrorCode::InvalidJsonValue,
+        offset: 38,
+    },
+    Stream {
+        json: " 1 ",
+        count: 1,
+        code: ErrorCode::EofWhileParsing,
+        offset: 3,
+    },
+    Stream {
+        json: "01",
+        count: 0,
+        code: ErrorCode::InvalidNumber,
+        offset: 1,
+    },
+];
 
 #[test]
 fn values_up_to_the_first_that_is_damaged(rt: HostRuntime) {
-    let wrong = wrong_stream(rt.alloc());
-    assert!(rt; wrong.is_none(), "{wrong:?}");
+    each_holds(&rt, rt.alloc(), STREAMS);
 }
 
 // Whether what follows the first value is refused, at its place.
@@ -131,27 +143,28 @@ fn repaired_is_read(alloc: Global, repaired: &Repaired) -> bool {
 }
 
 fn repaired_string_is_read(alloc: Global) -> Result<bool> {
-    let repaired = repair(alloc, b"\"\xff\"")?;
-    Ok(repaired_is_read(alloc, &repaired))
+    Ok(repaired_is_read(alloc, &repair(alloc, b"\"\xff\"")?))
 }
 
 // What is refused of a repaired text.
-fn refusal(alloc: Global, repaired: &Repaired) -> Option<Error> {
+fn error_of(alloc: Global, repaired: &Repaired) -> Option<Error> {
     if repaired.as_str().len() >= 100 {
         return None;
     }
     let mut input = Deserializer::from_repaired(repaired);
-    input.deserialize::<IgnoredAny>(alloc).err()
+    match input.deserialize::<IgnoredAny>(alloc) {
+        Ok(_) => None,
+        Err(error) => Some(error),
+    }
 }
 
-fn refusal_in_list(alloc: Global) -> Result<Option<Error>> {
-    let damaged = repair(alloc, b"[1,\n\"\xff\", x]")?;
-    Ok(refusal(alloc, &damaged))
+fn error_in_list(alloc: Global) -> Result<Option<Error>> {
+    Ok(error_of(alloc, &repair(alloc, b"[1,\n\"\xff\", x]")?))
 }
 
 #[test]
 fn repaired_texts_told_by_their_input(rt: HostRuntime) {
-    assert!(rt; matches!(repaired_string_is_read(rt.alloc()), Ok(true)));
+    assert!(rt; holds(repaired_string_is_read(rt.alloc())));
     let place = Place::At {
         offset: 9,
         line: 2,
@@ -161,5 +174,5 @@ fn repaired_texts_told_by_their_input(rt: HostRuntime) {
         code: ErrorCode::InvalidJsonValue,
         place,
     };
-    assert!(rt; refusal_in_list(rt.alloc()) == Ok(Some(want)));
+    assert!(rt; error_in_list(rt.alloc()) == Ok(Some(want)));
 }

@@ -1,44 +1,34 @@
 // Values, arrays, objects, paths and edits of texts.
-use json_data::from_str;
+use crate::looks::{Row, code_of, each_holds, holds, read};
 use json_fixtures::shows;
 use json_text::{ErrorCode, Result};
 use json_value::{Array, Edit, Object, Path, Value};
 use std::alloc::Global;
 
-fn has_place(value: &Value) -> bool {
-    value.place().is_some()
-}
-
-fn is_shown(alloc: Global, value: Value, json: &str) -> Result<bool> {
-    shows(alloc, &value, json)
-}
-
 // Whether the value of a text is a place of a document, and has this compact text.
 fn place(alloc: Global, text: &str, json: &str) -> Result<bool> {
-    let value = from_str::<Value>(alloc, text)?;
-    let stands = has_place(&value);
-    Ok(is_shown(alloc, value, json)? && stands)
+    let value = read::<Value>(alloc, text)?;
+    Ok(shows(alloc, &value, json)? && value.place().is_some())
 }
 
 // Whether the array of a text has this compact text.
 fn array(alloc: Global, text: &str, json: &str) -> Result<bool> {
-    is_shown(alloc, from_str::<Array>(alloc, text)?.into_value(), json)
+    shows(alloc, &read::<Array>(alloc, text)?.into_value(), json)
 }
 
 // The same of an object.
 fn object(alloc: Global, text: &str, json: &str) -> Result<bool> {
-    is_shown(alloc, from_str::<Object>(alloc, text)?.into_value(), json)
+    shows(alloc, &read::<Object>(alloc, text)?.into_value(), json)
 }
 
 // How many steps there are.
 fn steps(alloc: Global, text: &str) -> Result<usize> {
-    let path = from_str::<Path>(alloc, text)?;
-    Ok(path.steps().len())
+    Ok(read::<Path>(alloc, text)?.steps().len())
 }
 
 // Whether there is an edit of each form, in this order.
-fn is_each_form(edits: Vec<Edit>) -> bool {
-    match edits.as_slice() {
+fn is_each_form(edits: &[Edit]) -> bool {
+    match edits {
         [set, insert, push, remove] => {
             matches!(set, Edit::Set { .. })
                 && matches!(insert, Edit::Insert { .. })
@@ -50,54 +40,72 @@ fn is_each_form(edits: Vec<Edit>) -> bool {
 }
 
 fn forms(alloc: Global, text: &str) -> Result<bool> {
-    Ok(is_each_form(from_str::<Vec<Edit>>(alloc, text)?))
+    Ok(is_each_form(read::<Vec<Edit>>(alloc, text)?.as_slice()))
 }
 
 fn is_unmatched(outcome: Result<bool>) -> bool {
-    match outcome {
-        Ok(_) => false,
-        Err(error) => error.code == ErrorCode::TypeUnmatched,
-    }
+    code_of(outcome) == Some(ErrorCode::TypeUnmatched)
 }
 
 #[test]
 fn trees_are_kept_whole(rt: HostRuntime) {
     let alloc = rt.alloc();
-    assert!(rt; matches!(array(alloc, " [1] ", "[1]"), Ok(true)));
+    assert!(rt; holds(array(alloc, " [1] ", "[1]")));
     let twice = "{\"a\":1,\"a\":[2.50,\"\\n\"]}";
-    assert!(rt; matches!(object(alloc, twice, twice), Ok(true)));
-    assert!(rt; matches!(place(alloc, twice, twice), Ok(true)));
+    assert!(rt; holds(object(alloc, twice, twice)));
+    assert!(rt; holds(place(alloc, twice, twice)));
     assert!(rt; matches!(steps(alloc, "[\"a\",0]"), Ok(2)));
     assert!(rt; is_unmatched(array(alloc, "{}", "{}")));
 }
 
-// The first of these texts that is read as edits, or refused for another reason.
-fn wrong_word(alloc: Global) -> Option<&'static str> {
-    let others = [
-        "{}",
-        "[[\"set\",[]]]",
-        "[[\"set\",[],1,2]]",
-        "[[\"set\",[1.5],0]]",
-        "[[\"push\",\"a\",1]]",
-        "[[\"remove\",[],-1]]",
-        "[[\"remove\",[],4294967296]]",
-        "[[\"insert\",[],1,2]]",
-        "[[\"move\",[],1]]",
-        "[[]]",
-    ];
-    for text in others {
-        if !is_unmatched(forms(alloc, text)) {
-            return Some(text);
-        }
-    }
-    None
+// A word that is no edits.
+struct Other {
+    word: &'static str,
 }
+
+impl Row for Other {
+    fn text(&self) -> &'static str {
+        self.word
+    }
+
+    fn holds(&self, alloc: Global) -> bool {
+        is_unmatched(forms(alloc, self.word))
+    }
+}
+
+const OTHERS: &[Other] = &[
+    Other { word: "{}" },
+    Other {
+        word: "[[\"set\",[]]]",
+    },
+    Other {
+        word: "[[\"set\",[],1,2]]",
+    },
+    Other {
+        word: "[[\"set\",[1.5],0]]",
+    },
+    Other {
+        word: "[[\"push\",\"a\",1]]",
+    },
+    Other {
+        word: "[[\"remove\",[],-1]]",
+    },
+    Other {
+        word: "[[\"remove\",[],4294967296]]",
+    },
+    Other {
+        word: "[[\"insert\",[],1,2]]",
+    },
+    Other {
+        word: "[[\"move\",[],1]]",
+    },
+    Other { word: "[[]]" },
+];
 
 #[test]
 fn an_edits_word_in_each_form(rt: HostRuntime) {
     let word =
         "[[\"set\",[\"a\",0],1],[\"insert\",[],\"k\",{}],[\"push\",[],[2]],[\"remove\",[],\"b\"]]";
-    assert!(rt; matches!(forms(rt.alloc(), word), Ok(true)));
-    let wrong = wrong_word(rt.alloc());
-    assert!(rt; wrong.is_none(), "{wrong:?}");
+    assert!(rt; holds(forms(rt.alloc(), word)));
+    each_holds(&rt, rt.alloc(), OTHERS);
 }

@@ -1,13 +1,20 @@
-//! What tests of values read, and how they look at it. No clause says what is made here: tests
-//! compare it with what they expect.
+//! What tests of values read, and how they look at it; and [`callers`], to copy from. No clause
+//! says what is made here: tests compare it with what they expect. A test is a list of rows, each
+//! with what it shows and whether that is so. It is proved fastest where a row is one call that
+//! answers yes or no, and no more is done where something is owned.
 //!
 //! ```
-//! use json_fixtures::becomes;
+//! use json_fixtures::{becomes, first_wrong};
 //! use json_value::Value;
-//! let done = becomes(alloc, "[1]", |value, alloc| value.append_value(alloc, Value::new_null()).map(|_| true), "[1,null]")?;
-//! assert!(rt; done);
+//! fn take(value: &mut Value, alloc: Global) -> bool {
+//!     value.take().to_string(alloc).is_ok()
+//! }
+//! let rows = [("null is left", becomes(alloc, "[1]", take, "null"))];
+//! assert_eq!(rt; first_wrong(&rows), None);
 //! ```
 #![tactic(auto)]
+
+pub mod callers;
 
 use json_doc::{Doc, read_document};
 use json_text::{Error, ErrorCode, Place, Result};
@@ -39,33 +46,97 @@ pub fn value_of(alloc: Global, json: &str) -> Result<Value> {
     whole(alloc, &doc)
 }
 
-/// Returns the value of a whole document after a change, and what the change returns. Fails if the
-/// text is none, as the change does, or if memory runs out.
-pub fn changed<F: FnOnce(&mut Value, Global) -> Result<bool>>(
-    alloc: Global,
-    doc: &Rc<Doc>,
-    change: F,
-) -> Result<(Value, bool)>
-    requires { F.IsAlwaysCallable change }
-{
-    let mut value = whole(alloc, doc)?;
-    let answer = change(&mut value, alloc)?;
-    Ok((value, answer))
+/// What the first row shows of which that is not so, if there is one.
+pub fn first_wrong(rows: &[(&'static str, bool)]) -> Option<&'static str> {
+    for (shown, right) in rows {
+        if !*right {
+            return Some(*shown);
+        }
+    }
+    None
 }
 
-/// Returns whether the change returns that it was done, and the value of the text then has this
-/// compact text. Fails if the text is none, as the change does, or if memory runs out.
-pub fn becomes<F: FnOnce(&mut Value, Global) -> Result<bool>>(
+/// Whether a text has a document, and that is as it should be.
+pub fn is_document(alloc: Global, json: &str, is_right: fn(&Rc<Doc>, Global) -> bool) -> bool
+    requires { IsAlwaysCallable is_right }
+{
+    match read(alloc, json) {
+        Ok(doc) => is_right(&doc, alloc),
+        Err(_) => false,
+    }
+}
+
+/// Whether a value is as it should be.
+pub fn is_so(alloc: Global, value: Value, is_right: fn(&Value, Global) -> bool) -> bool
+    requires { IsAlwaysCallable is_right }
+{
+    is_right(&value, alloc)
+}
+
+/// Whether a value was made, and is as it should be.
+pub fn is_made_so(alloc: Global, made: Result<Value>, is_right: fn(&Value, Global) -> bool) -> bool
+    requires { IsAlwaysCallable is_right }
+{
+    match made {
+        Ok(value) => is_right(&value, alloc),
+        Err(_) => false,
+    }
+}
+
+/// Whether a text has a value, and that is as it should be.
+pub fn is_value(alloc: Global, json: &str, is_right: fn(&Value, Global) -> bool) -> bool
+    requires { IsAlwaysCallable is_right }
+{
+    is_made_so(alloc, value_of(alloc, json), is_right)
+}
+
+/// Whether a value was made, and the change answers that it was done.
+pub fn is_done(alloc: Global, made: Result<Value>, change: fn(&mut Value, Global) -> bool) -> bool
+    requires { IsAlwaysCallable change }
+{
+    match made {
+        Ok(mut value) => change(&mut value, alloc),
+        Err(_) => false,
+    }
+}
+
+/// Whether the text has a value, the change answers that it was done, and the value then has this
+/// compact text.
+pub fn becomes(
     alloc: Global,
     json: &str,
-    change: F,
+    change: fn(&mut Value, Global) -> bool,
     then: &str,
-) -> Result<bool>
-    requires { F.IsAlwaysCallable change }
+) -> bool
+    requires { IsAlwaysCallable change }
 {
-    let doc = read(alloc, json)?;
-    let (value, done) = changed(alloc, &doc, change)?;
-    Ok(done && shows(alloc, &value, then)?)
+    match value_of(alloc, json) {
+        Ok(mut value) => change(&mut value, alloc) && is_shown(alloc, &value, then),
+        Err(_) => false,
+    }
+}
+
+/// Whether the compact text of a value is this one, and is made.
+pub fn is_shown(alloc: Global, value: &Value, json: &str) -> bool {
+    matches!(shows(alloc, value, json), Ok(true))
+}
+
+/// Whether the compact text of a value is this one, and is made; the value is dropped.
+pub fn was_shown(alloc: Global, value: Value, json: &str) -> bool {
+    is_shown(alloc, &value, json)
+}
+
+/// Whether a value was made, and its compact text is this one.
+pub fn is_made(alloc: Global, made: Result<Value>, json: &str) -> bool {
+    match made {
+        Ok(value) => was_shown(alloc, value, json),
+        Err(_) => false,
+    }
+}
+
+/// A value that was made; null if it was not.
+pub fn or_null(made: Result<Value>) -> Value {
+    made.unwrap_or(Value::new_null())
 }
 
 /// Whether the compact text of a value is this one. Fails with `NoMemory` if memory runs out.

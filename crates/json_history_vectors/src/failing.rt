@@ -1,8 +1,7 @@
 // Sources and sinks that fail.
-use json_history::run_history;
-use json_text::{FakeSink, FakeSource, Result, SliceSource, VecSink, Words};
+use crate::rows::status_of;
+use json_text::{FakeSink, FakeSource, Sink, SliceSource, Source, VecSink, Words};
 use std::alloc::Global;
-use std::test::Fail;
 
 const INPUT: &[u8] = b"[1, 2]";
 
@@ -10,51 +9,62 @@ const WORD: &str = r#"[["push",[],3],["undo"],["redo"]]"#;
 
 const OUTPUT: &[u8] = b"[1,2,3]";
 
-fn words(alloc: Global) -> Result<Words> {
+// The status of a run that appends a value, takes that back and does it again; 6 where memory runs
+// out.
+fn append<S: Source, K: Sink, E: Sink>(
+    alloc: Global,
+    source: &mut S,
+    sink: &mut K,
+    errs: &mut E,
+) -> u8 {
     let mut words = Words::new(alloc);
-    words.push(WORD)?;
-    Ok(words)
+    match words.push(WORD) {
+        Ok(()) => status_of(alloc, &words, source, sink, errs),
+        Err(_) => 6,
+    }
+}
+
+// Whether a run comes to what it has to, where this call of the source fails.
+fn fails_at_read(alloc: Global, call: u64) -> bool {
+    let failing = [call];
+    let mut source = FakeSource::new(INPUT, 1, &failing);
+    let (mut sink, mut errs) = (VecSink::new(alloc), VecSink::new(alloc));
+    let status = append(alloc, &mut source, &mut sink, &mut errs);
+    let (expected, output, told) = if call <= 6 {
+        (4, "".as_bytes(), "Io while reading\n")
+    } else {
+        (0, OUTPUT, "")
+    };
+    status == expected && sink.as_slice() == output && errs.as_slice() == told.as_bytes()
 }
 
 // The 6 bytes come by 6 calls, and the next tells the end.
 #[test]
-fn a_source_that_fails_at_each_call(rt: HostRuntime) -> std::result::Result<(), Fail> {
-    let alloc = rt.alloc();
-    let words = words(alloc)?;
+fn a_source_that_fails_at_each_call(rt: HostRuntime) {
     for call in 0..8 {
-        let failing = [call];
-        let mut source = FakeSource::new(INPUT, 1, &failing);
-        let (mut sink, mut errs) = (VecSink::new(alloc), VecSink::new(alloc));
-        let status = run_history(alloc, &words, &mut source, &mut sink, &mut errs);
-        let (expected, output, told) = if call <= 6 {
-            (4, "".as_bytes(), "Io while reading\n")
-        } else {
-            (0, OUTPUT, "")
-        };
-        assert_eq!(rt; status, expected, "at call {call}");
-        assert!(rt; sink.as_slice() == output && errs.as_slice() == told.as_bytes());
+        assert!(rt; fails_at_read(rt.alloc(), call), "at call {call}");
     }
-    Ok(())
+}
+
+// Whether a run comes to what it has to, where this call of the sink fails.
+fn fails_at_write(alloc: Global, call: u64) -> bool {
+    let failing = [call];
+    let mut source = SliceSource::new(INPUT);
+    let (mut sink, mut errs) = (FakeSink::new(alloc, 1, &failing), VecSink::new(alloc));
+    let status = append(alloc, &mut source, &mut sink, &mut errs);
+    let (expected, told) = if call <= 7 {
+        (5, "Io while writing\n")
+    } else {
+        (0, "")
+    };
+    let written = OUTPUT.starts_with(sink.as_slice());
+    status == expected && written && errs.as_slice() == told.as_bytes()
 }
 
 // The 7 bytes are taken by 7 calls, and the next is the flush.
 #[test]
-fn a_sink_that_fails_at_each_call(rt: HostRuntime) -> std::result::Result<(), Fail> {
-    let alloc = rt.alloc();
-    let words = words(alloc)?;
+fn a_sink_that_fails_at_each_call(rt: HostRuntime) {
     for call in 0..9 {
-        let failing = [call];
-        let mut source = SliceSource::new(INPUT);
-        let mut sink = FakeSink::new(alloc, 1, &failing);
-        let mut errs = VecSink::new(alloc);
-        let status = run_history(alloc, &words, &mut source, &mut sink, &mut errs);
-        let (expected, told) = if call <= 7 {
-            (5, "Io while writing\n")
-        } else {
-            (0, "")
-        };
-        assert_eq!(rt; status, expected, "at call {call}");
-        assert!(rt; OUTPUT.starts_with(sink.as_slice()) && errs.as_slice() == told.as_bytes());
+        assert!(rt; fails_at_write(rt.alloc(), call), "at call {call}");
     }
-    Ok(())
 }

@@ -1,7 +1,8 @@
 // Inputs and words with what `run_history` comes to.
 use json_command::rows::differing_rows;
 use json_history::run_history;
-use std::test::Fail;
+use json_text::{Result, Sink, Source, Words};
+use std::alloc::Global;
 
 // As `json_command::rows` reads them: the input, the status, the output, the error, and the words,
 // each closed by `|`.
@@ -30,14 +31,25 @@ const ROWS: &str = r#"# undo and redo
 %FF|1||InvalidUTF8 at offset 0, line 1 column 1|[["push",["k"],1]]|
 "#;
 
+/// The status of `run_history`. A caller's proof has none of the clauses to carry.
+pub(crate) fn status_of<S: Source, K: Sink, E: Sink>(
+    alloc: Global,
+    words: &Words,
+    source: &mut S,
+    sink: &mut K,
+    errs: &mut E,
+) -> u8 {
+    run_history(alloc, words, source, sink, errs)
+}
+
+// How many of these rows a run does not come to.
+fn differing(alloc: Global, rows: &str) -> Result<u32> {
+    differing_rows(alloc, rows, 4_096, |alloc, words, source, sink, errs| {
+        status_of(alloc, words, source, sink, errs)
+    })
+}
+
 #[test]
-fn the_rows_hold(rt: HostRuntime) -> Result<(), Fail> {
-    let differing = differing_rows(
-        rt.alloc(),
-        ROWS,
-        4_096,
-        |alloc, words, source, sink, errs| { run_history(alloc, words, source, sink, errs) },
-    )?;
-    assert_eq!(rt; differing, 0);
-    Ok(())
+fn the_rows_hold(rt: HostRuntime) {
+    assert!(rt; matches!(differing(rt.alloc(), ROWS), Ok(0)));
 }

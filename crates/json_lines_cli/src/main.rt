@@ -5,9 +5,6 @@
 //!     printf '{"a":1}\n{"a":2}\n' | mezdruk lines '[[["a"],"int"]]'
 #![tactic(auto)]
 
-#[cfg(test)]
-mod tests;
-
 use json_command::Console;
 use json_lines::run_lines;
 use json_programs::ABOUT_LINES;

@@ -1,10 +1,10 @@
 // Patches between values.
+use crate::calls::{Row, apply, is_value_of, row_of};
 use json_diff::diff;
-use json_fixtures::{read, shows, whole};
-use json_patch::apply_patch;
+use json_fixtures::{shows, value_of};
 use json_text::Result as TextResult;
+use json_value::Value;
 use std::alloc::Global;
-use std::test::Fail;
 
 // Two values, and the patch that leads from the one to the other (RFC 6902).
 const PATCHES: &str =
@@ -22,26 +22,45 @@ const PATCHES: &str =
 {"a": 1, "b": [2, null]} → {"b": [2, null], "a": 1} → []
 {"a": 1, "a": 2} → {"a": 1} → [{"op":"replace","path":"","value":{"a":1}}]"#;
 
-// Whether the patch between the values has this compact text, and makes the second of the first.
-fn is_patch(alloc: Global, from: &str, to: &str, want: &str) -> TextResult<bool> {
-    let (first, second) = (read(alloc, from)?, read(alloc, to)?);
-    let (mut value, to) = (whole(alloc, &first)?, whole(alloc, &second)?);
-    let patch = diff(alloc, &value, &to)?;
-    let few = match patch.view().as_array() {
-        Some(list) => list.len() < 4_294_967_296,
-        None => false,
-    };
-    let applied = few && apply_patch(alloc, &mut value, patch.view()).is_ok();
-    Ok(applied && value == to && shows(alloc, &patch, want)?)
+// Returns the patch from the value to that of the text.
+fn patch_to(alloc: Global, from: &Value, to: &str) -> TextResult<Value> {
+    let to = value_of(alloc, to)?;
+    diff(alloc, from, &to)
+}
+
+// Returns the patch between the values of two texts.
+fn patch_between(alloc: Global, from: &str, to: &str) -> TextResult<Value> {
+    let from = value_of(alloc, from)?;
+    patch_to(alloc, &from, to)
+}
+
+// Whether the patch makes the second value of the first.
+fn leads(alloc: Global, patch: &Value, from: &str, to: &str) -> TextResult<bool> {
+    let mut value = value_of(alloc, from)?;
+    if apply(alloc, &mut value, patch.view()).is_ok() {
+        is_value_of(alloc, &value, to)
+    } else {
+        Ok(false)
+    }
+}
+
+// Whether the patch has this compact text, and makes the second value of the first.
+fn is_right(alloc: Global, patch: &Value, row: Row<'_>) -> TextResult<bool> {
+    Ok(shows(alloc, patch, row.want)? && leads(alloc, patch, row.document, row.patch)?)
+}
+
+// Whether the patch between the first two values of a row is the third.
+fn is_patch(alloc: Global, row: Row<'_>) -> TextResult<bool> {
+    let patch = patch_between(alloc, row.document, row.patch)?;
+    is_right(alloc, &patch, row)
 }
 
 #[test]
-fn patches_between_values(rt: HostRuntime) -> Result<(), Fail> {
-    let alloc = rt.alloc();
-    for row in PATCHES.lines() {
-        let (from, rest) = row.split_once(" → ").unwrap_or((row, ""));
-        let (to, want) = rest.split_once(" → ").unwrap_or((rest, ""));
-        assert!(rt; is_patch(alloc, from, to, want)?, "{row}");
+fn patches_between_values(rt: HostRuntime) {
+    for line in PATCHES.lines() {
+        assert!(rt;
+            matches!(is_patch(rt.alloc(), row_of(line)), Ok(true)),
+            "{line}"
+        );
     }
-    Ok(())
 }

@@ -3,8 +3,7 @@ ghost use Rattle.std.specs.Prelude.{◌≡◌, ◌<◌, ◌^◌, length};
 ghost use Rattle.json_doc.specs.Readings.{elements};
 ghost use Rattle.json_value.specs.Seen.{seen};
 
-use json_doc::Doc;
-use json_fixtures::{read, shows, whole};
+use json_fixtures::{read, shows, value_of};
 use json_patch::{PatchCode, PatchError, Pointer, apply_merge, apply_patch};
 use json_text::Result as TextResult;
 use json_value::{Value, View};
@@ -94,15 +93,31 @@ const MERGES: &str = r#"{"a": "b"} → {"a": "c"} → {"a":"c"}
 {"a": 1, "b": 2, "a": 3} → {"a": null} → {"b":2}
 {"a": 1, "b": 2, "a": 3} → {"a": 4} → {"a":4,"b":2,"a":3}"#;
 
-// Returns the three fields of a row.
-fn fields(row: &str) -> (&str, &str, &str) {
-    let (document, rest) = row.split_once(" → ").unwrap_or((row, ""));
-    let (patch, want) = rest.split_once(" → ").unwrap_or((rest, ""));
-    (document, patch, want)
+// Returns the two parts of a row.
+pub(crate) fn parts(row: &str) -> (&str, &str) {
+    row.split_once(" → ").unwrap_or((row, ""))
+}
+
+// The three parts of a row.
+#[derive(Clone, Copy)]
+pub(crate) struct Row<'a> {
+    pub(crate) document: &'a str,
+    pub(crate) patch: &'a str,
+    pub(crate) want: &'a str,
+}
+
+pub(crate) fn row_of(line: &str) -> Row<'_> {
+    let (document, rest) = parts(line);
+    let (patch, want) = parts(rest);
+    Row {
+        document,
+        patch,
+        want,
+    }
 }
 
 // Applies a patch that has few enough operations.
-fn apply(alloc: Global, value: &mut Value, patch: View<'_>) -> Result<(), PatchError> {
+pub(crate) fn apply(alloc: Global, value: &mut Value, patch: View<'_>) -> Result<(), PatchError> {
     let few = match patch.as_array() {
         Some(list) => list.len() < 4_294_967_296,
         None => true,
@@ -117,28 +132,58 @@ fn apply(alloc: Global, value: &mut Value, patch: View<'_>) -> Result<(), PatchE
     }
 }
 
-// Whether the pointer of this text references a value with this compact text, and is spelled so
-// again.
-fn references(alloc: Global, document: &Doc, text: &str, want: &str) -> TextResult<bool> {
-    let Ok(pointer) = Pointer::parse(alloc, text) else {
-        return Ok(false);
-    };
-    let spelled = pointer.to_text(alloc)?;
-    match pointer.find(View::packed(document.view())) {
-        Some(found) => {
-            let value = found.to_value(alloc)?;
-            Ok(spelled.as_str() == text && shows(alloc, &value, want)?)
-        }
-        None => Ok(false),
+// Applies a merge patch.
+pub(crate) fn merge(alloc: Global, value: &mut Value, patch: View<'_>) -> bool {
+    apply_merge(alloc, value, patch).is_ok()
+}
+
+// Whether the pointer is spelled so, and references a value with this compact text.
+fn finds(
+    alloc: Global,
+    pointer: &Pointer,
+    document: View<'_>,
+    row: (&str, &str),
+) -> TextResult<bool> {
+    let spelled = pointer.to_text(alloc)?.as_str() == row.0;
+    match pointer.find(document) {
+        Some(found) if spelled => is_shown(alloc, found, row.1),
+        _ => Ok(false),
     }
 }
 
+// Whether the compact text of a view is this one.
+fn is_shown(alloc: Global, view: View<'_>, json: &str) -> TextResult<bool> {
+    let value = view.to_value(alloc)?;
+    shows(alloc, &value, json)
+}
+
+// Whether the pointer of this text references a value with this compact text, and is spelled so
+// again.
+fn references(alloc: Global, document: View<'_>, row: (&str, &str)) -> TextResult<bool> {
+    match Pointer::parse(alloc, row.0) {
+        Ok(pointer) => finds(alloc, &pointer, document, row),
+        Err(_) => Ok(false),
+    }
+}
+
+// The same in the document of RFC 6901.
+fn references_there(alloc: Global, text: &str, want: &str) -> TextResult<bool> {
+    let document = read(alloc, DOCUMENT)?;
+    references(alloc, View::packed(document.view()), (text, want))
+}
+
 // Whether the pointer of this text references nothing.
-fn references_nothing(alloc: Global, document: &Doc, text: &str) -> bool {
+fn references_nothing(alloc: Global, document: View<'_>, text: &str) -> bool {
     match Pointer::parse(alloc, text) {
-        Ok(pointer) => pointer.find(View::packed(document.view())).is_none(),
+        Ok(pointer) => pointer.find(document).is_none(),
         Err(_) => false,
     }
+}
+
+// The same in the document of RFC 6901.
+fn references_nothing_there(alloc: Global, text: &str) -> TextResult<bool> {
+    let document = read(alloc, DOCUMENT)?;
+    Ok(references_nothing(alloc, View::packed(document.view()), text))
 }
 
 // Whether this text is refused as no pointer.
@@ -149,78 +194,123 @@ fn is_no_pointer(alloc: Global, text: &str) -> bool {
     }
 }
 
-// Whether the patch makes a value with this compact text of the document.
-fn makes(alloc: Global, document: &str, patch: &str, want: &str) -> TextResult<bool> {
-    let (document, patch) = (read(alloc, document)?, read(alloc, patch)?);
-    let mut value = whole(alloc, &document)?;
-    let applied = apply(alloc, &mut value, View::packed(patch.view()));
-    Ok(applied.is_ok() && shows(alloc, &value, want)?)
+// What a patch of the document is, and what is wanted of it.
+#[derive(Clone, Copy)]
+pub(crate) enum Kind {
+    /// A patch that makes a value with this compact text.
+    Patch,
+    /// A merge patch that does.
+    Merge,
+    /// A patch that fails with the number of a code and an operation, and keeps the value.
+    Failing,
 }
 
-// The same of a merge patch.
-fn merges(alloc: Global, document: &str, patch: &str, want: &str) -> TextResult<bool> {
-    let (document, patch) = (read(alloc, document)?, read(alloc, patch)?);
-    let mut value = whole(alloc, &document)?;
-    let applied = apply_merge(alloc, &mut value, View::packed(patch.view()));
-    Ok(applied.is_ok() && shows(alloc, &value, want)?)
-}
-
-// Whether the patch fails with the code and the operation that are wanted, and keeps the value.
-fn fails(alloc: Global, document: &str, patch: &str, want: &str) -> TextResult<bool> {
+// Whether the error has the number and the operation that are wanted.
+fn is_error(error: &PatchError, want: &str) -> bool {
     let (number, op) = want.split_once(' ').unwrap_or((want, ""));
-    let (document, patch) = (read(alloc, document)?, read(alloc, patch)?);
-    let mut value = whole(alloc, &document)?;
-    let failed = match apply(alloc, &mut value, View::packed(patch.view())) {
+    Some(error.code.number()) == number.parse().ok() && error.op == op.parse().ok()
+}
+
+// Whether the patch fails as it is wanted to.
+fn fails(alloc: Global, value: &mut Value, patch: View<'_>, want: &str) -> bool {
+    match apply(alloc, value, patch) {
         Ok(()) => false,
-        Err(error) => {
-            Some(error.code.number()) == number.parse().ok() && error.op == op.parse().ok()
+        Err(error) => is_error(&error, want),
+    }
+}
+
+// Whether the value is that of the text.
+pub(crate) fn is_value_of(alloc: Global, value: &Value, json: &str) -> TextResult<bool> {
+    let other = value_of(alloc, json)?;
+    Ok(*value == other)
+}
+
+// Whether the patch comes to what the row says, where the value is that of its document.
+fn changes(
+    alloc: Global,
+    kind: Kind,
+    value: &mut Value,
+    patch: View<'_>,
+    row: Row<'_>,
+) -> TextResult<bool> {
+    match kind {
+        Kind::Patch if apply(alloc, value, patch).is_ok() => shows(alloc, value, row.want),
+        Kind::Merge if merge(alloc, value, patch) => shows(alloc, value, row.want),
+        Kind::Failing if fails(alloc, value, patch, row.want) => {
+            is_value_of(alloc, value, row.document)
         }
-    };
-    let kept = whole(alloc, &document)?;
-    Ok(failed && value == kept)
+        _ => Ok(false),
+    }
+}
+
+fn changes_document(alloc: Global, kind: Kind, patch: View<'_>, row: Row<'_>) -> TextResult<bool> {
+    let mut value = value_of(alloc, row.document)?;
+    changes(alloc, kind, &mut value, patch, row)
+}
+
+// Whether the row's patch comes to what it says.
+fn holds(alloc: Global, kind: Kind, row: Row<'_>) -> TextResult<bool> {
+    let patch = read(alloc, row.patch)?;
+    changes_document(alloc, kind, View::packed(patch.view()), row)
 }
 
 #[test]
-fn pointers_reference_values_or_nothing(rt: HostRuntime) -> Result<(), Fail> {
-    let alloc = rt.alloc();
-    let document = read(alloc, DOCUMENT)?;
-    for row in POINTERS.lines() {
-        let (text, want) = row.split_once(" → ").unwrap_or((row, ""));
-        assert!(rt; references(alloc, &document, text, want)?, "{text}");
+fn pointers_reference_values(rt: HostRuntime) {
+    for line in POINTERS.lines() {
+        let (text, want) = parts(line);
+        assert!(rt;
+            matches!(references_there(rt.alloc(), text, want), Ok(true)),
+            "{text}"
+        );
     }
-    for text in [
-        "/bar", "/foo/2", "/foo/-", "/foo/00", "/foo/0/0", "/foo/", "/foo/1e0", "/foo/+1",
-    ] {
-        assert!(rt; references_nothing(alloc, &document, text), "{text}");
+}
+
+const TO_NOTHING: [&str; 8] = [
+    "/bar", "/foo/2", "/foo/-", "/foo/00", "/foo/0/0", "/foo/", "/foo/1e0", "/foo/+1",
+];
+
+#[test]
+fn pointers_reference_nothing(rt: HostRuntime) {
+    for text in TO_NOTHING {
+        assert!(rt;
+            matches!(references_nothing_there(rt.alloc(), text), Ok(true)),
+            "{text}"
+        );
     }
-    for text in ["a", "/~2", "/~", "~0", "#/a", " /a"] {
-        assert!(rt; is_no_pointer(alloc, text), "{text}");
+}
+
+const NO_POINTERS: [&str; 6] = ["a", "/~2", "/~", "~0", "#/a", " /a"];
+
+#[test]
+fn what_is_no_pointer(rt: HostRuntime) {
+    for text in NO_POINTERS {
+        assert!(rt; is_no_pointer(rt.alloc(), text), "{text}");
     }
-    Ok(())
+}
+
+// Returns the number of the first row that does not hold.
+fn first_other(alloc: Global, kind: Kind, rows: &str) -> TextResult<Option<usize>> {
+    for (i, line) in rows.lines().enumerate() {
+        if !holds(alloc, kind, row_of(line))? {
+            return Ok(Some(i));
+        }
+    }
+    Ok(None)
 }
 
 #[test]
-fn patches_apply_or_keep_the_value(rt: HostRuntime) -> Result<(), Fail> {
-    let alloc = rt.alloc();
-    for row in PATCHES.lines() {
-        let (document, patch, want) = fields(row);
-        assert!(rt; makes(alloc, document, patch, want)?, "{row}");
-    }
-    for row in FAILING.lines() {
-        let (document, patch, want) = fields(row);
-        assert!(rt; fails(alloc, document, patch, want)?, "{row}");
-    }
-    Ok(())
+fn patches_apply(rt: HostRuntime) {
+    assert!(rt; matches!(first_other(rt.alloc(), Kind::Patch, PATCHES), Ok(None)));
 }
 
 #[test]
-fn merge_patches_apply(rt: HostRuntime) -> Result<(), Fail> {
-    let alloc = rt.alloc();
-    for row in MERGES.lines() {
-        let (document, patch, want) = fields(row);
-        assert!(rt; merges(alloc, document, patch, want)?, "{row}");
-    }
-    Ok(())
+fn patches_fail_and_keep_the_value(rt: HostRuntime) {
+    assert!(rt; matches!(first_other(rt.alloc(), Kind::Failing, FAILING), Ok(None)));
+}
+
+#[test]
+fn merge_patches_apply(rt: HostRuntime) {
+    assert!(rt; matches!(first_other(rt.alloc(), Kind::Merge, MERGES), Ok(None)));
 }
 
 #[test]

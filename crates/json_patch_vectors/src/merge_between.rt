@@ -1,10 +1,10 @@
 // Merge patches between values.
+use crate::calls::{Row, is_value_of, merge, row_of};
 use json_diff::merge_diff;
-use json_fixtures::{read, shows, whole};
-use json_patch::apply_merge;
+use json_fixtures::{shows, value_of};
 use json_text::Result as TextResult;
+use json_value::Value;
 use std::alloc::Global;
-use std::test::Fail;
 
 // Two values, and the merge patch that leads from the one to the other: RFC 7396, appendix A and
 // section 1, and more.
@@ -33,43 +33,59 @@ const NONE: &str = r#"{} → {"a": null}
 {"a": 1, "a": 2} → {"a": 1}
 {} → {"a": 1, "a": 2}"#;
 
-// Whether the merge patch between the values has this compact text, and makes of the first the
-// second.
-fn is_merge_patch(alloc: Global, from: &str, to: &str, want: &str) -> TextResult<bool> {
-    let (first, second) = (read(alloc, from)?, read(alloc, to)?);
-    let (mut value, to) = (whole(alloc, &first)?, whole(alloc, &second)?);
-    let Some(patch) = merge_diff(alloc, &value, &to)? else {
-        return Ok(false);
-    };
-    let applied = apply_merge(alloc, &mut value, patch.view());
-    Ok(applied.is_ok() && value == to && shows(alloc, &patch, want)?)
+// Returns the merge patch from the value to that of the text, if there is one.
+fn patch_to(alloc: Global, from: &Value, to: &str) -> TextResult<Option<Value>> {
+    let to = value_of(alloc, to)?;
+    merge_diff(alloc, from, &to)
 }
 
-// Whether there is no merge patch between the values.
-fn has_no_merge_patch(alloc: Global, from: &str, to: &str) -> TextResult<bool> {
-    let (first, second) = (read(alloc, from)?, read(alloc, to)?);
-    let (from, to) = (whole(alloc, &first)?, whole(alloc, &second)?);
-    let patch = merge_diff(alloc, &from, &to)?;
-    Ok(patch.is_none())
+// Returns the merge patch between the values of two texts, if there is one.
+fn patch_between(alloc: Global, from: &str, to: &str) -> TextResult<Option<Value>> {
+    let from = value_of(alloc, from)?;
+    patch_to(alloc, &from, to)
+}
+
+// Whether the merge patch makes of the first value the second.
+fn leads(alloc: Global, patch: &Value, from: &str, to: &str) -> TextResult<bool> {
+    let mut value = value_of(alloc, from)?;
+    if merge(alloc, &mut value, patch.view()) {
+        is_value_of(alloc, &value, to)
+    } else {
+        Ok(false)
+    }
+}
+
+// Whether the merge patch has this compact text, and makes of the first value the second.
+fn is_right(alloc: Global, patch: &Value, row: Row<'_>) -> TextResult<bool> {
+    Ok(shows(alloc, patch, row.want)? && leads(alloc, patch, row.document, row.patch)?)
+}
+
+// Whether the merge patch between the first two values of a row is the third, which is empty where
+// there is none.
+fn is_merge_patch(alloc: Global, row: Row<'_>) -> TextResult<bool> {
+    let patch = patch_between(alloc, row.document, row.patch)?;
+    match &patch {
+        Some(patch) => is_right(alloc, patch, row),
+        None => Ok(row.want.is_empty()),
+    }
 }
 
 #[test]
-fn merge_patches_between_values(rt: HostRuntime) -> Result<(), Fail> {
-    let alloc = rt.alloc();
-    for row in MERGE_PATCHES.lines() {
-        let (from, rest) = row.split_once(" → ").unwrap_or((row, ""));
-        let (to, want) = rest.split_once(" → ").unwrap_or((rest, ""));
-        assert!(rt; is_merge_patch(alloc, from, to, want)?, "{row}");
+fn merge_patches_between_values(rt: HostRuntime) {
+    for line in MERGE_PATCHES.lines() {
+        assert!(rt;
+            matches!(is_merge_patch(rt.alloc(), row_of(line)), Ok(true)),
+            "{line}"
+        );
     }
-    Ok(())
 }
 
 #[test]
-fn no_merge_patch_between_values(rt: HostRuntime) -> Result<(), Fail> {
-    let alloc = rt.alloc();
-    for row in NONE.lines() {
-        let (from, to) = row.split_once(" → ").unwrap_or((row, ""));
-        assert!(rt; has_no_merge_patch(alloc, from, to)?, "{row}");
+fn no_merge_patch_between_values(rt: HostRuntime) {
+    for line in NONE.lines() {
+        assert!(rt;
+            matches!(is_merge_patch(rt.alloc(), row_of(line)), Ok(true)),
+            "{line}"
+        );
     }
-    Ok(())
 }

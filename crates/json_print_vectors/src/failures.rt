@@ -1,5 +1,7 @@
 // What no clause says of the edge to the system: each call of a writer or a reader that fails is
 // reported.
+ghost use Rattle.json_print.specs.Standing.{AwaitsTree};
+
 use json_print::{BufferedWriter, Events, Serializer};
 use json_text::{
     Error, ErrorCode, Failed, Place, Result, Sink, SinkError, Source, StdSink, StdSource,
@@ -78,54 +80,96 @@ impl Read for Broken {
     }
 }
 
+// What a sink over this writer returns for a write, a whole write and a flush.
+type Answers = (
+    std::result::Result<usize, SinkError>,
+    Result<()>,
+    std::result::Result<(), SinkError>,
+);
+
+fn answers_of<W: Write + Drop>(writer: W) -> Answers {
+    let mut sink = StdSink::new(writer);
+    (sink.write(b"1"), put_all(&mut sink, b"1"), sink.flush())
+}
+
+// Whether a write fails over this writer, and a flush does not.
+fn refuses_to_write<W: Write + Drop>(writer: W) -> bool {
+    answers_of(writer) == (Err(SinkError::Failed), Err(WRITING_FAILED), Ok(()))
+}
+
 #[test]
 fn a_failed_write_is_told(rt: HostRuntime) {
-    let mut sink = StdSink::new(Unwritable);
-    assert_eq!(rt; sink.write(b"1"), Err(SinkError::Failed));
-    assert_eq!(rt; put_all(&mut sink, b"1"), Err(WRITING_FAILED));
-    assert_eq!(rt; sink.flush(), Ok(()));
+    assert!(rt; refuses_to_write(Unwritable));
+}
+
+fn nothing_is_written() -> bool {
+    let mut sink = StdSink::new(Full);
+    sink.write(b"") == Ok(0)
 }
 
 #[test]
 fn a_write_of_nothing_is_told(rt: HostRuntime) {
-    let mut sink = StdSink::new(Full);
-    assert_eq!(rt; sink.write(b"1"), Err(SinkError::Failed));
-    assert_eq!(rt; put_all(&mut sink, b"1"), Err(WRITING_FAILED));
-    assert_eq!(rt; sink.write(b""), Ok(0));
+    assert!(rt; refuses_to_write(Full));
+    assert!(rt; nothing_is_written());
+}
+
+fn flush_fails() -> bool {
+    let mut sink = StdSink::new(Unsent);
+    flush_all(&mut sink) == Err(WRITING_FAILED)
+        && answers_of(Unsent) == (Ok(1), Ok(()), Err(SinkError::Failed))
 }
 
 #[test]
 fn a_failed_flush_is_told(rt: HostRuntime) {
-    let mut sink = StdSink::new(Unsent);
-    assert_eq!(rt; put_all(&mut sink, b"1"), Ok(()));
-    assert_eq!(rt; sink.flush(), Err(SinkError::Failed));
-    assert_eq!(rt; flush_all(&mut sink), Err(WRITING_FAILED));
+    assert!(rt; flush_fails());
 }
 
-// Whether a buffer before this writer takes four bytes, and its flush fails.
-fn fails_at_flush<W: Write + Drop>(alloc: Global, writer: W) -> Result<bool> {
-    let mut buffer = BufferedWriter::new(alloc, StdSink::new(writer))?;
-    let taken = put_all(&mut buffer, b"null").is_ok();
-    Ok(taken && flush_all(&mut buffer) == Err(WRITING_FAILED))
+// Whether a buffer takes four bytes, and its flush fails.
+fn flush_is_refused<W: Sink>(buffer: &mut W) -> bool {
+    put_all(buffer, b"null").is_ok() && flush_all(buffer) == Err(WRITING_FAILED)
+}
+
+fn fails_at_flush<W: Write + Drop>(alloc: Global, writer: W) -> bool {
+    match BufferedWriter::new(alloc, StdSink::new(writer)) {
+        Ok(mut buffer) => flush_is_refused(&mut buffer),
+        Err(_) => false,
+    }
 }
 
 #[test]
 fn failures_are_told_behind_a_buffer(rt: HostRuntime) {
-    assert!(rt; matches!(fails_at_flush(rt.alloc(), Unwritable), Ok(true)));
-    assert!(rt; matches!(fails_at_flush(rt.alloc(), Full), Ok(true)));
-    assert!(rt; matches!(fails_at_flush(rt.alloc(), Unsent), Ok(true)));
+    assert!(rt; fails_at_flush(rt.alloc(), Unwritable));
+    assert!(rt; fails_at_flush(rt.alloc(), Full));
+    assert!(rt; fails_at_flush(rt.alloc(), Unsent));
+}
+
+fn write_true<E: Events>(out: &mut E) -> Result<()>
+    requires { AwaitsTree (E.stand (E.state out.old)) }
+{
+    out.boolean(true)
+}
+
+fn serializer_stops(alloc: Global) -> bool {
+    let mut out = Serializer::new(alloc, StdSink::new(Unwritable));
+    write_true(&mut out) == Err(WRITING_FAILED)
 }
 
 #[test]
 fn a_failed_write_stops_a_serializer(rt: HostRuntime) {
-    let mut out = Serializer::new(rt.alloc(), StdSink::new(Unwritable));
-    assert_eq!(rt; out.boolean(true), Err(WRITING_FAILED));
+    assert!(rt; serializer_stops(rt.alloc()));
+}
+
+// Whether a source over the reader fails where it is read as a whole, and again after that.
+fn read_fails(alloc: Global) -> bool {
+    let mut source = StdSource::new(Broken(b"[1"));
+    let failed = match read_all(alloc, &mut source, 100) {
+        Ok(_) => false,
+        Err(error) => error == READING_FAILED,
+    };
+    failed && source.read(&mut [0; 4]) == Err(Failed)
 }
 
 #[test]
 fn a_failed_read_is_told(rt: HostRuntime) {
-    let mut source = StdSource::new(Broken(b"[1"));
-    let refusal = read_all(rt.alloc(), &mut source, 100).err();
-    assert_eq!(rt; refusal, Some(READING_FAILED));
-    assert_eq!(rt; source.read(&mut [0; 4]), Err(Failed));
+    assert!(rt; read_fails(rt.alloc()));
 }

@@ -1,17 +1,13 @@
 // One value within a text, and what may follow it.
 ghost use Rattle.std.specs.Str.{IsCharBoundary};
 
-use json_text::{Error, ErrorCode, Parser, Result};
-
-// What is refused of an end, and at which offset.
-fn refused(ended: Result<()>) -> Option<(ErrorCode, Option<usize>)> {
-    ended.err().map(|error: Error| (error.code, error.offset()))
-}
-
-// This code at this offset, where an offset is known.
-fn told(code: Option<ErrorCode>, offset: usize) -> Option<(ErrorCode, Option<usize>)> {
-    code.map(|code| (code, Some(offset)))
-}
+use crate::looks::{Refused, Row, each_holds, next_of, refusal};
+use json_text::ErrorCode::{
+    EofWhileParsing, ExpectedArrayCommaOrEnd, ExpectedObjectCommaOrEnd, InvalidNumber,
+    TrailingCharacters, TrailingComma,
+};
+use json_text::{Parser, Result};
+use std::alloc::Global;
 
 // The offset after the value at an offset of the text, which is the parser's next.
 fn read_value(text: &str, at: usize) -> Result<usize>
@@ -20,83 +16,126 @@ fn read_value(text: &str, at: usize) -> Result<usize>
     let mut parser = Parser::at(text, at);
     for _ in 0..text.len() {
         if parser.done() {
-            break;
+            return Ok(parser.index());
         }
-        parser.next()?;
+        match next_of(&mut parser) {
+            Ok(_) => {}
+            Err(error) => return Err(error),
+        }
     }
     Ok(parser.index())
 }
 
-// The first text of which one value is not read as it should be.
-fn wrong_value() -> Option<&'static str> {
-    let table = [
-        ("{\"a\": 1, \"b\": 2}123", 0, Ok(16)),
-        ("[1] 2.50]", 4, Ok(8)),
-        ("[[1", 2, Ok(3)),
-        ("1,01", 2, Err((ErrorCode::InvalidNumber, Some(3)))),
-        ("1\n[2", 1, Err((ErrorCode::EofWhileParsing, Some(4)))),
-    ];
-    for (text, at, want) in table {
-        if !text.is_char_boundary(at) {
-            return Some(text);
+// A text, and the end of the value at an offset or how it is refused.
+struct ValueAt {
+    text: &'static str,
+    at: usize,
+    end: usize,
+    refused: Refused,
+}
+
+impl Row for ValueAt {
+    fn text(&self) -> &'static str {
+        self.text
+    }
+
+    fn holds(&self, _alloc: Global) -> bool {
+        if !self.text.is_char_boundary(self.at) {
+            return false;
         }
-        let told = read_value(text, at).map_err(|error: Error| (error.code, error.offset()));
-        if told != want {
-            return Some(text);
+        match read_value(self.text, self.at) {
+            Ok(end) => end == self.end && self.refused.is_none(),
+            Err(error) => self.refused == Some((error.code, error.offset())),
         }
     }
-    None
 }
+
+const VALUES: &[ValueAt] = &[
+    ValueAt {
+        text: "{\"a\": 1, \"b\": 2}123",
+        at: 0,
+        end: 16,
+        refused: None,
+    },
+    ValueAt {
+        text: "[1] 2.50]",
+        at: 4,
+        end: 8,
+        refused: None,
+    },
+    ValueAt {
+        text: "[[1",
+        at: 2,
+        end: 3,
+        refused: None,
+    },
+    ValueAt {
+        text: "1,01",
+        at: 2,
+        end: 0,
+        refused: Some((InvalidNumber, Some(3))),
+    },
+    ValueAt {
+        text: "1\n[2",
+        at: 1,
+        end: 0,
+        refused: Some((EofWhileParsing, Some(4))),
+    },
+];
 
 #[test]
 fn one_value_whatever_follows(rt: HostRuntime) {
-    let wrong = wrong_value();
-    assert!(rt; wrong.is_none(), "{wrong:?}");
+    each_holds(&rt, rt.alloc(), VALUES);
 }
 
-// The first text whose end is not found as it should be, of a text, an array or an object.
-fn wrong_end() -> Option<&'static str> {
-    use ErrorCode::{
-        EofWhileParsing, ExpectedArrayCommaOrEnd, ExpectedObjectCommaOrEnd, TrailingCharacters,
-        TrailingComma,
-    };
-    let table = [
-        (" \n", None, Some(EofWhileParsing), Some(EofWhileParsing), 2),
-        (
-            "]",
-            Some(TrailingCharacters),
-            None,
-            Some(ExpectedObjectCommaOrEnd),
-            0,
-        ),
-        (
-            " }",
-            Some(TrailingCharacters),
-            Some(ExpectedArrayCommaOrEnd),
-            None,
-            1,
-        ),
-        (
-            ",",
-            Some(TrailingCharacters),
-            Some(ExpectedArrayCommaOrEnd),
-            Some(TrailingComma),
-            0,
-        ),
-    ];
-    for (text, end, seq, map, offset) in table {
-        let of_text = refused(Parser::new(text).end()) == told(end, offset);
-        let of_seq = refused(Parser::new(text).end_seq()) == told(seq, offset);
-        let of_map = refused(Parser::new(text).end_map()) == told(map, offset);
-        if !(of_text && of_seq && of_map) {
-            return Some(text);
-        }
-    }
-    None
+// A text, and what is refused of the end of a text, of an array and of an object there.
+struct Ends {
+    text: &'static str,
+    end: Refused,
+    seq: Refused,
+    map: Refused,
 }
+
+impl Row for Ends {
+    fn text(&self) -> &'static str {
+        self.text
+    }
+
+    fn holds(&self, _alloc: Global) -> bool {
+        refusal(Parser::new(self.text).end()) == self.end
+            && refusal(Parser::new(self.text).end_seq()) == self.seq
+            && refusal(Parser::new(self.text).end_map()) == self.map
+    }
+}
+
+const ENDS: &[Ends] = &[
+    Ends {
+        text: " \n",
+        end: None,
+        seq: Some((EofWhileParsing, Some(2))),
+        map: Some((EofWhileParsing, Some(2))),
+    },
+    Ends {
+        text: "]",
+        end: Some((TrailingCharacters, Some(0))),
+        seq: None,
+        map: Some((ExpectedObjectCommaOrEnd, Some(0))),
+    },
+    Ends {
+        text: " }",
+        end: Some((TrailingCharacters, Some(1))),
+        seq: Some((ExpectedArrayCommaOrEnd, Some(1))),
+        map: None,
+    },
+    Ends {
+        text: ",",
+        end: Some((TrailingCharacters, Some(0))),
+        seq: Some((ExpectedArrayCommaOrEnd, Some(0))),
+        map: Some((TrailingComma, Some(0))),
+    },
+];
 
 #[test]
 fn ends_by_the_next_byte(rt: HostRuntime) {
-    let wrong = wrong_end();
-    assert!(rt; wrong.is_none(), "{wrong:?}");
+    each_holds(&rt, rt.alloc(), ENDS);
 }

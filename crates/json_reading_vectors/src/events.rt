@@ -1,6 +1,7 @@
 // What a parser hands out, and what it refuses.
+use crate::looks::{Refused, Row, each_holds, next_of};
 use json_grammar::Spot;
-use json_text::{Cursor, Error, ErrorCode, Event, Kinds, Parser, Place, Result, step};
+use json_text::{Cursor, Error, ErrorCode, Event, Kinds, Parser, Place, Result, Span, step};
 use std::alloc::Global;
 
 // A letter for each event.
@@ -24,7 +25,7 @@ fn letter(event: Event) -> u8 {
 fn refusal_of(text: &str) -> Option<Error> {
     let mut parser = Parser::new(text);
     for _ in 0..text.len() + 1 {
-        match parser.next() {
+        match next_of(&mut parser) {
             Ok(Event::End) => return None,
             Ok(_) => {}
             Err(error) => return Some(error),
@@ -33,143 +34,299 @@ fn refusal_of(text: &str) -> Option<Error> {
     None
 }
 
+// The code with which a text is refused, and its offset.
+fn refused(text: &str) -> Refused {
+    match refusal_of(text) {
+        Some(error) => Some((error.code, error.offset())),
+        None => None,
+    }
+}
+
+// Whether an event has a letter, and is no name or one that escapes where it is of seven bytes.
+fn is_event(event: Event<'_>, want: u8) -> bool {
+    match event {
+        Event::Key(span) => want == b'k' && span.plain().is_none() == (span.raw_len() == 7),
+        _ => letter(event) == want,
+    }
+}
+
+fn is_next(parser: &mut Parser<'_>, want: u8) -> bool {
+    match next_of(parser) {
+        Ok(event) => is_event(event, want),
+        Err(_) => false,
+    }
+}
+
 // Whether the events of a text have these letters, up to its end, and its first name alone escapes.
-fn has_events(text: &str, letters: &[u8]) -> Result<bool> {
+fn has_events(text: &str, letters: &[u8]) -> bool {
     let mut parser = Parser::new(text);
     for want in letters {
-        let event = parser.next()?;
-        if letter(event) != *want {
-            return Ok(false);
-        }
-        if let Event::Key(span) = event {
-            if span.plain().is_none() != (span.raw_len() == 7) {
-                return Ok(false);
-            }
+        if !is_next(&mut parser, *want) {
+            return false;
         }
     }
     let before = parser.done() && text.len().checked_sub(parser.index()) == Some(1);
     parser.skip_ws();
-    Ok(before && parser.index() == text.len())
+    before && parser.index() == text.len()
 }
 
 #[test]
 fn events_in_their_order(rt: HostRuntime) {
     let text = " {\"a\\u0062\": [-0.5e+1, \"x\", true , []], \"\": false,\"c\":null}\n";
-    let told = has_events(text, b"{k[1st[]]kfkn}..");
-    assert!(rt; matches!(told, Ok(true)), "{told:?}");
+    assert!(rt; has_events(text, b"{k[1st[]]kfkn}.."));
+}
+
+// Whether a string of at most 64 bytes means these bytes.
+fn means(alloc: Global, span: Span<'_>, wanted: &[u8]) -> bool {
+    let Ok(mut bytes) = Vec::with_capacity(alloc, 64) else {
+        return false;
+    };
+    if span.raw_len() <= 64 {
+        span.unescape_into(&mut bytes);
+    }
+    bytes.as_slice() == wanted
 }
 
 // Whether the string that comes next means these bytes.
-fn next_means(alloc: Global, parser: &mut Parser<'_>, means: &[u8]) -> Result<bool> {
-    let mut bytes = Vec::with_capacity(alloc, 64)?;
-    match parser.next()? {
-        Event::Str(span) => {
-            if span.raw_len() <= 64 {
-                span.unescape_into(&mut bytes);
-            }
-        }
-        _ => {}
+fn next_means(alloc: Global, parser: &mut Parser<'_>, wanted: &[u8]) -> bool {
+    match next_of(parser) {
+        Ok(Event::Str(span)) => means(alloc, span, wanted),
+        _ => false,
     }
-    Ok(bytes.as_slice() == means)
 }
 
 #[test]
 fn escapes_spelled_out(rt: HostRuntime) {
     let mut parser = Parser::new("\"\\ud83d\\ude04\\u0041\\/\\u0000\\t\"");
-    let told = next_means(rt.alloc(), &mut parser, b"\xf0\x9f\x98\x84A/\x00\t");
-    assert!(rt; matches!(told, Ok(true)), "{told:?}");
+    assert!(rt; next_means(rt.alloc(), &mut parser, b"\xf0\x9f\x98\x84A/\x00\t"));
 }
 
-// The first text whose surrogate is not refused as it should be, or means something else in the
-// lossy mode.
-fn wrong_surrogate(alloc: Global) -> Result<Option<&'static str>> {
-    let table = [
-        ("\"\\uDA51\\uD83D\\uDE04\"", "\u{fffd}\u{1f604}", 10),
-        ("\"\\uD800abc\"", "\u{fffd}abc", 7),
-        ("\"\\udc00\"", "\u{fffd}", 4),
-        ("\"\\uD800\\u0041\"", "\u{fffd}A", 9),
-    ];
-    for (text, means, offset) in table {
-        let refused = refusal_of(text).map(|error| (error.code, error.offset()));
-        let same = next_means(alloc, &mut Parser::new(text).lossy(), means.as_bytes())?;
-        if refused != Some((ErrorCode::InvalidSurrogate, Some(offset))) || !same {
-            return Ok(Some(text));
-        }
-    }
-    Ok(None)
+// A text with a lone surrogate, what it means in the lossy mode, and where it is refused.
+struct LoneSurrogate {
+    text: &'static str,
+    means: &'static str,
+    offset: usize,
 }
+
+impl Row for LoneSurrogate {
+    fn text(&self) -> &'static str {
+        self.text
+    }
+
+    fn holds(&self, alloc: Global) -> bool {
+        let mut lossy = Parser::new(self.text).lossy();
+        next_means(alloc, &mut lossy, self.means.as_bytes())
+            && refused(self.text) == Some((ErrorCode::InvalidSurrogate, Some(self.offset)))
+    }
+}
+
+const SURROGATES: &[LoneSurrogate] = &[
+    LoneSurrogate {
+        text: "\"\\uDA51\\uD83D\\uDE04\"",
+        means: "\u{fffd}\u{1f604}",
+        offset: 10,
+    },
+    LoneSurrogate {
+        text: "\"\\uD800abc\"",
+        means: "\u{fffd}abc",
+        offset: 7,
+    },
+    LoneSurrogate {
+        text: "\"\\udc00\"",
+        means: "\u{fffd}",
+        offset: 4,
+    },
+    LoneSurrogate {
+        text: "\"\\uD800\\u0041\"",
+        means: "\u{fffd}A",
+        offset: 9,
+    },
+];
 
 #[test]
 fn surrogates_that_stand_alone(rt: HostRuntime) {
-    let wrong = wrong_surrogate(rt.alloc());
-    assert!(rt; matches!(wrong, Ok(None)), "{wrong:?}");
+    each_holds(&rt, rt.alloc(), SURROGATES);
 }
 
-// The first text that is not refused as it should be.
-fn wrong_refusal() -> Option<&'static str> {
-    let table = [
-        ("\"\\ud800abc\"", ErrorCode::InvalidSurrogate, 7),
-        ("\"\\udc00\"", ErrorCode::InvalidSurrogate, 4),
-        ("\"\\ud8\"", ErrorCode::InvalidEscape, 5),
-        ("\"\\x\"", ErrorCode::InvalidEscape, 2),
-        ("\"\\u12g4\"", ErrorCode::InvalidEscape, 5),
-        ("\"\\uDBDD\\u1DD000\"", ErrorCode::InvalidSurrogate, 9),
-        ("", ErrorCode::EofWhileParsing, 0),
-        ("[[[[", ErrorCode::EofWhileParsing, 4),
-        ("[1,]", ErrorCode::InvalidJsonValue, 3),
-        ("{\"a\":1,}", ErrorCode::TrailingComma, 7),
-        ("[01]", ErrorCode::InvalidNumber, 2),
-        ("[1x", ErrorCode::ExpectedArrayCommaOrEnd, 2),
-        ("{\"a\" 1}", ErrorCode::ExpectedColon, 5),
-        ("{1}", ErrorCode::ExpectObjectKeyOrEnd, 1),
-        ("{\"a\":1 \"b\"", ErrorCode::ExpectedObjectCommaOrEnd, 7),
-        ("{} x", ErrorCode::TrailingCharacters, 3),
-        ("-", ErrorCode::EofWhileParsing, 1),
-        ("nulx", ErrorCode::InvalidLiteral, 3),
-        ("[tru]", ErrorCode::InvalidLiteral, 4),
-        ("1.]", ErrorCode::InvalidNumber, 2),
-        ("01", ErrorCode::InvalidNumber, 1),
-        ("True", ErrorCode::InvalidJsonValue, 0),
-        ("\u{feff}1", ErrorCode::InvalidJsonValue, 0),
-        ("\"\n\"", ErrorCode::ControlCharacter, 1),
-    ];
-    for (text, code, offset) in table {
-        let told = refusal_of(text).map(|error| (error.code, error.offset()));
-        if told != Some((code, Some(offset))) {
-            return Some(text);
-        }
+// A text, and how it is refused.
+struct NoText {
+    text: &'static str,
+    code: ErrorCode,
+    offset: usize,
+}
+
+impl Row for NoText {
+    fn text(&self) -> &'static str {
+        self.text
     }
-    None
+
+    fn holds(&self, _alloc: Global) -> bool {
+        refused(self.text) == Some((self.code, Some(self.offset)))
+    }
 }
 
-#[test]
-fn refusals_with_their_offsets(rt: HostRuntime) {
-    let wrong = wrong_refusal();
-    assert!(rt; wrong.is_none(), "{wrong:?}");
+const NO_TEXTS: &[NoText] = &[
+    NoText {
+        text: "\"\\ud800abc\"",
+        code: ErrorCode::InvalidSurrogate,
+        offset: 7,
+    },
+    NoText {
+        text: "\"\\udc00\"",
+        code: ErrorCode::InvalidSurrogate,
+        offset: 4,
+    },
+    NoText {
+        text: "\"\\ud8\"",
+        code: ErrorCode::InvalidEscape,
+        offset: 5,
+    },
+    NoText {
+        text: "\"\\x\"",
+        code: ErrorCode::InvalidEscape,
+        offset: 2,
+    },
+    NoText {
+        text: "\"\\u12g4\"",
+        code: ErrorCode::InvalidEscape,
+        offset: 5,
+    },
+    NoText {
+        text: "\"\\uDBDD\\u1DD000\"",
+        code: ErrorCode::InvalidSurrogate,
+        offset: 9,
+    },
+    NoText {
+        text: "",
+        code: ErrorCode::EofWhileParsing,
+        offset: 0,
+    },
+    NoText {
+        text: "[[[[",
+        code: ErrorCode::EofWhileParsing,
+        offset: 4,
+    },
+    NoText {
+        text: "[1,]",
+        code: ErrorCode::InvalidJsonValue,
+        offset: 3,
+    },
+    NoText {
+        text: "{\"a\":1,}",
+        code: ErrorCode::TrailingComma,
+        offset: 7,
+    },
+    NoText {
+        text: "[01]",
+        code: ErrorCode::InvalidNumber,
+        offset: 2,
+    },
+    NoText {
+        text: "[1x",
+        code: ErrorCode::ExpectedArrayCommaOrEnd,
+        offset: 2,
+    },
+    NoText {
+        text: "{\"a\" 1}",
+        code: ErrorCode::ExpectedColon,
+        offset: 5,
+    },
+    NoText {
+        text: "{1}",
+        code: ErrorCode::ExpectObjectKeyOrEnd,
+        offset: 1,
+    },
+    NoText {
+        text: "{\"a\":1 \"b\"",
+        code: ErrorCode::ExpectedObjectCommaOrEnd,
+        offset: 7,
+    },
+    NoText {
+        text: "{} x",
+        code: ErrorCode::TrailingCharacters,
+        offset: 3,
+    },
+    NoText {
+        text: "-",
+        code: ErrorCode::EofWhileParsing,
+        offset: 1,
+    },
+    NoText {
+        text: "nulx",
+        code: ErrorCode::InvalidLiteral,
+        offset: 3,
+    },
+    NoText {
+        text: "[tru]",
+        code: ErrorCode::InvalidLiteral,
+        offset: 4,
+    },
+    NoText {
+        text: "1.]",
+        code: ErrorCode::InvalidNumber,
+        offset: 2,
+    },
+    NoText {
+        text: "01",
+        code: ErrorCode::InvalidNumber,
+        offset: 1,
+    },
+    NoText {
+        text: "True",
+        code: ErrorCode::InvalidJsonValue,
+        offset: 0,
+    },
+    NoText {
+        text: "\u{feff}1",
+        code: ErrorCode::InvalidJsonValue,
+        offset: 0,
+    },
+    NoText {
+        text: "\"\n\"",
+        code: ErrorCode::ControlCharacter,
+        offset: 1,
+    },
+];
+
+fn is_refused_in_its_line() -> bool {
     let place = Place::At {
         offset: 19,
         line: 4,
         column: 7,
     };
-    let told = refusal_of("\n{\n\"k\": \"v\",\n\"a\": [, 1]\n}").map(|error| error.place);
-    assert!(rt; told == Some(place));
+    match refusal_of("\n{\n\"k\": \"v\",\n\"a\": [, 1]\n}") {
+        Some(error) => error.place == place,
+        None => false,
+    }
 }
 
-// What is refused of so many brackets that open, and where.
-fn refusal_of_levels(alloc: Global, levels: usize) -> Result<Option<(ErrorCode, Option<usize>)>> {
+#[test]
+fn refusals_with_their_offsets(rt: HostRuntime) {
+    each_holds(&rt, rt.alloc(), NO_TEXTS);
+    assert!(rt; is_refused_in_its_line());
+}
+
+// So many brackets that open.
+fn brackets(alloc: Global, levels: usize) -> Result<String> {
     let mut text = String::new(alloc);
     for _ in 0..levels {
         text.push('[')?;
     }
-    Ok(refusal_of(text.as_str()).map(|error| (error.code, error.offset())))
+    Ok(text)
+}
+
+// Whether so many brackets are refused so.
+fn levels_are_refused(alloc: Global, levels: usize, code: ErrorCode) -> bool {
+    match brackets(alloc, levels) {
+        Ok(text) => refused(text.as_str()) == Some((code, Some(254))),
+        Err(_) => false,
+    }
 }
 
 #[test]
 fn levels_up_to_the_limit(rt: HostRuntime) {
-    let open = refusal_of_levels(rt.alloc(), 254);
-    assert!(rt; open == Ok(Some((ErrorCode::EofWhileParsing, Some(254)))));
-    let deep = refusal_of_levels(rt.alloc(), 255);
-    assert!(rt; deep == Ok(Some((ErrorCode::RecursionLimitExceeded, Some(254)))));
+    assert!(rt; levels_are_refused(rt.alloc(), 254, ErrorCode::EofWhileParsing));
+    assert!(rt; levels_are_refused(rt.alloc(), 255, ErrorCode::RecursionLimitExceeded));
 }
 
 // The letter of the first event and the offset after it, or what is refused and its offset.
@@ -184,27 +341,54 @@ fn first_step(text: &str) -> std::result::Result<(u8, usize), (ErrorCode, usize)
     }
 }
 
-// The first text whose first step is another one.
-fn wrong_step() -> Option<&'static str> {
-    let table = [
-        (" [1]", Ok((b'[', 2))),
-        ("{\"a\": 1}", Ok((b'{', 1))),
-        ("-1.5e3 ", Ok((b'1', 6))),
-        ("\"a\\n\"", Ok((b's', 5))),
-        ("null", Ok((b'n', 4))),
-        ("", Err((ErrorCode::EofWhileParsing, 0))),
-        (" ]", Err((ErrorCode::InvalidJsonValue, 1))),
-    ];
-    for (text, want) in table {
-        if first_step(text) != want {
-            return Some(text);
-        }
-    }
-    None
+// A text, and its first step.
+struct FirstStep {
+    text: &'static str,
+    step: std::result::Result<(u8, usize), (ErrorCode, usize)>,
 }
+
+impl Row for FirstStep {
+    fn text(&self) -> &'static str {
+        self.text
+    }
+
+    fn holds(&self, _alloc: Global) -> bool {
+        first_step(self.text) == self.step
+    }
+}
+
+const STEPS: &[FirstStep] = &[
+    FirstStep {
+        text: " [1]",
+        step: Ok((b'[', 2)),
+    },
+    FirstStep {
+        text: "{\"a\": 1}",
+        step: Ok((b'{', 1)),
+    },
+    FirstStep {
+        text: "-1.5e3 ",
+        step: Ok((b'1', 6)),
+    },
+    FirstStep {
+        text: "\"a\\n\"",
+        step: Ok((b's', 5)),
+    },
+    FirstStep {
+        text: "null",
+        step: Ok((b'n', 4)),
+    },
+    FirstStep {
+        text: "",
+        step: Err((ErrorCode::EofWhileParsing, 0)),
+    },
+    FirstStep {
+        text: " ]",
+        step: Err((ErrorCode::InvalidJsonValue, 1)),
+    },
+];
 
 #[test]
 fn a_step_from_the_beginning_of_a_text(rt: HostRuntime) {
-    let wrong = wrong_step();
-    assert!(rt; wrong.is_none(), "{wrong:?}");
+    each_holds(&rt, rt.alloc(), STEPS);
 }

@@ -12,6 +12,10 @@ mod ends;
 #[cfg(test)]
 mod events;
 #[cfg(test)]
+mod floats;
+#[cfg(test)]
+mod looks;
+#[cfg(test)]
 mod numbers;
 #[cfg(test)]
 mod refusals;

@@ -1,6 +1,7 @@
 // Runs of bytes of one kind: each length before each byte of another kind, from each start.
 ghost use Rattle.std.specs.Prelude.{◌+◌, ◌≤◌, length};
 
+use crate::looks::next_of;
 use json_text::{Event, Parser, check_utf8, digit_run, plain_run, ws_run};
 
 // The greatest numbers of bytes before the other ones, and after them.
@@ -23,8 +24,20 @@ enum Run {
     FewDigits,
 }
 
-// Where a reader stops in that many turns: after the last event or at what it refuses, in bytes
-// from the beginning of the text. It begins with two bytes that are read before these.
+// Where a reader stops in that many turns: after the last event or at what it refuses.
+fn stop_in_text(text: &str, turns: usize) -> Option<usize> {
+    let mut parser = Parser::new(text);
+    for _ in 0..turns {
+        match next_of(&mut parser) {
+            Ok(Event::End) => return Some(text.len()),
+            Ok(_) => {}
+            Err(error) => return error.offset(),
+        }
+    }
+    Some(parser.index())
+}
+
+// The same in bytes, after two others with which the text begins.
 fn stop_of_reader(front: [u8; 2], turns: usize, bytes: &[u8]) -> Option<usize>
     requires { length bytes.now ≤ 142 }
 {
@@ -32,16 +45,10 @@ fn stop_of_reader(front: [u8; 2], turns: usize, bytes: &[u8]) -> Option<usize>
     let end = 2 + bytes.len();
     all[..2].copy_from_slice(&front);
     all[2..end].copy_from_slice(bytes);
-    let text = check_utf8(&all[..end]).ok()?;
-    let mut parser = Parser::new(text);
-    for _ in 0..turns {
-        match parser.next() {
-            Ok(Event::End) => return Some(end),
-            Ok(_) => {}
-            Err(error) => return error.offset(),
-        }
+    match check_utf8(&all[..end]) {
+        Ok(text) => stop_in_text(text, turns),
+        Err(_) => None,
     }
-    Some(parser.index())
 }
 
 // Whether the run that begins here ends there. A gap is what a reader skips after a number, and few
@@ -85,46 +92,49 @@ fn row(inside: &[u8], outside: &[u8], stop: usize) -> [u8; ROW] {
     bytes
 }
 
+// Whether a run of this length ends before these others, whatever is after them.
+fn ends_before(run: Run, inside: &[u8], outside: &[u8], stop: usize) -> bool
+    requires { (length outside.now ≤ 2) × (stop ≤ 100) }
+{
+    let bytes = row(inside, outside, stop);
+    let end = stop + outside.len();
+    all_end_at(run, &bytes[..end + BEHIND], stop) && all_end_at(run, &bytes[..end], stop)
+}
+
+// Whether a run alone ends where the bytes do.
+fn ends_alone(run: Run, inside: &[u8], stop: usize) -> bool
+    requires { stop ≤ 100 }
+{
+    let all = row(inside, &[], ROW);
+    let end = stop + BEHIND;
+    all_end_at(run, &all[..end], end) && all_end_at(run, &all[..stop], stop)
+}
+
 // The first length at which a run does not end before these others, or a run alone does not end
 // where the bytes do.
 fn wrong_length(run: Run, inside: &[u8], outside: &[u8]) -> Option<usize>
     requires { length outside.now ≤ 2 }
 {
-    let all = row(inside, &[], ROW);
-    let width = outside.len();
     for stop in 0..BEFORE + 1 {
-        let bytes = row(inside, outside, stop);
-        let inner = all_end_at(run, &bytes[..stop + width + BEHIND], stop);
-        let last = all_end_at(run, &bytes[..stop + width], stop);
-        let long = all_end_at(run, &all[..stop + BEHIND], stop + BEHIND);
-        let alone = all_end_at(run, &all[..stop], stop);
-        if !(inner && last && long && alone) {
+        if !(ends_before(run, inside, outside, stop) && ends_alone(run, inside, stop)) {
             return Some(stop);
         }
     }
     None
 }
 
+// Runs of bytes, the bytes of each, and others.
+const OF_BYTES: &[(Run, &[u8], &[u8])] = &[
+    (Run::Whitespace, b" \t\n\r", b"x\x0b\x0c\x00\x1f\"\xa0"),
+    (Run::Plain, b" !#[]~\x7f\x80\xff", b"\"\\\x00\x1f\n"),
+    (Run::Digits, b"0123456789", b"/:a \x00\xb5"),
+];
+
 // The first byte before which a run of bytes does not end, and its length.
 fn wrong_byte() -> Option<(u8, usize)> {
-    let space = b" \t\n\r".as_slice();
-    let digits = b"0123456789".as_slice();
-    let of_bytes = [
-        (
-            Run::Whitespace,
-            space,
-            b"x\x0b\x0c\x00\x1f\"\xa0".as_slice(),
-        ),
-        (
-            Run::Plain,
-            b" !#[]~\x7f\x80\xff".as_slice(),
-            b"\"\\\x00\x1f\n".as_slice(),
-        ),
-        (Run::Digits, digits, b"/:a \x00\xb5".as_slice()),
-    ];
-    for (run, inside, outside) in of_bytes {
-        for other in outside {
-            if let Some(length) = wrong_length(run, inside, &[*other]) {
+    for (run, inside, outside) in OF_BYTES {
+        for other in *outside {
+            if let Some(length) = wrong_length(*run, inside, &[*other]) {
                 return Some((*other, length));
             }
         }
@@ -132,28 +142,32 @@ fn wrong_byte() -> Option<(u8, usize)> {
     None
 }
 
+// Runs in a text, the bytes of each, and other characters.
+const OF_TEXT: &[(Run, &[u8], &[&str])] = &[
+    (
+        Run::Gap,
+        b" \t\n\r",
+        &["x", "\x0b", "\x0c", "\x00", "\x1f", "\"", "\u{a0}"],
+    ),
+    (
+        Run::FewDigits,
+        b"0123456789",
+        &["/", ":", "a", " ", "\x00", "\u{b5}"],
+    ),
+];
+
+fn wrong_length_before(run: Run, inside: &[u8], other: &str) -> Option<usize> {
+    if other.len() > 2 {
+        return Some(0);
+    }
+    wrong_length(run, inside, other.as_bytes())
+}
+
 // The first character before which a run in a text does not end, and its length.
 fn wrong_character() -> Option<(&'static str, usize)> {
-    let space = b" \t\n\r".as_slice();
-    let digits = b"0123456789".as_slice();
-    let of_text = [
-        (
-            Run::Gap,
-            space,
-            ["x", "\x0b", "\x0c", "\x00", "\x1f", "\"", "\u{a0}"].as_slice(),
-        ),
-        (
-            Run::FewDigits,
-            digits,
-            ["/", ":", "a", " ", "\x00", "\u{b5}"].as_slice(),
-        ),
-    ];
-    for (run, inside, others) in of_text {
-        for other in others {
-            if other.len() > 2 {
-                return Some((*other, 0));
-            }
-            if let Some(length) = wrong_length(run, inside, other.as_bytes()) {
+    for (run, inside, others) in OF_TEXT {
+        for other in *others {
+            if let Some(length) = wrong_length_before(*run, inside, other) {
                 return Some((*other, length));
             }
         }

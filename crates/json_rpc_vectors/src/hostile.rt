@@ -1,7 +1,7 @@
 // Lines that mean harm.
 use crate::run::{has_replies, serve_bytes};
+use json_text::Result;
 use std::alloc::Global;
-use std::test::Fail;
 
 const PARSE_ERROR: &str =
     "{\"jsonrpc\":\"2.0\",\"error\":{\"code\":-32700,\"message\":\"Parse error\"},\"id\":null}\n";
@@ -150,80 +150,108 @@ fn lines_have_their_replies(rt: HostRuntime) {
     }
 }
 
+// A piece of an input, and how many times it comes.
+type Piece<'a> = (&'a [u8], usize);
+
+fn bytes_of(alloc: Global, pieces: &[Piece<'_>]) -> Result<Vec<u8>> {
+    let mut bytes = Vec::new(alloc);
+    for (piece, times) in pieces {
+        for _ in 0..*times {
+            bytes.extend_from_slice(piece)?;
+        }
+    }
+    Ok(bytes)
+}
+
+// Whether the input of these pieces is served, and its replies are these.
+fn has_all_replies(alloc: Global, pieces: &[Piece<'_>], expected: &str) -> Result<bool> {
+    let input = bytes_of(alloc, pieces)?;
+    Ok(serve_bytes(alloc, input.as_slice()).is(0, expected.as_bytes(), b""))
+}
+
+const INVALID_LINE: &[u8] =
+    b"\"\xff\"\n{\"jsonrpc\":\"2.0\",\"method\":\"get\",\"params\":[[]],\"id\":1}\n";
+
+const INVALID_REPLIES: &str =
+    "{\"jsonrpc\":\"2.0\",\"error\":{\"code\":-32700,\"message\":\"Parse error\"},\"id\":null}\n{\"jsonrpc\":\"2.0\",\"result\":null,\"id\":1}\n";
+
 // Bytes that are not UTF-8 are a parse error, and the next line is served.
 #[test]
-fn a_line_that_is_not_utf8_is_a_parse_error(rt: HostRuntime) -> Result<(), Fail> {
-    let alloc = rt.alloc();
-    let mut input = Vec::new(alloc);
-    input.extend_from_slice(
-        b"\"\xff\"\n{\"jsonrpc\":\"2.0\",\"method\":\"get\",\"params\":[[]],\"id\":1}\n",
-    )?;
-    let mut expected = Vec::new(alloc);
-    expected.extend_from_slice(PARSE_ERROR.as_bytes())?;
-    expected.extend_from_slice(b"{\"jsonrpc\":\"2.0\",\"result\":null,\"id\":1}\n")?;
-    assert!(rt; has_replies(alloc, &input, &expected));
-    Ok(())
+fn a_line_that_is_not_utf8_is_a_parse_error(rt: HostRuntime) {
+    assert!(rt; has_replies(rt.alloc(), INVALID_LINE, INVALID_REPLIES.as_bytes()));
 }
 
-// Whether a line of so many bytes b is a parse error.
-fn is_parse_error(alloc: Global, b: u8, count: usize) -> Result<bool, Fail> {
-    let bytes = vec![in alloc; b; count]?;
-    let outcome = serve_bytes(alloc, &bytes);
-    Ok(outcome.status == 0 && outcome.replies.as_slice() == PARSE_ERROR.as_bytes())
-}
+// A byte, how many there are of it, and the replies.
+const LENGTHS: [(&str, usize, &str); 3] = [
+    (" ", 1_048_576, ""),
+    (" ", 1_048_577, PARSE_ERROR),
+    ("[", 1_048_576, PARSE_ERROR),
+];
 
 #[test]
-fn a_line_has_at_most_1048576_bytes(rt: HostRuntime) -> Result<(), Fail> {
-    let alloc = rt.alloc();
-    assert!(rt; !is_parse_error(alloc, b' ', 1_048_576)?);
-    assert!(rt; is_parse_error(alloc, b' ', 1_048_577)?);
-    assert!(rt; is_parse_error(alloc, b'[', 1_048_576)?);
-    Ok(())
+fn a_line_has_at_most_1048576_bytes(rt: HostRuntime) {
+    for (byte, count, replies) in LENGTHS {
+        let pieces = [(byte.as_bytes(), count)];
+        assert!(rt;
+            matches!(has_all_replies(rt.alloc(), &pieces, replies), Ok(true)),
+            "{count}"
+        );
+    }
 }
 
-// Whether a request is served whose param is an array of so many levels.
-fn serves_levels(alloc: Global, levels: usize) -> Result<bool, Fail> {
-    let mut line = Vec::new(alloc);
-    line.extend_from_slice(b"{\"jsonrpc\":\"2.0\",\"method\":\"set\",\"params\":[[],")?;
-    for _ in 0..levels {
-        line.push(b'[')?;
-    }
-    for _ in 0..levels {
-        line.push(b']')?;
-    }
-    line.extend_from_slice(b"],\"id\":1}")?;
-    let outcome = serve_bytes(alloc, &line);
-    Ok(outcome.replies.as_slice() == b"{\"jsonrpc\":\"2.0\",\"result\":null,\"id\":1}\n".as_slice())
+// Whether a value of so many levels is set, with these replies.
+fn sets_levels(alloc: Global, levels: usize, replies: &str) -> Result<bool> {
+    let pieces = [
+        (
+            b"{\"jsonrpc\":\"2.0\",\"method\":\"set\",\"params\":[[],".as_slice(),
+            1,
+        ),
+        (b"[".as_slice(), levels),
+        (b"]".as_slice(), levels),
+        (b"],\"id\":1}".as_slice(), 1),
+    ];
+    has_all_replies(alloc, &pieces, replies)
 }
+
+const NULL_REPLY: &str = "{\"jsonrpc\":\"2.0\",\"result\":null,\"id\":1}\n";
 
 // The request and its params are two levels more.
 #[test]
-fn a_line_has_at_most_254_levels(rt: HostRuntime) -> Result<(), Fail> {
-    let alloc = rt.alloc();
-    assert!(rt; serves_levels(alloc, 252)?);
-    assert!(rt; !serves_levels(alloc, 253)?);
-    Ok(())
+fn a_line_has_at_most_254_levels(rt: HostRuntime) {
+    assert!(rt; matches!(sets_levels(rt.alloc(), 252, NULL_REPLY), Ok(true)));
+    assert!(rt; matches!(sets_levels(rt.alloc(), 253, PARSE_ERROR), Ok(true)));
 }
 
+// A value is set, and a batch pushes 10,000 elements to it; then the last of them is there, and the
+// next is not.
+const PUSHES: [Piece<'static>; 4] = [
+    (
+        b"{\"jsonrpc\":\"2.0\",\"method\":\"set\",\"params\":[[],[]]}\n[{\"jsonrpc\":\"2.0\",\"method\":\"push\",\"params\":[[],0]}",
+        1,
+    ),
+    (
+        b",{\"jsonrpc\":\"2.0\",\"method\":\"push\",\"params\":[[],0]}",
+        9_999,
+    ),
+    (
+        b"]\n{\"jsonrpc\":\"2.0\",\"method\":\"get\",\"params\":[[9999]],\"id\":1}\n",
+        1,
+    ),
+    (
+        b"{\"jsonrpc\":\"2.0\",\"method\":\"get\",\"params\":[[10000]],\"id\":2}",
+        1,
+    ),
+];
+
+const PUSHES_REPLIES: &str =
+    "{\"jsonrpc\":\"2.0\",\"result\":0,\"id\":1}\n{\"jsonrpc\":\"2.0\",\"error\":{\"code\":-32000,\"message\":\"Not found\"},\"id\":2}\n";
+
 #[test]
-fn a_batch_of_10000_notifications_has_no_reply(rt: HostRuntime) -> Result<(), Fail> {
-    let alloc = rt.alloc();
-    let mut input = Vec::new(alloc);
-    input.extend_from_slice(b"{\"jsonrpc\":\"2.0\",\"method\":\"set\",\"params\":[[],[]]}\n[")?;
-    for i in 0..10_000 {
-        if i > 0 {
-            input.push(b',')?;
-        }
-        input.extend_from_slice(b"{\"jsonrpc\":\"2.0\",\"method\":\"push\",\"params\":[[],0]}")?;
-    }
-    input.extend_from_slice(
-        b"]\n{\"jsonrpc\":\"2.0\",\"method\":\"get\",\"params\":[[9999]],\"id\":1}\n{\"jsonrpc\":\"2.0\",\"method\":\"get\",\"params\":[[10000]],\"id\":2}",
-    )?;
-    let outcome = serve_bytes(alloc, &input);
-    assert_eq!(rt; outcome.status, 0);
-    assert_eq!(rt;
-        outcome.replies.as_slice(),
-        b"{\"jsonrpc\":\"2.0\",\"result\":0,\"id\":1}\n{\"jsonrpc\":\"2.0\",\"error\":{\"code\":-32000,\"message\":\"Not found\"},\"id\":2}\n".as_slice()
+fn a_batch_of_10000_notifications_has_no_reply(rt: HostRuntime) {
+    assert!(rt;
+        matches!(
+            has_all_replies(rt.alloc(), &PUSHES, PUSHES_REPLIES),
+            Ok(true)
+        )
     );
-    Ok(())
 }

@@ -1,200 +1,209 @@
 // The compact texts of values and of views.
 use json_doc::Doc;
-use json_fixtures::{array_in, pairs_in, read, value_of, whole};
+use json_fixtures::{
+    first_wrong, is_document, is_done, is_made_so, is_value, or_null, pairs_in, value_of, whole,
+};
 use json_number::{Number, RawNumber};
 use json_print::{BufferedWriter, OneLine, Serializer};
 use json_text::{Result, VecSink, flush_all};
-use json_value::{Object, Pair, Text, Value, View};
+use json_value::{Array, Object, Pair, Text, Value, View};
 use std::alloc::Global;
 use std::rc::Rc;
 
 // Whether this is the compact text of what is seen.
-fn prints(alloc: Global, view: View<'_>, json: &[u8]) -> Result<bool> {
+fn prints(alloc: Global, view: View<'_>, json: &[u8]) -> bool {
     let mut out = Serializer::new(alloc, VecSink::new(alloc));
-    view.emit(&mut out)?;
-    Ok(out.into_inner().as_slice() == json)
+    let done = view.emit(&mut out).is_ok();
+    done && out.into_inner().as_slice() == json
 }
 
-// The same of a value.
-fn value_prints(alloc: Global, value: &Value, json: &[u8]) -> Result<bool> {
-    prints(alloc, value.view(), json)
-}
-
-// A copy of a whole document.
-fn copied(alloc: Global, doc: &Doc) -> Result<Value> {
-    View::packed(doc.view()).to_value(alloc)
+// The same of a value that was made.
+fn made_prints(alloc: Global, made: Result<Value>, json: &[u8]) -> bool {
+    prints(alloc, or_null(made).view(), json)
 }
 
 const TEXT: &str = "{\"a\":[1,-2.50e3,\"\\n\"],\"b\":{},\"a\":[],\"c\":false,\"d\":null}";
 
-// The same of what was made.
-fn made_prints(alloc: Global, made: Result<Value>, json: &[u8]) -> Result<bool> {
-    let value = made?;
-    value_prints(alloc, &value, json)
-}
-
-// The same of the value of a whole document, and of its copy.
-fn document_prints(alloc: Global, doc: &Rc<Doc>, json: &[u8]) -> Result<bool> {
-    let packed = made_prints(alloc, whole(alloc, doc), json)?;
-    Ok(packed && made_prints(alloc, copied(alloc, doc), json)?)
-}
-
-fn text_prints(alloc: Global, json: &str) -> Result<bool> {
-    let doc = read(alloc, json)?;
-    document_prints(alloc, &doc, json.as_bytes())
-}
-
-#[test]
-fn values_of_a_document_are_printed(rt: HostRuntime) {
-    assert!(rt; matches!(text_prints(rt.alloc(), TEXT), Ok(true)));
+// The same of the value of a whole document, and of its copy, which are the text `TEXT`.
+fn document_prints(doc: &Rc<Doc>, alloc: Global) -> bool {
+    let packed = made_prints(alloc, whole(alloc, doc), TEXT.as_bytes());
+    let copied = View::packed(doc.view()).to_value(alloc);
+    made_prints(alloc, copied, TEXT.as_bytes()) && packed
 }
 
 // `{"a":true,"b":[],"a":{}}`, made by hand.
 fn made_object(alloc: Global) -> Result<Value> {
-    let mut object = Object::new();
-    let pairs = object.pairs_mut(alloc)?;
-    pairs.push(Pair::new(Text::from_static("a"), Value::new_bool(true)))?;
-    pairs.push(Pair::new(Text::from_static("b"), Value::new_array()))?;
-    pairs.push(Pair::new(Text::from_static("a"), Value::new_object()))?;
-    Ok(object.into_value())
+    let first = Pair::new(Text::from_static("a"), Value::new_bool(true));
+    let second = Pair::new(Text::from_static("b"), Value::new_array());
+    let third = Pair::new(Text::from_static("a"), Value::new_object());
+    Ok(Object::from_list(vec![in alloc; first, second, third]?).into_value())
 }
 
 // `[null,{"a":true,"b":[],"a":{}},"x"]`, made by hand.
 fn made(alloc: Global) -> Result<Value> {
-    let mut list = Vec::new(alloc);
-    list.push(Value::new_null())?;
-    list.push(made_object(alloc)?)?;
-    list.push(Value::from_static_str("x"))?;
-    Ok(Value::from_vec(list))
+    let object = or_null(made_object(alloc));
+    let text = Value::from_static_str("x");
+    Ok(Value::from_vec(vec![in alloc; Value::new_null(), object, text]?))
 }
 
-#[test]
-fn values_made_by_hand_are_printed(rt: HostRuntime) {
-    let alloc = rt.alloc();
-    let json = b"[null,{\"a\":true,\"b\":[],\"a\":{}},\"x\"]";
-    assert!(rt; matches!(made_prints(alloc, made(alloc), json), Ok(true)));
-}
-
-// Whether this is the compact text of what is seen with the members of each object in the order of
-// their keys.
-fn prints_sorted(alloc: Global, view: View<'_>, json: &[u8]) -> Result<bool> {
-    let mut out = BufferedWriter::new(alloc, VecSink::new(alloc))?;
-    view.print_sorted(alloc, OneLine, &mut out)?;
-    flush_all(&mut out)?;
-    Ok(out.into_inner().as_slice() == json)
-}
-
-fn text_prints_sorted(alloc: Global, json: &str, then: &[u8]) -> Result<bool> {
-    let doc = read(alloc, json)?;
-    prints_sorted(alloc, View::packed(doc.view()), then)
-}
-
-fn made_prints_sorted(alloc: Global, then: &[u8]) -> Result<bool> {
-    let value = made(alloc)?;
-    prints_sorted(alloc, value.view(), then)
-}
-
-#[test]
-fn objects_are_printed_in_the_order_of_their_keys(rt: HostRuntime) {
-    let alloc = rt.alloc();
-    let json = "{\"c\":[{\"b\":1,\"a\":2}],\"b\":3,\"b\":4,\"a\":5}";
-    let then = b"{\"a\":5,\"b\":3,\"b\":4,\"c\":[{\"a\":2,\"b\":1}]}";
-    assert!(rt; matches!(text_prints_sorted(alloc, json, then), Ok(true)));
-    let then = b"[null,{\"a\":true,\"a\":{},\"b\":[]},\"x\"]";
-    assert!(rt; matches!(made_prints_sorted(alloc, then), Ok(true)));
+fn literal(alloc: Global, text: &str) -> Result<Value> {
+    Ok(Value::from_raw_number(RawNumber::new(alloc, text)?))
 }
 
 // The numbers `[18446744073709551615,-7,1,-0]`.
 fn numbers(alloc: Global) -> Result<Value> {
-    let mut items = Vec::new(alloc);
-    items.push(Value::new_u64(18_446_744_073_709_551_615))?;
-    items.push(Value::new_i64(-7))?;
-    items.push(Value::from_number(Number::from(1u8)))?;
-    items.push(Value::from_raw_number(RawNumber::new(alloc, "-0")?))?;
-    Ok(Value::from_vec(items))
+    let greatest = Value::new_u64(18_446_744_073_709_551_615);
+    let one = Value::from_number(Number::from(1u8));
+    let zero = or_null(literal(alloc, "-0"));
+    Value::from_slice_of(alloc, &[greatest, Value::new_i64(-7), one, zero])
 }
 
-#[test]
-fn numbers_are_printed(rt: HostRuntime) {
-    let alloc = rt.alloc();
-    let json = b"[18446744073709551615,-7,1,-0]";
-    assert!(rt; matches!(made_prints(alloc, numbers(alloc), json), Ok(true)));
+// The compact text of what is seen with the members of each object in the order of their keys.
+fn sorted(alloc: Global, view: View<'_>) -> Result<VecSink> {
+    let mut out = BufferedWriter::new(alloc, VecSink::new(alloc))?;
+    view.print_sorted(alloc, OneLine, &mut out)?;
+    flush_all(&mut out)?;
+    Ok(out.into_inner())
 }
 
-// Whether both texts of a value, by its method and by `Display`, are this one.
-fn is_displayed(alloc: Global, value: &Value, json: &str) -> Result<bool> {
-    let displayed = format!(in alloc; "{value}")?;
-    Ok(displayed.as_str() == json && value.to_string(alloc)?.as_str() == json)
-}
-
-// The same of an array.
-fn is_array_displayed(alloc: Global, value: &mut Value, json: &str) -> Result<bool> {
-    let Some(array) = array_in(value) else {
-        return Ok(false);
-    };
-    let displayed = format!(in alloc; "{array}")?;
-    Ok(displayed.as_str() == json && array.to_string(alloc)?.as_str() == json)
-}
-
-// The same of an object.
-fn is_object_displayed(alloc: Global, value: &Value, json: &str) -> Result<bool> {
-    let Value::Object(object) = value else {
-        return Ok(false);
-    };
-    let displayed = format!(in alloc; "{object}")?;
-    Ok(displayed.as_str() == json && object.to_string(alloc)?.as_str() == json)
-}
-
-// The same of the value of the first member, after the first write of its object.
-fn first_is_displayed(alloc: Global, value: &mut Value, json: &str) -> Result<bool> {
-    let pairs = pairs_in(value, alloc)?;
-    match pairs.and_then(|pairs| pairs.first_mut()) {
-        Some(first) => is_array_displayed(alloc, first.value_mut(), json),
-        None => Ok(false),
+// Whether it is this one.
+fn prints_sorted(alloc: Global, view: View<'_>, json: &[u8]) -> bool {
+    match sorted(alloc, view) {
+        Ok(out) => out.as_slice() == json,
+        Err(_) => false,
     }
 }
 
+fn document_prints_sorted(doc: &Rc<Doc>, alloc: Global) -> bool {
+    let then = b"{\"a\":5,\"b\":3,\"b\":4,\"c\":[{\"a\":2,\"b\":1}]}";
+    prints_sorted(alloc, View::packed(doc.view()), then)
+}
+
+fn value_prints_sorted(value: &Value, alloc: Global) -> bool {
+    let then = b"[null,{\"a\":true,\"a\":{},\"b\":[]},\"x\"]";
+    prints_sorted(alloc, value.view(), then)
+}
+
+fn wrong_text(alloc: Global) -> Option<&'static str> {
+    let json = "{\"c\":[{\"b\":1,\"a\":2}],\"b\":3,\"b\":4,\"a\":5}";
+    let by_hand = b"[null,{\"a\":true,\"b\":[],\"a\":{}},\"x\"]";
+    let spelled = b"[18446744073709551615,-7,1,-0]";
+    first_wrong(&[
+        (
+            "values of a document are printed",
+            is_document(alloc, TEXT, document_prints),
+        ),
+        (
+            "values made by hand are printed",
+            made_prints(alloc, made(alloc), by_hand),
+        ),
+        (
+            "objects of a document are printed in the order of their keys",
+            is_document(alloc, json, document_prints_sorted),
+        ),
+        (
+            "objects made by hand are printed in the order of their keys",
+            is_made_so(alloc, made(alloc), value_prints_sorted),
+        ),
+        (
+            "numbers are printed",
+            made_prints(alloc, numbers(alloc), spelled),
+        ),
+    ])
+}
+
+// Whether a text was made, and is this one.
+fn is_text<E: Drop>(made: std::result::Result<String, E>, text: &str) -> bool {
+    match made {
+        Ok(made) => made.as_str() == text,
+        Err(_) => false,
+    }
+}
+
+// Whether both texts of a value, by its method and by `Display`, are this one.
+fn is_displayed(alloc: Global, value: &Value, json: &str) -> bool {
+    let displayed = is_text(format!(in alloc; "{value}"), json);
+    is_text(value.to_string(alloc), json) && displayed
+}
+
+// The same of an array.
+fn is_array_displayed(alloc: Global, array: &Array, json: &str) -> bool {
+    let displayed = is_text(format!(in alloc; "{array}"), json);
+    is_text(array.to_string(alloc), json) && displayed
+}
+
+// The same of an object.
+fn is_object_displayed(alloc: Global, object: &Object, json: &str) -> bool {
+    let displayed = is_text(format!(in alloc; "{object}"), json);
+    is_text(object.to_string(alloc), json) && displayed
+}
+
+// The same of the array or the object that a value is.
+fn is_container_displayed(alloc: Global, value: &Value, json: &str) -> bool {
+    match value {
+        Value::Array(array) => is_array_displayed(alloc, array, json),
+        Value::Object(object) => is_object_displayed(alloc, object, json),
+        _ => false,
+    }
+}
+
+// The same of the value of the first of the members.
+fn is_first_displayed(alloc: Global, members: &[Pair], json: &str) -> bool {
+    match members.first() {
+        Some(first) => is_container_displayed(alloc, first.value(), json),
+        None => false,
+    }
+}
+
+// The same of the first member of a value, after the first write of its object.
+fn first_is_displayed(alloc: Global, value: &mut Value, json: &str) -> bool {
+    match pairs_in(value, alloc) {
+        Ok(Some(members)) => is_first_displayed(alloc, members.as_slice(), json),
+        _ => false,
+    }
+}
+
+const NESTED: &str = "{\"a\":[\"\\u001f\\\"é\",-2.50e3],\"b\":{}}";
+
 // The value, the first of its members, and the object that it is.
-fn all_are_displayed(alloc: Global, value: &mut Value, json: &str, first: &str) -> Result<bool> {
-    let whole = is_displayed(alloc, value, json)?;
-    let inner = first_is_displayed(alloc, value, first)?;
-    Ok(whole && inner && is_object_displayed(alloc, value, json)?)
+fn all_are_displayed(value: &mut Value, alloc: Global) -> bool {
+    let whole = is_displayed(alloc, value, NESTED);
+    let inner = first_is_displayed(alloc, value, "[\"\\u001f\\\"é\",-2.50e3]");
+    is_container_displayed(alloc, value, NESTED) && whole && inner
 }
 
-fn object_is_displayed(alloc: Global, json: &str, first: &str) -> Result<bool> {
-    let mut value = value_of(alloc, json)?;
-    all_are_displayed(alloc, &mut value, json, first)
+fn list_is_displayed(value: &Value, alloc: Global) -> bool {
+    is_displayed(alloc, value, "[1]")
 }
 
-fn value_is_displayed(alloc: Global, json: &str) -> Result<bool> {
-    let value = value_of(alloc, json)?;
-    is_displayed(alloc, &value, json)
+fn error_is_displayed(alloc: Global) -> bool {
+    match RawNumber::new(alloc, "01") {
+        Ok(_) => false,
+        Err(refused) => is_text(refused.to_string(alloc), "InvalidNumber"),
+    }
+}
+
+fn wrong_display(alloc: Global) -> Option<&'static str> {
+    let nested = value_of(alloc, NESTED);
+    first_wrong(&[
+        (
+            "a value, its object and an array in it are displayed",
+            is_done(alloc, nested, all_are_displayed),
+        ),
+        (
+            "an array is displayed",
+            is_value(alloc, "[1]", list_is_displayed),
+        ),
+        (
+            "a number is displayed",
+            is_text(Number::from(7_u8).to_string(alloc), "7"),
+        ),
+        ("an error is displayed", error_is_displayed(alloc)),
+    ])
 }
 
 #[test]
-fn values_are_displayed(rt: HostRuntime) {
-    let alloc = rt.alloc();
-    let json = "{\"a\":[\"\\u001f\\\"é\",-2.50e3],\"b\":{}}";
-    let shown = object_is_displayed(alloc, json, "[\"\\u001f\\\"é\",-2.50e3]");
-    assert!(rt; matches!(shown, Ok(true)));
-    assert!(rt; matches!(value_is_displayed(alloc, "[1]"), Ok(true)));
-}
-
-fn number_is_displayed(alloc: Global) -> Result<bool> {
-    let text = Number::from(7_u8).to_string(alloc)?;
-    Ok(text.as_str() == "7")
-}
-
-fn error_is_displayed(alloc: Global) -> Result<bool> {
-    let Some(refused) = RawNumber::new(alloc, "01").err() else {
-        return Ok(false);
-    };
-    let text = refused.to_string(alloc)?;
-    Ok(text.as_str() == "InvalidNumber")
-}
-
-#[test]
-fn numbers_and_errors_are_displayed(rt: HostRuntime) {
-    assert!(rt; matches!(number_is_displayed(rt.alloc()), Ok(true)));
-    assert!(rt; matches!(error_is_displayed(rt.alloc()), Ok(true)));
+fn values_are_printed_and_displayed(rt: HostRuntime) {
+    assert_eq!(rt; wrong_text(rt.alloc()), None);
+    assert_eq!(rt; wrong_display(rt.alloc()), None);
 }

@@ -1,63 +1,85 @@
 // What is read through the traits.
 use json_access::{JsonContainerTrait, JsonValueTrait};
 use json_doc::JsonType;
-use json_fixtures::value_of;
-use json_number::{JsonNumberTrait, Number};
-use json_text::Error;
-use json_value::{Value, View};
+use json_fixtures::{first_wrong, is_so, or_null, value_of};
+use json_number::{JsonNumberTrait, Number, RawNumber};
+use json_text::{Error, ErrorCode, Place, Result};
+use json_value::{Array, Object, Value, View};
 use std::alloc::Global;
 
-// The kind, where the question for just this kind is answered by yes.
-fn kind<V: JsonValueTrait>(value: &V) -> Option<JsonType> {
-    let answers = [
-        (value.is_null(), JsonType::Null),
-        (value.is_boolean(), JsonType::Boolean),
-        (value.is_number(), JsonType::Number),
-        (value.is_str(), JsonType::String),
-        (value.is_array(), JsonType::Array),
-        (value.is_object(), JsonType::Object),
-    ];
-    for (yes, kind) in answers {
-        if yes != (kind == value.get_type()) {
-            return None;
-        }
-    }
-    Some(value.get_type())
+const GREATEST: u64 = 18446744073709551615;
+
+// What was refused.
+fn refused() -> Result<Value> {
+    Err(Error {
+        code: ErrorCode::NotFound,
+        place: Place::None,
+    })
 }
 
-// Whether a value, a view of it, and what may be missing or refused but is this value are of this
-// kind.
-fn are_of_kind(alloc: Global, json: &str, want: JsonType) -> json_text::Result<bool> {
-    let value = value_of(alloc, json)?;
-    let seen = kind(&value) == Some(want) && kind(&value.view()) == Some(want);
-    let lent = kind(&&value) == Some(want) && kind(&Some(&value)) == Some(want);
-    let answer: Result<Value, Error> = Ok(value);
-    Ok(seen && lent && kind(&answer) == Some(want))
+// Whether the kind is this one, and the question for just this kind is answered by yes.
+fn is_kind<V: JsonValueTrait>(value: &V, kind: JsonType) -> bool {
+    let null = value.is_null() == (kind == JsonType::Null);
+    let boolean = value.is_boolean() == (kind == JsonType::Boolean);
+    let number = value.is_number() == (kind == JsonType::Number);
+    let text = value.is_str() == (kind == JsonType::String);
+    let array = value.is_array() == (kind == JsonType::Array);
+    let object = value.is_object() == (kind == JsonType::Object);
+    value.get_type() == kind && null && boolean && number && text && array && object
 }
 
-// The first text whose value is of another kind.
-fn wrong_kind(alloc: Global) -> json_text::Result<Option<&'static str>> {
-    let cases = [
-        ("null", JsonType::Null),
-        ("true", JsonType::Boolean),
-        ("12", JsonType::Number),
-        ("1.5", JsonType::Number),
-        ("\"a\"", JsonType::String),
-        ("[1]", JsonType::Array),
-        ("{\"k\":1}", JsonType::Object),
-    ];
-    for (json, want) in cases {
-        if !are_of_kind(alloc, json, want)? {
-            return Ok(Some(json));
-        }
-    }
-    Ok(None)
+// Whether a value, a view of it, the value where it is lent, and what may be missing but is this
+// value are of this kind.
+fn seen_are_of_kind(value: &Value, kind: JsonType) -> bool {
+    let (own, seen) = (is_kind(value, kind), is_kind(&value.view(), kind));
+    let (lent, found) = (is_kind(&value, kind), is_kind(&Some(value), kind));
+    own && seen && lent && found
 }
 
-#[test]
-fn kinds_are_read(rt: HostRuntime) {
-    let wrong = wrong_kind(rt.alloc());
-    assert!(rt; matches!(wrong, Ok(None)), "{wrong:?}");
+// The same of the value of a text, and of what may be refused but is this value.
+fn are_of_kind(alloc: Global, json: &str, kind: JsonType) -> bool {
+    let answer = value_of(alloc, json);
+    let answered = answer.is_ok() && is_kind(&answer, kind);
+    seen_are_of_kind(&or_null(answer), kind) && answered
+}
+
+fn wrong_kind(alloc: Global) -> Option<&'static str> {
+    let none: Option<View<'_>> = None;
+    first_wrong(&[
+        ("null", are_of_kind(alloc, "null", JsonType::Null)),
+        ("a boolean", are_of_kind(alloc, "true", JsonType::Boolean)),
+        ("an integer", are_of_kind(alloc, "12", JsonType::Number)),
+        ("a literal", are_of_kind(alloc, "1.5", JsonType::Number)),
+        ("a text", are_of_kind(alloc, "\"a\"", JsonType::String)),
+        ("an array", are_of_kind(alloc, "[1]", JsonType::Array)),
+        (
+            "an object",
+            are_of_kind(alloc, "{\"k\":1}", JsonType::Object),
+        ),
+        ("a missing view is null", is_kind(&none, JsonType::Null)),
+    ])
+}
+
+fn is_missing<V: JsonContainerTrait>(value: &V) -> bool {
+    value.is_null() && value.as_array().is_none() && value.as_object().is_none()
+}
+
+fn is_no_scalar<V: JsonValueTrait>(value: &V) -> bool {
+    value.as_str().is_none() && value.as_bool().is_none() && value.as_number().is_none()
+}
+
+fn has_no_literal<V: JsonValueTrait>(alloc: Global, value: &V) -> bool {
+    matches!(value.as_raw_number(alloc), Ok(None))
+}
+
+// Whether a missing value is null, and has no literal.
+fn none_is_null(alloc: Global, none: Option<Value>) -> bool {
+    is_missing(&none) && has_no_literal(alloc, &none)
+}
+
+// Whether a refused value is null, and no scalar, and has no literal.
+fn refused_is_null(alloc: Global, refused: Result<Value>) -> bool {
+    is_missing(&refused) && is_no_scalar(&refused) && has_no_literal(alloc, &refused)
 }
 
 // Whether it is the one boolean and not the other.
@@ -65,240 +87,191 @@ fn is_boolean<V: JsonValueTrait>(value: &V, boolean: bool) -> bool {
     value.is_true() == boolean && value.is_false() != boolean
 }
 
-fn is_no_boolean<V: JsonValueTrait>(value: &V) -> bool {
+// Whether it is so of a value, of its view, and of what may be missing but is this value.
+fn are_boolean(value: &Value, boolean: bool) -> bool {
+    let (own, seen) = (
+        is_boolean(value, boolean),
+        is_boolean(&value.view(), boolean),
+    );
+    own && seen && is_boolean(&Some(value), boolean)
+}
+
+fn are_true(value: &Value, _alloc: Global) -> bool {
+    are_boolean(value, true)
+}
+
+fn are_false(value: &Value, _alloc: Global) -> bool {
+    are_boolean(value, false)
+}
+
+fn is_no_boolean(value: &Value, _alloc: Global) -> bool {
     !value.is_true() && !value.is_false()
 }
 
-// Whether it is so of a value, of its view, and of what may be missing but is this value.
-fn are_boolean(value: Value, boolean: bool) -> bool {
-    let seen = is_boolean(&value, boolean) && is_boolean(&value.view(), boolean);
-    is_boolean(&Some(value), boolean) && seen
-}
-
-#[test]
-fn booleans_are_read(rt: HostRuntime) {
-    assert!(rt; are_boolean(Value::new_bool(true), true));
-    assert!(rt; are_boolean(Value::new_bool(false), false));
-    assert!(rt; is_no_boolean(&Value::new_null()));
-}
-
-fn is_missing<V: JsonContainerTrait>(value: &V) -> bool {
-    value.is_null() && value.as_array().is_none() && value.as_object().is_none()
-}
-
-fn no_value_is_null() -> bool {
-    let none: Option<Value> = None;
-    is_missing(&none)
-}
-
-fn no_view_is_null() -> bool {
-    let none: Option<View<'static>> = None;
-    kind(&none) == Some(JsonType::Null)
-}
-
-#[test]
-fn what_is_missing_is_null(rt: HostRuntime) {
-    assert!(rt; no_value_is_null());
-    assert!(rt; no_view_is_null());
-}
-
-fn error_is_null() -> bool {
-    let refused: Result<Value, Error> = Err(REFUSED);
-    is_missing(&refused)
-}
-
-#[test]
-fn what_was_refused_is_null(rt: HostRuntime) {
-    assert!(rt; error_is_null());
-}
-
-// Whether it is this text, and no other scalar.
-fn is_text<V: JsonValueTrait>(value: &V, text: &str) -> bool {
-    value.as_str() == Some(text) && value.as_bool().is_none() && value.as_number().is_none()
-}
-
-fn is_truth<V: JsonValueTrait>(value: &V) -> bool {
-    value.as_bool() == Some(true) && value.as_str().is_none() && value.as_number().is_none()
-}
-
-fn is_seven<V: JsonValueTrait>(value: &V) -> bool {
-    let seven = Some(Number::from(7_u8));
-    value.as_number() == seven && value.as_bool().is_none() && value.as_str().is_none()
-}
-
-fn text_is_seen(text: Value) -> bool {
-    is_text(&text, "a") && is_text(&text.view(), "a")
-}
-
-#[test]
-fn scalars_are_read(rt: HostRuntime) {
-    assert!(rt; text_is_seen(Value::from_static_str("a")));
-    assert!(rt; is_truth(&Value::new_bool(true)));
-    assert!(rt; is_seven(&Some(Value::new_u64(7))));
-}
-
-// Whether a lent text and one that was answered are read as the text alone.
-fn text_is_read(text: Value) -> bool {
-    let lent = is_text(&&text, "a");
-    let answer: Result<Value, Error> = Ok(text);
-    lent && is_text(&answer, "a")
-}
-
-fn truth_is_read(truth: Value) -> bool {
-    let lent = is_truth(&&truth);
-    let answer: Result<Value, Error> = Ok(truth);
-    lent && is_truth(&answer)
-}
-
-fn seven_is_read(seven: Value) -> bool {
-    let lent = is_seven(&&seven);
-    let answer: Result<Value, Error> = Ok(seven);
-    lent && is_seven(&answer)
-}
-
-fn is_no_scalar<V: JsonValueTrait>(value: &V) -> bool {
-    value.as_str().is_none() && value.as_bool().is_none() && value.as_number().is_none()
-}
-
-const REFUSED: Error = Error {
-    code: json_text::ErrorCode::NotFound,
-    place: json_text::Place::None,
-};
-
-fn error_is_no_scalar() -> bool {
-    let refused: Result<Value, Error> = Err(REFUSED);
-    is_no_scalar(&refused)
-}
-
-#[test]
-fn scalars_that_are_lent_or_answered_are_read(rt: HostRuntime) {
-    assert!(rt; text_is_read(Value::from_static_str("a")));
-    assert!(rt; truth_is_read(Value::new_bool(true)));
-    assert!(rt; seven_is_read(Value::new_u64(7)));
-    assert!(rt; error_is_no_scalar());
-}
-
-// Whether these are its integers.
-fn is_integer<V: JsonValueTrait>(value: &V, unsigned: Option<u64>, signed: Option<i64>) -> bool {
-    value.as_u64() == unsigned && value.as_i64() == signed
-}
-
-// Whether the questions for its integers are answered so.
-fn fits<V: JsonValueTrait>(value: &V, unsigned: bool, signed: bool) -> bool {
-    value.is_u64() == unsigned && value.is_i64() == signed
-}
-
-fn is_greatest<V: JsonValueTrait>(value: &V) -> bool {
-    fits(value, true, false) && is_integer(value, Some(18446744073709551615), None)
-}
-
-#[test]
-fn integers_are_read(rt: HostRuntime) {
-    assert!(rt; is_greatest(&Some(Value::new_u64(18446744073709551615))));
-    assert!(rt; is_integer(&Value::new_i64(-7), None, Some(-7)));
-    assert!(rt; is_integer(&Value::new_null(), None, None));
-}
-
-// Whether the literal of the number is this one.
-fn is_spelled<V: JsonValueTrait>(
-    alloc: Global,
+// Whether this text, this boolean and this number are read of it, each or none.
+fn is_scalar<V: JsonValueTrait>(
     value: &V,
-    literal: &str,
-) -> json_text::Result<bool> {
-    match value.as_raw_number(alloc)? {
-        Some(number) => Ok(number.as_str() == literal),
-        None => Ok(false),
+    text: Option<&str>,
+    boolean: Option<bool>,
+    number: Option<Number>,
+) -> bool {
+    let said = value.as_str() == text;
+    let counted = value.as_number() == number;
+    value.as_bool() == boolean && said && counted
+}
+
+// Whether it is so of a value, of its view, of the value where it is lent, and of what may be
+// missing or refused but is this value.
+fn are_scalar(
+    value: &Value,
+    text: Option<&str>,
+    boolean: Option<bool>,
+    number: Option<Number>,
+) -> bool {
+    let answer: Result<&Value> = Ok(value);
+    let own = is_scalar(value, text, boolean, number);
+    let seen = is_scalar(&value.view(), text, boolean, number);
+    let lent = is_scalar(&value, text, boolean, number);
+    let found = is_scalar(&Some(value), text, boolean, number);
+    let answered = is_scalar(&answer, text, boolean, number);
+    own && seen && lent && found && answered
+}
+
+fn are_text(value: &Value, _alloc: Global) -> bool {
+    are_scalar(value, Some("a"), None, None)
+}
+
+fn are_truth(value: &Value, _alloc: Global) -> bool {
+    are_scalar(value, None, Some(true), None)
+}
+
+fn are_seven(value: &Value, _alloc: Global) -> bool {
+    are_scalar(value, None, None, Some(Number::from(7_u8)))
+}
+
+// Whether what was found is the number 7.
+fn found_seven(found: Option<Value>) -> bool {
+    is_scalar(&found, None, None, Some(Number::from(7_u8)))
+}
+
+fn is_greatest(value: &Value, _alloc: Global) -> bool {
+    let found = Some(value);
+    let fits = found.is_u64() && !found.is_i64();
+    fits && found.as_u64() == Some(GREATEST) && found.as_i64().is_none()
+}
+
+fn is_below_zero(value: &Value, _alloc: Global) -> bool {
+    value.as_u64().is_none() && value.as_i64() == Some(-7)
+}
+
+fn is_no_integer(value: &Value, _alloc: Global) -> bool {
+    value.as_u64().is_none() && value.as_i64().is_none()
+}
+
+fn wrong_scalar(alloc: Global) -> Option<&'static str> {
+    let text = Value::from_static_str("a");
+    let greatest = Value::new_u64(GREATEST);
+    first_wrong(&[
+        ("a missing value is null", none_is_null(alloc, None)),
+        ("a refused value is null", refused_is_null(alloc, refused())),
+        ("true", is_so(alloc, Value::new_bool(true), are_true)),
+        ("false", is_so(alloc, Value::new_bool(false), are_false)),
+        (
+            "null is no boolean",
+            is_so(alloc, Value::new_null(), is_no_boolean),
+        ),
+        ("a text", is_so(alloc, text, are_text)),
+        ("a truth", is_so(alloc, Value::new_bool(true), are_truth)),
+        ("a number", is_so(alloc, Value::new_u64(7), are_seven)),
+        ("a found number", found_seven(Some(Value::new_u64(7)))),
+        ("the greatest integer", is_so(alloc, greatest, is_greatest)),
+        (
+            "an integer below zero",
+            is_so(alloc, Value::new_i64(-7), is_below_zero),
+        ),
+        (
+            "null is no integer",
+            is_so(alloc, Value::new_null(), is_no_integer),
+        ),
+    ])
+}
+
+// Whether there is a literal, and it is this one.
+fn is_literal(made: Result<Option<RawNumber>>, literal: &str) -> bool {
+    match made {
+        Ok(Some(number)) => number.as_str() == literal,
+        _ => false,
     }
 }
 
 // Whether the literal of a value, of its view, of the value where it is lent, and of what may be
 // missing but is this value is this one.
-fn seen_are_spelled(alloc: Global, value: &Value, literal: &str) -> json_text::Result<bool> {
-    let seen = is_spelled(alloc, value, literal)? && is_spelled(alloc, &value.view(), literal)?;
-    Ok(seen && is_spelled(alloc, &value, literal)? && is_spelled(alloc, &Some(value), literal)?)
+fn seen_are_spelled(alloc: Global, value: &Value, literal: &str) -> bool {
+    let own = is_literal(value.as_raw_number(alloc), literal);
+    let seen = is_literal(value.view().as_raw_number(alloc), literal);
+    let lent = is_literal((&value).as_raw_number(alloc), literal);
+    let found = is_literal(Some(value).as_raw_number(alloc), literal);
+    own && seen && lent && found
 }
 
 // So of the value of a literal, and of what may have been refused but is this value.
-fn are_spelled(alloc: Global, literal: &str) -> json_text::Result<bool> {
-    let answer: Result<Value, Error> = value_of(alloc, literal);
-    let spelled = is_spelled(alloc, &answer, literal)?;
-    Ok(spelled && seen_are_spelled(alloc, &answer?, literal)?)
+fn are_spelled(alloc: Global, literal: &str) -> bool {
+    let answer = value_of(alloc, literal);
+    let spelled = is_literal(answer.as_raw_number(alloc), literal);
+    seen_are_spelled(alloc, &or_null(answer), literal) && spelled
 }
 
-// The first literal that is read as another.
-fn wrong_literal(alloc: Global) -> json_text::Result<Option<&'static str>> {
-    for literal in ["12", "-7", "18446744073709551615", "1.50e3", "-0"] {
-        if !are_spelled(alloc, literal)? {
-            return Ok(Some(literal));
-        }
-    }
-    Ok(None)
-}
-
-fn has_no_literal<V: JsonValueTrait>(alloc: Global, value: &V) -> bool {
-    matches!(value.as_raw_number(alloc), Ok(None))
-}
-
-fn no_value_has_no_literal(alloc: Global) -> bool {
-    let none: Option<Value> = None;
-    has_no_literal(alloc, &none)
-}
-
-fn error_has_no_literal(alloc: Global) -> bool {
-    let refused: Result<Value, Error> = Err(REFUSED);
-    has_no_literal(alloc, &refused)
-}
-
-#[test]
-fn literals_are_read(rt: HostRuntime) {
-    let wrong = wrong_literal(rt.alloc());
-    assert!(rt; matches!(wrong, Ok(None)), "{wrong:?}");
-    assert!(rt; no_value_has_no_literal(rt.alloc()));
-    assert!(rt; error_has_no_literal(rt.alloc()));
-}
-
-// How many elements there are, and how many members.
-fn sizes<V: JsonContainerTrait>(value: &V) -> (Option<usize>, Option<usize>) {
-    let elements = match value.as_array() {
+// Whether an array is of so many elements, and an object of so many members.
+fn are_sized(
+    array: Option<&Array>,
+    object: Option<&Object>,
+    len: Option<usize>,
+    count: Option<usize>,
+) -> bool {
+    let elements = match array {
         Some(array) => Some(array.view().len()),
         None => None,
     };
-    let members = match value.as_object() {
+    let members = match object {
         Some(object) => Some(object.view().len()),
         None => None,
     };
-    (elements, members)
+    elements == len && members == count
 }
 
-// Whether a value, and what may be missing or refused but is this value, has so many.
-fn are_sized(
-    alloc: Global,
-    json: &str,
-    want: (Option<usize>, Option<usize>),
-) -> json_text::Result<bool> {
-    let value = value_of(alloc, json)?;
-    let lent = sizes(&value) == want && sizes(&&value) == want && sizes(&Some(&value)) == want;
-    let answer: Result<Value, Error> = Ok(value);
-    Ok(lent && sizes(&answer) == want)
+// Whether a value, the value where it is lent, and what may be missing but is this value have so
+// many.
+fn seen_are_sized(value: &Value, len: Option<usize>, count: Option<usize>) -> bool {
+    let (lent, some) = (&value, Some(value));
+    let own = are_sized(value.as_array(), value.as_object(), len, count);
+    let passed = are_sized(lent.as_array(), lent.as_object(), len, count);
+    own && passed && are_sized(some.as_array(), some.as_object(), len, count)
 }
 
-// The first text whose value has more or fewer.
-fn wrong_size(alloc: Global) -> json_text::Result<Option<&'static str>> {
-    let cases = [
-        ("[1,2]", (Some(2), None)),
-        ("{\"k\":1}", (None, Some(1))),
-        ("null", (None, None)),
-    ];
-    for (json, want) in cases {
-        if !are_sized(alloc, json, want)? {
-            return Ok(Some(json));
-        }
-    }
-    Ok(None)
+// The same of the value of a text, and of what may be refused but is this value.
+fn has_size(alloc: Global, json: &str, len: Option<usize>, count: Option<usize>) -> bool {
+    let answer = value_of(alloc, json);
+    let sized = are_sized(answer.as_array(), answer.as_object(), len, count);
+    let answered = answer.is_ok() && sized;
+    seen_are_sized(&or_null(answer), len, count) && answered
+}
+
+fn wrong_literal(alloc: Global) -> Option<&'static str> {
+    first_wrong(&[
+        ("12", are_spelled(alloc, "12")),
+        ("-7", are_spelled(alloc, "-7")),
+        ("the greatest", are_spelled(alloc, "18446744073709551615")),
+        ("1.50e3", are_spelled(alloc, "1.50e3")),
+        ("-0", are_spelled(alloc, "-0")),
+        ("elements", has_size(alloc, "[1,2]", Some(2), None)),
+        ("members", has_size(alloc, "{\"k\":1}", None, Some(1))),
+        ("null has neither", has_size(alloc, "null", None, None)),
+    ])
 }
 
 #[test]
-fn containers_are_read(rt: HostRuntime) {
-    let wrong = wrong_size(rt.alloc());
-    assert!(rt; matches!(wrong, Ok(None)), "{wrong:?}");
+fn values_are_read(rt: HostRuntime) {
+    assert_eq!(rt; wrong_kind(rt.alloc()), None);
+    assert_eq!(rt; wrong_scalar(rt.alloc()), None);
+    assert_eq!(rt; wrong_literal(rt.alloc()), None);
 }

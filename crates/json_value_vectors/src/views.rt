@@ -1,118 +1,91 @@
 // What views show.
-use crate::looks::{is_document, is_made, is_value};
+use crate::looks::{elements, sees, sees_text};
 use json_doc::{Doc, JsonType};
-use json_fixtures::{shows, whole};
-use json_number::Number;
-use json_text::Result;
+use json_fixtures::{first_wrong, is_document, is_shown, is_value, or_null, whole};
 use json_value::{ObjectView, Pair, Text, Value, View};
 use std::alloc::Global;
 use std::rc::Rc;
 
-// The literal of the member of a key.
-fn literal_of<'a>(object: ObjectView<'a>, name: &str) -> Option<&'a str> {
-    let (key, value) = object.get_key_value(name)?;
-    if key == name { value.literal() } else { None }
+// Whether the first element is the number 7, not by its literal, and the second a text of one line
+// break.
+fn are_seven_and_line(list: View<'_>) -> bool {
+    let spelled = list.at(0_usize).literal().is_some();
+    let text = list.at(1_usize).get_type() == JsonType::String;
+    match list.as_array() {
+        Some(array) => sees(array.get(0), 7) && sees_text(array.get(1), "\n") && text && !spelled,
+        None => false,
+    }
 }
 
-// The element of an index of the array that is the value of a key.
-fn element_of<'a>(object: ObjectView<'a>, name: &str, index: usize) -> Option<View<'a>> {
-    object.get(name)?.as_array()?.get(index)
+// Whether the member of a key is such an array.
+fn has_seven_and_line(member: Option<View<'_>>) -> bool {
+    match member {
+        Some(list) => are_seven_and_line(list),
+        None => false,
+    }
 }
 
-fn is_seven(view: View<'_>) -> bool {
-    view.as_number() == Some(Number::from(7u8)) && view.literal().is_none()
-}
-
-fn is_text(view: View<'_>, text: &str) -> bool {
-    view.get_type() == JsonType::String && view.text() == Some(text)
-}
-
-// The members of a whole document.
-fn members_of(doc: &Doc) -> Option<ObjectView<'_>> {
-    View::packed(doc.view()).as_object()
+// Whether a member has this key, and its value this literal.
+fn is_literal(member: Option<(&str, View<'_>)>, name: &str, literal: &str) -> bool {
+    match member {
+        Some((key, value)) => key == name && value.literal() == Some(literal),
+        None => false,
+    }
 }
 
 // Whether these are the members of `{"a":[7,"\n"],"b":-2.50e3}`.
 fn are_both(object: ObjectView<'_>) -> bool {
     let counted = object.len() == 2 && !object.is_empty();
-    let literal = literal_of(object, "b") == Some("-2.50e3");
-    let number = element_of(object, "a", 0).is_some_and(is_seven);
-    let text = element_of(object, "a", 1).is_some_and(|text| is_text(text, "\n"));
-    counted && literal && number && text
+    let literal = is_literal(object.get_key_value("b"), "b", "-2.50e3");
+    counted && literal && has_seven_and_line(object.get("a"))
 }
 
-fn has_both(doc: &Rc<Doc>) -> bool {
-    members_of(doc).is_some_and(are_both)
-}
-
-#[test]
-fn views_show(rt: HostRuntime) {
-    let json = "{\"a\":[7,\"\\n\"],\"b\":-2.50e3}";
-    assert!(rt; is_document(rt.alloc(), json, has_both));
-}
-
-// How many elements an array has, where it has some.
-fn elements(value: &Value) -> Option<usize> {
-    let array = value.view().as_array()?;
-    if array.is_empty() {
-        None
-    } else {
-        Some(array.iter().len())
+fn has_both(doc: &Rc<Doc>, _alloc: Global) -> bool {
+    match View::packed(doc.view()).as_object() {
+        Some(object) => are_both(object),
+        None => false,
     }
 }
 
-#[test]
-fn elements_are_counted(rt: HostRuntime) {
-    assert!(rt; is_value(rt.alloc(), "[1,null]", |value| elements(value) == Some(2)));
+fn has_two(value: &Value, _alloc: Global) -> bool {
+    elements(value.view().as_array()) == Some((2, false))
 }
 
-// Whether the first member has this key and is true, and there is no second.
-fn is_only(object: ObjectView<'_>, name: &str) -> bool {
-    match object.pair(0) {
-        Some((key, value)) => {
-            key == name && value.as_bool() == Some(true) && object.pair(1).is_none()
+// Whether a member has this key, and is true.
+fn is_true(member: Option<(&str, View<'_>)>, name: &str) -> bool {
+    match member {
+        Some((key, value)) => key == name && value.as_bool() == Some(true),
+        None => false,
+    }
+}
+
+// Whether a value is an object of one member, which is true.
+fn has_one(value: &Value, _alloc: Global) -> bool {
+    match value.view().as_object() {
+        Some(object) => {
+            let one = object.iter().len() == 1 && object.pair(1).is_none();
+            one && is_true(object.pair(0), "k")
         }
         None => false,
     }
 }
 
-// Whether a value is an object of such a member alone.
-fn has_only(value: &Value, name: &str) -> bool {
-    match value.view().as_object() {
-        Some(object) => object.iter().len() == 1 && is_only(object, name),
-        None => false,
-    }
-}
-
-#[test]
-fn members_are_counted(rt: HostRuntime) {
-    assert!(rt; is_value(rt.alloc(), "{\"k\":true}", |value| has_only(value, "k")));
-}
-
-// Writes true at a member.
-fn write_true(member: &mut Pair) {
+// Writes true at a member, and sees it.
+fn is_written_and_seen(member: &mut Pair) -> bool {
     *member.value_mut() = Value::new_bool(true);
+    member.key() == "k" && member.value().eq_bool(true)
 }
 
-fn is_true(member: &Pair, key: &str) -> bool {
-    member.key() == key && member.value().eq_bool(true)
+fn member_is_written() -> bool {
+    is_written_and_seen(&mut Pair::new(Text::from_static("k"), Value::new_null()))
 }
 
-fn is_written_and_seen() -> bool {
-    let mut member = Pair::new(Text::from_static("k"), Value::new_null());
-    write_true(&mut member);
-    is_true(&member, "k")
-}
-
-#[test]
-fn members_are_seen(rt: HostRuntime) {
-    assert!(rt; is_written_and_seen());
-}
-
-// Whether a value is the place that a view shows.
-fn stands_where(value: &Value, seen: View<'_>) -> bool {
-    match (value.place(), seen.place()) {
-        (Some((doc, at)), Some((other, seen_at))) => at == seen_at && doc.text() == other.text(),
+// Whether two places are one cell of documents of the same texts.
+fn are_one(place: Option<(&Doc, u32)>, other: Option<(&Doc, u32)>) -> bool {
+    match (place, other) {
+        (Some((doc, at)), Some((other, other_at))) => {
+            at == other_at && doc.text() == other.text()
+        }
         _ => false,
     }
 }
@@ -122,34 +95,45 @@ fn stands_where(value: &Value, seen: View<'_>) -> bool {
 fn part_is_shared(value: &Value, alloc: Global, doc: &Rc<Doc>) -> bool {
     let part = value.at(1_usize).at("k").at(1_usize);
     let before = Rc::strong_count(doc);
-    let shares = |shared: &Value| stands_where(shared, part) && Rc::strong_count(doc) == 3;
-    is_made(part.to_value(alloc), shares) && before == 2
+    let shared = or_null(part.to_value(alloc));
+    let after = Rc::strong_count(doc);
+    before == 2 && after == 3 && are_one(shared.place(), part.place())
 }
 
-fn parts_are_shared(alloc: Global, doc: &Rc<Doc>) -> bool {
-    is_made(whole(alloc, doc), |value| part_is_shared(value, alloc, doc))
-}
-
-#[test]
-fn a_packed_part_of_a_value_is_shared(rt: HostRuntime) {
-    let alloc = rt.alloc();
-    let json = "[0.5,{\"k\":[\"x\",2.50]}]";
-    assert!(rt; is_document(alloc, json, |doc| parts_are_shared(alloc, doc)));
+fn parts_are_shared(doc: &Rc<Doc>, alloc: Global) -> bool {
+    part_is_shared(&or_null(whole(alloc, doc)), alloc, doc)
 }
 
 // Whether the copy of the first element is no place, has this compact text, and holds no document.
-fn part_is_copied(alloc: Global, doc: &Rc<Doc>, json: &str) -> Result<bool> {
-    let copy = View::packed(doc.view()).at(0_usize).to_value(alloc)?;
+fn part_is_copied(doc: &Rc<Doc>, alloc: Global) -> bool {
+    let copy = or_null(View::packed(doc.view()).at(0_usize).to_value(alloc));
     let alone = copy.place().is_none() && Rc::strong_count(doc) == 1;
-    Ok(shows(alloc, &copy, json)? && alone)
+    is_shown(alloc, &copy, "[2.50,\"x\"]") && alone
 }
 
-fn parts_are_copied(alloc: Global, doc: &Rc<Doc>) -> bool {
-    matches!(part_is_copied(alloc, doc, "[2.50,\"x\"]"), Ok(true))
+fn wrong(alloc: Global) -> Option<&'static str> {
+    let members = "{\"a\":[7,\"\\n\"],\"b\":-2.50e3}";
+    let nested = "[0.5,{\"k\":[\"x\",2.50]}]";
+    first_wrong(&[
+        ("members are seen", is_document(alloc, members, has_both)),
+        ("elements are counted", is_value(alloc, "[1,null]", has_two)),
+        (
+            "members are counted",
+            is_value(alloc, "{\"k\":true}", has_one),
+        ),
+        ("a member is written and seen", member_is_written()),
+        (
+            "a packed part of a value is shared",
+            is_document(alloc, nested, parts_are_shared),
+        ),
+        (
+            "a part of a document alone is copied",
+            is_document(alloc, "[[2.50,\"x\"]]", part_is_copied),
+        ),
+    ])
 }
 
 #[test]
-fn a_part_of_a_document_alone_is_copied(rt: HostRuntime) {
-    let alloc = rt.alloc();
-    assert!(rt; is_document(alloc, "[[2.50,\"x\"]]", |doc| parts_are_copied(alloc, doc)));
+fn views_show(rt: HostRuntime) {
+    assert_eq!(rt; wrong(rt.alloc()), None);
 }

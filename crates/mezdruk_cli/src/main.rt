@@ -1,7 +1,7 @@
 //! The program `mezdruk`: lays out, checks, reads and edits JSON documents in files. The arguments
 //! are read by `json_arguments`, and documents in memory are changed and printed by `json_files`;
 //! what is here opens files, reads them, and writes them in place. Where the first argument names
-//! another program, that one runs on the arguments after it.
+//! another program, `mezdruk_programs` runs that one on the arguments after it.
 //!
 //!     mezdruk set -i '["version"]' '"1.3.0"' package.json
 #![tactic(auto)]
@@ -10,10 +10,7 @@ mod changes;
 mod files;
 mod in_place;
 mod outlet;
-mod program;
 mod run;
-#[cfg(test)]
-mod tests;
 
 use crate::run::run;
 use json_command::Console;

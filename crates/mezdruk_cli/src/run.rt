@@ -4,12 +4,12 @@ use crate::changes::{carry_out, report_arguments};
 use crate::files::read_document;
 use crate::in_place::replace_content;
 use crate::outlet::Outlet;
-use crate::program::run_named;
 use json_arguments::read_arguments;
 use json_command::{Console, Status, report_text};
 use json_files::{Change, Document, Job, error_report, print_documents};
 use json_programs::ABOUT_MEZDRUK;
 use json_text::{Error, ErrorCode, Place, StdSink, VecSink, Words};
+use mezdruk_programs::run_named;
 use std::cell::Cell;
 
 // The error of a file that could not be written.

@@ -5,9 +5,6 @@
 //!     printf '{"a": 1}' | reshape --pretty '[["set", ["a"], 2]]'
 #![tactic(auto)]
 
-#[cfg(test)]
-mod tests;
-
 use json_command::Console;
 use json_programs::ABOUT_RESHAPE;
 use reshape::run;

@@ -1,7 +1,7 @@
 //! Worked examples of `run`, which `vectors` runs; and, as tests alone, what no row says of the
 //! calls of `reshape`: sources and sinks that fail, what arguments ask for, edits that no arguments
-//! spell, and the examples of README.md. They stand here and not in `reshape`, since a library with
-//! tests is proved twice.
+//! spell, the examples of README.md, and what the program says of itself. They stand here and not in
+//! `reshape` or `reshape_cli`, since a library or a program with tests is proved twice.
 #![tactic(auto)]
 
 mod rows;
@@ -9,6 +9,8 @@ mod run;
 
 pub use run::vectors;
 
+#[cfg(test)]
+mod about;
 #[cfg(test)]
 mod asked;
 #[cfg(test)]

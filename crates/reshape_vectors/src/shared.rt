@@ -38,56 +38,98 @@ fn copy<K: Sink>(alloc: Global, input: &[u8], failing: u64, sink: &mut K) -> Res
     print(alloc, &doc, sink)
 }
 
+// Whether a copy comes to this, and to this output, where this read fails.
+fn copies(alloc: Global, input: &[u8], failing: u64, outcome: (Result<()>, &str)) -> bool {
+    let mut sink = VecSink::new(alloc);
+    let copied = copy(alloc, input, failing, &mut sink);
+    copied == outcome.0 && sink.as_slice() == outcome.1.as_bytes()
+}
+
+// Whether a copy fails at the second call of a sink that takes three bytes a call, which then takes
+// a text all the same.
+fn fails_at_write(alloc: Global) -> bool {
+    let mut sink = FakeSink::new(alloc, 3, &[1]);
+    let copied = copy(alloc, b"[1, 2]", 9, &mut sink);
+    let written = sink.as_slice() == b"[1,".as_slice();
+    let later = write_text(&mut sink, b"ab");
+    let both = sink.as_slice() == b"[1,ab".as_slice();
+    copied == Err(FAILED_WRITE) && written && later == Ok(()) && both
+}
+
 #[test]
 fn a_document_is_read_and_printed(rt: HostRuntime) {
-    let alloc = rt.alloc();
-    let mut sink = VecSink::new(alloc);
-    assert_eq!(rt; copy(alloc, b" [1, 2.50]", 9, &mut sink), Ok(()));
-    assert_eq!(rt; sink.as_slice(), b"[1,2.50]".as_slice());
-    assert_eq!(rt; copy(alloc, b"[1]", 1, &mut sink), Err(FAILED_READ));
-    let mut failing = FakeSink::new(alloc, 3, &[1]);
-    assert_eq!(rt; copy(alloc, b"[1, 2]", 9, &mut failing), Err(FAILED_WRITE));
-    assert_eq!(rt; failing.as_slice(), b"[1,".as_slice());
-    assert_eq!(rt; write_text(&mut failing, b"ab"), Ok(()));
-    assert_eq!(rt; failing.as_slice(), b"[1,ab".as_slice());
+    assert!(rt; copies(rt.alloc(), b" [1, 2.50]", 9, (Ok(()), "[1,2.50]")));
+    assert!(rt; copies(rt.alloc(), b"[1]", 1, (Err(FAILED_READ), "")));
+    assert!(rt; fails_at_write(rt.alloc()));
 }
+
+// Whether an argument is a text, or refused as no words.
+fn is_read(alloc: Global, argument: &str) -> Option<bool> {
+    match read_argument(alloc, argument) {
+        Ok(_) => Some(true),
+        Err(error) if error == BAD_WORDS => Some(false),
+        Err(_) => None,
+    }
+}
+
+const ARGUMENTS: [(&str, bool); 4] = [
+    ("[\"a\",0]", true),
+    (" null ", true),
+    ("[", false),
+    ("", false),
+];
 
 #[test]
 fn an_argument_is_a_text_or_refused(rt: HostRuntime) {
-    let alloc = rt.alloc();
-    for (argument, is_text) in [
-        ("[\"a\",0]", true),
-        (" null ", true),
-        ("[", false),
-        ("", false),
-    ] {
-        let read = read_argument(alloc, argument).map(|_| ());
-        let expected = if is_text { Ok(()) } else { Err(BAD_WORDS) };
-        assert_eq!(rt; read, expected, "{argument}");
+    for (argument, is_text) in ARGUMENTS {
+        assert!(rt;
+            is_read(rt.alloc(), argument) == Some(is_text),
+            "{argument}"
+        );
     }
 }
 
+const NUMBERS: [(&str, Option<u32>); 9] = [
+    ("--depth=0", Some(0)),
+    ("--depth=1024", Some(1_024)),
+    ("--depth=1025", None),
+    ("--depth=18446744073709551616", None),
+    ("--depth=01", None),
+    ("--depth=+1", None),
+    ("--depth=", None),
+    ("--depth", None),
+    ("--depths=1", None),
+];
+
 #[test]
 fn a_number_is_plain_and_at_most_the_greatest(rt: HostRuntime) {
-    for (option, number) in [
-        ("--depth=0", Some(0)),
-        ("--depth=1024", Some(1_024)),
-        ("--depth=1025", None),
-        ("--depth=18446744073709551616", None),
-        ("--depth=01", None),
-        ("--depth=+1", None),
-        ("--depth=", None),
-        ("--depth", None),
-        ("--depths=1", None),
-    ] {
-        assert_eq!(rt; option_number(option, "--depth", 1_024), number, "{option}");
+    for (option, number) in NUMBERS {
+        assert!(rt;
+            option_number(option, "--depth", 1_024) == number,
+            "{option}"
+        );
     }
+}
+
+fn at(code: ErrorCode, place: Place) -> Error {
+    Error { code, place }
+}
+
+// Whether the error has this status, and the status this number.
+fn has_status(error: &Error, status: Status, number: u8) -> bool {
+    Status::of_error(error) == status && status.number() == number
+}
+
+// Whether an error and a text are reported as lines.
+fn reports_lines(alloc: Global) -> bool {
+    let mut errs = VecSink::new(alloc);
+    report(&mut errs, &at(ErrorCode::NotFound, Place::Edit(3)));
+    report_text(&mut errs, b"more\n");
+    errs.as_slice() == b"NotFound in edit 3\nmore\n".as_slice()
 }
 
 #[test]
 fn an_error_has_its_status_and_its_line(rt: HostRuntime) {
-    let alloc = rt.alloc();
-    let at = |code, place| Error { code, place };
     for (error, status, number) in [
         (at(ErrorCode::NoMemory, Place::None), Status::OutOfMemory, 6),
         (FAILED_READ, Status::ReadFailed, 4),
@@ -109,11 +151,7 @@ fn an_error_has_its_status_and_its_line(rt: HostRuntime) {
             1,
         ),
     ] {
-        assert_eq!(rt; Status::of_error(&error), status);
-        assert_eq!(rt; status.number(), number);
+        assert!(rt; has_status(&error, status, number), "{number}");
     }
-    let mut errs = VecSink::new(alloc);
-    report(&mut errs, &at(ErrorCode::NotFound, Place::Edit(3)));
-    report_text(&mut errs, b"more\n");
-    assert_eq!(rt; errs.as_slice(), b"NotFound in edit 3\nmore\n".as_slice());
+    assert!(rt; reports_lines(rt.alloc()));
 }

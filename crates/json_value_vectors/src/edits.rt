@@ -1,0 +1,235 @@
+// First writes of packed containers, copies, and edits.
+use crate::standing::element_stands;
+use crate::writing::set;
+use json_doc::Doc;
+use json_fixtures::{
+    becomes, copied, first_wrong, is_document, is_made, key, list_in, or_null, pairs_in, said,
+    value_of, whole,
+};
+use json_text::{ErrorCode, Result};
+use json_value::{Edit, Pair, Path, PointerNode, Text, Value};
+use std::alloc::Global;
+use std::rc::Rc;
+
+fn is_at(value: &Value, cell: u32) -> bool {
+    match value.place() {
+        Some((_, at)) => at == cell,
+        None => false,
+    }
+}
+
+// Whether there are three elements, which stand at cells 1, 3 and 5.
+fn are_packed(list: &[Value]) -> bool {
+    match list {
+        [first, second, third] => is_at(first, 1) && is_at(second, 3) && is_at(third, 5),
+        _ => false,
+    }
+}
+
+// Whether a value is there, of these characters.
+fn is_said(value: Option<Value>, literal: &str) -> bool {
+    match value {
+        Some(value) => said(&value) == Some(literal),
+        None => false,
+    }
+}
+
+// The first write of a list whose last element is a literal, which is taken out.
+fn write_list(value: &mut Value, alloc: Global) -> bool {
+    match list_in(value, alloc) {
+        Ok(Some(list)) => are_packed(list.as_slice()) && is_said(list.pop(), "1.5"),
+        _ => false,
+    }
+}
+
+// Makes the first write of a list; answers whether it is one, and then no place.
+fn open_list(value: &mut Value, alloc: Global) -> bool {
+    let opened = matches!(list_in(value, alloc), Ok(Some(_)));
+    opened && value.place().is_none()
+}
+
+// Whether a clone from before a first write is still the place of cell 0, and the value is none.
+fn clone_and_write(value: &mut Value, alloc: Global) -> bool {
+    let copy = or_null(copied(alloc, value));
+    let opened = open_list(value, alloc);
+    let stays = is_at(&copy, 0);
+    opened && stays
+}
+
+// Whether the first member has this key and is the place of this cell; its value is null from then
+// on.
+fn first_is(members: &mut [Pair], key: &str, at: u32) -> bool {
+    match members {
+        [first, ..] => {
+            let as_said = first.key() == key && is_at(first.value(), at);
+            set(first.value_mut(), Value::new_null());
+            as_said
+        }
+        _ => false,
+    }
+}
+
+// The first write of two members, the first of which is the place of cell 2.
+fn write_pairs(value: &mut Value, alloc: Global) -> bool {
+    match pairs_in(value, alloc) {
+        Ok(Some(members)) => { members.len() == 2 && first_is(members.as_mut_slice(), "a", 2) }
+        _ => false,
+    }
+}
+
+fn refusal(applied: Result<()>) -> Option<ErrorCode> {
+    match applied {
+        Ok(()) => None,
+        Err(error) => Some(error.code),
+    }
+}
+
+// The path of one step.
+fn path_of(alloc: Global, step: PointerNode) -> Result<Path> {
+    let mut path = Path::new(alloc);
+    path.push(step)?;
+    Ok(path)
+}
+
+// Appends a number at a path that was made; answers why not, if so.
+fn push(value: &mut Value, alloc: Global, path: Result<Path>, number: u64) -> Option<ErrorCode> {
+    match path {
+        Ok(path) => {
+            let value_of_number = Value::new_u64(number);
+            let edit = Edit::Push {
+                path,
+                value: value_of_number,
+            };
+            refusal(value.apply(alloc, &edit))
+        }
+        Err(error) => Some(error.code),
+    }
+}
+
+// Appends 3 to the first element.
+fn push_into_first(value: &mut Value, alloc: Global) -> bool {
+    push(value, alloc, path_of(alloc, PointerNode::Index(0)), 3).is_none()
+}
+
+// The same, and whether a clone from before still has the compact text that was.
+fn push_beside_clone(value: &mut Value, alloc: Global) -> bool {
+    let copy = copied(alloc, value);
+    let pushed = push_into_first(value, alloc);
+    is_made(alloc, copy, "[[1],[\"x\"],2]") && pushed
+}
+
+// The same, and whether the second element of such a clone, and of the value, is cell 3 of the
+// document.
+fn push_in_document(value: &mut Value, alloc: Global, doc: &Doc) -> bool {
+    let copy = or_null(copied(alloc, value));
+    let pushed = push_into_first(value, alloc);
+    let copy_stays = element_stands(&copy, 1, doc, 3);
+    element_stands(value, 1, doc, 3) && copy_stays && pushed
+}
+
+fn stays_beside_push(doc: &Rc<Doc>, alloc: Global) -> bool {
+    push_in_document(&mut or_null(whole(alloc, doc)), alloc, doc)
+}
+
+// Whether an edit of one step can be applied twice, and no third time.
+fn applies_twice(value: &mut Value, alloc: Global, edit: &Edit) -> bool {
+    let first = value.apply(alloc, edit).is_ok();
+    let second = value.apply(alloc, edit).is_ok();
+    let third = value.apply(alloc, edit).is_err();
+    first && second && third && edit.path().steps().len() == 1
+}
+
+fn remove_twice(value: &mut Value, alloc: Global) -> bool {
+    match path_of(alloc, key("a")) {
+        Ok(path) => {
+            let step = PointerNode::Index(0);
+            applies_twice(value, alloc, &Edit::Remove { path, step })
+        }
+        Err(_) => false,
+    }
+}
+
+fn push_at_the_root(value: &mut Value, alloc: Global) -> bool {
+    push(value, alloc, Ok(Path::new(alloc)), 2).is_none()
+}
+
+fn refusal_of_object(alloc: Global) -> Option<ErrorCode> {
+    match value_of(alloc, "{}") {
+        Ok(mut object) => push(&mut object, alloc, Ok(Path::new(alloc)), 2),
+        Err(_) => None,
+    }
+}
+
+fn set_to_object(value: &mut Value, alloc: Global) -> bool {
+    match path_of(alloc, key("k")) {
+        Ok(path) => {
+            let edit = Edit::Set {
+                path,
+                value: Value::new_object(),
+            };
+            value.apply(alloc, &edit).is_ok()
+        }
+        Err(_) => false,
+    }
+}
+
+fn insert_null(value: &mut Value, alloc: Global) -> bool {
+    let edit = Edit::Insert {
+        path: Path::new(alloc),
+        key: Text::from_static("z"),
+        value: Value::new_null(),
+    };
+    value.apply(alloc, &edit).is_ok()
+}
+
+fn wrong(alloc: Global) -> Option<&'static str> {
+    let (list, shorter) = ("[[1],[\"x\"],1.5]", "[[1],[\"x\"]]");
+    let (members, first_null) = ("{\"a\":[true],\"b\":null}", "{\"a\":null,\"b\":null}");
+    let (lists, pushed) = ("[[1],[\"x\"],2]", "[[1,3],[\"x\"],2]");
+    let (two, none) = ("{\"a\":[1,2.5]}", "{\"a\":[]}");
+    let refused = refusal_of_object(alloc) == Some(ErrorCode::TypeUnmatched);
+    first_wrong(&[
+        (
+            "first write of an array",
+            becomes(alloc, list, write_list, shorter),
+        ),
+        (
+            "a clone from before a first write stays a place",
+            becomes(alloc, list, clone_and_write, list),
+        ),
+        (
+            "first write of an object",
+            becomes(alloc, members, write_pairs, first_null),
+        ),
+        (
+            "a clone keeps its elements",
+            becomes(alloc, lists, push_beside_clone, pushed),
+        ),
+        (
+            "an element beside a push stays a place",
+            is_document(alloc, lists, stays_beside_push),
+        ),
+        (
+            "an edit is applied",
+            becomes(alloc, two, remove_twice, none),
+        ),
+        (
+            "elements are appended at the root",
+            becomes(alloc, "[1]", push_at_the_root, "[1,2]"),
+        ),
+        ("nothing is appended to an object", refused),
+        (
+            "a place is set",
+            becomes(alloc, "{\"k\":1}", set_to_object, "{\"k\":{}}"),
+        ),
+        (
+            "a member is inserted",
+            becomes(alloc, "{\"k\":1}", insert_null, "{\"k\":1,\"z\":null}"),
+        ),
+    ])
+}
+
+#[test]
+fn values_are_written_and_edited(rt: HostRuntime) {
+    assert_eq!(rt; wrong(rt.alloc()), None);
+}
