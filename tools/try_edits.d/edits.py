@@ -7,7 +7,6 @@ TOP = pathlib.Path(__file__).resolve().parent.parent.parent
 # At most so many edits of one crate are in the gate, and only of crates that are proved in so many processor minutes, or are named here.
 MOST, MINUTES, ALWAYS = 12, 1.5, ("reshape",)
 # Crates that the table of CONTRIBUTING.md does not have yet, by single counts beside other work.
-UNTIL_COUNTED = {"json_grammar": 0.5, "json_model": 0.3, "json_scan": 0.4}
 ITEM = re.compile(r"\b(fn|impl|trait|const|static|struct|enum|mod|use|macro_rules|cycle)\b")
 NUMBERS = re.compile(r"(\d+) in all, (\d+) in the gate \(of (\d+) crates\) and (\d+) outside")
 PAGES = ("CONTRIBUTING.md", "docs/ARCHITECTURE.md", "docs/CLAIMS.md", "docs/DECISIONS.md", "docs/DEFINITIONS.md")
@@ -83,7 +82,7 @@ def fault_of(edit, crate):
 
 def minutes():
     """The processor minutes of the proof of each crate, by the table in CONTRIBUTING.md."""
-    found, column = dict(UNTIL_COUNTED), None
+    found, column = {}, None
     for line in (TOP / "CONTRIBUTING.md").read_text().splitlines():
         cells = [cell.strip().strip("`") for cell in line.strip().strip("|").split("|")] if line.startswith("|") else []
         if cells and cells[0] == "crate":
