@@ -6,7 +6,6 @@ import re
 TOP = pathlib.Path(__file__).resolve().parent.parent.parent
 # At most so many edits of one crate are in the gate, and only of crates that are proved in so many processor minutes, or are named here.
 MOST, MINUTES, ALWAYS = 12, 1.5, ("reshape",)
-# Crates that the table of CONTRIBUTING.md does not have yet, by single counts beside other work.
 ITEM = re.compile(r"\b(fn|impl|trait|const|static|struct|enum|mod|use|macro_rules|cycle)\b")
 NUMBERS = re.compile(r"(\d+) in all, (\d+) in the gate \(of (\d+) crates\) and (\d+) outside")
 PAGES = ("CONTRIBUTING.md", "docs/ARCHITECTURE.md", "docs/CLAIMS.md", "docs/DECISIONS.md", "docs/DEFINITIONS.md")
