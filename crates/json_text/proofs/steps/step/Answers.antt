@@ -1,5 +1,6 @@
-use Rattle.std.proofs.Common.{◌≡◌, List, length, ℕ, Bool, sym, ◌∙◌, refl, subst, ap}
+use Rattle.std.proofs.Common.{◌≡◌, List, length, ℕ, Bool, sym, ◌∙◌, refl, subst, ap, arith}
 use Rattle.std.proofs.lemmas.Bool.{both_ways}
+use Rattle.std.proofs.lemmas.Grind.{common_steps}
 use Rattle.std.proofs.lemmas.Result.{IfOk-weaker, IfErr-weaker}
 use Rattle.json_grammar.specs.declared.Kind.{Kind}
 use Rattle.json_grammar.specs.declared.Spot.{Spot}
@@ -79,3 +80,15 @@ returns-clause-err g c = token_fault g c
 
 pub returns-clause-within : goal.returns-clause-within
 returns-clause-within g c = let a = c.args in IfErr-weaker c.take_event.result _ _ (λ f h. fault_within a.lossy a.limit a.text.now f.code f.offset h) (token_fault g c)
+
+pub take_event-requires-clause-within : goal.take_event-requires-clause-within
+take_event-requires-clause-within g c = omega (arith, c.in-Ok.ensures.within)
+
+pub returns-then-stand-bytes-clause-within : goal.returns-then-stand-bytes-clause-within
+returns-then-stand-bytes-clause-within g c = omega arith
+
+pub returns-clause-kept : goal.returns-clause-kept
+returns-clause-kept g c = c.take_event.ensures.kept
+
+pub returns-then-stand-bytes-clause-needs : goal.returns-then-stand-bytes-clause-needs
+returns-then-stand-bytes-clause-needs g c = grind (arith, common_steps)

@@ -1,4 +1,5 @@
 use Rattle.std.proofs.Common.{◌≡◌, ◌∙◌, ◌+◌, ◌<◌, length, Option, None, IfSome, refl, sym, ap, subst, arith, rules}
+use Rattle.std.proofs.lemmas.Bool.{both_ways}
 use Rattle.json_grammar.specs.Given.{piece}
 use Rattle.json_grammar.specs.Needs.{IsGap}
 use Rattle.json_grammar.specs.Place.{TakesValue, bracket}
@@ -9,10 +10,11 @@ use Rattle.json_text.specs.Parsing.{ParserState}
 use Rattle.json_scan.specs.Runs.{ByteAt}
 use Rattle.json_text.specs.Tokens.{begin_event}
 use Rattle.json_text.proofs.Bracketed.{begins}
-use Rattle.json_text.proofs.NextParts.{rest_next}
+use Rattle.json_text.proofs.NextParts.{next_rest, rest_next}
 use Rattle.json_text.proofs.Going.{step_goes, step_tight, step_stood, stands_behind, to_rest, within_text}
 use Rattle.json_text.proofs.Tokens.{tight_open}
 use Rattle.json_text.proofs.parser.Parser.next_begin.Goals as goal
+use Rattle.json_text.proofs.parser.Parser.next_begin.Goals.{then-not-takes_value-via-then-not-takes_value, then-not-takes_value-via-else-not-takes_value+then-not-byte_is}
 
 pub invariant_of-self : goal.invariant_of-self
 invariant_of-self c =
@@ -68,3 +70,29 @@ returns-clause-exactly c =
       }),
       λ _. refl,
     )
+
+pub push-requires : goal.push-requires
+push-requires c = omega arith
+
+pub returns-in-Err-clause-exactly : goal.returns-in-Err-clause-exactly
+returns-in-Err-clause-exactly c = (
+  λ f. absurd (cc),
+  rw (← c.self.view_is) (λ h.
+      let s = c.self.inside in let e = c.as_bytes-bytes.ensures.value ∙ c.self.invariant.rest_is in
+      absurd (c.in-Err.ensures.only h.at h.spot (next_rest s.text.now c.as_bytes-bytes.result.now s.start s.at h.at s.kinds s.spot h.spot e h.next))),
+)
+
+pub returns-then-not-takes_value-clause-exactly : goal.returns-then-not-takes_value-clause-exactly
+returns-then-not-takes_value-clause-exactly c = (
+  λ f. absurd (cc),
+  rw (← c.self.view_is) (λ h.
+      let s = c.self.inside in let b = c.as_bytes-bytes.result.now in let e = c.as_bytes-bytes.ensures.value ∙ c.self.invariant.rest_is in let st = c.in-Ok.stand in let k = c.args.kind in
+      let q : ByteAt b h.at (bracket k) = subst (λ y. ByteAt y h.at (bracket k)) (sym e) h.stands in
+      let o = c.in-Ok.ensures.only h.at h.spot (next_rest s.text.now b s.start s.at h.at s.kinds s.spot h.spot e h.next) in
+      elim c.then-not-takes_value.branch [
+        | then-not-takes_value-via-then-not-takes_value w ↦
+            absurd (both_ways _ w.if-not-takes_value.true (c.takes_value.ensures.1 (subst TakesValue (sym o.1) h.takes)))
+        | then-not-takes_value-via-else-not-takes_value+then-not-byte_is w ↦
+            absurd (both_ways _ w.if-not-byte_is.true (w.byte_is.ensures.1 (subst (λ x. ByteAt b st.at x) (sym w.bracket.ensures) (subst (λ m. ByteAt b m (bracket k)) (sym o.0) q))))
+      ]),
+)

@@ -90,3 +90,8 @@ returns-clause-some c =
       takes = t;
       stands = subst (λ y. WordTo y st.at word (st.at + length word)) e h;
     })
+
+pub returns-in-Err-clause-none : goal.returns-in-Err-clause-none
+returns-in-Err-clause-none c = λ _ b. rw (← c.self.view_is) (λ h.
+    let s = c.self.inside in let e = c.as_bytes-bytes.ensures.value ∙ c.self.invariant.rest_is in
+    c.in-Err.ensures.only h.at h.spot (next_rest s.text.now c.as_bytes-bytes.result.now s.start s.at h.at s.kinds s.spot h.spot e h.next))

@@ -1,5 +1,5 @@
 use Rattle.std.proofs.lemmas.Bool.{both_ways}
-use Rattle.std.proofs.Common.{false, ◌≡◌, ◌∙◌, ◌+◌, ◌≤◌, Option, Some, None, IfSome, refl, sym, ap, subst, arith, rules}
+use Rattle.std.proofs.Common.{◌≡◌, ◌∙◌, ◌+◌, ◌≤◌, Option, Some, None, IfSome, refl, sym, ap, subst, arith, rules}
 use Rattle.json_grammar.specs.Given.{piece}
 use Rattle.json_grammar.specs.declared.Spot.TheVariants.{Done as done}
 use Rattle.json_grammar.specs.Needs.{IsGap}
@@ -89,10 +89,17 @@ returns-then-not-may_end-clause-exactly c = (
       let o = c.in-Ok.ensures.stays h.at n.0 (space_rest s.text.now b s.start s.at h.at e h.space) n.1 in
       elim c.then-not-may_end.branch [
         | then-not-may_end-via-then-not-may_end w ↦
-            let f : c.may_end.result ≡ false = search rules in
-            absurd (both_ways _ f (c.may_end.ensures.1 (subst (TakesEnd k) (sym o.1) h.takes)))
+            absurd (both_ways _ w.if-not-may_end.true (c.may_end.ensures.1 (subst (TakesEnd k) (sym o.1) h.takes)))
         | then-not-may_end-via-else-not-may_end+then-not-byte_is w ↦
-            let f : w.byte_is.result ≡ false = search rules in
-            absurd (both_ways _ f (w.byte_is.ensures.1 (subst (λ x. ByteAt b st.at x) (sym w.closing.ensures) (subst (λ m. ByteAt b m (closing k)) (sym o.0) q))))
+            absurd (both_ways _ w.if-not-byte_is.true (w.byte_is.ensures.1 (subst (λ x. ByteAt b st.at x) (sym w.closing.ensures) (subst (λ m. ByteAt b m (closing k)) (sym o.0) q))))
       ]),
+)
+
+pub returns-in-Err-clause-exactly : goal.returns-in-Err-clause-exactly
+returns-in-Err-clause-exactly c = (
+  λ f. absurd (cc),
+  rw (← c.self.view_is) (λ h.
+      let s = c.self.inside in let b = c.as_bytes-bytes.result.now in let e = c.as_bytes-bytes.ensures.value ∙ c.self.invariant.rest_is in let k = c.args.kind in
+      let n = ends_at_once b k h.at s.spot h.takes (subst (λ y. ByteAt y h.at (closing k)) (sym e) h.stands) in
+      absurd (c.in-Err.ensures.stays h.at n.0 (space_rest s.text.now b s.start s.at h.at e h.space) n.1)),
 )

@@ -129,3 +129,8 @@ returns-clause-some c =
       integer = moved _ b st.at st.at d.end (sym e) refl n;
       value = moved_value _ b st.at st.at d.end c.args.most (sym e) refl (subst (λ v. v ≤ c.args.most) i.value l);
     })
+
+pub returns-in-Err-clause-none : goal.returns-in-Err-clause-none
+returns-in-Err-clause-none c = λ _. rw (← c.self.view_is) (λ h.
+    let s = c.self.inside in let e = c.as_bytes-bytes.ensures.value ∙ c.self.invariant.rest_is in
+    c.in-Err.ensures.only h.at h.spot (next_rest s.text.now c.as_bytes-bytes.result.now s.start s.at h.at s.kinds s.spot h.spot e h.next))

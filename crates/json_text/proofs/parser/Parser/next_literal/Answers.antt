@@ -82,3 +82,11 @@ returns-then-not-word_is-clause-exactly c = (
       let there = subst (λ k. WordTo _ k word (k + length word)) (sym o.0) h.stands in
       absurd (both_ways _ c.if-not-word_is.true (c.word_is.ensures.1 (subst (λ y. WordTo y st.at word (st.at + length word)) (sym e) there)))),
 )
+
+pub returns-in-Err-clause-exactly : goal.returns-in-Err-clause-exactly
+returns-in-Err-clause-exactly c = (
+  λ is. absurd (cc),
+  rw (← c.self.view_is) (λ h.
+      let s = c.self.inside in let e = c.as_bytes-bytes.ensures.value ∙ c.self.invariant.rest_is in
+      absurd (c.in-Err.ensures.only h.at h.spot (next_rest s.text.now c.as_bytes-bytes.result.now s.start s.at h.at s.kinds s.spot h.spot e h.next))),
+)

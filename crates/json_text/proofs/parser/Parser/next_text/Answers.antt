@@ -1,4 +1,5 @@
 use Rattle.std.proofs.Common.{◌≡◌, ◌∙◌, ◌≤◌, [], ◌∷◌, ◌++◌, Option, None, IfSome, refl, sym, ap, subst, arith, rules}
+use Rattle.std.proofs.lemmas.Bool.{both_ways}
 use Rattle.json_grammar.specs.declared.Spot.TheVariants.{Done as spot_behind}
 use Rattle.json_grammar.specs.Given.{piece}
 use Rattle.json_grammar.specs.Grammar.{chars}
@@ -18,6 +19,7 @@ use Rattle.json_text.proofs.Tokens.{stood_text, tight_quoted}
 use Rattle.json_text.proofs.NextParts.{next_rest, rest_next}
 use Rattle.json_text.proofs.NoString.{stops_no_string, moved_string}
 use Rattle.json_text.proofs.parser.Parser.next_text.Goals as goal
+use Rattle.json_text.proofs.parser.Parser.next_text.Goals.{then-not-takes_value-via-then-not-takes_value, then-not-takes_value-via-else-not-takes_value+then-not-byte_is}
 
 pub string_at-requires : goal.string_at-requires
 string_at-requires c = subst (λ b. ByteAt b c.in-Ok.stand.at 34) c.as_bytes-bytes.ensures.value (c.byte_is.ensures.0 (search rules))
@@ -95,3 +97,18 @@ returns-clause-some c =
       to = q.end;
       string = moved_string s.lossy _ b q.span.raw.now st.at st.at q.end (sym e) refl c.in-Ok-string_at.ensures.ok;
     })
+
+pub returns-in-Err-clause-none : goal.returns-in-Err-clause-none
+returns-in-Err-clause-none c = λ _. rw (← c.self.view_is) (λ h.
+    let s = c.self.inside in let e = c.as_bytes-bytes.ensures.value ∙ c.self.invariant.rest_is in
+    c.in-Err.ensures.only h.at h.spot (next_rest s.text.now c.as_bytes-bytes.result.now s.start s.at h.at s.kinds s.spot h.spot e h.next))
+
+pub returns-then-not-takes_value-clause-none : goal.returns-then-not-takes_value-clause-none
+returns-then-not-takes_value-clause-none c = λ _. rw (← c.self.view_is) (λ h.
+    let s = c.self.inside in let b = c.as_bytes-bytes.result.now in let e = c.as_bytes-bytes.ensures.value ∙ c.self.invariant.rest_is in
+    let o = c.in-Ok.ensures.only h.at h.spot (next_rest s.text.now b s.start s.at h.at s.kinds s.spot h.spot e h.next) in
+    let q = subst (λ y. ByteAt y h.at 34) (sym e) h.string.opens in
+    elim c.then-not-takes_value.branch [
+      | then-not-takes_value-via-then-not-takes_value w ↦ both_ways _ w.if-not-takes_value.true (c.takes_value.ensures.1 (subst TakesValue (sym o.1) h.takes))
+      | then-not-takes_value-via-else-not-takes_value+then-not-byte_is w ↦ both_ways _ w.if-not-byte_is.true (w.byte_is.ensures.1 (subst (λ k. ByteAt b k 34) (sym o.0) q))
+    ])
