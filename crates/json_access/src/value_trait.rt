@@ -1,11 +1,13 @@
 // What can be read of a value at once.
 ghost use Rattle.std.specs.Prelude.{◌≡◌, ◌↔◌, true, false, option_map, is_some, IsTrue, IfOk};
 ghost use Rattle.json_grammar.specs.Tree.{Tree, boolean};
+ghost use Rattle.json_number.specs.Floats.{is_double};
 ghost use Rattle.json_number.specs.Literals.{raw_literal};
 ghost use Rattle.json_number.specs.Numbers.{value_of};
 ghost use Rattle.json_doc.specs.Readings.{type_of, bool_of, integer_of, string_of};
 ghost use Rattle.json_doc.specs.declared.json_type.JsonType.TheVariants as kind;
 ghost use Rattle.json_value.specs.Denotes.{tree_of};
+ghost use Rattle.json_value.specs.Doubles.{double_in};
 ghost use Rattle.json_value.specs.Seen.{seen};
 ghost use Rattle.json_access.specs.Trees.{option_tree, result_tree, spelling, i64_of, u64_of};
 ghost use Rattle.json_io.specs.Errors.{OnlyNoMemory};
@@ -26,6 +28,7 @@ use std::alloc::Global;
 /// let age = value.get("age");
 /// assert!(rt; age.is_number() && !age.is_u64());
 /// assert_eq!(rt; age.as_i64(), Some(-7));
+/// assert_eq!(rt; age.as_f64(), Some(-7.0));
 /// assert!(rt; value.is_object() && value.get("name").is_null());
 /// ```
 pub trait JsonValueTrait {
@@ -87,6 +90,19 @@ pub trait JsonValueTrait {
         ensures { result ≡ is_some (u64_of (tree self.now)) }
     {
         self.as_u64().is_some()
+    }
+
+    /// Returns the double nearest to the number, of two that are equally near the even one, where
+    /// that is finite; `None` of another number, and of another kind.
+    fn as_f64(&self) -> Option<f64>
+        ensures { result ≡ double_in (tree self.now) };
+
+    /// Returns whether it is a number that is no integer of `u64` or `i64`, and the double nearest to
+    /// it is finite.
+    fn is_f64(&self) -> bool
+        ensures { result ≡ is_double (integer_of (tree self.now)) (double_in (tree self.now)) }
+    {
+        !self.is_i64() && !self.is_u64() && self.as_f64().is_some()
     }
 
     /// Whether it is null.
@@ -169,6 +185,11 @@ impl<'a> JsonValueTrait for View<'a> {
         view.as_number()
     }
 
+    fn as_f64(&self) -> Option<f64> {
+        let view = *self;
+        view.as_f64()
+    }
+
     fn as_raw_number(&self, alloc: Global) -> json_text::Result<Option<RawNumber>> {
         raw_number(*self, alloc)
     }
@@ -197,6 +218,11 @@ impl JsonValueTrait for Value {
         view.as_number()
     }
 
+    fn as_f64(&self) -> Option<f64> {
+        let view = self.view();
+        view.as_f64()
+    }
+
     fn as_raw_number(&self, alloc: Global) -> json_text::Result<Option<RawNumber>> {
         raw_number(self.view(), alloc)
     }
@@ -219,6 +245,10 @@ impl<V: JsonValueTrait> JsonValueTrait for &V {
 
     fn as_number(&self) -> Option<Number> {
         (**self).as_number()
+    }
+
+    fn as_f64(&self) -> Option<f64> {
+        (**self).as_f64()
     }
 
     fn as_raw_number(&self, alloc: Global) -> json_text::Result<Option<RawNumber>> {
@@ -253,6 +283,13 @@ impl<V: JsonValueTrait> JsonValueTrait for Option<V> {
     fn as_number(&self) -> Option<Number> {
         match self {
             Some(value) => value.as_number(),
+            None => None,
+        }
+    }
+
+    fn as_f64(&self) -> Option<f64> {
+        match self {
+            Some(value) => value.as_f64(),
             None => None,
         }
     }
@@ -292,6 +329,13 @@ impl<V: JsonValueTrait, E> JsonValueTrait for Result<V, E> {
     fn as_number(&self) -> Option<Number> {
         match self {
             Ok(value) => value.as_number(),
+            Err(_) => None,
+        }
+    }
+
+    fn as_f64(&self) -> Option<f64> {
+        match self {
+            Ok(value) => value.as_f64(),
             Err(_) => None,
         }
     }

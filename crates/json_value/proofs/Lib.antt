@@ -3,6 +3,7 @@ pub mod ValueLevels
 pub mod PlacesRead
 pub mod StoredTexts
 pub mod Integers
+pub mod SeenNumbers
 pub mod Copies
 pub mod PlacesKept
 pub mod CompactTexts

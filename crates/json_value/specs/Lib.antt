@@ -1,5 +1,6 @@
 pub mod Said
 pub mod Denotes
+pub mod Doubles
 pub mod Edits
 pub mod Spots
 pub mod Places

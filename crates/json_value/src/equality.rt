@@ -14,6 +14,7 @@ ghost use Rattle.std.specs.Fmt.{decimal, signed_decimal};
 ghost use Rattle.json_model.proofs.Equality.{same_equivalent};
 ghost use Rattle.json_number.specs.Numbers.{text_of_number};
 ghost use Rattle.json_value.specs.Denotes.{tree_of};
+ghost use Rattle.json_value.specs.Doubles.{double_in, equals_double};
 
 use crate::array::Array;
 use crate::array_view::{ArrayForm, ArrayView};
@@ -94,6 +95,17 @@ impl Value {
         ensures { result ≡ same (tree_of self.now) (num (decimal n)) }
     {
         self.eq_number(Number::from(n))
+    }
+
+    /// Returns whether this is a number whose nearest double equals `x`, by the equality of IEEE 754:
+    /// 0 equals -0, and a NaN nothing.
+    pub fn eq_f64(&self, x: f64) -> bool
+        ensures { result ≡ equals_double (double_in (tree_of self.now)) x }
+    {
+        match self.view().as_f64() {
+            Some(double) => double == x,
+            None => false,
+        }
     }
 
     fn eq_number(&self, number: Number) -> bool

@@ -6,6 +6,7 @@ ghost use Rattle.json_number.specs.Numbers.{value_of, text_of_number};
 ghost use Rattle.json_doc.specs.Readings.{type_of, bool_of, integer_of, literal_of, string_of};
 ghost use Rattle.json_doc.specs.Seen.{view_doc, view_place, view_tree};
 ghost use Rattle.json_value.specs.Denotes.{tree_of};
+ghost use Rattle.json_value.specs.Doubles.{double_in};
 ghost use Rattle.json_value.specs.Places.{places_in};
 ghost use Rattle.json_value.specs.Seen.{seen, elements_seen, members_seen, list_of, object_pairs};
 ghost use Rattle.json_value.specs.SightParts.{sight_elements, elements_sights, sight_members, members_sights, sight_after, sight_along, or_nowhere};
@@ -39,7 +40,7 @@ use json_doc_print::{
     Showed, SortedLayout, Stopped, Walked, emit_document, show_document, show_sorted_document,
     taken,
 };
-use json_number::Number;
+use json_number::{JsonNumberTrait, Number, f64_of};
 use json_print::{BufferedWriter, Events, Layout, answered, show_piece};
 use json_text::{Result, Sink};
 use std::alloc::Global;
@@ -131,6 +132,26 @@ impl<'a> View<'a> {
             ViewForm::Packed(packed) => packed.view.literal(),
             ViewForm::Whole(value) => value_literal(value),
             ViewForm::Absent => None,
+        }
+    }
+
+    /// Returns the double nearest to the number, of two that are equally near the even one, where
+    /// that is finite; `None` of another number, and of another kind.
+    ///
+    /// ```
+    /// use json_doc::read_document;
+    /// use json_value::Value;
+    /// let doc = read_document(alloc, "12.10")?;
+    /// let value = Value::from_place(alloc, &doc, doc.root())?;
+    /// assert_eq!(rt; value.view().as_f64(), Some(12.1));
+    /// assert_eq!(rt; Value::new_i64(-7).view().as_f64(), Some(-7.0));
+    /// ```
+    pub fn as_f64(self) -> Option<f64>
+        ensures { result ≡ double_in (seen self.entry) }
+    {
+        match self.as_number() {
+            Some(number) => number.as_f64(),
+            None => f64_of(self.literal()?),
         }
     }
 

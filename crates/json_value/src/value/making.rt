@@ -1,10 +1,13 @@
 // Values of their own, and values from what is none yet.
-ghost use Rattle.std.specs.Prelude.{◌≡◌, [], ◌∷◌, None, map, IfOk, ◌≤◌, option_map, unwrap_or};
+ghost use Rattle.std.specs.Prelude.{◌≡◌, [], ◌∷◌, None, Some, map, IfOk, IfSome, ◌≤◌, false, is_some, option_map, unwrap_or};
+ghost use Rattle.std.specs.Float.{float_is_finite};
 ghost use Rattle.std.specs.Fmt.{decimal, signed_decimal};
 ghost use Rattle.json_grammar.specs.Tree.{null, boolean, num, text, list, pairs as object, no_trees, no_pairs, list_trees};
+ghost use Rattle.json_number.specs.Floats.{if_finite};
 ghost use Rattle.json_number.specs.Literals.{raw_literal};
 ghost use Rattle.json_number.specs.Numbers.{text_of_number};
 ghost use Rattle.json_value.specs.Denotes.{tree_of, pair_of};
+ghost use Rattle.json_value.specs.Doubles.{double_in};
 ghost use Rattle.json_value.specs.Places.{places_in};
 ghost use Rattle.json_value.specs.Rows.{owned};
 ghost use Rattle.json_value.specs.Spots.{ContainerIsPlace};
@@ -60,6 +63,47 @@ impl Value {
         ensures { tree_of result ≡ num (signed_decimal val) }
     {
         Value::Number(Number::from(val))
+    }
+
+    /// Returns the double as a number, whose nearest double it is, also -0: `None` for a NaN and an
+    /// infinity. Fails with `NoMemory` if memory runs out.
+    ///
+    /// ```
+    /// use json_value::Value;
+    /// let tenth = Value::new_f64(alloc, 0.1)?.ok_or("0.1 is finite")?;
+    /// assert_eq!(rt; tenth.to_string(alloc)?.as_str(), "0.1");
+    /// assert!(rt; Value::new_f64(alloc, f64::NAN)?.is_none());
+    /// ```
+    pub fn new_f64(alloc: Global, val: f64) -> Result<Option<Value>>
+        ensures finite { IfOk result (λ o. is_some o ≡ float_is_finite val) }
+        ensures double { IfOk result (λ o. IfSome o (λ v. double_in (tree_of v) ≡ Some val)) }
+        ensures places { IfOk result (λ o. IfSome o (λ v. places_in v ≡ None ∷ [])) }
+        ensures only { OnlyNoMemory result }
+    {
+        match RawNumber::from_f64(alloc, val)? {
+            Some(number) => Ok(Some(Value::from_raw_number(number))),
+            None => Ok(None),
+        }
+    }
+
+    /// Returns the double as a number, as `new_f64` does, and null for a NaN and an infinity. Fails
+    /// with `NoMemory` if memory runs out.
+    ///
+    /// ```
+    /// use json_value::Value;
+    /// assert_eq!(rt; Value::from_f64(alloc, -0.0)?.to_string(alloc)?.as_str(), "-0.0");
+    /// assert_eq!(rt; Value::from_f64(alloc, f64::INFINITY)?, Value::new_null());
+    /// ```
+    pub fn from_f64(alloc: Global, val: f64) -> Result<Value>
+        ensures double { IfOk result (λ v. double_in (tree_of v) ≡ if_finite val) }
+        ensures null { float_is_finite val ≡ false → IfOk result (λ v. tree_of v ≡ null) }
+        ensures places { IfOk result (λ v. places_in v ≡ None ∷ []) }
+        ensures only { OnlyNoMemory result }
+    {
+        match Value::new_f64(alloc, val)? {
+            Some(number) => Ok(number),
+            None => Ok(Value::Null),
+        }
     }
 
     /// The number. Takes no memory.

@@ -1,4 +1,4 @@
-use Rattle.json_access.proofs.Spellings.{literal_seen}
+use Rattle.json_value.proofs.SeenNumbers.{literal_seen}
 use Rattle.json_access.proofs.raw.raw_number.Goals as goal
 
 pub from_literal-requires : goal.from_literal-requires
