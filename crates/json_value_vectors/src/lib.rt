@@ -9,6 +9,8 @@ mod arrays;
 #[cfg(test)]
 mod documents;
 #[cfg(test)]
+mod doubles;
+#[cfg(test)]
 mod edits;
 #[cfg(test)]
 mod entries;
