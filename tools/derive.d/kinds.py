@@ -100,11 +100,22 @@ def read_kind(stream, outside):
     return Kind(f"{text}<{inside}>" if inside else text, names[-1], text, kinds, {need} - {None}, set(lifetimes))
 
 
-def check_kind(kind, own, lifetime):
-    """Refuses a type that cannot be a field. `own` has the types for which the crate itself has impls."""
+@dataclass
+class Surroundings:
+    """Of a crate: the names of other crates, the types for which it or the library has impls, and whether pairs have them."""
+
+    outside: tuple
+    own: set
+    has_pairs: bool
+
+
+def check_kind(kind, around, lifetime):
+    """Refuses a type that cannot be a field."""
     for it in kind.all():
-        if it.head in INSTEAD and it.head not in own:
+        if it.head in INSTEAD and it.head not in around.own:
             raise Refused(f"`{it.head}` cannot be a field: {INSTEAD[it.head]}")
+        if it.head == "(,)" and not around.has_pairs:
+            raise Refused("a pair cannot be a field, since no error explains one: take a struct")
         if it.head in PARAMETERS and len(it.arguments) != PARAMETERS[it.head]:
             raise Refused(f"`{it.text}`: `{it.head}` takes {PARAMETERS[it.head]} type{'s' * (PARAMETERS[it.head] > 1)}")
         if it.head == "BTreeMap" and it.arguments[0].head in NO_KEYS:

@@ -93,14 +93,6 @@ def field_of(name, kind, options):
     return Member(name, kind, options.get("name", f'"{name}"'), default)
 
 
-@dataclass
-class Surroundings:
-    """Of a crate: the names of other crates, and the types for which it has impls that were written by hand."""
-
-    outside: tuple
-    own: set
-
-
 class Reader:
     """Reads a file up to its end. `unmarked` has its other structs and enums."""
 
@@ -213,7 +205,7 @@ class Reader:
             raise Refused("a field is written as `NAME: TYPE,`", name.line)
         kind = with_line(name.line, read_kind, self.stream, self.around.outside)
         self.end_member(name.line)
-        with_line(name.line, check_kind, kind, self.around.own, struct.lifetime)
+        with_line(name.line, check_kind, kind, self.around, struct.lifetime)
         found = with_line(line or name.line, field_of, name.text, kind, options)
         if found.key in [it.key for it in struct.fields]:
             raise Refused(f"two fields have the member {found.key}", name.line)
