@@ -10,6 +10,7 @@ mod ValueAtPath
 mod PointerParsing
 mod PointerWriting
 mod Lookups
+mod PointerSights
 mod Errors
 mod Changes
 mod Members

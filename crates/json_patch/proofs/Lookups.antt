@@ -137,7 +137,7 @@ value_at_pointer-cons k p t = value_at_pointer-step k p t ∙ sym (then_assoc (s
 
 -- ---- paths
 
-path_of_tokens-step : (k : ReferenceToken) (p : List ReferenceToken) (t u : Tree) (s : Step) → step_of_token k t ≡ Ok s → value_at_token k t ≡ Ok u → path_of_tokens (k ∷ p) t ≡ within (λ q. s ∷ q) (path_of_tokens p u)
+pub path_of_tokens-step : (k : ReferenceToken) (p : List ReferenceToken) (t u : Tree) (s : Step) → step_of_token k t ≡ Ok s → value_at_token k t ≡ Ok u → path_of_tokens (k ∷ p) t ≡ within (λ q. s ∷ q) (path_of_tokens p u)
 path_of_tokens-step k p t u s e f =
     let child_there : value_at_step s t ≡ Ok u = sym (ap (λ r. and_then r (λ v. value_at_step v t)) e) ∙ f in
     ap (λ r. and_then r (λ v. and_then (value_at_step v t) (λ w. within (λ q. v ∷ q) (path_of_tokens p w)))) e ∙ ap (λ r. and_then r (λ w. within (λ q. s ∷ q) (path_of_tokens p w))) child_there

@@ -22,6 +22,7 @@ use Rattle.json_command.specs.Statuses.{status_of}
 use Rattle.json_patch.specs.Merge.{merge_patched}
 use Rattle.json_patch.specs.Patch.{PatchFailure, lookup_failed, bad_patch, test_failed, patched}
 use Rattle.json_patch.specs.Errors.{PatchFails}
+use Rattle.json_patch.specs.Described.{described}
 use Rattle.json_patch.specs.declared.command.Command.{Command}
 use Rattle.json_patch.specs.declared.command.Command.TheVariants.{Patch, Merge}
 use Rattle.json_patch.specs.declared.command.CommandError.{CommandError}
@@ -129,21 +130,9 @@ abbrev pub status_of_error : CommandError → ℕ
 status_of_error (failed.Transfer e) = status_of e.code e.place
 status_of_error (failed.Patch e) = patch_status e.code
 
-abbrev pub patch_code_name : PatchCode → List ℕ
-patch_code_name patch.NoMemory = codes "NoMemory"
-patch_code_name patch.NotFound = codes "NotFound"
-patch_code_name patch.TypeUnmatched = codes "TypeUnmatched"
-patch_code_name patch.BadPointer = codes "BadPointer"
-patch_code_name patch.BadPatch = codes "BadPatch"
-patch_code_name patch.TestFailed = codes "TestFailed"
-
-abbrev pub operation_text : Option ℕ → List ℕ
-operation_text None = []
-operation_text (Some i) = codes " in operation " ++ decimal i
-
 -- the line of an error: the name of its code, and the number of the operation
 abbrev pub patch_text : PatchCode → Option ℕ → List ℕ
-patch_text code op = patch_code_name code ++ operation_text op ++ 10 ∷ []
+patch_text code op = described code op ++ 10 ∷ []
 
 abbrev pub error_text : CommandError → List ℕ
 error_text (failed.Transfer e) = text_of e

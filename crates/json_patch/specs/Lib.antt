@@ -8,7 +8,9 @@ pub mod PointerExamples
 pub mod PatchExamples
 pub mod MergeExamples
 pub mod Lookups
+pub mod PointerSights
 pub mod Operations
 pub mod Errors
+pub mod Described
 pub mod Touched
 pub mod Commands

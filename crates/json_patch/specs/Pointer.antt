@@ -1,5 +1,5 @@
 -- JSON Pointer (RFC 6901): the tokens of a text, and the value that they reference.
-use Rattle.std.specs.Prelude.{◌≢◌, ◌<◌, length, slice_index, ℕ, ◌+◌, ◌-◌, ◌*◌, List, [], ◌∷◌, ◌++◌, Bool, true, false, cond, not, ◌==◌, ◌&&◌, nat_le, Option, Some, None, option_map, ok_or, Ok, Err}
+use Rattle.std.specs.Prelude.{◌≡◌, ◌≢◌, ◌<◌, length, slice_index, ℕ, ◌+◌, ◌-◌, ◌*◌, List, [], ◌∷◌, ◌++◌, Bool, true, false, cond, not, ◌==◌, ◌&&◌, nat_le, Option, Some, None, option_map, ok_or, Ok, Err}
 use Rattle.json_grammar.specs.Tree.{Tree, list, pairs}
 use Rattle.json_model.specs.Edit.{Step, key_step, index_step, Changed, within, not_found, type_unmatched, and_then}
 use Rattle.json_patch.specs.ValuesAt.{value_at_step, value_at_path}
@@ -66,6 +66,13 @@ escaped_byte x = cond (x == tilde) (tilde ∷ 48 ∷ []) (cond (x == slash) (til
 abbrev pub escaped_token : ReferenceToken → List ℕ
 escaped_token [] = []
 escaped_token (x ∷ k) = escaped_byte x ++ escaped_token k
+
+-- a front of these bytes was appended
+pub record AppendsFrontOf (old new bytes : List ℕ) : Type 0 where
+  pub front : List ℕ
+  pub back : List ℕ
+  pub whole : bytes ≡ front ++ back
+  pub appended : new ≡ old ++ front
 
 -- the text of tokens: each after a slash
 abbrev pub pointer_text : List ReferenceToken → List ℕ

@@ -1,8 +1,15 @@
 // Errors of pointers and patches.
-ghost use Rattle.std.specs.Prelude.{◌≡◌};
+ghost use Rattle.std.specs.Prelude.{◌≡◌, ◌++◌, IfOk, string_bytes, option_map, option_and_then, slice_get};
+ghost use Rattle.json_io.specs.Errors.{OnlyNoMemory};
+ghost use Rattle.json_value.specs.Seen.{seen, list_of};
+ghost use Rattle.json_patch.specs.Described.{patch_code_name, described, path_named, pointer_suffix};
 ghost use Rattle.json_patch.specs.Errors.{patch_code_number, no_memory_in_patch};
 
-use std::alloc::{AllocError, AllocFailed};
+use crate::operation::path_of_operation;
+use itoa::Buffer;
+use json_text::Result as TextResult;
+use json_value::View;
+use std::alloc::{AllocError, AllocFailed, Global};
 use thiserror::Error;
 
 /// The kind of a [`PatchError`].
@@ -41,6 +48,20 @@ impl PatchCode {
             PatchCode::TestFailed => 31,
         }
     }
+
+    /// Returns the name of the code.
+    pub fn name(self) -> &'static str
+        ensures { result.now ≡ patch_code_name self }
+    {
+        match self {
+            PatchCode::NoMemory => "NoMemory",
+            PatchCode::NotFound => "NotFound",
+            PatchCode::TypeUnmatched => "TypeUnmatched",
+            PatchCode::BadPointer => "BadPointer",
+            PatchCode::BadPatch => "BadPatch",
+            PatchCode::TestFailed => "TestFailed",
+        }
+    }
 }
 
 /// The error of [`Pointer::parse`], [`apply_patch`] and [`apply_merge`].
@@ -63,6 +84,81 @@ pub struct PatchError {
     /// The index in the patch, counted from 0, of the operation that failed; `None` if the patch
     /// is no array, if memory ran out, or if there is no patch.
     pub op: Option<u32>,
+}
+
+impl PatchError {
+    /// Returns what failed, for people: the name of the code, and the number of the operation if
+    /// one is named. `Display` says no more than that a patch was refused.
+    ///
+    /// Fails with `NoMemory` if memory runs out.
+    pub fn describe(&self, alloc: Global) -> TextResult<String>
+        ensures text { IfOk result (λ s. string_bytes s ≡ described self.now.code self.now.op) }
+        ensures only { OnlyNoMemory result }
+    {
+        let mut text = String::new(alloc);
+        text.push_str(self.code.name())?;
+        if let Some(i) = self.op {
+            let mut buffer = Buffer::new();
+            text.push_str(" in operation ")?;
+            text.push_str(buffer.format(i))?;
+        }
+        Ok(text)
+    }
+
+    /// Returns the same of a patch that failed with this error, and the member `path` of the
+    /// operation that is named.
+    ///
+    /// Fails with `NoMemory` if memory runs out.
+    ///
+    /// ```
+    /// use json_doc::read_document;
+    /// use json_patch::{PatchCode, PatchError};
+    /// use json_value::View;
+    /// let patch = read_document(alloc, "[{\"op\": \"remove\", \"path\": \"/a/0\"}]")?;
+    /// let error = PatchError {
+    ///     code: PatchCode::NotFound,
+    ///     op: Some(0),
+    /// };
+    /// let text = error.describe_in(alloc, View::packed(patch.view()))?;
+    /// assert_eq!(rt; text.as_str(), "NotFound in operation 0 at /a/0");
+    /// assert_eq!(rt; error.describe(alloc)?.as_str(), "NotFound in operation 0");
+    /// ```
+    pub fn describe_in(&self, alloc: Global, patch: View<'_>) -> TextResult<String>
+        ensures text { IfOk result (λ s. string_bytes s ≡ described self.now.code self.now.op
+            ++ pointer_suffix (path_named self.now.op (seen patch.entry))) }
+        ensures only { OnlyNoMemory result }
+    {
+        let mut text = self.describe(alloc)?;
+        if let Some(pointer) = path_in(self.op, patch) {
+            text.push_str(" at ")?;
+            text.push_str(pointer)?;
+        }
+        Ok(text)
+    }
+}
+
+// Returns the member `path` of the operation that is named, if one is.
+fn path_in<'a>(op: Option<u32>, patch: View<'a>) -> Option<&'a str>
+    ensures { option_map (λ s. s.now) result ≡ path_named op (seen patch.entry) }
+{
+    match op {
+        Some(i) => match operation_at(patch, i as usize) {
+            Some(operation) => path_of_operation(operation),
+            None => None,
+        },
+        None => None,
+    }
+}
+
+// Returns the element of the index, where the patch is an array that has one.
+fn operation_at<'a>(patch: View<'a>, i: usize) -> Option<View<'a>>
+    ensures { option_map seen result
+        ≡ option_and_then (λ ts. slice_get ts i) (list_of (seen patch.entry)) }
+{
+    match patch.as_array() {
+        Some(list) => list.get(i),
+        None => None,
+    }
 }
 
 impl From<AllocError> for PatchError {

@@ -1,10 +1,13 @@
 // Following the tokens of a pointer (RFC 6901, section 4).
-ghost use Rattle.std.specs.Prelude.{◌≡◌, ◌≢◌, ◌<◌, ◌≤◌, ◌^◌, ℕ, Some, map, string_bytes, MatchOption, option_map, ok_or};
+ghost use Rattle.std.specs.Prelude.{◌≡◌, ◌≢◌, ◌<◌, ◌≤◌, ◌^◌, ℕ, Some, IfOk, map, string_bytes, MatchOption, option_map, ok_or};
 ghost use Rattle.json_model.specs.Edit.{not_found};
 ghost use Rattle.json_patch.specs.Pointer.{index_of_token, value_at_pointer};
 ghost use Rattle.json_grammar.specs.Tree.{Tree};
 ghost use Rattle.json_value.specs.Seen.{seen, elements_seen, list_of};
+ghost use Rattle.json_value.specs.SightParts.{elements_sights, sight_elements};
+ghost use Rattle.json_value.specs.Sights.{Sight, sight_of};
 ghost use Rattle.json_patch.specs.Lookups.{has_index_start, error_of_lookup, found_value, value_at_token};
+ghost use Rattle.json_patch.specs.PointerSights.{sight_at_token, sight_at_pointer};
 
 use json_text::{Error, ErrorCode, Place};
 use json_value::{ArrayView, View};
@@ -68,7 +71,8 @@ pub fn index_at_most(last: usize, token: &str) -> Option<usize>
 
 // Returns the value, or `NotFound` if there is none.
 fn or_not_found<'a>(place: Option<View<'a>>) -> Result<View<'a>, LookupError>
-    ensures { found_value result ≡ ok_or (option_map seen place.entry) not_found }
+    ensures tree { found_value result ≡ ok_or (option_map seen place.entry) not_found }
+    ensures sight { IfOk result (λ v. option_map sight_of place.entry ≡ Some (sight_of v)) }
 {
     match place {
         Some(view) => Ok(view),
@@ -78,8 +82,11 @@ fn or_not_found<'a>(place: Option<View<'a>>) -> Result<View<'a>, LookupError>
 
 // Returns the element at the index that the token is.
 fn find_element<'a>(token: &str, array: ArrayView<'a>) -> Result<View<'a>, LookupError>
-    ensures { (t : Tree) → Some (elements_seen array.entry) ≡ list_of t
+    ensures tree { (t : Tree) → Some (elements_seen array.entry) ≡ list_of t
         → found_value result ≡ value_at_token token.now t }
+    ensures sight { (t : Tree) (s : Sight) → Some (elements_seen array.entry) ≡ list_of t
+        → Some (elements_sights array.entry) ≡ sight_elements s
+        → IfOk result (λ v. sight_at_token token.now t s ≡ Some (sight_of v)) }
 {
     match index_at_most(array.len(), token) {
         Some(i) => or_not_found(array.get(i)),
@@ -90,7 +97,9 @@ fn find_element<'a>(token: &str, array: ArrayView<'a>) -> Result<View<'a>, Looku
 /// Returns the element, or the first member's value, that the token references. Fails with
 /// `NotFound` if there is none, and with `TypeUnmatched` at a scalar.
 pub fn find_child<'a>(token: &str, here: View<'a>) -> Result<View<'a>, LookupError>
-    ensures { found_value result ≡ value_at_token token.now (seen here.entry) }
+    ensures tree { found_value result ≡ value_at_token token.now (seen here.entry) }
+    ensures sight { IfOk result (λ v. sight_at_token token.now (seen here.entry)
+        (sight_of here.entry) ≡ Some (sight_of v)) }
 {
     if let Some(array) = here.as_array() {
         return find_element(token, array);
@@ -104,8 +113,10 @@ pub fn find_child<'a>(token: &str, here: View<'a>) -> Result<View<'a>, LookupErr
 /// Returns the value that the tokens reference. Fails with `NotFound` if there is none, and with
 /// `TypeUnmatched` at a scalar.
 pub fn find_value<'a>(tokens: &[String], root: View<'a>) -> Result<View<'a>, LookupError>
-    ensures { found_value result
+    ensures tree { found_value result
         ≡ value_at_pointer (map string_bytes tokens.now) (seen root.entry) }
+    ensures sight { IfOk result (λ v. sight_at_pointer (map string_bytes tokens.now)
+        (seen root.entry) (sight_of root.entry) ≡ Some (sight_of v)) }
 {
     let mut here = root;
     for token in tokens {

@@ -1,12 +1,16 @@
 // Reading the operations of a patch (RFC 6902, sections 3 and 4).
-ghost use Rattle.std.specs.Prelude.{◌≡◌, Some, map, string_bytes, option_map, IfOk, codes};
+ghost use Rattle.std.specs.Prelude.{◌≡◌, Some, map, string_bytes, option_map, IfOk, IfSome, codes};
 ghost use Rattle.json_grammar.specs.Tree.{list_pairs};
+ghost use Rattle.json_patch.specs.Described.{path_of_operation as path_text};
 ghost use Rattle.json_patch.specs.Pointer.{pointer_of};
 ghost use Rattle.json_patch.specs.Patch.{single_value, string_in, pointer_in, is_proper_prefix, tokens_eq, move_allowed, operation_named, operation_of};
 ghost use Rattle.json_value.specs.Denotes.{tree_of};
 ghost use Rattle.json_value.specs.Seen.{seen, members_seen};
+ghost use Rattle.json_value.specs.SightParts.{members_sights};
+ghost use Rattle.json_value.specs.Sights.{sight_of};
 ghost use Rattle.json_patch.specs.Operations.{model_operation, moved_from, both_of, path_and_value_of, from_and_path_of};
 ghost use Rattle.json_patch.specs.Lookups.{pointer_tokens};
+ghost use Rattle.json_patch.specs.PointerSights.{first_sight};
 ghost use Rattle.json_io.specs.Errors.{OnlyNoMemory};
 
 use crate::error::PatchCode;
@@ -28,8 +32,10 @@ pub enum Operation {
 
 /// Returns the value of the key if exactly one member has it.
 pub fn single_member<'a>(object: ObjectView<'a>, key: &str) -> Option<View<'a>>
-    ensures { option_map seen result
+    ensures tree { option_map seen result
         ≡ single_value key.now (list_pairs (members_seen object.entry)) }
+    ensures sight { IfSome result (λ v.
+        first_sight key.now (members_sights object.entry) ≡ Some (sight_of v)) }
 {
     let mut found: Option<View<'a>> = None;
     'members: for (name, value) in object.iter() {
@@ -50,6 +56,16 @@ fn single_text<'a>(object: ObjectView<'a>, key: &str) -> Option<&'a str>
 {
     match single_member(object, key) {
         Some(view) => view.text(),
+        None => None,
+    }
+}
+
+/// Returns the member `path` of an operation, if exactly one has that name and is a string.
+pub fn path_of_operation<'a>(operation: View<'a>) -> Option<&'a str>
+    ensures { option_map (λ s. s.now) result ≡ path_text (seen operation.entry) }
+{
+    match operation.as_object() {
+        Some(object) => single_text(object, "path"),
         None => None,
     }
 }

@@ -1,10 +1,12 @@
 // JSON Pointer (RFC 6901).
-ghost use Rattle.std.specs.Prelude.{◌≡◌, ◌++◌, Some, None, OnOk, IfOk, IfErr, map, option_map, string_bytes, false, []};
+ghost use Rattle.std.specs.Prelude.{◌≡◌, ◌++◌, Some, None, OnOk, OnErr, IfOk, IfErr, IfSome, map, option_map, string_bytes, false, []};
 ghost use Rattle.std.specs.Result.{result_ok};
 ghost use Rattle.json_value.specs.Seen.{seen};
-ghost use Rattle.json_patch.specs.Pointer.{pointer_of, pointer_text, unescaped_after, unescaped_tokens, split_at_slashes, value_at_pointer, escaped_token, tilde, Lacks};
+ghost use Rattle.json_value.specs.Sights.{sight_of};
+ghost use Rattle.json_patch.specs.Pointer.{pointer_of, pointer_text, unescaped_after, unescaped_tokens, split_at_slashes, value_at_pointer, escaped_token, tilde, Lacks, AppendsFrontOf};
 ghost use Rattle.json_patch.specs.Errors.{PointerFails};
 ghost use Rattle.json_patch.specs.Lookups.{pointer_tokens};
+ghost use Rattle.json_patch.specs.PointerSights.{sight_at_pointer};
 ghost use Rattle.json_io.specs.Errors.{OnlyNoMemory};
 
 use crate::error::{PatchCode, PatchError};
@@ -87,6 +89,8 @@ fn push_slashes(text: &mut String, part: &str) -> TextResult<()>
     requires { Lacks tilde part.now }
     ensures ok { OnOk result (string_bytes text.new
         ≡ string_bytes text.old ++ escaped_token part.now) }
+    ensures kept { OnErr result (AppendsFrontOf (string_bytes text.old) (string_bytes text.new)
+        (escaped_token part.now)) }
     ensures only { OnlyNoMemory result }
 {
     let mut remaining = part;
@@ -99,10 +103,13 @@ fn push_slashes(text: &mut String, part: &str) -> TextResult<()>
     Ok(())
 }
 
-/// Appends a token, escaped. Fails with `NoMemory` if memory runs out.
+/// Appends a token, escaped. Fails with `NoMemory` if memory runs out; a front of the escaped token
+/// was appended then.
 pub fn push_escaped(text: &mut String, token: &str) -> TextResult<()>
     ensures ok { OnOk result (string_bytes text.new
         ≡ string_bytes text.old ++ escaped_token token.now) }
+    ensures kept { OnErr result (AppendsFrontOf (string_bytes text.old) (string_bytes text.new)
+        (escaped_token token.now)) }
     ensures only { OnlyNoMemory result }
 {
     let mut remaining = token;
@@ -137,10 +144,13 @@ impl Pointer {
     }
 
     /// Returns the value that the pointer references (RFC 6901, section 4), or `None` if there is
-    /// none. A key references the first member of that name.
+    /// none. A key references the first member of that name. The view is of the place itself, as that
+    /// of `View::pointer`.
     pub fn find<'a>(&self, root: View<'a>) -> Option<View<'a>>
-        ensures { option_map seen result
+        ensures tree { option_map seen result
             ≡ result_ok (value_at_pointer (pointer_tokens self.now) (seen root.entry)) }
+        ensures sight { IfSome result (λ v. sight_at_pointer (pointer_tokens self.now)
+            (seen root.entry) (sight_of root.entry) ≡ Some (sight_of v)) }
     {
         match find_value(self.tokens.as_slice(), root) {
             Ok(place) => Some(place),

@@ -8,41 +8,20 @@ ghost use Rattle.json_command.specs.Input.{max_bytes};
 ghost use Rattle.json_command.specs.Reporting.{StatusReports};
 ghost use Rattle.json_command.specs.Statuses.{status_of, ReturnsReadStatus, ReturnsWriteStatus};
 ghost use Rattle.json_patch.specs.Patch.{PatchFailure};
-ghost use Rattle.json_patch.specs.Commands.{WithRequest, IsRequest, WritesOutcome, PatchRunFails, PatchSucceeds, ReportsPatchError, ReportsOr, IsFit, IsUnpatchable, IsFaulty, StatusReportsText, patch_status, patch_code_name, patch_text, code_of_failure};
+ghost use Rattle.json_patch.specs.Commands.{WithRequest, IsRequest, WritesOutcome, PatchRunFails, PatchSucceeds, ReportsPatchError, ReportsOr, IsFit, IsUnpatchable, IsFaulty, StatusReportsText, patch_status, patch_text, code_of_failure};
 
 use crate::command::{CommandError, read_command, transfer};
 use crate::error::{PatchCode, PatchError};
-use itoa::Buffer;
 use json_command::{Status, report, report_text};
 use json_text::{Error, Result as TextResult, Sink, Source, Words};
 use std::alloc::Global;
-
-// Returns the name of a code.
-fn name_of(code: PatchCode) -> &'static str
-    ensures { result.now ≡ patch_code_name code }
-{
-    match code {
-        PatchCode::NoMemory => "NoMemory",
-        PatchCode::NotFound => "NotFound",
-        PatchCode::TypeUnmatched => "TypeUnmatched",
-        PatchCode::BadPointer => "BadPointer",
-        PatchCode::BadPatch => "BadPatch",
-        PatchCode::TestFailed => "TestFailed",
-    }
-}
 
 // Returns the line of an error of a patch.
 fn text_of_patch(alloc: Global, error: &PatchError) -> TextResult<String>
     ensures ok { IfOk result (λ s. string_bytes s ≡ patch_text error.now.code error.now.op) }
     ensures only { OnlyNoMemory result }
 {
-    let mut text = String::new(alloc);
-    text.push_str(name_of(error.code))?;
-    if let Some(i) = error.op {
-        let mut buffer = Buffer::new();
-        text.push_str(" in operation ")?;
-        text.push_str(buffer.format(i))?;
-    }
+    let mut text = error.describe(alloc)?;
     text.push_str("\n")?;
     Ok(text)
 }

@@ -17,7 +17,7 @@ loop-token-preserved c =
     let p = map string_bytes (drop (i + 1) ks) in
     let step = node_step c.in_ok-node.node in
     let a = path_steps c.loop-token.path in
-    let named = subst (λ (b : ReferenceToken). value_at_token b (seen c.loop-token.here) ≡ Ok (seen c.in_ok-next.next)) c.deref.ensures (sym c.in_ok-next.ensures) in
+    let named = subst (λ (b : ReferenceToken). value_at_token b (seen c.loop-token.here) ≡ Ok (seen c.in_ok-next.next)) c.deref.ensures (sym c.in_ok-next.ensures.tree) in
     let step_named = subst (λ (b : ReferenceToken). step_of_token b (seen c.loop-token.here) ≡ Ok step) c.deref-in-loop-token.ensures c.in_ok-node.ensures.ok in
     let so_far = c.loop-token.invariant.0 ∙ ap (λ (q : List ReferenceToken). within (λ r. a ++ r) (path_of_tokens q (seen c.loop-token.here))) e in (
       path_of_tokens-next k p (seen c.loop-token.here) (seen c.in_ok-next.next) step a (path_of_tokens (map string_bytes ks) (seen c.args.root)) so_far step_named named
