@@ -1,6 +1,17 @@
-//! Tests alone: what `mezdruk` hands on to other programs. They stand here and not in
-//! `mezdruk_programs` or `mezdruk_cli`, since a library or a program with tests is proved twice.
+//! Tests alone: worked examples of the programs of `mezdruk` and of what they are made of. They stand
+//! here and not in the libraries, since a library with tests is proved twice, and in one crate, since
+//! each check of a crate over the programs begins with more than a minute.
 #![tactic(auto)]
 
 #[cfg(test)]
-mod rows;
+mod arguments;
+#[cfg(test)]
+mod files;
+#[cfg(test)]
+mod history;
+#[cfg(test)]
+mod lines;
+#[cfg(test)]
+mod programs;
+#[cfg(test)]
+mod rpc;

@@ -1,5 +1,5 @@
 // What is reported of arguments, and what those that are valid ask for.
-use crate::rows::ROWS;
+use crate::arguments::rows::ROWS;
 use json_arguments::{
     Arguments, ArgumentsError, OperandKind, Problem, Refusal, Verb, arguments_report, edits_of,
     file_report, read_arguments, read_operand,

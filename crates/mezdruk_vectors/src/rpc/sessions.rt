@@ -1,5 +1,5 @@
 // Sessions and their replies.
-use crate::run::has_replies;
+use crate::rpc::run::has_replies;
 
 // What a session shows, the lines that are sent to a document that is null, and the replies.
 const SESSIONS: [(&str, &str, &str); 18] = [

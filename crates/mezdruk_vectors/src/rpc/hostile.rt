@@ -1,5 +1,5 @@
 // Lines that mean harm.
-use crate::run::{has_replies, serve_bytes};
+use crate::rpc::run::{has_replies, serve_bytes};
 use json_text::Result;
 use std::alloc::Global;
 

@@ -1,5 +1,5 @@
 // Sources and sinks that fail.
-use crate::rows::status_of;
+use crate::history::rows::status_of;
 use json_text::{FakeSink, FakeSource, Sink, SliceSource, Source, VecSink, Words};
 use std::alloc::Global;
 

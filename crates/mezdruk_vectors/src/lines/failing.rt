@@ -1,5 +1,5 @@
 // Sources and sinks that fail at each call in turn.
-use crate::run::status_of;
+use crate::lines::run::status_of;
 use json_text::{FakeSink, FakeSource, Sink, SliceSource, Source, VecSink, Words};
 use std::alloc::Global;
 

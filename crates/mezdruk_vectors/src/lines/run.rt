@@ -1,5 +1,5 @@
 // The worked examples, run.
-use crate::rows::{LONG_ROWS, ROWS};
+use crate::lines::rows::{LONG_ROWS, ROWS};
 use json_command::rows::differing_rows;
 use json_lines::run_lines;
 use json_text::{Result, Sink, Source, Words};

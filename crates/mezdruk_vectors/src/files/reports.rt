@@ -1,9 +1,8 @@
 // Inputs that are not valid, each with its whole report.
-use json_files::{Document, Job, Unchanged, print_documents};
-use json_print::Style;
-use json_text::{Rules, VecSink};
+use crate::files::runs::{Outcome, comes_to, compact};
+use json_files::Unchanged;
+use json_text::{Result, Rules};
 use std::alloc::Global;
-use std::test::Fail;
 
 // An input, and what is reported of it.
 type Row = (&'static [u8], &'static [u8]);
@@ -190,117 +189,234 @@ const TOKENS: &[Row] = &[
 ];
 
 // Returns whether an input has this report and status 1, and nothing is printed.
-fn has_report(alloc: Global, rules: Rules, input: &[u8], report: &[u8]) -> json_text::Result<bool> {
-    let documents = vec![in alloc; Document::new(alloc, "f", input)?]?;
-    let job = Job::new(Unchanged, Style::new(None, false), rules);
-    let (mut sink, mut errs) = (VecSink::new(alloc), VecSink::new(alloc));
-    let status = print_documents(alloc, &documents, &job, &mut sink, &mut errs);
-    Ok(status == 1 && sink.as_slice().is_empty() && errs.as_slice() == report)
+fn has_report(alloc: Global, rules: Rules, input: &[u8], report: &[u8]) -> bool {
+    let mut job = compact(Unchanged);
+    job.rules = rules;
+    let outcome = Outcome {
+        output: b"",
+        reports: report,
+        status: 1,
+    };
+    comes_to(alloc, &job, input, &outcome)
 }
 
-// Returns the number of the first row whose input has another report.
-fn first_other(alloc: Global, rows: &[Row]) -> json_text::Result<Option<usize>> {
-    for (i, row) in rows.iter().enumerate() {
-        if !has_report(alloc, Rules::usual(), row.0, row.1)? {
-            return Ok(Some(i));
+// Returns whether each input has its report.
+fn all_are_reported(alloc: Global, rows: &[Row]) -> bool {
+    for (input, report) in rows {
+        if !has_report(alloc, Rules::usual(), input, report) {
+            return false;
         }
     }
-    Ok(None)
+    true
 }
 
 #[test]
-fn inputs_that_end_early(rt: HostRuntime) -> Result<(), Fail> {
-    assert_eq!(rt; first_other(rt.alloc(), ENDS)?, None);
-    Ok(())
+fn inputs_that_end_early(rt: HostRuntime) {
+    assert!(rt; all_are_reported(rt.alloc(), ENDS));
 }
 
 #[test]
-fn commas_colons_and_brackets(rt: HostRuntime) -> Result<(), Fail> {
-    assert_eq!(rt; first_other(rt.alloc(), STRUCTURE)?, None);
-    Ok(())
+fn commas_colons_and_brackets(rt: HostRuntime) {
+    assert!(rt; all_are_reported(rt.alloc(), STRUCTURE));
 }
 
 #[test]
-fn what_other_formats_have(rt: HostRuntime) -> Result<(), Fail> {
-    assert_eq!(rt; first_other(rt.alloc(), OTHER_FORMATS)?, None);
-    Ok(())
+fn what_other_formats_have(rt: HostRuntime) {
+    assert!(rt; all_are_reported(rt.alloc(), OTHER_FORMATS));
 }
 
 #[test]
-fn numbers_literals_and_strings(rt: HostRuntime) -> Result<(), Fail> {
-    assert_eq!(rt; first_other(rt.alloc(), TOKENS)?, None);
-    Ok(())
+fn numbers_literals_and_strings(rt: HostRuntime) {
+    assert!(rt; all_are_reported(rt.alloc(), TOKENS));
 }
 
-#[test]
-fn a_key_that_repeats(rt: HostRuntime) -> Result<(), Fail> {
-    let rules = Rules::new(254, true).ok_or("too many levels")?;
-    let input = b"{\"a\":1,\"a\":2}";
+// Whether a key that repeats is reported, where keys have to be unique.
+fn repeated_key_is_reported(alloc: Global) -> bool {
     let report = b"f:1:8: the key occurs twice in its object (DuplicateKey)\n\
         {\"a\":1,\"a\":2}\n       ^\n";
-    assert!(rt; has_report(rt.alloc(), rules, input, report)?);
-    Ok(())
+    match Rules::new(254, true) {
+        Some(rules) => has_report(alloc, rules, b"{\"a\":1,\"a\":2}", report),
+        None => false,
+    }
 }
 
-// Appends a piece so many times.
-fn push_times(text: &mut Vec<u8>, piece: &[u8], n: usize) -> json_text::Result<()> {
-    for _ in 0..n {
-        text.extend_from_slice(piece)?;
-    }
-    Ok(())
+#[test]
+fn a_key_that_repeats(rt: HostRuntime) {
+    assert!(rt; repeated_key_is_reported(rt.alloc()));
 }
+
+// A piece of an input or of a report, and how many times it comes.
+struct Piece {
+    bytes: &'static [u8],
+    times: usize,
+}
+
+fn bytes_of(alloc: Global, pieces: &[Piece]) -> Result<Vec<u8>> {
+    let mut bytes = Vec::new(alloc);
+    for piece in pieces {
+        for _ in 0..piece.times {
+            bytes.extend_from_slice(piece.bytes)?;
+        }
+    }
+    Ok(bytes)
+}
+
+// Whether the input of these pieces has the report of those.
+fn pieces_are_reported(alloc: Global, input: &[Piece], report: &[Piece]) -> Result<bool> {
+    let input = bytes_of(alloc, input)?;
+    let report = bytes_of(alloc, report)?;
+    Ok(has_report(alloc, Rules::usual(), input.as_slice(), report.as_slice()))
+}
+
+const BRACKETS: &[Piece] = &[Piece {
+    bytes: b"[",
+    times: 255,
+}];
+
+const CUT_BEFORE: &[Piece] = &[
+    Piece {
+        bytes: b"f:1:255: the input has too many levels (RecursionLimitExceeded)\n",
+        times: 1,
+    },
+    Piece {
+        bytes: b"[",
+        times: 76,
+    },
+    Piece {
+        bytes: b"\n",
+        times: 1,
+    },
+    Piece {
+        bytes: b" ",
+        times: 75,
+    },
+    Piece {
+        bytes: b"^\n",
+        times: 1,
+    },
+];
 
 // 255 brackets, of which the last opens a level too many: 75 bytes before it are shown.
 #[test]
-fn a_line_that_is_cut_before(rt: HostRuntime) -> Result<(), Fail> {
-    let alloc = rt.alloc();
-    let mut input = Vec::new(alloc);
-    push_times(&mut input, b"[", 255)?;
-    let mut report = b"f:1:255: the input has too many levels (RecursionLimitExceeded)\n".to_vec(
-        alloc,
-    )?;
-    push_times(&mut report, b"[", 76)?;
-    report.extend_from_slice(b"\n")?;
-    push_times(&mut report, b" ", 75)?;
-    report.extend_from_slice(b"^\n")?;
-    assert!(rt; has_report(alloc, Rules::usual(), &input, &report)?);
-    Ok(())
+fn a_line_that_is_cut_before(rt: HostRuntime) {
+    assert!(rt;
+        matches!(
+            pieces_are_reported(rt.alloc(), BRACKETS, CUT_BEFORE),
+            Ok(true)
+        )
+    );
 }
+
+const LONG_ARRAY: &[Piece] = &[
+    Piece {
+        bytes: b"[",
+        times: 1,
+    },
+    Piece {
+        bytes: b"1,",
+        times: 60,
+    },
+    Piece {
+        bytes: b"x",
+        times: 1,
+    },
+    Piece {
+        bytes: b",1",
+        times: 60,
+    },
+    Piece {
+        bytes: b"]",
+        times: 1,
+    },
+];
+
+const CUT_ON_BOTH_SIDES: &[Piece] = &[
+    Piece {
+        bytes: b"f:1:122: a value is expected (InvalidJsonValue)\n",
+        times: 1,
+    },
+    Piece {
+        bytes: b"1,",
+        times: 19,
+    },
+    Piece {
+        bytes: b"x",
+        times: 1,
+    },
+    Piece {
+        bytes: b",1",
+        times: 18,
+    },
+    Piece {
+        bytes: b",\n",
+        times: 1,
+    },
+    Piece {
+        bytes: b" ",
+        times: 38,
+    },
+    Piece {
+        bytes: b"^\n",
+        times: 1,
+    },
+];
 
 // 121 bytes before the error and 121 after it: 38 of the first and 37 of the last are shown.
 #[test]
-fn a_line_that_is_cut_on_both_sides(rt: HostRuntime) -> Result<(), Fail> {
-    let alloc = rt.alloc();
-    let mut input = b"[".to_vec(alloc)?;
-    push_times(&mut input, b"1,", 60)?;
-    input.extend_from_slice(b"x")?;
-    push_times(&mut input, b",1", 60)?;
-    input.extend_from_slice(b"]")?;
-    let mut report = b"f:1:122: a value is expected (InvalidJsonValue)\n".to_vec(alloc)?;
-    push_times(&mut report, b"1,", 19)?;
-    report.extend_from_slice(b"x")?;
-    push_times(&mut report, b",1", 18)?;
-    report.extend_from_slice(b",\n")?;
-    push_times(&mut report, b" ", 38)?;
-    report.extend_from_slice(b"^\n")?;
-    assert!(rt; has_report(alloc, Rules::usual(), &input, &report)?);
-    Ok(())
+fn a_line_that_is_cut_on_both_sides(rt: HostRuntime) {
+    assert!(rt;
+        matches!(
+            pieces_are_reported(rt.alloc(), LONG_ARRAY, CUT_ON_BOTH_SIDES),
+            Ok(true)
+        )
+    );
 }
+
+const LONG_STRING: &[Piece] = &[
+    Piece {
+        bytes: b"\"",
+        times: 1,
+    },
+    Piece {
+        bytes: b"\xc3\xa9",
+        times: 40,
+    },
+    Piece {
+        bytes: b"\x01",
+        times: 1,
+    },
+];
+
+const CUT_AT_CHARACTER: &[Piece] = &[
+    Piece {
+        bytes: b"f:1:82: a control character in a string has to be escaped (ControlCharacter)\n",
+        times: 1,
+    },
+    Piece {
+        bytes: b"\xc3\xa9",
+        times: 37,
+    },
+    Piece {
+        bytes: b" \n",
+        times: 1,
+    },
+    Piece {
+        bytes: b" ",
+        times: 37,
+    },
+    Piece {
+        bytes: b"^\n",
+        times: 1,
+    },
+];
 
 // 81 bytes before the error, of which the last 75 begin within a character of two bytes.
 #[test]
-fn a_line_that_is_cut_at_a_character(rt: HostRuntime) -> Result<(), Fail> {
-    let alloc = rt.alloc();
-    let mut input = b"\"".to_vec(alloc)?;
-    push_times(&mut input, b"\xc3\xa9", 40)?;
-    input.extend_from_slice(b"\x01")?;
-    let mut report = b"f:1:82: a control character in a string has to be escaped \
-        (ControlCharacter)\n"
-        .to_vec(alloc)?;
-    push_times(&mut report, b"\xc3\xa9", 37)?;
-    report.extend_from_slice(b" \n")?;
-    push_times(&mut report, b" ", 37)?;
-    report.extend_from_slice(b"^\n")?;
-    assert!(rt; has_report(alloc, Rules::usual(), &input, &report)?);
-    Ok(())
+fn a_line_that_is_cut_at_a_character(rt: HostRuntime) {
+    assert!(rt;
+        matches!(
+            pieces_are_reported(rt.alloc(), LONG_STRING, CUT_AT_CHARACTER),
+            Ok(true)
+        )
+    );
 }

@@ -1,5 +1,5 @@
 // Sources and sinks that fail, and words.
-use crate::run::{serve, status_of};
+use crate::rpc::run::{serve, status_of};
 use json_text::{FakeSink, FakeSource, Result, SliceSource, VecSink, Words};
 use std::alloc::Global;
 

@@ -1,0 +1,8 @@
+// Documents in memory that are printed, changed and reported, lines, and sinks that fail.
+mod changes;
+mod documents;
+mod failing;
+mod lines;
+mod reports;
+mod runs;
+mod streams;
