@@ -4,6 +4,7 @@ pub mod TextCalls
 pub mod Pairs
 pub mod Rows
 pub mod Digits
+pub mod FloatData
 pub mod Left
 pub mod RuledCalls
 pub mod NumberKeys

@@ -1,4 +1,5 @@
 pub mod Reading
+pub mod Floats
 pub mod Keys
 pub mod CharKeys
 pub mod Members

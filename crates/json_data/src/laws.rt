@@ -1,9 +1,17 @@
-// Laws over the definitions: what data say of trees, paths and edits.
+// Laws over the definitions: what data say of trees, paths, edits and floats.
+ghost use Rattle.std.specs.Prelude.{IfOk, IfSome};
+ghost use Rattle.std.specs.Float.{binary32, binary64};
+ghost use Rattle.json_io.specs.Errors.{OnlyNoMemory};
+ghost use Rattle.json_number.specs.Literals.{raw_literal};
+ghost use Rattle.json_data.specs.Floats.{SameFloat, ReadsNearestFloat, ReadsIntegerAsDouble, IsReadAs};
 ghost use Rattle.json_data.specs.Laws.{SameDatum, SamePath, SameEdit};
 
+use json_number::RawNumber;
+use json_text::Result;
 pub use json_tokens::laws::{
     one_text_row, one_value_row, text_row_begins, text_row_exists, value_row_begins,
 };
+use std::alloc::Global;
 
 /// Trees with the same datum are the same tree.
 pub fn same_value()
@@ -19,3 +27,37 @@ pub fn same_path()
 pub fn same_edit()
     ensures { SameEdit }
 {}
+
+/// Floats with the same datum are the same float.
+pub fn same_float()
+    ensures { SameFloat }
+{}
+
+/// A number is read as the float nearest to it, where that is finite, and is out of range
+/// otherwise.
+pub fn reads_nearest_float()
+    ensures { ReadsNearestFloat }
+{}
+
+/// An integer by value is read as the double nearest to it.
+pub fn reads_integer_as_double()
+    ensures { ReadsIntegerAsDouble }
+{}
+
+/// The number of a finite double is read as that double, also -0. `NoMemory` comes where memory
+/// runs out.
+pub fn double_is_read_again(alloc: Global, x: f64) -> Result<Option<RawNumber>>
+    ensures read { IfOk result (λ o. IfSome o (λ r. IsReadAs binary64 (raw_literal r) x)) }
+    ensures err { OnlyNoMemory result }
+{
+    RawNumber::from_f64(alloc, x)
+}
+
+/// The number of a finite `f32` is read as that `f32`, also -0. `NoMemory` comes where memory runs
+/// out.
+pub fn single_is_read_again(alloc: Global, x: f32) -> Result<Option<RawNumber>>
+    ensures read { IfOk result (λ o. IfSome o (λ r. IsReadAs binary32 (raw_literal r) x)) }
+    ensures err { OnlyNoMemory result }
+{
+    RawNumber::from_f32(alloc, x)
+}

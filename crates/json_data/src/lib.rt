@@ -13,6 +13,7 @@ mod calls;
 mod characters;
 mod deserialize;
 mod edit_values;
+mod floats;
 mod integer_keys;
 mod integers;
 mod keys;
