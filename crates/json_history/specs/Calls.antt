@@ -1,5 +1,5 @@
 -- Calls of a history as the code has them, and why they fail.
-use Rattle.std.specs.Prelude.{◌≡◌, ℕ, List, Err, ⊤}
+use Rattle.std.specs.Prelude.{◌≡◌, ℕ, List, ◌∷◌, ◌++◌, length, Ok, Err, ⊤}
 use Rattle.json_model.specs.Edit.{Refusal, not_found, type_unmatched}
 use Rattle.json_io.specs.declared.error.Error.{Error}
 use Rattle.json_io.specs.declared.error.ErrorCode.{ErrorCode}
@@ -29,6 +29,23 @@ CallsFail h cs NoMemory nowhere = ⊤
 CallsFail h cs NotFound (in_edit number) = run_calls_from 0 h cs ≡ Err (number, not_found)
 CallsFail h cs TypeUnmatched (in_edit number) = run_calls_from 0 h cs ≡ Err (number, type_unmatched)
 CallsFail h cs code place = ⊥
+
+-- the number of the call at the place of an error is the number of calls made; without memory no
+-- call is named
+abbrev pub NamesCall : Place → ℕ → Type 0
+NamesCall nowhere made = ⊤
+NamesCall (in_edit number) made = number ≡ made
+NamesCall place made = ⊥
+
+-- the first of the calls were made, which left the history g of h; the next one failed, and it and
+-- the others were not made
+pub record MakesFirstCalls (h g : TreeHistory) (cs : List TreeCall) (place : Place) : Type 0 where
+  pub made : List TreeCall
+  pub next : TreeCall
+  pub others : List TreeCall
+  pub all : cs ≡ made ++ next ∷ others
+  pub left : run_calls_from 0 h made ≡ Ok g
+  pub named : NamesCall place (length made)
 
 -- the error where the call with this number is an edit that does not apply
 abbrev pub edit_error : ℕ → Refusal → Error

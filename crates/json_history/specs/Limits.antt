@@ -1,6 +1,10 @@
 -- What dropping the oldest changes, or the edits to redo, leaves of a history.
-use Rattle.std.specs.Prelude.{ℕ, [], take}
+use Rattle.std.specs.Prelude.{ℕ, List, [], take, reverse}
 use Rattle.json_history.specs.History.{TreeHistory, ChangeLog}
+
+-- the last n entries of a list, or all
+abbrev pub last_entries : {A : Type 0} → ℕ → List A → List A
+last_entries n xs = reverse (take n (reverse xs))
 
 -- at most n trees of the past are left: the oldest go first
 abbrev pub limit_past : ℕ → TreeHistory → TreeHistory

@@ -1,7 +1,7 @@
 // Calls of a history in turn.
-ghost use Rattle.std.specs.Prelude.{◌≡◌, ◌<◌, ◌^◌, length, map, Ok, OnOk, IfErr};
+ghost use Rattle.std.specs.Prelude.{◌≡◌, ◌<◌, ◌^◌, length, map, Ok, OnOk, OnErr, IfErr};
 ghost use Rattle.json_value.specs.Edits.{FailsAs};
-ghost use Rattle.json_history.specs.Calls.{call_of, CallsFail, numbered_place};
+ghost use Rattle.json_history.specs.Calls.{call_of, CallsFail, MakesFirstCalls, numbered_place};
 ghost use Rattle.json_history.specs.LogOfHistory.{log_of};
 ghost use Rattle.json_history.specs.History.{history_of, run_call, run_calls_from};
 
@@ -14,6 +14,7 @@ use std::alloc::Global;
 fn make_call(alloc: Global, history: &mut History, call: Call) -> Result<()>
     ensures ok { OnOk result (run_call (history_of (log_of history.old)) (call_of call)
         ≡ Ok (history_of (log_of history.new))) }
+    ensures kept { OnErr result (log_of history.new ≡ log_of history.old) }
     ensures refused { FailsAs (run_call (history_of (log_of history.old)) (call_of call))
         result }
 {
@@ -47,8 +48,8 @@ fn numbered(error: Error, number: u32) -> Error
 /// Makes the calls in turn, up to the first one that fails.
 ///
 /// Fails with `NotFound` or `TypeUnmatched` at the first edit that does not apply, with its number
-/// among all calls, and with `NoMemory` where memory runs out. Asks its caller for fewer than 2^32
-/// calls.
+/// among all calls, and with `NoMemory` where memory runs out. The calls before the one that fails
+/// stay made. Asks its caller for fewer than 2^32 calls.
 pub fn make_calls(alloc: Global, history: &mut History, calls: Vec<Call>) -> Result<()>
     requires few { length calls.items < 2 ^ 32 }
     ensures ok { OnOk result
@@ -56,6 +57,8 @@ pub fn make_calls(alloc: Global, history: &mut History, calls: Vec<Call>) -> Res
         ≡ Ok (history_of (log_of history.new))) }
     ensures refused { IfErr result (λ e. CallsFail (history_of (log_of history.old))
         (map call_of calls.items) e.code e.place) }
+    ensures made { IfErr result (λ e. MakesFirstCalls (history_of (log_of history.old))
+        (history_of (log_of history.new)) (map call_of calls.items) e.place) }
 {
     let mut number = 0;
     for call in calls {

@@ -6,7 +6,7 @@ ghost use Rattle.json_value.specs.Edits.{edit_of, edit_path, FailsAs};
 ghost use Rattle.json_value.specs.Touched.{Touches, KeepsOnRefusal};
 ghost use Rattle.json_history.specs.History.{IsValidLog, new_log, log_edit, log_call, undo, redo, is_nonempty};
 ghost use Rattle.json_history.specs.History.{new_history, after_call, edit as edits, history_of};
-ghost use Rattle.json_history.specs.Limits.{limit_changes, limit_past, without_redos, without_future};
+ghost use Rattle.json_history.specs.Limits.{limit_changes, limit_past, last_entries, without_redos, without_future};
 ghost use Rattle.json_history.specs.Logs.{log_in, changes_of};
 ghost use Rattle.json_history.specs.Restores.{UndoTouches, UndoKeeps, RedoTouches, RedoKeeps};
 ghost use Rattle.json_history.specs.SharedParts.{AppendsChange, MovesToRedos, MovesToChanges};
@@ -22,8 +22,8 @@ use std::alloc::Global;
 /// A value whose edits can be undone and redone.
 ///
 /// It keeps the current value, for each edit the change that undoes it, and for each undone edit an
-/// edit that redoes it. No whole value is copied: what a change keeps shares the packed parts of
-/// the value.
+/// edit that redoes it. What a change keeps shares the packed parts of the value, and is otherwise
+/// a copy of what the edit replaces or removes.
 ///
 /// ```
 /// use json_data::from_str;
@@ -52,6 +52,7 @@ impl History {
     pub fn new(alloc: Global, value: Value) -> History
         ensures log { log_of result ≡ new_log (tree_of value) }
         ensures history { history_of (log_of result) ≡ new_history (tree_of value) }
+        ensures value { history_value result ≡ value }
     {
         History {
             value,
@@ -106,6 +107,8 @@ impl History {
         ensures kept_along { OnErr result
             (KeepsOnRefusal (edit_path edit) edit (history_value self.old)
             (history_value self.new)) }
+        ensures lists { OnErr result ((changes_in self.new ≡ changes_in self.old)
+            × (redos_in self.new ≡ redos_in self.old)) }
         ensures shares { OnOk result
             (AppendsChange (history_value self.old) (changes_in self.old) (changes_in self.new)) }
     {
@@ -133,6 +136,8 @@ impl History {
             (changes_in self.old) (changes_in self.new) (redos_in self.old) (redos_in self.new)) }
         ensures kept_along { OnErr result
             (UndoKeeps (changes_in self.old) (history_value self.old) (history_value self.new)) }
+        ensures lists { OnErr result ((changes_in self.new ≡ changes_in self.old)
+            × (redos_in self.new ≡ redos_in self.old)) }
         ensures only { OnlyNoMemory result }
     {
         undo_last(alloc, &mut self.value, &mut self.changes, &mut self.redos)
@@ -153,6 +158,8 @@ impl History {
             (changes_in self.old) (changes_in self.new) (redos_in self.old) (redos_in self.new)) }
         ensures kept_along { OnErr result
             (RedoKeeps (redos_in self.old) (history_value self.old) (history_value self.new)) }
+        ensures lists { OnErr result ((changes_in self.new ≡ changes_in self.old)
+            × (redos_in self.new ≡ redos_in self.old)) }
         ensures only { OnlyNoMemory result }
     {
         redo_next(alloc, &mut self.value, &mut self.changes, &mut self.redos)
@@ -165,6 +172,9 @@ impl History {
         ensures log { log_of self.new ≡ limit_changes max (log_of self.old) }
         ensures history { history_of (log_of self.new)
             ≡ limit_past max (history_of (log_of self.old)) }
+        ensures value { history_value self.new ≡ history_value self.old }
+        ensures changes { changes_in self.new ≡ last_entries max (changes_in self.old) }
+        ensures redos { redos_in self.new ≡ redos_in self.old }
     {
         keep_last(&mut self.changes, max);
     }
@@ -174,6 +184,9 @@ impl History {
         ensures log { log_of self.new ≡ without_redos (log_of self.old) }
         ensures history { history_of (log_of self.new)
             ≡ without_future (history_of (log_of self.old)) }
+        ensures value { history_value self.new ≡ history_value self.old }
+        ensures changes { changes_in self.new ≡ changes_in self.old }
+        ensures redos { redos_in self.new ≡ [] }
     {
         self.redos.clear();
     }

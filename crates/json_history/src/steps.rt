@@ -1,5 +1,5 @@
 // The calls of a history, on its value, its changes and its edits to redo.
-ghost use Rattle.std.specs.Prelude.{◌≡◌, ◌<◌, IsOk, IfOk, Ok, OnOk, OnErr, reverse, take};
+ghost use Rattle.std.specs.Prelude.{◌≡◌, ◌<◌, IsOk, IfOk, Ok, OnOk, OnErr};
 ghost use Rattle.std.specs.Vec.{vec_len, vec_capacity};
 ghost use Rattle.json_model.specs.Edit.{edited_once};
 ghost use Rattle.json_value.specs.Denotes.{tree_of};
@@ -9,6 +9,7 @@ ghost use Rattle.json_value.specs.Touched.{Along, KeptAlong, Touches, KeepsOnRef
 ghost use Rattle.json_history.specs.Change.{undone, redo_edit};
 ghost use Rattle.json_history.specs.ChangeTrees.{tree_change_of, change_path};
 ghost use Rattle.json_history.specs.History.{IsValidLog, log_edit, log_call, undo, redo, is_nonempty};
+ghost use Rattle.json_history.specs.Limits.{last_entries};
 ghost use Rattle.json_history.specs.Logs.{log_in};
 ghost use Rattle.json_history.specs.SharedParts.{AppendsChange, EditSharesParts, MovesToRedos, MovesToChanges};
 ghost use Rattle.json_history.specs.Restores.{RestoresAt, RestoreKeeps, UndoTouches, UndoKeeps, RedoTouches, RedoKeeps};
@@ -54,6 +55,8 @@ pub(crate) fn apply_and_log(
     ensures refused { FailsAs (edited_once (edit_of edit) (tree_of value.old)) result }
     ensures children { OnOk result (Touches (edit_path edit) edit value.old value.new) }
     ensures kept_along { OnErr result (KeepsOnRefusal (edit_path edit) edit value.old value.new) }
+    ensures lists { OnErr result
+        ((changes.new.items ≡ changes.old.items) × (redos.new.items ≡ redos.old.items)) }
     ensures shares { OnOk result (AppendsChange value.old changes.old.items changes.new.items) }
 {
     match change_of_edit(alloc, value, &edit)? {
@@ -120,6 +123,8 @@ pub(crate) fn undo_last(
     ensures moves { OnOk result (MovesToRedos value.old
         changes.old.items changes.new.items redos.old.items redos.new.items) }
     ensures kept_along { OnErr result (UndoKeeps changes.old.items value.old value.new) }
+    ensures lists { OnErr result
+        ((changes.new.items ≡ changes.old.items) × (redos.new.items ≡ redos.old.items)) }
     ensures only { OnlyNoMemory result }
 {
     match changes.pop() {
@@ -174,6 +179,8 @@ pub(crate) fn redo_next(
     ensures moves { OnOk result (MovesToChanges
         changes.old.items changes.new.items redos.old.items redos.new.items) }
     ensures kept_along { OnErr result (RedoKeeps redos.old.items value.old value.new) }
+    ensures lists { OnErr result
+        ((changes.new.items ≡ changes.old.items) × (redos.new.items ≡ redos.old.items)) }
     ensures only { OnlyNoMemory result }
 {
     match redos.pop() {
@@ -196,7 +203,7 @@ pub(crate) fn redo_next(
 
 // Keeps the last elements, at most `max`.
 pub(crate) fn keep_last<T: Drop>(list: &mut Vec<T>, max: usize)
-    ensures { list.new.items ≡ reverse (take max (reverse list.old.items)) }
+    ensures { list.new.items ≡ last_entries max list.old.items }
 {
     if max < list.len() {
         list.reverse();
