@@ -1,9 +1,10 @@
 // JSON Pointer (RFC 6901).
-ghost use Rattle.std.specs.Prelude.{◌≡◌, ◌++◌, Some, None, OnOk, OnErr, IfOk, IfErr, IfSome, map, option_map, string_bytes, false, []};
+ghost use Rattle.std.specs.Prelude.{◌≡◌, ◌++◌, Some, None, OnOk, OnErr, IfOk, IfErr, IfSome, map, option_map, string_bytes, false, [], Ok};
 ghost use Rattle.std.specs.Result.{result_ok};
+ghost use Rattle.json_value.specs.Edits.{path_steps, FailsAs};
 ghost use Rattle.json_value.specs.Seen.{seen};
 ghost use Rattle.json_value.specs.Sights.{sight_of};
-ghost use Rattle.json_patch.specs.Pointer.{pointer_of, pointer_text, unescaped_after, unescaped_tokens, split_at_slashes, value_at_pointer, escaped_token, tilde, Lacks, AppendsFrontOf};
+ghost use Rattle.json_patch.specs.Pointer.{pointer_of, pointer_text, unescaped_after, unescaped_tokens, split_at_slashes, value_at_pointer, escaped_token, tilde, Lacks, AppendsFrontOf, path_of_tokens};
 ghost use Rattle.json_patch.specs.Errors.{PointerFails};
 ghost use Rattle.json_patch.specs.Lookups.{pointer_tokens};
 ghost use Rattle.json_patch.specs.PointerSights.{sight_at_pointer};
@@ -11,8 +12,9 @@ ghost use Rattle.json_io.specs.Errors.{OnlyNoMemory};
 
 use crate::error::{PatchCode, PatchError};
 use crate::lookup::find_value;
+use crate::path::path_to;
 use json_text::Result as TextResult;
-use json_value::View;
+use json_value::{Path, View};
 use std::alloc::Global;
 
 /// A JSON Pointer (RFC 6901): reference tokens, each a key or the decimal digits of an index.
@@ -156,6 +158,28 @@ impl Pointer {
             Ok(place) => Some(place),
             Err(_) => None,
         }
+    }
+
+    /// Returns the path that the pointer is from the root: a token is an index in an array, and a
+    /// key in an object. Fails with `NotFound` if an array has no such element or an object no such
+    /// member, with `TypeUnmatched` at any other value, and with `NoMemory` if memory runs out.
+    ///
+    /// ```
+    /// use json_doc::read_document;
+    /// use json_patch::Pointer;
+    /// use json_value::View;
+    /// let doc = read_document(alloc, "{\"0\": [true]}")?;
+    /// let path = Pointer::parse(alloc, "/0/0")?.path_in(alloc, View::packed(doc.view()))?;
+    /// assert_eq!(rt; path.steps().len(), 2);
+    /// ```
+    pub fn path_in(&self, alloc: Global, root: View<'_>) -> TextResult<Path>
+        ensures path { IfOk result (λ p. path_of_tokens (pointer_tokens self.now)
+            (seen root.entry) ≡ Ok (path_steps p)) }
+        ensures refused { FailsAs (path_of_tokens (pointer_tokens self.now) (seen root.entry))
+            result }
+    {
+        let (path, _place) = path_to(alloc, self.tokens.as_slice(), root)?;
+        Ok(path)
     }
 
     /// Returns the text of the pointer, from which `parse` reads the same tokens. Fails with
