@@ -1,5 +1,5 @@
 -- What arguments in a row ask for, and that arguments that may follow one another can be continued.
-use Rattle.std.proofs.Common.{◌≡◌, ℕ, zero, suc, ◌+◌, ◌<◌, ◌≤◌, List, [], ◌∷◌, ◌++◌, length, take, Bool, true, not, cond, ◌&&◌, ◌==◌, Option, Some, None, is_some, slice_get, refl, sym, subst, ap, ◌∙◌, arith, length-append, codes}
+use Rattle.std.proofs.Common.{◌≡◌, ℕ, zero, suc, ◌+◌, ◌<◌, ◌≤◌, List, [], ◌∷◌, ◌++◌, length, take, Bool, true, false, not, cond, ◌&&◌, ◌==◌, Option, Some, None, is_some, option_map, slice_get, refl, sym, subst, ap, ◌∙◌, arith, length-append, codes}
 use Rattle.std.proofs.Math.Dec.{eqb-suc-zero}
 use Rattle.std.proofs.lemmas.List.{take_more}
 use Rattle.std.proofs.lemmas.Option.{slice_get_within, get_or_from_slice_get}
@@ -8,7 +8,7 @@ use Rattle.json_arguments.specs.declared.verb.Verb.TheVariants as verb
 use Rattle.json_arguments.specs.declared.operand.OperandKind.{OperandKind}
 use Rattle.json_arguments.specs.declared.line.Role.{Role}
 use Rattle.json_arguments.specs.declared.line.Role.TheVariants as role
-use Rattle.json_arguments.specs.Arguments.{operands_of}
+use Rattle.json_arguments.specs.Arguments.{operands_of, kind_read}
 use Rattle.json_arguments.specs.CommandLine.{Asked, nothing_asked, operands_asked, missing_operand, role_of, command_role, role_in, add, with_argument, MayTake, MayFollow, MayFollowAll, with_arguments, is_complete, BeginsCommandLine}
 use Rattle.json_arguments.proofs.Operands.{example, example_formed, example_is_operand}
 
@@ -37,16 +37,20 @@ pub record Ends (s : Asked) : Type 0 where
 ends_after : (s : Asked) (w : List ℕ) → MayFollow s w → Ends (with_argument s w) → Ends s
 ends_after s w h e = record { more = w ∷ e.more; follow = (h, e.follow); complete = e.complete }
 
-within : (o : Option (List ℕ)) (ks : List OperandKind) (m : ℕ) (k : OperandKind) → cond (is_some o) None (slice_get ks m) ≡ Some k → m < length ks
-within (Some x) ks m k e = absurd (cc)
-within None ks m k e = slice_get_within ks m k e
+within : (o : Option (List ℕ)) (f : OperandKind → OperandKind) (ks : List OperandKind) (m : ℕ) (k : OperandKind) → option_map f (cond (is_some o) None (slice_get ks m)) ≡ Some k → m < length ks
+within (Some x) f ks m k e = absurd (cc)
+within None f ks m k e = by (slice_get ks m) refl e
+  where
+    by : (o : Option OperandKind) → slice_get ks m ≡ o → option_map f o ≡ Some k → m < length ks
+    by None g h = absurd (cc)
+    by (Some j) g h = slice_get_within ks m j g
 
 module _ (v : Verb) where
-  role_after : (s : Asked) (w : List ℕ) → s.verb ≡ Some v → role_in s w ≡ role_of v s.ended (missing_operand s) w
-  role_after s w e = by s.verb (missing_operand s) e
+  role_after : (s : Asked) (w : List ℕ) → s.verb ≡ Some v → s.awaits_width ≡ false → role_in s w ≡ role_of v s.ended (missing_operand s) w
+  role_after s w e n = by s.verb (missing_operand s) s.awaits_width e n
     where
-      by : (o : Option Verb) (m : Option OperandKind) → o ≡ Some v → elim o as (λ (x : Option Verb). Role) [ Some v ↦ role_of v s.ended m w | None ↦ command_role w ] ≡ role_of v s.ended m w
-      by o m e = rw e refl
+      by : (o : Option Verb) (m : Option OperandKind) (b : Bool) → o ≡ Some v → b ≡ false → elim o as (λ (x : Option Verb). Role) [ Some v ↦ cond b role.Width (role_of v s.ended m w) | None ↦ command_role w ] ≡ role_of v s.ended m w
+      by o m b e n = rw (e, n) refl
 
   file_role : (ended : Bool) (missing : Option OperandKind) → missing ≡ None → role_of v ended missing (97 ∷ []) ≡ role.File
   file_role ended missing e = rw e refl
@@ -55,49 +59,67 @@ module _ (v : Verb) where
   not_empty [] b = refl
   not_empty (x ∷ xs) b = rw (eqb-suc-zero (length (xs ++ (97 ∷ []) ∷ []))) refl
 
-  end_by_file : (s : Asked) → s.verb ≡ Some v → missing_operand s ≡ None → Ends s
-  end_by_file s e m =
+  end_by_file : (s : Asked) → s.verb ≡ Some v → s.awaits_width ≡ false → missing_operand s ≡ None → Ends s
+  end_by_file s e n m =
       let w : List ℕ = 97 ∷ [] in
-      let r : role_in s w ≡ role.File = role_after s w e ∙ file_role s.ended (missing_operand s) m in
+      let r : role_in s w ≡ role.File = role_after s w e n ∙ file_role s.ended (missing_operand s) m in
       record {
         more = w ∷ [];
         follow = (subst (MayTake s w) (sym r) (record { allowed = refl; operand = tt }), tt);
-        complete = subst (λ q. is_complete (add s w q) ≡ true) (sym r) (by s.verb (missing_operand s) e m);
+        complete = subst (λ q. is_complete (add s w q) ≡ true) (sym r) (by s.verb (missing_operand s) s.awaits_width e m n);
       }
     where
-      by : (o : Option Verb) (p : Option OperandKind) → o ≡ Some v → p ≡ None → (is_some o && not (is_some p) && not (length (s.files ++ (97 ∷ []) ∷ []) == 0 && s.settings.in_place)) ≡ true
-      by o p e m = rw (e, m) (not_empty s.files s.settings.in_place)
+      by : (o : Option Verb) (p : Option OperandKind) (b : Bool) → o ≡ Some v → p ≡ None → b ≡ false → (is_some o && not (is_some p) && not b && not (length (s.files ++ (97 ∷ []) ∷ []) == 0 && s.settings.in_place)) ≡ true
+      by o p b e m n = rw (e, m, n) (not_empty s.files s.settings.in_place)
 
   -- an operand that is missing, where the others can follow it
-  end_by_operand : (s : Asked) (k : OperandKind) → s.verb ≡ Some v → missing_operand s ≡ Some k → ((s' : Asked) → s'.verb ≡ s.verb → length s'.operands ≡ length s.operands + 1 → Ends s') → Ends s
-  end_by_operand s k e m others =
+  end_by_operand : (s : Asked) (k : OperandKind) → s.verb ≡ Some v → s.awaits_width ≡ false → missing_operand s ≡ Some k
+      → ((s' : Asked) → s'.verb ≡ s.verb → s'.awaits_width ≡ s.awaits_width → length s'.operands ≡ length s.operands + 1 → Ends s') → Ends s
+  end_by_operand s k e n m others =
       let w = example k in
-      let r : role_in s w ≡ role.Operand k = role_after s w e ∙ example_is_operand v s.ended k (missing_operand s) m in
+      let r : role_in s w ≡ role.Operand k = role_after s w e n ∙ example_is_operand v s.ended k (missing_operand s) m in
       ends_after s w (subst (MayTake s w) (sym r) (record { allowed = refl; operand = example_formed k }))
-      (subst (λ q. Ends (add s w q)) (sym r) (others (add s w (role.Operand k)) refl (length-append s.operands (w ∷ []))))
+      (subst (λ q. Ends (add s w q)) (sym r) (others (add s w (role.Operand k)) refl refl (length-append s.operands ((k, w) ∷ []))))
 
-  end_by_operands : (n : ℕ) (s : Asked) → s.verb ≡ Some v → length (operands_asked s) ≤ n + length s.operands → Ends s
-  end_by_operands zero s e l = by (missing_operand s) refl
+  end_by_operands : (n : ℕ) (s : Asked) → s.verb ≡ Some v → s.awaits_width ≡ false → length (operands_asked s) ≤ n + length s.operands → Ends s
+  end_by_operands zero s e a l = by (missing_operand s) refl
     where
       by : (o : Option OperandKind) → missing_operand s ≡ o → Ends s
-      by None m = end_by_file s e m
-      by (Some k) m = absurd (omega (arith, within s.source (operands_asked s) (length s.operands) k m))
-  end_by_operands (suc n) s e l = by (missing_operand s) refl (λ s' e' l'. end_by_operands n s' (e' ∙ e) (omega (arith, ap (λ (o : Option Verb). length (elim o as (λ (x : Option Verb). List OperandKind) [ Some v ↦ operands_of v | None ↦ [] ])) e')))
+      by None m = end_by_file s e a m
+      by (Some k) m = absurd (omega (arith, within s.source (kind_read s.settings) (operands_asked s) (length s.operands) k m))
+  end_by_operands (suc n) s e a l =
+      by (missing_operand s) refl (λ s' e' a' l'. end_by_operands n s' (e' ∙ e) (a' ∙ a) (omega (arith, ap (λ (o : Option Verb). length (elim o as (λ (x : Option Verb). List OperandKind) [ Some v ↦ operands_of v | None ↦ [] ])) e')))
     where
-      by : (o : Option OperandKind) → missing_operand s ≡ o → ((s' : Asked) → s'.verb ≡ s.verb → length s'.operands ≡ length s.operands + 1 → Ends s') → Ends s
-      by None m others = end_by_file s e m
-      by (Some k) m others = end_by_operand s k e m others
+      by : (o : Option OperandKind) → missing_operand s ≡ o → ((s' : Asked) → s'.verb ≡ s.verb → s'.awaits_width ≡ s.awaits_width → length s'.operands ≡ length s.operands + 1 → Ends s') → Ends s
+      by None m others = end_by_file s e a m
+      by (Some k) m others = end_by_operand s k e a m others
+
+  awaited : (o : Option Verb) (b : Bool) (m : Option OperandKind) (w : List ℕ) (ended : Bool) → o ≡ Some v → b ≡ true → elim o as (λ (x : Option Verb). Role) [ Some v ↦ cond b role.Width (role_of v ended m w) | None ↦ command_role w ] ≡ role.Width
+  awaited o b m w ended e a = rw (e, a) refl
+
+  -- the number of an indent comes first, where it is missing
+  end_awaited : (s : Asked) → s.verb ≡ Some v → Ends s
+  end_awaited s e = by s.awaits_width refl
+    where
+      by : (b : Bool) → s.awaits_width ≡ b → Ends s
+      by false a = end_by_operands (length (operands_asked s)) s e a (omega arith)
+      by true a =
+          let w : List ℕ = 50 ∷ [] in
+          let r : role_in s w ≡ role.Width = awaited s.verb s.awaits_width (missing_operand s) w s.ended e a in
+          let s' : Asked = add s w role.Width in
+          ends_after s w (subst (MayTake s w) (sym r) (record { allowed = refl; operand = tt }))
+          (subst (λ q. Ends (add s w q)) (sym r) (end_by_operands (length (operands_asked s')) s' e refl (omega arith)))
 
 pub can_end : (s : Asked) → Ends s
 can_end s = by s.verb refl
   where
     by : (o : Option Verb) → s.verb ≡ o → Ends s
-    by (Some v) e = end_by_operands v (length (operands_asked s)) s e (omega arith)
+    by (Some v) e = end_awaited v s e
     by None e =
         let w : List ℕ = codes "check" in
         let r : role_in s w ≡ role.Command verb.Check = rw e refl in
         ends_after s w (subst (MayTake s w) (sym r) (record { allowed = refl; operand = tt }))
-        (subst (λ q. Ends (add s w q)) (sym r) (end_by_operands verb.Check 0 (add s w (role.Command verb.Check)) refl (omega arith)))
+        (subst (λ q. Ends (add s w q)) (sym r) (end_awaited verb.Check (add s w (role.Command verb.Check)) refl))
 
 -- ---- the arguments of a command
 

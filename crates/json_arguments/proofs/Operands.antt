@@ -9,7 +9,7 @@ use Rattle.json_arguments.specs.declared.operand.OperandKind.{OperandKind}
 use Rattle.json_arguments.specs.declared.operand.OperandKind.TheVariants as kind
 use Rattle.json_arguments.specs.declared.line.Role.TheVariants as role
 use Rattle.json_grammar.proofs.Values.{one_tree}
-use Rattle.json_arguments.specs.Operands.{IsOperand, SpellsTree, has_form, is_array_text}
+use Rattle.json_arguments.specs.Operands.{IsOperand, SpellsTree, has_form, taken_verbatim}
 use Rattle.json_arguments.specs.CommandLine.{role_of}
 
 -- a string where a string is wanted, and else an array
@@ -27,39 +27,33 @@ empty_text = record { short = lit≤ tt; text = shown_text false None (text []) 
 pub example_formed : (k : OperandKind) → IsOperand k (example k)
 example_formed kind.Key = (text [], record { text = empty_text; form = refl })
 example_formed kind.Step = (text [], record { text = empty_text; form = refl })
-example_formed kind.Place = (list no_trees, record { text = empty_list; form = refl })
 example_formed kind.Edits = (list no_trees, record { text = empty_list; form = refl })
 example_formed kind.Path = (list no_trees, record { text = empty_list; form = refl })
+example_formed kind.Text = (text (91 ∷ 93 ∷ []), record { text = refl; form = refl })
 example_formed kind.Value = (list no_trees, record { text = empty_list; form = refl })
 example_formed kind.Patch = (list no_trees, record { text = empty_list; form = refl })
 
 pub example_is_operand : (v : Verb) (ended : Bool) (k : OperandKind) (missing : Option OperandKind) → missing ≡ Some k → role_of v ended missing (example k) ≡ role.Operand k
 example_is_operand v ended kind.Key missing e = rw e refl
 example_is_operand v ended kind.Step missing e = rw e refl
-example_is_operand v ended kind.Place missing e = rw e refl
 example_is_operand v ended kind.Edits missing e = rw e refl
 example_is_operand v ended kind.Path missing e = rw e refl
+example_is_operand v ended kind.Text missing e = rw e refl
 example_is_operand v ended kind.Value missing e = rw e refl
 example_is_operand v ended kind.Patch missing e = rw e refl
 
 -- ---- a word spells one tree
 
 one_spelled : (k : OperandKind) (w : List ℕ) (t u : Tree) → SpellsTree k w t → SpellsTree k w u → t ≡ u
-one_spelled kind.Place w t u h g = by (is_array_text w) h g
+one_spelled k w t u h g = by (taken_verbatim k w) h g
   where
-    by : (b : Bool) → elim b as (λ (x : Bool). Type 0) [ true ↦ IsInput usual_rules w t | false ↦ t ≡ text w ] → elim b as (λ (x : Bool). Type 0) [ true ↦ IsInput usual_rules w u | false ↦ u ≡ text w ] → t ≡ u
-    by true h g = one_tree false t u w h.text g.text
-    by false h g = h ∙ sym g
-one_spelled kind.Edits w t u h g = one_tree false t u w h.text g.text
-one_spelled kind.Path w t u h g = one_tree false t u w h.text g.text
-one_spelled kind.Key w t u h g = one_tree false t u w h.text g.text
-one_spelled kind.Value w t u h g = one_tree false t u w h.text g.text
-one_spelled kind.Step w t u h g = one_tree false t u w h.text g.text
-one_spelled kind.Patch w t u h g = one_tree false t u w h.text g.text
+    by : (b : Bool) → elim b as (λ (x : Bool). Type 0) [ true ↦ t ≡ text w | false ↦ IsInput usual_rules w t ] → elim b as (λ (x : Bool). Type 0) [ true ↦ u ≡ text w | false ↦ IsInput usual_rules w u ] → t ≡ u
+    by true h g = h ∙ sym g
+    by false h g = one_tree false t u w h.text g.text
 
 -- a word whose tree has another form is no such operand
-pub not_operand : (k : OperandKind) (w : List ℕ) (t : Tree) → SpellsTree k w t → has_form k t ≡ false → ¬ (IsOperand k w)
-not_operand k w t h f (u, s) = differ (sym f ∙ ap (has_form k) (one_spelled k w t u h s.text) ∙ s.form)
+pub not_operand : (k : OperandKind) (w : List ℕ) (t : Tree) → SpellsTree k w t → has_form k w t ≡ false → ¬ (IsOperand k w)
+not_operand k w t h f (u, s) = differ (sym f ∙ ap (has_form k w) (one_spelled k w t u h s.text) ∙ s.form)
   where
     differ : false ≡ true → ⊥
     differ e = cc

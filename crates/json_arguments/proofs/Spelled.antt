@@ -1,5 +1,6 @@
 -- What the readers of paths and edits return of a tree, and whether it has their form.
-use Rattle.std.proofs.Common.{◌≡◌, ◌⊎◌, inl, inr, ◌∙◌, true, false, List, [], ◌∷◌, map, Option, Some, None, is_some, refl, sym, ap}
+use Rattle.std.proofs.lemmas.List.{drop-map}
+use Rattle.std.proofs.Common.{◌≡◌, ◌≢◌, ◌⊎◌, inl, inr, ◌∙◌, ℕ, drop, true, false, List, [], ◌∷◌, map, Option, Some, None, is_some, option_map, refl, sym, ap}
 use Rattle.json_grammar.specs.Tree.{Tree, null, boolean, num, text, list, pairs}
 use Rattle.json_io.specs.Errors.{no_memory}
 use Rattle.json_io.specs.declared.error.Error.{Error}
@@ -17,6 +18,11 @@ use Rattle.json_data.specs.ReadingValues.{spelled, path_datum, read_path, edit_d
 use Rattle.json_tokens.specs.Refusals.{is_refusal}
 use Rattle.json_data.specs.ValueCalls.{TreeReadingFails}
 use Rattle.json_data.proofs.ValueData.{list_edits, list_none}
+use Rattle.json_patch.specs.Errors.{PointerFails}
+use Rattle.json_patch.specs.declared.error.PatchCode.{PatchCode}
+use Rattle.json_patch.specs.declared.error.PatchCode.TheVariants.{NoMemory as NoPatchMemory, BadPointer}
+use Rattle.json_value.specs.declared.value.Value.{Value}
+use Rattle.json_value.specs.Denotes.{tree_of}
 use Rattle.json_arguments.specs.Operands.{path_formed, edits_formed}
 
 -- an error that is a refusal is one of the tree
@@ -82,3 +88,19 @@ edits_fail t TypeUnmatched nowhere h = inr (edits_none t TypeUnmatched h)
 edits_fail t NumberOutOfRange nowhere h = inr (edits_none t NumberOutOfRange h)
 edits_fail t ExpectedNumericKey nowhere h = inr (edits_none t ExpectedNumericKey h)
 edits_fail t c p h = absurd h
+
+-- ---- pointers
+
+-- why no pointer is read: memory ran out, or the text is none
+pub no_pointer : (o : Option (List (List ℕ))) (c : PatchCode) (n : Option ℕ) → PointerFails o c n → c ≢ NoPatchMemory → None ≡ o
+no_pointer o BadPointer None h k = sym h
+no_pointer o NoPatchMemory n h k = absurd (k refl)
+no_pointer o BadPointer (Some n) h k = absurd h
+no_pointer o c n h k = absurd h
+
+pub is_some_map : {A B : Type 0} (f : A → B) (o : Option A) → is_some (option_map f o) ≡ is_some o
+is_some_map f None = refl
+is_some_map f (Some x) = refl
+
+pub later_trees : (vs : List Value) → drop 1 (map tree_of vs) ≡ map tree_of (drop 1 vs)
+later_trees vs = drop-map tree_of 1 vs

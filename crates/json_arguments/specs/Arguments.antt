@@ -31,7 +31,7 @@ verb_in w =
 
 -- the operands of a command, which come before its files
 abbrev pub operands_of : Verb → List OperandKind
-operands_of verb.Get = kind.Place ∷ []
+operands_of verb.Get = kind.Path ∷ []
 operands_of verb.Edit = kind.Edits ∷ []
 operands_of verb.Set = kind.Path ∷ kind.Value ∷ []
 operands_of verb.Push = kind.Path ∷ kind.Value ∷ []
@@ -44,7 +44,7 @@ operands_of _ = []
 -- the layout that a word asks for
 abbrev pub layout_in : List ℕ → Option Layout
 layout_in w =
-    cond (bytes_eq w (codes "--compact")) (Some Compact)
+    cond (bytes_eq w (codes "--compact") || bytes_eq w (codes "-c")) (Some Compact)
     (cond (bytes_eq w (codes "--pretty")) (Some (Spaces 2))
     (cond (bytes_eq w (codes "--tabs")) (Some Tab)
     (cond (bytes_eq (take 9 w) (codes "--indent=")) (option_map Spaces (width_in (drop 9 w))) None)))
@@ -55,12 +55,13 @@ setting_with_value w = elim (layout_in w) [ Some l ↦ Some (setting.Layout l) |
 -- what a word asks for as an option
 abbrev pub setting_in : List ℕ → Option Setting
 setting_in w =
-    cond (bytes_eq w (codes "--sort-keys")) (Some setting.SortKeys)
+    cond (bytes_eq w (codes "--sort-keys") || bytes_eq w (codes "-S")) (Some setting.SortKeys)
     (cond (bytes_eq w (codes "--unique-keys")) (Some setting.UniqueKeys)
-    (cond (bytes_eq w (codes "--raw")) (Some setting.Raw)
+    (cond (bytes_eq w (codes "--raw") || bytes_eq w (codes "-r")) (Some setting.Raw)
+    (cond (bytes_eq w (codes "--string")) (Some setting.StringValue)
     (cond (bytes_eq w (codes "-i") || bytes_eq w (codes "--in-place")) (Some setting.InPlace)
     (cond (bytes_eq w (codes "--lines")) (Some (setting.Input Lines))
-    (cond (bytes_eq w (codes "--stream")) (Some (setting.Input Stream)) (setting_with_value w))))))
+    (cond (bytes_eq w (codes "--stream")) (Some (setting.Input Stream)) (setting_with_value w)))))))
 
 -- the options that each command has
 abbrev pub takes : Verb → Setting → Bool
@@ -70,6 +71,10 @@ takes verb.Check setting.InPlace = false
 takes verb.Get setting.InPlace = false
 takes verb.Get setting.Raw = true
 takes _ setting.Raw = false
+takes verb.Set setting.StringValue = true
+takes verb.Insert setting.StringValue = true
+takes verb.Push setting.StringValue = true
+takes _ setting.StringValue = false
 takes _ _ = true
 
 -- the text after a name and the first equals sign, which is not empty
@@ -94,7 +99,7 @@ is_standard_input w = bytes_eq w (codes "-")
 
 -- no option
 abbrev pub no_settings : Settings
-no_settings = record { layout = None; sorted = false; unique = false; depth = None; raw = false; in_place = false; input = None }
+no_settings = record { layout = None; sorted = false; unique = false; depth = None; raw = false; string_value = false; in_place = false; input = None }
 
 -- the settings with one more, unless there is one of its kind
 abbrev pub with_setting : Settings → Setting → Option Settings
@@ -103,8 +108,14 @@ with_setting s setting.SortKeys = cond s.sorted None (Some (record s { sorted = 
 with_setting s setting.UniqueKeys = cond s.unique None (Some (record s { unique = true }))
 with_setting s (setting.Depth n) = cond (is_some s.depth) None (Some (record s { depth = Some n }))
 with_setting s setting.Raw = cond s.raw None (Some (record s { raw = true }))
+with_setting s setting.StringValue = cond s.string_value None (Some (record s { string_value = true }))
 with_setting s setting.InPlace = cond s.in_place None (Some (record s { in_place = true }))
 with_setting s (setting.Input f) = cond (is_some s.input) None (Some (record s { input = Some f }))
+
+-- an operand is read as its kind, and a value as a string where that is asked for
+abbrev pub kind_read : Settings → OperandKind → OperandKind
+kind_read s kind.Value = cond s.string_value kind.Text kind.Value
+kind_read s k = k
 
 -- the documents of an input follow one another
 abbrev pub reads_stream : Settings → Bool

@@ -3,7 +3,7 @@ use Rattle.std.specs.Prelude.{◌≡◌, ℕ, ◌+◌, ◌<◌, ⊤, true, List,
 use Rattle.json_arguments.specs.declared.arguments.Arguments.{Arguments}
 use Rattle.json_arguments.specs.declared.problem.ArgumentsError.{ArgumentsError}
 use Rattle.json_arguments.specs.declared.problem.ArgumentsError.TheVariants.{OutOfMemory, Invalid, Incomplete}
-use Rattle.json_arguments.specs.CommandLine.{Asked, nothing_asked, operands_asked, is_complete, with_arguments, IsCommandLine, BeginsCommandLine}
+use Rattle.json_arguments.specs.CommandLine.{Asked, nothing_asked, is_complete, with_arguments, IsCommandLine, BeginsCommandLine}
 use Rattle.json_value.specs.Denotes.{tree_of}
 use Rattle.json_arguments.specs.Line.{SpellAll}
 
@@ -13,7 +13,7 @@ pub record Finishes (a : Arguments) (s : Asked) : Type 0 where
   pub verb : Some a.verb ≡ s.verb
   pub settings : a.settings ≡ s.settings
   pub source : option_map (λ f. f.now) a.source ≡ s.source
-  pub operands : SpellAll (operands_asked s) s.operands (map tree_of a.operands.items)
+  pub operands : SpellAll s.operands (map tree_of a.operands.items)
   pub files : map (λ f. f.now) a.files.items ≡ s.files
 
 -- the arguments are those of a command, and ask for this

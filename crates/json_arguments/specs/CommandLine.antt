@@ -1,35 +1,45 @@
 -- The rules of the command line: what an argument is after those before it, whether it may come next, and what it adds.
-use Rattle.std.specs.Prelude.{◌≡◌, ℕ, ⊤, Bool, true, false, not, cond, ◌&&◌, ◌==◌, List, [], ◌∷◌, ◌++◌, length, slice_get, Option, Some, None, is_some, unwrap_or, option_and_then, bytes_eq, codes}
+use Rattle.std.specs.Prelude.{◌≡◌, ℕ, ⊤, Bool, true, false, not, cond, ◌&&◌, ◌==◌, List, [], ◌∷◌, ◌++◌, length, slice_get, Option, Some, None, is_some, unwrap_or, option_map, option_and_then, bytes_eq, codes}
 use Rattle.std.specs.List.{list_any}
 use Rattle.json_arguments.specs.declared.verb.Verb.{Verb}
 use Rattle.json_arguments.specs.declared.operand.OperandKind.{OperandKind}
 use Rattle.json_arguments.specs.declared.setting.Setting.{Setting}
-use Rattle.json_arguments.specs.declared.setting.Setting.TheVariants.{InPlace}
+use Rattle.json_arguments.specs.declared.setting.Setting.TheVariants.{InPlace, StringValue}
+use Rattle.json_arguments.specs.declared.setting.Setting.TheVariants as setting
+use Rattle.json_arguments.specs.declared.setting.Layout.TheVariants.{Compact, Spaces}
 use Rattle.json_arguments.specs.declared.setting.Settings.{Settings}
 use Rattle.json_arguments.specs.declared.line.Role.{Role}
 use Rattle.json_arguments.specs.declared.line.Role.TheVariants as role
-use Rattle.json_arguments.specs.Arguments.{verb_in, setting_in, takes, source_in, operands_of, is_option_argument, is_standard_input, no_settings, with_setting, rules_of_stream}
+use Rattle.json_arguments.specs.Arguments.{verb_in, setting_in, takes, source_in, operands_of, kind_read, is_option_argument, is_standard_input, no_settings, with_setting, rules_of_stream}
 use Rattle.json_arguments.specs.Operands.{IsOperand}
+use Rattle.json_command.specs.Options.{width_in}
 
 -- what the arguments so far ask for
 pub record Asked : Type 0 where
   pub verb : Option Verb
   pub settings : Settings
   pub ended : Bool
+  -- `--indent` is the last argument, and its number has to follow
+  pub awaits_width : Bool
   pub source : Option (List ℕ)
-  pub operands : List (List ℕ)
+  -- each with the kind by which it is read
+  pub operands : List (OperandKind × List ℕ)
   pub files : List (List ℕ)
 
 abbrev pub nothing_asked : Asked
-nothing_asked = record { verb = None; settings = no_settings; ended = false; source = None; operands = []; files = [] }
+nothing_asked = record { verb = None; settings = no_settings; ended = false; awaits_width = false; source = None; operands = []; files = [] }
 
 -- the operands of the command
 abbrev pub operands_asked : Asked → List OperandKind
 operands_asked s = elim s.verb [ Some v ↦ operands_of v | None ↦ [] ]
 
 -- the operand that comes next: no option names a file for it, and there are fewer operands than the command has
+abbrev pub next_operand : Asked → Option OperandKind
+next_operand s = cond (is_some s.source) None (slice_get (operands_asked s) (length s.operands))
+
+-- the kind by which it is read
 abbrev pub missing_operand : Asked → Option OperandKind
-missing_operand s = cond (is_some s.source) None (slice_get (operands_asked s) (length s.operands))
+missing_operand s = option_map (kind_read s.settings) (next_operand s)
 
 -- the file that an argument names for the operand
 abbrev pub source_named : Asked → List ℕ → Option (List ℕ)
@@ -41,9 +51,13 @@ source_named s w = option_and_then (λ v. source_in v w) s.verb
 abbrev pub command_role : List ℕ → Role
 command_role w = elim (verb_in w) [ Some v ↦ role.Command v | None ↦ role.Unknown ]
 
+-- `--indent` alone, of a command that has layouts: the next argument is the number
+abbrev pub is_width_name : Verb → List ℕ → Bool
+is_width_name v w = bytes_eq w (codes "--indent") && takes v (setting.Layout Compact)
+
 -- an option of a command
 abbrev pub option_role : Verb → List ℕ → Role
-option_role v w = cond (is_some (source_in v w)) role.Source (elim (setting_in w) [ Some x ↦ cond (takes v x) (role.Setting x) role.Unknown | None ↦ role.Unknown ])
+option_role v w = cond (is_some (source_in v w)) role.Source (cond (is_width_name v w) role.WidthName (elim (setting_in w) [ Some x ↦ cond (takes v x) (role.Setting x) role.Unknown | None ↦ role.Unknown ]))
 
 -- an operand as long as one is missing, and then a file
 abbrev pub operand_role : Option OperandKind → Role
@@ -57,7 +71,7 @@ role_of v ended missing w =
     (cond (is_option_argument w && not ended) (option_role v w) (operand_role missing))
 
 abbrev pub role_in : Asked → List ℕ → Role
-role_in s w = elim s.verb [ Some v ↦ role_of v s.ended (missing_operand s) w | None ↦ command_role w ]
+role_in s w = elim s.verb [ Some v ↦ cond s.awaits_width role.Width (role_of v s.ended (missing_operand s) w) | None ↦ command_role w ]
 
 -- ---- whether it may come next
 
@@ -70,9 +84,16 @@ in_place_and_input _ files = false
 abbrev pub has_no_operands : Asked → Bool
 has_no_operands s = length s.operands == 0 && length s.files == 0
 
+-- what says how a value is read comes before it
+abbrev pub comes_late : Option OperandKind → Setting → Bool
+comes_late missing StringValue = not (is_some missing)
+comes_late missing _ = false
+
 -- each option is asked for once, and none for rules of a stream; a file for the operand comes before operands and files
 abbrev pub allows : Asked → List ℕ → Role → Bool
-allows s w (role.Setting x) = is_some (with_setting s.settings x) && (not (in_place_and_input x s.files) && not (rules_of_stream s.settings x))
+allows s w (role.Setting x) = is_some (with_setting s.settings x) && (not (in_place_and_input x s.files) && (not (rules_of_stream s.settings x) && not (comes_late (missing_operand s) x)))
+allows s w role.WidthName = not (is_some s.settings.layout)
+allows s w role.Width = is_some (width_in w)
 allows s w role.Source = is_some (source_named s w) && (not (is_some s.source) && has_no_operands s)
 allows s w role.File = not (is_standard_input w && s.settings.in_place)
 allows s w role.Unknown = false
@@ -96,8 +117,10 @@ abbrev pub add : Asked → List ℕ → Role → Asked
 add s w (role.Command v) = record s { verb = Some v }
 add s w role.EndOfOptions = record s { ended = true }
 add s w (role.Setting x) = record s { settings = unwrap_or (with_setting s.settings x) s.settings }
+add s w role.WidthName = record s { awaits_width = true }
+add s w role.Width = record s { awaits_width = false; settings = record s.settings { layout = option_map Spaces (width_in w) } }
 add s w role.Source = record s { source = source_named s w }
-add s w (role.Operand kind) = record s { operands = s.operands ++ w ∷ [] }
+add s w (role.Operand kind) = record s { operands = s.operands ++ (kind, w) ∷ [] }
 add s w role.File = record s { files = s.files ++ w ∷ [] }
 add s w role.Unknown = s
 
@@ -106,9 +129,9 @@ with_argument s w = add s w (role_in s w)
 
 -- ---- all arguments
 
--- there is a command, no operand is missing, and there is a file if files are changed in place
+-- there is a command, no operand and no number is missing, and there is a file if files are changed in place
 abbrev pub is_complete : Asked → Bool
-is_complete s = is_some s.verb && not (is_some (missing_operand s)) && not (length s.files == 0 && s.settings.in_place)
+is_complete s = is_some s.verb && not (is_some (missing_operand s)) && not s.awaits_width && not (length s.files == 0 && s.settings.in_place)
 
 -- each may follow those before it
 abbrev pub MayFollowAll : Asked → List (List ℕ) → Type 0

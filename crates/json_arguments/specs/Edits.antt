@@ -1,6 +1,10 @@
 -- The edits that a command asks for.
-use Rattle.std.specs.Prelude.{ℕ, List, [], ◌∷◌, codes}
+use Rattle.std.specs.Prelude.{◌≡◌, ℕ, List, [], ◌∷◌, Option, Some, None, option_and_then, drop, codes}
 use Rattle.json_grammar.specs.Tree.{Tree, text, list, list_trees, no_trees, tree_and}
+use Rattle.json_doc.specs.Readings.{string_of}
+use Rattle.json_patch.specs.Pointer.{pointer_of}
+use Rattle.json_patch.specs.Lookups.{pointer_tokens}
+use Rattle.json_patch.specs.declared.pointer.Pointer.{Pointer}
 use Rattle.json_arguments.specs.declared.verb.Verb.{Verb}
 use Rattle.json_arguments.specs.declared.verb.Verb.TheVariants as verb
 
@@ -25,3 +29,19 @@ edit_tree v operands = list (tree_and (text (verb_name v)) (list_trees operands)
 abbrev pub edits_tree : Verb → List Tree → Tree
 edits_tree verb.Edit (t ∷ []) = t
 edits_tree v operands = list (tree_and (edit_tree v operands) no_trees)
+
+-- ---- the pointer to the place of an edit
+
+-- the string that the first operand is
+abbrev pub pointer_in : List Tree → Option (List ℕ)
+pointer_in [] = None
+pointer_in (t ∷ ts) = string_of t
+
+-- the first operand is this pointer, and the path without steps is left in its place; or it is no string, and all is left
+abbrev pub SplitsPointer : List Tree → Option Pointer → List Tree → Type 0
+SplitsPointer ts (Some p) left = (option_and_then pointer_of (pointer_in ts) ≡ Some (pointer_tokens p)) × (left ≡ list no_trees ∷ drop 1 ts)
+SplitsPointer ts None left = (pointer_in ts ≡ None) × (left ≡ ts)
+
+-- the first operand is a string and no pointer
+abbrev pub LacksPointer : List Tree → Type 0
+LacksPointer ts = (s : List ℕ) × (pointer_in ts ≡ Some s) × (pointer_of s ≡ None)

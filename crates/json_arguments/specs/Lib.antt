@@ -5,3 +5,4 @@ pub mod Line
 pub mod Asks
 pub mod Styles
 pub mod Edits
+pub mod Help

@@ -2,24 +2,25 @@
 use Rattle.std.specs.Prelude.{◌≡◌, ℕ, ⊤, List, [], ◌∷◌, map, option_map}
 use Rattle.json_arguments.specs.declared.line.Line.{Line}
 use Rattle.json_arguments.specs.declared.line.Role.{Role}
-use Rattle.json_arguments.specs.CommandLine.{Asked, operands_asked, MayTake, add}
+use Rattle.json_arguments.specs.CommandLine.{Asked, MayTake, add}
 use Rattle.json_grammar.specs.Tree.{Tree}
 use Rattle.json_value.specs.Denotes.{tree_of}
 use Rattle.json_arguments.specs.declared.operand.OperandKind.{OperandKind}
 use Rattle.json_arguments.specs.Operands.{SpellsOperand}
 
--- the words spell these trees, each as the operand in its place
-abbrev pub SpellAll : List OperandKind → List (List ℕ) → List Tree → Type 0
-SpellAll kinds [] [] = ⊤
-SpellAll (kind ∷ kinds) (w ∷ ws) (t ∷ ts) = SpellsOperand kind w t × SpellAll kinds ws ts
-SpellAll _ _ _ = ⊥
+-- the words spell these trees, each by its kind
+abbrev pub SpellAll : List (OperandKind × List ℕ) → List Tree → Type 0
+SpellAll [] [] = ⊤
+SpellAll ((kind, w) ∷ os) (t ∷ ts) = SpellsOperand kind w t × SpellAll os ts
+SpellAll _ _ = ⊥
 
 pub record HoldsAsked (line : Line) (s : Asked) : Type 0 where
   pub verb : line.verb ≡ s.verb
   pub settings : line.settings ≡ s.settings
   pub ended : line.ended ≡ s.ended
+  pub awaits_width : line.awaits_width ≡ s.awaits_width
   pub source : option_map (λ f. f.now) line.source ≡ s.source
-  pub operands : SpellAll (operands_asked s) s.operands (map tree_of line.operands.items)
+  pub operands : SpellAll s.operands (map tree_of line.operands.items)
   pub files : map (λ f. f.now) line.files.items ≡ s.files
 
 -- an argument of this role may come next and was added

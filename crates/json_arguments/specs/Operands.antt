@@ -5,6 +5,7 @@ use Rattle.json_text.specs.Ruled.{usual_rules}
 use Rattle.json_doc.specs.Readings.{string_of}
 use Rattle.json_value.specs.EditTrees.{step_in, path_in, edits_in}
 use Rattle.json_command.specs.Input.{IsInput}
+use Rattle.json_patch.specs.Pointer.{pointer_of}
 use Rattle.json_arguments.specs.declared.operand.OperandKind.{OperandKind}
 use Rattle.json_arguments.specs.declared.operand.OperandKind.TheVariants as kind
 
@@ -16,40 +17,38 @@ path_formed t = is_some (path_in t)
 abbrev pub edits_formed : Tree → Bool
 edits_formed t = is_some (edits_in t)
 
--- the text of a JSON Pointer (RFC 6901, section 3), but for its escapes: empty, or it begins with a slash
-abbrev pub is_pointer : List ℕ → Bool
-is_pointer s = length s == 0 || bytes_eq (take 1 s) (codes "/")
-
--- a place: a pointer, or an array of steps
-abbrev pub place_formed : Tree → Bool
-place_formed (text s) = is_pointer s
-place_formed t = path_formed t
-
--- the tree has the form of the operand
-abbrev pub has_form : OperandKind → Tree → Bool
-has_form kind.Place t = place_formed t
-has_form kind.Edits t = edits_formed t
-has_form kind.Path t = path_formed t
-has_form kind.Key t = is_some (string_of t)
-has_form kind.Step t = is_some (step_in t)
-has_form kind.Value t = true
-has_form kind.Patch t = true
+-- a path that is empty or begins with a slash is a pointer (RFC 6901, section 3)
+abbrev pub begins_as_pointer : List ℕ → Bool
+begins_as_pointer w = length w == 0 || bytes_eq (take 1 w) (codes "/")
 
 -- ---- words
 
--- a place that begins with a bracket is an array
-abbrev pub is_array_text : List ℕ → Bool
-is_array_text w = bytes_eq (take 1 w) (codes "[")
+-- the operand is the word as it stands: a pointer, or a string that is asked for
+abbrev pub taken_verbatim : OperandKind → List ℕ → Bool
+taken_verbatim kind.Path w = begins_as_pointer w
+taken_verbatim kind.Text w = true
+taken_verbatim _ w = false
 
--- the tree of a word: a place that is no array is a string, and all else is a JSON text (RFC 8259, section 2) by the usual rules
+-- the tree of a word: a string of the word as it stands, or that of a JSON text (RFC 8259, section 2) by the usual rules
 abbrev pub SpellsTree : OperandKind → List ℕ → Tree → Type 0
-SpellsTree kind.Place w t = elim (is_array_text w) [ true ↦ IsInput usual_rules w t | false ↦ t ≡ text w ]
-SpellsTree _ w t = IsInput usual_rules w t
+SpellsTree kind w t = elim (taken_verbatim kind w) [ true ↦ t ≡ text w | false ↦ IsInput usual_rules w t ]
+
+-- a path: a pointer, or an array of steps
+abbrev pub path_form : List ℕ → Tree → Bool
+path_form w t = elim (begins_as_pointer w) [ true ↦ is_some (pointer_of w) | false ↦ path_formed t ]
+
+-- the word and its tree have the form of the operand
+abbrev pub has_form : OperandKind → List ℕ → Tree → Bool
+has_form kind.Path w t = path_form w t
+has_form kind.Edits w t = edits_formed t
+has_form kind.Key w t = is_some (string_of t)
+has_form kind.Step w t = is_some (step_in t)
+has_form _ w t = true
 
 -- the word spells this tree, which has the form of the operand
 pub record SpellsOperand (kind : OperandKind) (w : List ℕ) (tree : Tree) : Type 0 where
   pub text : SpellsTree kind w tree
-  pub form : has_form kind tree ≡ true
+  pub form : has_form kind w tree ≡ true
 
 -- the word is such an operand
 abbrev pub IsOperand : OperandKind → List ℕ → Type 0

@@ -6,7 +6,7 @@
 //! use json_text::Words;
 //! let mut words = Words::new(alloc);
 //! words.push("set")?;
-//! words.push("[\"version\"]")?;
+//! words.push("/version")?;
 //! words.push("\"1.3.0\"")?;
 //! words.push("package.json")?;
 //! let arguments = read_arguments(alloc, &words).map_err(|_| "not valid")?;
@@ -21,6 +21,7 @@
 
 mod arguments;
 mod edits;
+mod help;
 mod line;
 mod operand;
 mod problem;
@@ -31,7 +32,8 @@ mod spelling;
 mod verb;
 
 pub use arguments::{Arguments, read_arguments};
-pub use edits::edits_of;
+pub use edits::{edits_of, split_pointer};
+pub use help::help_asked;
 pub use operand::{OperandKind, read_operand};
 pub use problem::{ArgumentsError, Missing, Problem, Refusal};
 pub use report::{arguments_report, file_report};

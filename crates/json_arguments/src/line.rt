@@ -1,8 +1,8 @@
 // The arguments that were read so far.
-ghost use Rattle.std.specs.Prelude.{◌≡◌, ◌⊎◌, ℕ, List, [], ◌∷◌, ◌++◌, if◌then◌else◌, true, false, Some, OnOk, OnErr, IfOk, IfErr};
+ghost use Rattle.std.specs.Prelude.{◌≡◌, ◌⊎◌, ℕ, List, [], ◌∷◌, ◌++◌, if◌then◌else◌, true, false, OnOk, OnErr, IfOk, IfErr};
 ghost use Rattle.std.specs.List.{list_any};
 ghost use Rattle.json_arguments.specs.Arguments.{is_option_argument as option_word, is_standard_input, source_in};
-ghost use Rattle.json_arguments.specs.CommandLine.{Asked, nothing_asked, missing_operand, command_role as command_or_unknown, option_role as option_or_unknown, role_in, in_place_and_input, has_no_operands as no_operands, MayTake, MayFollow, with_argument, is_complete};
+ghost use Rattle.json_arguments.specs.CommandLine.{Asked, nothing_asked, next_operand, missing_operand, is_width_name as names_width, comes_late, command_role as command_or_unknown, option_role as option_or_unknown, role_in, in_place_and_input, has_no_operands as no_operands, MayTake, MayFollow, with_argument, is_complete};
 ghost use Rattle.json_arguments.specs.Line.{HoldsAsked, TakesArgument};
 ghost use Rattle.json_arguments.specs.Asks.{Finishes};
 ghost use Rattle.json_arguments.specs.declared.problem.Refusal.TheVariants as Refusal;
@@ -11,7 +11,7 @@ ghost use Rattle.json_arguments.specs.declared.line.Role.TheVariants as Role;
 use crate::arguments::Arguments;
 use crate::operand::{OperandKind, read_operand};
 use crate::problem::{Missing, Problem, Refusal};
-use crate::setting::{Setting, Settings};
+use crate::setting::{Layout, Setting, Settings, width_of};
 use crate::verb::Verb;
 use json_value::Value;
 use std::alloc::Global;
@@ -25,6 +25,10 @@ pub(crate) enum Role {
     EndOfOptions,
     /// An option of the command.
     Setting(Setting),
+    /// `--indent`, whose number is the next argument.
+    WidthName,
+    /// The number after `--indent`.
+    Width,
     /// An option that names the file of the operand.
     Source,
     /// An operand.
@@ -41,6 +45,7 @@ pub(crate) struct Line<'a> {
     verb: Option<Verb>,
     settings: Settings,
     ended: bool,
+    awaits_width: bool,
     source: Option<&'a str>,
     operands: Vec<Value>,
     files: Vec<&'a str>,
@@ -81,12 +86,22 @@ fn command_role(word: &str) -> Role
     }
 }
 
+// Whether it is `--indent`, of a command that has layouts.
+fn is_width_name(verb: Verb, word: &str) -> bool
+    ensures { result ≡ names_width verb word.now }
+{
+    word == "--indent" && verb.takes(Setting::Layout(Layout::Compact))
+}
+
 // What an option is for a command.
 fn option_role(verb: Verb, word: &str) -> Role
     ensures { result ≡ option_or_unknown verb word.now }
 {
     if verb.source_file(word).is_some() {
         return Role::Source;
+    }
+    if is_width_name(verb, word) {
+        return Role::WidthName;
     }
     match Setting::of_word(word) {
         Some(setting) if verb.takes(setting) => Role::Setting(setting),
@@ -103,6 +118,7 @@ impl<'a> Line<'a> {
             verb: None,
             settings: Settings::new(),
             ended: false,
+            awaits_width: false,
             source: None,
             operands: Vec::new(alloc),
             files: Vec::new(alloc),
@@ -110,12 +126,22 @@ impl<'a> Line<'a> {
     }
 
     // The operand that comes next, if the command has one more.
-    fn missing_operand(&self) -> Option<OperandKind>
-        ensures { (s : Asked) → HoldsAsked self.now s → result ≡ missing_operand s }
+    fn next_operand(&self) -> Option<OperandKind>
+        ensures { (s : Asked) → HoldsAsked self.now s → result ≡ next_operand s }
     {
         match (self.verb, self.source) {
             (Some(verb), None) => verb.operands().get(self.operands.len()).copied(),
             _ => None,
+        }
+    }
+
+    // The kind by which the operand that comes next is read, if the command has one more.
+    fn missing_operand(&self) -> Option<OperandKind>
+        ensures { (s : Asked) → HoldsAsked self.now s → result ≡ missing_operand s }
+    {
+        match self.next_operand() {
+            Some(kind) => Some(self.settings.kind_read(kind)),
+            None => None,
         }
     }
 
@@ -126,6 +152,9 @@ impl<'a> Line<'a> {
         let Some(verb) = self.verb else {
             return command_role(word);
         };
+        if self.awaits_width {
+            return Role::Width;
+        }
         if word == "--" && !self.ended {
             return Role::EndOfOptions;
         }
@@ -149,6 +178,17 @@ impl<'a> Line<'a> {
         }
     }
 
+    // Whether the option says how a value is read, and no value follows.
+    fn comes_late(&self, setting: Setting) -> bool
+        ensures { (s : Asked) → HoldsAsked self.now s → result
+            ≡ comes_late (missing_operand s) setting }
+    {
+        match setting {
+            Setting::StringValue => self.missing_operand().is_none(),
+            _ => false,
+        }
+    }
+
     // Adds an option, unless it does not go with those before it.
     fn take_setting(&mut self, setting: Setting) -> Result<(), Refusal>
         ensures ok { OnOk result ((s : Asked) (w : List ℕ) → HoldsAsked self.old s
@@ -163,6 +203,9 @@ impl<'a> Line<'a> {
         if self.settings.has_stream_rules_with(setting) {
             return Err(Refusal::Invalid(Problem::StreamRules));
         }
+        if self.comes_late(setting) {
+            return Err(Refusal::Invalid(Problem::Late));
+        }
         match self.settings.with(setting) {
             Some(settings) => {
                 self.settings = settings;
@@ -170,6 +213,39 @@ impl<'a> Line<'a> {
             }
             None => Err(Refusal::Invalid(Problem::Repeated)),
         }
+    }
+
+    // Adds the name of the option whose number comes next.
+    fn take_width_name(&mut self) -> Result<(), Refusal>
+        ensures ok { OnOk result ((s : Asked) (w : List ℕ) → HoldsAsked self.old s
+            → TakesArgument self.new s w Role.WidthName) }
+        ensures err { IfErr result (λ r. (r ≡ Refusal.OutOfMemory)
+            ⊎ ((s : Asked) (w : List ℕ) → HoldsAsked self.old s
+            → ¬ (MayTake s w Role.WidthName))) }
+    {
+        if self.settings.layout.is_some() {
+            return Err(Refusal::Invalid(Problem::Repeated));
+        }
+        self.awaits_width = true;
+        Ok(())
+    }
+
+    // Adds the number of an indent.
+    fn take_width(&mut self, word: &str) -> Result<(), Refusal>
+        ensures ok { OnOk result ((s : Asked) → HoldsAsked self.old s
+            → TakesArgument self.new s word.now Role.Width) }
+        ensures err { IfErr result (λ r. (r ≡ Refusal.OutOfMemory)
+            ⊎ ((s : Asked) → HoldsAsked self.old s → ¬ (MayTake s word.now Role.Width))) }
+    {
+        let Some(width) = width_of(word.as_bytes()) else {
+            return Err(Refusal::Invalid(Problem::NoWidth));
+        };
+        self.settings = Settings {
+            layout: Some(Layout::Spaces(width)),
+            ..self.settings
+        };
+        self.awaits_width = false;
+        Ok(())
     }
 
     // Whether no operand and no file was given.
@@ -202,7 +278,6 @@ impl<'a> Line<'a> {
     // Adds an operand.
     fn take_operand(&mut self, alloc: Global, kind: OperandKind, word: &str) -> Result<(), Refusal>
         ensures ok { OnOk result ((s : Asked) → HoldsAsked self.old s
-            → missing_operand s ≡ Some kind
             → TakesArgument self.new s word.now (Role.Operand kind)) }
         ensures err { IfErr result (λ r. (r ≡ Refusal.OutOfMemory)
             ⊎ ((s : Asked) → HoldsAsked self.old s → ¬ (MayTake s word.now (Role.Operand kind)))) }
@@ -248,6 +323,8 @@ impl<'a> Line<'a> {
                 Ok(())
             }
             Role::Setting(setting) => self.take_setting(setting),
+            Role::WidthName => self.take_width_name(),
+            Role::Width => self.take_width(word),
             Role::Source => self.take_source(word),
             Role::Operand(kind) => self.take_operand(alloc, kind, word),
             Role::File => self.take_file(word),
@@ -265,6 +342,9 @@ impl<'a> Line<'a> {
         };
         if let Some(kind) = self.missing_operand() {
             return Err(Missing::Operand(kind));
+        }
+        if self.awaits_width {
+            return Err(Missing::Width);
         }
         if self.files.is_empty() && self.settings.in_place {
             return Err(Missing::File);

@@ -1,7 +1,8 @@
 // The operands of a command.
-ghost use Rattle.std.specs.Prelude.{◌≡◌, ◌≢◌, ◌⊎◌, IfOk, IfErr};
+ghost use Rattle.std.specs.Prelude.{◌≡◌, ◌≢◌, ◌⊎◌, is_some, IfOk, IfErr};
 ghost use Rattle.json_io.specs.declared.error.ErrorCode.TheVariants.{NoMemory};
-ghost use Rattle.json_arguments.specs.Operands.{SpellsOperand, IsOperand, SpellsTree, has_form as formed, is_array_text as spelled_as_array, is_pointer as pointer_text};
+ghost use Rattle.json_arguments.specs.Operands.{SpellsOperand, IsOperand, SpellsTree, has_form as formed, path_form, taken_verbatim};
+ghost use Rattle.json_patch.specs.Pointer.{pointer_of};
 ghost use Rattle.json_doc.specs.Docs.{doc_root, doc_tree};
 ghost use Rattle.json_arguments.specs.declared.problem.Refusal.TheVariants as Refusal;
 ghost use Rattle.json_command.specs.Input.{IsInput, IsValid};
@@ -9,7 +10,7 @@ ghost use Rattle.json_text.specs.Ruled.{usual_rules};
 ghost use Rattle.json_value.specs.Denotes.{tree_of};
 
 use crate::problem::{Problem, Refusal};
-use crate::spelling::{are_edits, first_unspelled, is_path, is_step};
+use crate::spelling::{are_edits, first_unspelled, is_path, is_step, parse_pointer};
 use json_doc::{Doc, read_document_with};
 use json_text::{Error, ErrorCode, Place, Rules};
 use json_value::Value;
@@ -27,16 +28,16 @@ const MAX_BYTES: usize = 4_294_967_295;
 /// ```
 #[derive(Clone, Copy, Debug, PartialEq, Eq)]
 pub enum OperandKind {
-    /// The place of a value: a JSON Pointer (RFC 6901), or a JSON array of steps.
-    Place,
+    /// Where a value is: a JSON Pointer (RFC 6901), or a JSON array of steps.
+    Path,
     /// A JSON array of edits.
     Edits,
-    /// A JSON array of steps.
-    Path,
     /// The key of a member: a JSON string.
     Key,
     /// A JSON value.
     Value,
+    /// A string, which the argument is as it stands.
+    Text,
     /// A step: a JSON string or an index.
     Step,
     /// A JSON Patch (RFC 6902) or a JSON Merge Patch (RFC 7396).
@@ -47,10 +48,10 @@ impl OperandKind {
     /// Returns the name by which the help and errors call the operand.
     pub fn name(self) -> &'static str {
         match self {
-            OperandKind::Place | OperandKind::Path => "PATH",
+            OperandKind::Path => "PATH",
             OperandKind::Edits => "EDITS",
             OperandKind::Key => "KEY",
-            OperandKind::Value => "VALUE",
+            OperandKind::Value | OperandKind::Text => "VALUE",
             OperandKind::Step => "STEP",
             OperandKind::Patch => "PATCH",
         }
@@ -97,18 +98,27 @@ fn read_text(alloc: Global, kind: OperandKind, text: &str) -> Result<Value, Refu
     }
 }
 
-// Whether an operand that is a place is read as a JSON array.
-fn is_array_text(word: &str) -> bool
-    ensures { result ≡ spelled_as_array word.now }
+// Whether an operand is taken as it stands, and is no JSON text.
+fn is_verbatim(kind: OperandKind, word: &str) -> bool
+    ensures { result ≡ taken_verbatim kind word.now }
 {
-    word.as_bytes().starts_with(b"[")
+    match kind {
+        OperandKind::Path => word.is_empty() || word.as_bytes().starts_with(b"/"),
+        OperandKind::Text => true,
+        _ => false,
+    }
 }
 
-// Whether it is the text of a JSON Pointer, but for its escapes.
-fn is_pointer(text: &str) -> bool
-    ensures { result ≡ pointer_text text.now }
+// Whether a text is a JSON Pointer.
+#[tactic(auto, using(crate::proofs::Spelled::is_some_map))]
+fn is_pointer(alloc: Global, text: &str) -> Result<bool, Refusal>
+    ensures ok { IfOk result (λ b. b ≡ is_some (pointer_of text.now)) }
+    ensures only { IfErr result (λ r. r ≡ Refusal.OutOfMemory) }
 {
-    text.is_empty() || text.as_bytes().starts_with(b"/")
+    match parse_pointer(alloc, text) {
+        Ok(pointer) => Ok(pointer.is_some()),
+        Err(refusal) => Err(refusal),
+    }
 }
 
 // Returns the value of an operand, whatever its form.
@@ -117,7 +127,7 @@ fn read_spelled(alloc: Global, kind: OperandKind, word: &str) -> Result<Value, R
     ensures err { IfErr result (λ r. (r ≡ Refusal.OutOfMemory)
         ⊎ (¬ (IsOperand kind word.now))) }
 {
-    if kind != OperandKind::Place || is_array_text(word) {
+    if !is_verbatim(kind, word) {
         return read_text(alloc, kind, word);
     }
     match Value::copy_str(alloc, word) {
@@ -126,32 +136,43 @@ fn read_spelled(alloc: Global, kind: OperandKind, word: &str) -> Result<Value, R
     }
 }
 
-// Whether the value has the form of the operand.
-fn has_form(alloc: Global, kind: OperandKind, value: &Value) -> Result<bool, Refusal>
-    ensures ok { IfOk result (λ b. b ≡ formed kind (tree_of value.now)) }
+// Whether a path has its form.
+fn is_path_form(alloc: Global, word: &str, value: &Value) -> Result<bool, Refusal>
+    ensures ok { IfOk result (λ b. b ≡ path_form word.now (tree_of value.now)) }
     ensures only { IfErr result (λ r. r ≡ Refusal.OutOfMemory) }
 {
-    match kind {
-        OperandKind::Value | OperandKind::Patch => Ok(true),
-        OperandKind::Key => Ok(value.view().text().is_some()),
-        OperandKind::Step => Ok(is_step(value.view())),
-        OperandKind::Path => is_path(alloc, value),
-        OperandKind::Edits => are_edits(alloc, value),
-        OperandKind::Place => match value.view().text() {
-            Some(text) => Ok(is_pointer(text)),
-            None => is_path(alloc, value),
-        },
+    if is_verbatim(OperandKind::Path, word) {
+        is_pointer(alloc, word)
+    } else {
+        is_path(alloc, value)
     }
 }
 
-/// Returns the value that the text of an operand spells: of a JSON Pointer a string, and else the
-/// value of the JSON text. Fails if the text is no JSON text by the usual rules, or the value has
-/// not the form of the operand, and if memory runs out.
+// Whether the value of a word has the form of the operand.
+fn has_form(alloc: Global, kind: OperandKind, word: &str, value: &Value) -> Result<bool, Refusal>
+    ensures ok { IfOk result (λ b. b ≡ formed kind word.now (tree_of value.now)) }
+    ensures only { IfErr result (λ r. r ≡ Refusal.OutOfMemory) }
+{
+    match kind {
+        OperandKind::Value | OperandKind::Text | OperandKind::Patch => Ok(true),
+        OperandKind::Key => Ok(value.view().text().is_some()),
+        OperandKind::Step => Ok(is_step(value.view())),
+        OperandKind::Path => is_path_form(alloc, word, value),
+        OperandKind::Edits => are_edits(alloc, value),
+    }
+}
+
+/// Returns the value that the text of an operand spells: a string of the text itself for a path
+/// that is empty or begins with `/`, and for `Text`, and else the value of the JSON text. Fails if
+/// such a path is no JSON Pointer, if another text is no JSON text by the usual rules or its value
+/// has not the form of the operand, and if memory runs out.
 ///
 /// ```
 /// use json_arguments::{OperandKind, read_operand};
 /// let path = read_operand(alloc, OperandKind::Path, "[\"tags\", 0]").map_err(|_| "no path")?;
 /// assert!(rt; path.view().as_array().is_some());
+/// let path = read_operand(alloc, OperandKind::Path, "/tags/0").map_err(|_| "no path")?;
+/// assert_eq!(rt; path.view().text(), Some("/tags/0"));
 /// assert!(rt; read_operand(alloc, OperandKind::Step, "1.5").is_err());
 /// ```
 pub fn read_operand(alloc: Global, kind: OperandKind, word: &str) -> Result<Value, Refusal>
@@ -160,7 +181,7 @@ pub fn read_operand(alloc: Global, kind: OperandKind, word: &str) -> Result<Valu
         ⊎ (¬ (IsOperand kind word.now))) }
 {
     let value = read_spelled(alloc, kind, word)?;
-    if has_form(alloc, kind, &value)? {
+    if has_form(alloc, kind, word, &value)? {
         return Ok(value);
     }
     let element = first_unspelled(alloc, kind, &value);

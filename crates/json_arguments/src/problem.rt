@@ -24,8 +24,11 @@ pub enum Problem {
     StandardInput,
     /// A stream is read by the usual rules, and options ask for others.
     StreamRules,
-    /// It names the file of an operand after an operand or a file.
+    /// It names the file of an operand after an operand or a file, or says how a value is read
+    /// after the value.
     Late,
+    /// It comes after `--indent` and is no number from 0 to 8.
+    NoWidth,
     /// It is no JSON text.
     NoText {
         /// The operand.
@@ -72,6 +75,8 @@ pub enum Missing {
     Command,
     /// An operand of the command.
     Operand(OperandKind),
+    /// The number after `--indent`.
+    Width,
     /// A file that is changed in place.
     File,
 }

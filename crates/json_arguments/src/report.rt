@@ -13,7 +13,7 @@ const COMMANDS: [&str; 10] = [
 ];
 
 /// The options.
-const OPTIONS: [&str; 14] = [
+const OPTIONS: [&str; 15] = [
     "--compact",
     "--pretty",
     "--indent=",
@@ -22,6 +22,7 @@ const OPTIONS: [&str; 14] = [
     "--unique-keys",
     "--depth=",
     "--raw",
+    "--string",
     "--in-place",
     "--lines",
     "--stream",
@@ -42,6 +43,19 @@ fn nearest<'a>(alloc: Global, word: &str, list: &[&'a str]) -> Result<Option<&'a
         }
     }
     Ok(found)
+}
+
+// Returns the command that does what other tools call so.
+fn meant(word: &str) -> Option<&'static str> {
+    match word {
+        "del" | "delete" | "rm" => Some("remove"),
+        "validate" | "lint" => Some("check"),
+        "format" | "pretty" | "print" => Some("fmt"),
+        "add" | "append" => Some("push"),
+        "update" | "replace" => Some("set"),
+        "find" | "query" | "show" => Some("get"),
+        _ => None,
+    }
 }
 
 // Appends a suggestion.
@@ -76,7 +90,7 @@ fn value_wanted(name: &str) -> Option<&'static str> {
 
 // Whether some command has the option.
 fn is_option_of_another(word: &str) -> bool {
-    if Setting::of_word(word).is_some() {
+    if word == "--indent" || Setting::of_word(word).is_some() {
         return true;
     }
     match word.split_once('=') {
@@ -87,6 +101,9 @@ fn is_option_of_another(word: &str) -> bool {
 
 // Returns what is wrong with an option that is unknown.
 fn unknown_option(alloc: Global, word: &str) -> Result<String, AllocError> {
+    if word == "--help" || word == "-h" {
+        return format!(in alloc; "`{word}` is given alone, or alone after the command");
+    }
     if is_option_of_another(word) {
         return format!(in alloc; "the command has no option `{word}`");
     }
@@ -101,7 +118,11 @@ fn unknown_option(alloc: Global, word: &str) -> Result<String, AllocError> {
 // Returns what is wrong with a command that is unknown.
 fn unknown_command(alloc: Global, word: &str) -> Result<String, AllocError> {
     let mut text = format!(in alloc; "there is no command `{word}`")?;
-    suggest(&mut text, nearest(alloc, word, &COMMANDS)?)?;
+    let near = match meant(word) {
+        Some(command) => Some(command),
+        None => nearest(alloc, word, &COMMANDS)?,
+    };
+    suggest(&mut text, near)?;
     Ok(text)
 }
 
@@ -113,27 +134,71 @@ fn repeated_option(alloc: Global, word: &str) -> Result<String, AllocError> {
             format!(in alloc; "`{word}`: at most one of --lines and --stream is taken, once")
         }
         Some(_) => format!(in alloc; "`{word}`: the option occurs twice"),
+        None if word == "--indent" => format!(in alloc; "`{word}` asks for a second layout"),
         None => format!(in alloc; "`{word}` names a second file"),
     }
 }
 
-// Returns what is wrong with an operand that is no JSON text, or a pointer.
-fn no_text(alloc: Global, kind: OperandKind, error: &Error) -> Result<String, AllocError> {
+// Returns what an option has to come before.
+fn late_option(alloc: Global, word: &str) -> Result<String, AllocError> {
+    let later = match Setting::of_word(word) {
+        Some(_) => "VALUE",
+        None => "operands and files",
+    };
+    format!(in alloc; "`{word}`: the option has to come before {later}")
+}
+
+// Whether a word stands for itself in a shell and in a JSON string.
+fn is_plain(word: &str) -> bool {
+    let plain = word.bytes().all(
+        |byte| matches!(byte, b'a'..=b'z' | b'A'..=b'Z' | b'0'..=b'9' | b'_' | b'.'),
+    );
+    !word.is_empty() && plain
+}
+
+// Returns the line that says how a word that is no JSON text may be meant, or nothing.
+fn text_hint(alloc: Global, kind: OperandKind, word: &str) -> Result<String, AllocError> {
+    if !is_plain(word) {
+        return Ok(String::new(alloc));
+    }
+    match kind {
+        OperandKind::Path => format!(in alloc; "\nhint: did you mean `/{word}`?"),
+        OperandKind::Value => {
+            format!(in alloc; "\nhint: did you mean '\"{word}\"', or `--string {word}`?")
+        }
+        OperandKind::Key | OperandKind::Step => {
+            format!(in alloc; "\nhint: did you mean '\"{word}\"'?")
+        }
+        _ => Ok(String::new(alloc)),
+    }
+}
+
+// Returns what is wrong with an operand that is no JSON text, and a hint if there is one.
+fn no_text(
+    alloc: Global,
+    kind: OperandKind,
+    word: &str,
+    error: &Error,
+) -> Result<String, AllocError> {
     let line = fault_text(error);
     let bytes = line.as_bytes();
     let fault = str::from_utf8(bytes.strip_suffix(b"\n").unwrap_or(bytes)).unwrap_or("");
-    format!(in alloc; "{} is no JSON text: {fault}", kind.name())
+    let wanted = match kind {
+        OperandKind::Path => "JSON Pointer and no JSON text",
+        _ => "JSON text",
+    };
+    let hint = text_hint(alloc, kind, word)?;
+    format!(in alloc; "{} is no {wanted}: {fault}{}", kind.name(), hint.as_str())
 }
 
 // Returns what the operand has to be.
 fn form_wanted(kind: OperandKind) -> &'static str {
     match kind {
-        OperandKind::Place => "is no JSON Pointer and no array of steps",
+        OperandKind::Path => "is no JSON Pointer and no array of steps",
         OperandKind::Edits => "is no array of edits",
-        OperandKind::Path => "is no array of steps",
         OperandKind::Key => "is no string",
         OperandKind::Step => "is no string and no index",
-        OperandKind::Value | OperandKind::Patch => "is no value",
+        OperandKind::Value | OperandKind::Text | OperandKind::Patch => "is no value",
     }
 }
 
@@ -166,10 +231,9 @@ fn problem_text(alloc: Global, word: &str, problem: &Problem) -> Result<String, 
         Problem::StreamRules => {
             format!(in alloc; "`{word}`: --stream goes with no --unique-keys and no --depth=N")
         }
-        Problem::Late => {
-            format!(in alloc; "`{word}`: the option has to come before operands and files")
-        }
-        Problem::NoText { kind, error } => no_text(alloc, kind, &error),
+        Problem::Late => late_option(alloc, word),
+        Problem::NoWidth => format!(in alloc; "`{word}`: --indent takes a number from 0 to 8"),
+        Problem::NoText { kind, error } => no_text(alloc, kind, word, &error),
         Problem::WrongForm { kind, element } => wrong_form(alloc, kind, element),
     }
 }
@@ -179,6 +243,7 @@ fn missing_text(alloc: Global, missing: Missing) -> Result<String, AllocError> {
     match missing {
         Missing::Command => format!(in alloc; "there is no command"),
         Missing::Operand(kind) => format!(in alloc; "{} is missing", kind.name()),
+        Missing::Width => format!(in alloc; "the number after `--indent` is missing"),
         Missing::File => format!(in alloc; "a file to change in place is missing"),
     }
 }

@@ -1,8 +1,9 @@
 // The options of the commands.
 ghost use Rattle.std.specs.Prelude.{◌≡◌, option_map};
-ghost use Rattle.json_arguments.specs.Arguments.{layout_in, setting_in, setting_with_value as value_setting, with_setting, no_settings, reads_stream as is_stream, rules_of_stream};
+ghost use Rattle.json_arguments.specs.Arguments.{layout_in, setting_in, setting_with_value as value_setting, with_setting, no_settings, reads_stream as is_stream, rules_of_stream, kind_read};
 ghost use Rattle.json_command.specs.Options.{depth_in, width_in};
 
+use crate::operand::OperandKind;
 use json_command::option_number;
 
 /// How the texts of values are laid out.
@@ -55,6 +56,8 @@ pub enum Setting {
     Depth(u32),
     /// Strings by their content.
     Raw,
+    /// A value that is a string, as the argument stands.
+    StringValue,
     /// The files changed in place.
     InPlace,
     /// Several documents in each input.
@@ -88,14 +91,16 @@ pub struct Settings {
     pub depth: Option<u32>,
     /// Whether a string is printed by its content.
     pub raw: bool,
+    /// Whether the value of an edit is a string, as the argument stands.
+    pub string_value: bool,
     /// Whether files are changed in place.
     pub in_place: bool,
     /// Which documents each input has, if that is asked for.
     pub input: Option<InputForm>,
 }
 
-// The number of spaces that one digit asks for, which is 8 at most.
-fn width_of(digits: &[u8]) -> Option<u8>
+/// The number of spaces that one digit asks for, which is 8 at most.
+pub(crate) fn width_of(digits: &[u8]) -> Option<u8>
     ensures { result ≡ width_in digits.now }
 {
     match digits {
@@ -109,7 +114,7 @@ fn layout_of(word: &str) -> Option<Layout>
     ensures { result ≡ layout_in word.now }
 {
     match word {
-        "--compact" => Some(Layout::Compact),
+        "--compact" | "-c" => Some(Layout::Compact),
         "--pretty" => Some(Layout::Spaces(2)),
         "--tabs" => Some(Layout::Tab),
         _ => {
@@ -143,9 +148,10 @@ impl Setting {
         ensures { result ≡ setting_in word.now }
     {
         match word {
-            "--sort-keys" => Some(Setting::SortKeys),
+            "--sort-keys" | "-S" => Some(Setting::SortKeys),
             "--unique-keys" => Some(Setting::UniqueKeys),
-            "--raw" => Some(Setting::Raw),
+            "--raw" | "-r" => Some(Setting::Raw),
+            "--string" => Some(Setting::StringValue),
             "-i" | "--in-place" => Some(Setting::InPlace),
             "--lines" => Some(Setting::Input(InputForm::Lines)),
             "--stream" => Some(Setting::Input(InputForm::Stream)),
@@ -165,6 +171,7 @@ impl Settings {
             unique: false,
             depth: None,
             raw: false,
+            string_value: false,
             in_place: false,
             input: None,
         }
@@ -192,6 +199,10 @@ impl Settings {
                 ..self
             }),
             Setting::Raw if !self.raw => Some(Settings { raw: true, ..self }),
+            Setting::StringValue if !self.string_value => Some(Settings {
+                string_value: true,
+                ..self
+            }),
             Setting::InPlace if !self.in_place => Some(Settings {
                 in_place: true,
                 ..self
@@ -201,6 +212,16 @@ impl Settings {
                 ..self
             }),
             _ => None,
+        }
+    }
+
+    /// Returns how an operand of this kind is read: a value as a string where that is asked for.
+    pub(crate) fn kind_read(self, kind: OperandKind) -> OperandKind
+        ensures { result ≡ kind_read self kind }
+    {
+        match kind {
+            OperandKind::Value if self.string_value => OperandKind::Text,
+            _ => kind,
         }
     }
 

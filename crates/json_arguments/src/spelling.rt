@@ -1,8 +1,10 @@
 // What the value of an operand spells.
-ghost use Rattle.std.specs.Prelude.{◌≡◌, is_some, IfOk, IfErr};
+ghost use Rattle.std.specs.Prelude.{◌≡◌, is_some, option_map, IfOk, IfErr};
 ghost use Rattle.json_arguments.specs.Operands.{path_formed, edits_formed};
 ghost use Rattle.json_arguments.specs.declared.problem.Refusal.TheVariants as Refusal;
 ghost use Rattle.json_number.specs.Numbers.{value_of};
+ghost use Rattle.json_patch.specs.Lookups.{pointer_tokens};
+ghost use Rattle.json_patch.specs.Pointer.{pointer_of};
 ghost use Rattle.json_value.specs.Denotes.{tree_of};
 ghost use Rattle.json_value.specs.EditTrees.{index_of, step_in};
 ghost use Rattle.json_value.specs.Seen.{seen};
@@ -11,6 +13,7 @@ use crate::operand::OperandKind;
 use crate::problem::Refusal;
 use json_data::{from_value, is_refusal};
 use json_number::{JsonNumberTrait, Number};
+use json_patch::{PatchCode, Pointer};
 use json_value::{Edit, Path, Value, View};
 use std::alloc::Global;
 
@@ -34,6 +37,21 @@ pub(crate) fn is_step(view: View<'_>) -> bool
     match view.as_number() {
         Some(number) => is_index(number),
         None => false,
+    }
+}
+
+/// Returns the pointer that a text is, or `None` if it is none.
+#[tactic(auto, using(crate::proofs::Spelled::no_pointer))]
+pub(crate) fn parse_pointer(alloc: Global, text: &str) -> Result<Option<Pointer>, Refusal>
+    ensures ok { IfOk result (λ o. option_map pointer_tokens o ≡ pointer_of text.now) }
+    ensures only { IfErr result (λ r. r ≡ Refusal.OutOfMemory) }
+{
+    match Pointer::parse(alloc, text) {
+        Ok(pointer) => Ok(Some(pointer)),
+        Err(error) => match error.code {
+            PatchCode::NoMemory => Err(Refusal::OutOfMemory),
+            _ => Ok(None),
+        },
     }
 }
 
@@ -77,7 +95,7 @@ pub(crate) fn first_unspelled(alloc: Global, kind: OperandKind, value: &Value) -
     'elements: for element in array.iter() {
         let spelled = match kind {
             OperandKind::Edits => is_edit(alloc, element),
-            OperandKind::Path | OperandKind::Place => is_step(element),
+            OperandKind::Path => is_step(element),
             _ => return None,
         };
         if !spelled {

@@ -92,7 +92,7 @@ impl Verb {
         ensures { result.now ≡ operands_of self }
     {
         match self {
-            Verb::Get => &[OperandKind::Place],
+            Verb::Get => &[OperandKind::Path],
             Verb::Edit => &[OperandKind::Edits],
             Verb::Set | Verb::Push => &[OperandKind::Path, OperandKind::Value],
             Verb::Insert => &[OperandKind::Path, OperandKind::Key, OperandKind::Value],
@@ -122,6 +122,7 @@ impl Verb {
             Setting::Layout(_) | Setting::SortKeys => self != Verb::Check,
             Setting::InPlace => self != Verb::Check && self != Verb::Get,
             Setting::Raw => self == Verb::Get,
+            Setting::StringValue => matches!(self, Verb::Set | Verb::Insert | Verb::Push),
             _ => true,
         }
     }

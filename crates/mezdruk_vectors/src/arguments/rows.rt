@@ -13,6 +13,20 @@ pub const ROWS: &str = r#"# valid
 |0|||edit|[]|-|
 |0|||edit|--edits=e.json|a.json|b.json|
 |0|||set|[]|-1|
+|0|||set|/a/0|true|a.json|
+|0|||set|/a~1b/m~0n|true|
+|0|||set||null|
+|0|||set| ["a"]|1|
+|0|||set|/name|--string|Ada|a.json|
+|0|||set|--string|/name|-|
+|0|||set|/name|--string||
+|0|||insert|/a|"b"|--string|c|
+|0|||push|/a|1|
+|0|||remove|/a|0|
+|0|||get|-r|/a|
+|0|||fmt|-c|-S|
+|0|||fmt|--indent|8|a.json|
+|0|||get|--indent|0|/a|
 |0|||insert|["a"]|"b"|{"c":1.50}|a.json|
 |0|||push|[]|"x"|--tabs|
 |0|||remove|["a"]|0|a.json|--in-place|
@@ -23,6 +37,21 @@ pub const ROWS: &str = r#"# valid
 |2||mezdruk: there is no command|
 |2||mezdruk: there is no command `fmtt`; did you mean `fmt`?|fmtt|
 |2||mezdruk: there is no command `mrge`; did you mean `merge`?|mrge|a|
+|2||mezdruk: there is no command `del`; did you mean `remove`?|del|/a|
+|2||mezdruk: there is no command `delete`; did you mean `remove`?|delete|
+|2||mezdruk: there is no command `rm`; did you mean `remove`?|rm|
+|2||mezdruk: there is no command `validate`; did you mean `check`?|validate|
+|2||mezdruk: there is no command `lint`; did you mean `check`?|lint|
+|2||mezdruk: there is no command `format`; did you mean `fmt`?|format|
+|2||mezdruk: there is no command `pretty`; did you mean `fmt`?|pretty|
+|2||mezdruk: there is no command `print`; did you mean `fmt`?|print|
+|2||mezdruk: there is no command `add`; did you mean `push`?|add|
+|2||mezdruk: there is no command `append`; did you mean `push`?|append|
+|2||mezdruk: there is no command `update`; did you mean `set`?|update|
+|2||mezdruk: there is no command `replace`; did you mean `set`?|replace|
+|2||mezdruk: there is no command `find`; did you mean `get`?|find|
+|2||mezdruk: there is no command `query`; did you mean `get`?|query|
+|2||mezdruk: there is no command `show`; did you mean `get`?|show|
 |2||mezdruk: there is no command `package.json`|package.json|
 |2||mezdruk: there is no command `--pretty`|--pretty|fmt|
 |2||mezdruk: there is no command ``||
@@ -35,12 +64,27 @@ pub const ROWS: &str = r#"# valid
 |2||mezdruk get: the command has no option `-i`|get|-i|
 |2||mezdruk set: the command has no option `--edits=e.json`|set|--edits=e.json|
 |2||mezdruk fmt: `--indent=9`: the option takes a number from 0 to 8|fmt|--indent=9|
-|2||mezdruk fmt: `--indent`: the option takes a number from 0 to 8|fmt|--indent|4|
+|0|||fmt|--indent|4|
+|2||mezdruk fmt: `a.json`: --indent takes a number from 0 to 8|fmt|--indent|a.json|
+|2||mezdruk fmt: `9`: --indent takes a number from 0 to 8|fmt|--indent|9|
+|2||mezdruk fmt: `--`: --indent takes a number from 0 to 8|fmt|--indent|--|
+|2||mezdruk fmt: the number after `--indent` is missing|fmt|a.json|--indent|
+|2||mezdruk check: the command has no option `--indent`|check|--indent|4|
+|2||mezdruk check: the command has no option `-c`|check|-c|
+|2||mezdruk fmt: the command has no option `-r`|fmt|-r|
+|2||mezdruk get: the command has no option `--string`|get|--string|
+|2||mezdruk fmt: `--help` is given alone, or alone after the command|fmt|--pretty|--help|
+|2||mezdruk fmt: `-h` is given alone, or alone after the command|fmt|-h|a.json|
 |2||mezdruk check: `--depth=01`: the option takes a number from 0 to 1024 without leading zeros|check|--depth=01|
 |2||mezdruk check: `--depth=1025`: the option takes a number from 0 to 1024 without leading zeros|check|--depth=1025|
 |2||mezdruk edit: `--edits=`: the option takes the name of a file|edit|--edits=|
 # options that were there
 |2||mezdruk fmt: `--tabs` asks for a second layout|fmt|--pretty|--tabs|
+|2||mezdruk fmt: `--indent` asks for a second layout|fmt|-c|--indent|4|
+|2||mezdruk fmt: `-c` asks for a second layout|fmt|--indent|4|-c|
+|2||mezdruk fmt: `-S`: the option occurs twice|fmt|--sort-keys|-S|
+|2||mezdruk set: `--string`: the option occurs twice|set|--string|--string|
+|2||mezdruk set: `--string`: the option has to come before VALUE|set|/a|"b"|--string|
 |2||mezdruk fmt: `--sort-keys`: the option occurs twice|fmt|--sort-keys|a|--sort-keys|
 |2||mezdruk fmt: `-i`: the option occurs twice|fmt|--in-place|-i|
 |2||mezdruk fmt: `--stream`: at most one of --lines and --stream is taken, once|fmt|--lines|--stream|
@@ -68,18 +112,26 @@ pub const ROWS: &str = r#"# valid
 # operands that are no JSON text
 |2||mezdruk edit: EDITS is no JSON text: EofWhileParsing at offset 1, line 1 column 2|edit|[|
 |2||mezdruk edit: EDITS is no JSON text: InvalidJsonValue at offset 0, line 1 column 1|edit|a.json|
-|2||mezdruk set: PATH is no JSON text: InvalidJsonValue at offset 0, line 1 column 1|set|version|2|
-|2||mezdruk set: VALUE is no JSON text: InvalidJsonValue at offset 0, line 1 column 1|set|["a"]|b|
+|2||mezdruk set: PATH is no JSON Pointer and no JSON text: InvalidJsonValue at offset 0, line 1 column 1%0Ahint: did you mean `/version`?|set|version|2|
+|2||mezdruk push: PATH is no JSON Pointer and no JSON text: EofWhileParsing at offset 1, line 1 column 2|push|[|2|
+|2||mezdruk set: VALUE is no JSON text: InvalidJsonValue at offset 0, line 1 column 1%0Ahint: did you mean '"b"', or `--string b`?|set|["a"]|b|
+|2||mezdruk set: VALUE is no JSON text: InvalidJsonValue at offset 0, line 1 column 1%0Ahint: did you mean '"Ada"', or `--string Ada`?|set|/name|Ada|
+|2||mezdruk set: VALUE is no JSON text: InvalidJsonValue at offset 0, line 1 column 1|set|/name|it's|
+|2||mezdruk insert: KEY is no JSON text: InvalidJsonValue at offset 0, line 1 column 1%0Ahint: did you mean '"k"'?|insert|/a|k|1|
+|2||mezdruk remove: STEP is no JSON text: InvalidJsonValue at offset 0, line 1 column 1%0Ahint: did you mean '"k"'?|remove|/a|k|
 |2||mezdruk set: VALUE is no JSON text: EofWhileParsing at offset 0, line 1 column 1|set|["a"]||
 |2||mezdruk patch: PATCH is no JSON text: TrailingCharacters at offset 3, line 1 column 4|patch|[] []|
 # operands of another form
 |2||mezdruk edit: EDITS is no array of edits|edit|{}|
 |2||mezdruk edit: element 1 of EDITS is no edit|edit|[["push",[],1],["set",[]]]|
-|2||mezdruk set: PATH is no array of steps|set|"version"|2|
+|2||mezdruk set: PATH is no JSON Pointer and no array of steps|set|"version"|2|
+|2||mezdruk set: PATH is no JSON Pointer and no array of steps|set|"/version"|2|
+|2||mezdruk set: PATH is no JSON Pointer and no array of steps|set|/a~2|2|
+|2||mezdruk get: PATH is no JSON Pointer and no array of steps|get|/a~|
 |2||mezdruk set: step 1 of PATH is no string and no index|set|["a",1.5]|2|
 |2||mezdruk insert: KEY is no string|insert|[]|1|2|
 |2||mezdruk remove: STEP is no string and no index|remove|[]|-1|
-|2||mezdruk get: PATH is no JSON Pointer and no array of steps|get|version|
+|2||mezdruk get: PATH is no JSON Pointer and no JSON text: InvalidJsonValue at offset 0, line 1 column 1%0Ahint: did you mean `/version`?|get|version|
 |2||mezdruk get: step 0 of PATH is no string and no index|get|[null]|
 # the first that is wrong
 |2||mezdruk edit: EDITS is no JSON text: EofWhileParsing at offset 1, line 1 column 2|edit|[|--bogus|

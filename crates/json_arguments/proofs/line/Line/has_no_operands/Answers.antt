@@ -8,4 +8,4 @@ returns-then-is_empty c =
     let line = c.args.self.now in
     let operands : c.is_empty.result ≡ (length line.operands.items == 0) = search rules in
     let files : c.is_empty-then-is_empty.result ≡ (length line.files.items == 0) = search rules in
-    both_empty _ _ _ _ _ _ operands c.if-is_empty.true files (words_length _ s.operands _ h.operands) (files_length _ s.files h.files)
+    both_empty _ _ _ _ _ _ operands c.if-is_empty.true files (words_length s.operands _ h.operands) (files_length _ s.files h.files)
