@@ -1,7 +1,7 @@
 -- Changes of trees, and why they do not apply.
 use Rattle.std.specs.Prelude.{◌≡◌, ◌⊎◌, ℕ, None, Some, Result, Ok, Err}
 use Rattle.json_grammar.specs.Tree.{Tree}
-use Rattle.json_model.specs.Edit.{Refusal, not_found, type_unmatched}
+use Rattle.json_model.specs.Edit.{Changed, Refusal, not_found, type_unmatched}
 use Rattle.json_files.specs.declared.change_error.ChangeCode.TheVariants as code
 use Rattle.json_files.specs.declared.change_error.ChangeError.{ChangeError}
 
@@ -24,3 +24,9 @@ abbrev pub outcome_of_edits : Result Tree (ℕ × Refusal) → Result Tree Chang
 outcome_of_edits (Ok tree) = Ok tree
 outcome_of_edits (Err (number, not_found)) = Err (record { code = code.NotFound; number = Some number })
 outcome_of_edits (Err (number, type_unmatched)) = Err (record { code = code.TypeUnmatched; number = Some number })
+
+-- what one edit makes of a tree
+abbrev pub outcome_of_edit : Changed Tree → Result Tree ChangeError
+outcome_of_edit (Ok tree) = Ok tree
+outcome_of_edit (Err not_found) = Err (record { code = code.NotFound; number = Some 0 })
+outcome_of_edit (Err type_unmatched) = Err (record { code = code.TypeUnmatched; number = Some 0 })

@@ -1,4 +1,5 @@
 pub mod Changes
+pub mod PointedEdits
 pub mod Parts
 pub mod Excerpts
 pub mod Reports

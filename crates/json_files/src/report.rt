@@ -1,5 +1,5 @@
 // The reports of errors.
-ghost use Rattle.std.specs.Prelude.{◌≡◌, ◌≤◌, ◌+◌, ◌++◌, List, ℕ, Option, length, codes, decimal, IfOk, OnOk, IfSome};
+ghost use Rattle.std.specs.Prelude.{◌≡◌, ◌≤◌, ◌+◌, ◌++◌, List, ℕ, Option, None, length, codes, decimal, IfOk, OnOk, IfSome};
 ghost use Rattle.json_files.specs.Excerpts.{IsExcerpt};
 ghost use Rattle.json_files.specs.Parts.{part_view, whole_part as spec_whole_part, HasFewLines};
 ghost use Rattle.json_files.specs.Reports.{IsReport, IsHeadline, IsExcerptAt, location, place_position, error_place, document_error_name, change_name, report_offset, position_of};
@@ -300,6 +300,22 @@ pub fn error_report(alloc: Global, name: &str, error: &Error) -> Result<Vec<u8>>
         _ => None,
     };
     input_headline(alloc, name, position, error.code)
+}
+
+/// Returns the first line of the report of a file of this name that could not be read or written,
+/// with the reason of the system: `NAME: reason (Io)` and a newline. Fails with `NoMemory` if
+/// memory runs out.
+///
+/// ```
+/// use json_files::file_report;
+/// let report = file_report(alloc, "a.json", "there is no such file")?;
+/// assert_eq!(rt; report.as_slice(), b"a.json: there is no such file (Io)\n".as_slice());
+/// ```
+pub fn file_report(alloc: Global, name: &str, reason: &str) -> Result<Vec<u8>>
+    ensures ok { IfOk result (λ line. IsHeadline name.now None (codes "Io") line.items) }
+    ensures only { OnlyNoMemory result }
+{
+    headline(alloc, name, None, reason.as_bytes(), b"Io")
 }
 
 /// Returns the report of an error of the document of this name and these bytes: the line of

@@ -3,6 +3,7 @@ mod changes;
 mod documents;
 mod failing;
 mod lines;
+mod pointers;
 mod reports;
 mod runs;
 mod streams;

@@ -1,4 +1,4 @@
-//! Tests alone: worked examples of the programs of `mezdruk` and of what they are made of. They stand
+//! Tests alone: worked examples of the programs of `mezdruk` and of what they are made of. They are
 //! here and not in the libraries, since a library with tests is proved twice, and in one crate, since
 //! each check of a crate over the programs begins with more than a minute.
 #![tactic(auto)]
