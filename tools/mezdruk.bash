@@ -23,15 +23,16 @@ _mezdruk_command() {
     fi
     [[ $word == -* && $given != *" -- "* ]] || return
     if [[ $command != check ]]; then
-        [[ $given =~ \ --(compact|pretty|tabs|indent)[\ =] ]] ||
+        [[ $given =~ \ (-c|--(compact|pretty|tabs|indent))[\ =] ]] ||
             words+=" --compact --pretty --indent= --tabs"
-        [[ $given =~ \ --sort-keys\  ]] || words+=" --sort-keys"
+        [[ $given =~ \ (-S|--sort-keys)\  ]] || words+=" --sort-keys"
     fi
     [[ $given =~ \ --(unique-keys|stream)\  ]] || words+=" --unique-keys"
     [[ $given =~ \ --(depth|stream)[\ =] ]] || words+=" --depth="
     [[ $given =~ \ --(lines|stream)\  ]] || words+=" --lines"
     [[ $given =~ \ --(lines|stream|unique-keys|depth)[\ =] ]] || words+=" --stream"
-    [[ $command != get || $given =~ \ --raw\  ]] || words+=" --raw"
+    [[ $command != get || $given =~ \ (-r|--raw)\  ]] || words+=" --raw"
+    [[ ! $command =~ ^(set|insert|push)$ || $given =~ \ --string\  ]] || words+=" --string"
     [[ $command == check || $command == get || $given =~ \ (-i|--in-place)\  ]] ||
         words+=" --in-place"
     case $command in
@@ -39,6 +40,7 @@ _mezdruk_command() {
         patch) [[ $given =~ \ --patch[\ =] ]] || words+=" --patch=" ;;
         merge) [[ $given =~ \ --merge[\ =] ]] || words+=" --merge=" ;;
     esac
+    ((COMP_CWORD != 2)) || words+=" --help"
     mapfile -t COMPREPLY < <(compgen -W "$words" -- "$word")
     [[ ${#COMPREPLY[@]} == 1 && ${COMPREPLY[0]} == *= ]] && compopt -o nospace
 }
@@ -49,9 +51,11 @@ _mezdruk() {
     [[ ${COMP_WORDS[0]} == */* ]] && script=yes programs+=" json_patch"
     COMPREPLY=()
     if ((COMP_CWORD == 1)); then
-        words="$programs $_mezdruk_commands --help --version${script:+ --build}"
+        words="$programs $_mezdruk_commands help --help --version${script:+ --build}"
     elif [[ $script && $first == --build ]]; then
         words="$programs mezdruk all"
+    elif [[ $first == help ]]; then
+        ((COMP_CWORD != 2)) || words="$_mezdruk_programs $_mezdruk_commands"
     elif [[ " $programs " == *" $first "* ]]; then
         COMP_WORDS=("${COMP_WORDS[@]:1}")
         ((COMP_CWORD -= 1))

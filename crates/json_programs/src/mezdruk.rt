@@ -13,8 +13,7 @@ Usage: mezdruk COMMAND [OPTION..] [OPERAND..] [FILE..]
 Commands:
   fmt                      lay documents out, by two spaces
   check                    print nothing; errors and the status tell
-  get PATH                 print the value at a JSON Pointer, as /tags/0, or at
-                           an array of steps, as '[\"tags\", 0]'
+  get PATH                 print the value where the path leads
   edit EDITS               apply an array of edits in turn
   set PATH VALUE           put a value where the path leads
   insert PATH KEY VALUE    put a member into the object there
@@ -25,21 +24,25 @@ Commands:
   reshape, lines, rpc, history
                            run that program on the arguments that follow;
                            `mezdruk lines --help` prints the help of `lines`
+  help COMMAND             print the help of a command, as COMMAND --help does
 
-PATH is a JSON array of steps, KEY a JSON string, VALUE any JSON text, and STEP
-a JSON string or an index from 0:
-  mezdruk set '[\"version\"]' '\"1.3.0\"' package.json
+PATH is a JSON Pointer, as /tags/0, or a JSON array of steps, as '[\"tags\", 0]';
+KEY is a JSON string, VALUE any JSON text, and STEP a JSON string or an index
+from 0:
+  mezdruk set /version '\"1.3.0\"' package.json
 EDITS are as in `reshape`: '[[\"set\", [\"version\"], \"1.3.0\"]]'.
 
 Options, in any order, each at most once:
-  --compact, --pretty, --indent=N, --tabs
+  -c, --compact, --pretty, --indent=N, --indent N, --tabs
                            no whitespace; an indent of two spaces, of N spaces,
                            0 to 8, or of a tab; compact where none is given, but
                            for fmt
-  --sort-keys              sort the members of each object by their keys
+  -S, --sort-keys          sort the members of each object by their keys
   --unique-keys            refuse an object with two members of one key
   --depth=N                refuse more than N levels, 0 to 1024; 254 without it
-  --raw                    of get: print a string's content
+  -r, --raw                of get: print a string's content
+  --string                 of set, insert and push, before VALUE: take it as a
+                           string
   --lines                  each line of the input is a document
   --stream                 documents follow one another; not with --unique-keys
                            and not with --depth=N
@@ -48,7 +51,8 @@ Options, in any order, each at most once:
                            take EDITS or PATCH from a file, for edit, patch and
                            merge; before operands and files
   --                       after it no argument is an option
-  --help, --version        print this text or the version; each is given alone
+  -h, --help, -V, --version
+                           print this text or the version; each is given alone
 
 Status: the greatest of those of the documents
   0  done

@@ -1,19 +1,18 @@
 // What each command does with the documents.
 
-use crate::files::read_bytes;
-use crate::run::run_files;
+use crate::files::{ReadFault, read_bytes, report_unread};
+use crate::missing::Target;
+use crate::run::{Work, run_files};
 use json_arguments::{
     Arguments, ArgumentsError, InputForm as FormAsked, OperandKind, Problem, Refusal, Settings,
-    Verb, arguments_report, edits_of, file_report, read_operand,
+    Verb, arguments_report, edits_of, file_report, read_operand, split_pointer,
 };
 use json_command::{Console, Status, report_text};
 use json_data::from_value;
 use json_files::{
-    ApplyMerge, ApplyPatch, Change, EditAll, GetPath, GetPointer, InputForm, Job, Unchanged,
-    error_report,
+    ApplyMerge, ApplyPatch, Change, EditAll, EditAt, GetPath, GetPointer, InputForm, Job, Unchanged,
 };
-use json_patch::Pointer;
-use json_text::{Error, ErrorCode, Place, Words, check_utf8};
+use json_text::{Words, check_utf8};
 use json_value::{Path, Value};
 use std::alloc::AllocError;
 
@@ -26,8 +25,14 @@ struct Task<'a> {
 }
 
 impl<'a> Task<'a> {
-    // Makes a change of each document, and returns the status.
-    fn run<C: Change + Drop>(self, rt: &HostRuntime, console: &mut Console, change: C) -> u8 {
+    // Makes a change of each document, where it leads in them, and returns the status.
+    fn run<C: Change + Drop>(
+        self,
+        rt: &HostRuntime,
+        console: &mut Console,
+        change: C,
+        target: Target<'_>,
+    ) -> u8 {
         let style = self.settings.style_for(self.verb);
         let mut job = Job::new(change, style, self.settings.rules());
         job.raw = self.settings.raw;
@@ -36,7 +41,13 @@ impl<'a> Task<'a> {
             Some(FormAsked::Lines) => InputForm::Lines,
             Some(FormAsked::Stream) => InputForm::Stream,
         };
-        run_files(rt, console, self.files, &job, self.settings.in_place)
+        let in_place = self.settings.in_place;
+        let work = Work {
+            job,
+            target,
+            in_place,
+        };
+        run_files(rt, console, self.files, &work)
     }
 }
 
@@ -86,22 +97,18 @@ fn report_refusal(
 const NAME_HINT: &str =
     "hint: the option takes the name of a file; EDITS or PATCH alone is the text\n";
 
-// Reports a file of edits or of a patch that could not be read, and returns the status.
-fn report_unread(rt: &HostRuntime, console: &mut Console, file: &str) -> u8 {
-    let error = Error {
-        code: ErrorCode::Io,
-        place: Place::Reading,
-    };
-    match error_report(rt.alloc(), file, &error) {
-        Ok(report) => {
-            report_text(&mut console.errs, &report);
-            if file.starts_with('[') || file.starts_with('{') {
-                report_text(&mut console.errs, NAME_HINT.as_bytes());
-            }
-            Status::ReadFailed.number()
-        }
-        Err(_) => Status::OutOfMemory.number(),
+// Reports a file of edits or of a patch that is not read, and returns the status.
+fn report_unread_operand(
+    rt: &HostRuntime,
+    console: &mut Console,
+    file: &str,
+    fault: ReadFault,
+) -> u8 {
+    let status = report_unread(rt, console, file, fault);
+    if file.starts_with('[') || file.starts_with('{') {
+        report_text(&mut console.errs, NAME_HINT.as_bytes());
     }
+    status
 }
 
 // Reads the edits or the patch that a file has. Fails with the status if that is reported.
@@ -113,9 +120,8 @@ fn read_file(
     file: &str,
 ) -> Result<Value, u8> {
     let bytes = match read_bytes(rt, console, file) {
-        Ok(Some(bytes)) => bytes,
-        Ok(None) => return Err(report_unread(rt, console, file)),
-        Err(_) => return Err(Status::OutOfMemory.number()),
+        Ok(bytes) => bytes,
+        Err(fault) => return Err(report_unread_operand(rt, console, file, fault)),
     };
     let read = match check_utf8(&bytes) {
         Ok(text) => read_operand(rt.alloc(), kind, text),
@@ -127,52 +133,58 @@ fn read_file(
     }
 }
 
-// Prints the value at a place of each document.
-fn get(
-    rt: &HostRuntime,
-    console: &mut Console,
-    words: &Words,
-    task: Task<'_>,
-    place: &Value,
-) -> u8 {
-    let Some(text) = place.view().text() else {
-        return match from_value::<Path>(rt.alloc(), place) {
-            Ok(path) => task.run(rt, console, GetPath { path: &path }),
-            Err(_) => Status::OutOfMemory.number(),
-        };
+// Prints the value at a path of each document.
+fn get(rt: &HostRuntime, console: &mut Console, task: Task<'_>, operands: Vec<Value>) -> u8 {
+    let Ok((pointer, operands)) = split_pointer(rt.alloc(), operands) else {
+        return Status::OutOfMemory.number();
     };
-    match Pointer::parse(rt.alloc(), text) {
-        Ok(pointer) => task.run(rt, console, GetPointer { pointer: &pointer }),
-        Err(_) => {
-            let kind = OperandKind::Place;
-            let problem = Problem::WrongForm {
-                kind,
-                element: None,
-            };
-            let error = ArgumentsError::Invalid { index: 1, problem };
-            report_arguments(rt, console, words, &error)
-        }
+    if let Some(pointer) = pointer {
+        let pointer = &pointer;
+        return task.run(
+            rt,
+            console,
+            GetPointer { pointer },
+            Target::Pointer(pointer),
+        );
+    }
+    let [path, ..] = operands.as_slice() else {
+        return Status::OutOfMemory.number();
+    };
+    match from_value::<Path>(rt.alloc(), path) {
+        Ok(path) => task.run(rt, console, GetPath { path: &path }, Target::Path(&path)),
+        Err(_) => Status::OutOfMemory.number(),
     }
 }
 
 // Applies edits to each document.
 fn edit(rt: &HostRuntime, console: &mut Console, task: Task<'_>, operands: Vec<Value>) -> u8 {
+    let Ok((pointer, operands)) = split_pointer(rt.alloc(), operands) else {
+        return Status::OutOfMemory.number();
+    };
     let Ok(edits) = edits_of(rt.alloc(), task.verb, operands) else {
         return Status::OutOfMemory.number();
     };
-    match EditAll::new(edits.as_slice()) {
-        Some(change) => task.run(rt, console, change),
-        None => Status::OutOfMemory.number(),
+    match (pointer, edits.as_slice()) {
+        (Some(pointer), [edit, ..]) => {
+            let pointer = &pointer;
+            let target = Target::EditAt(pointer, edit);
+            task.run(rt, console, EditAt { pointer, edit }, target)
+        }
+        (_, edits) => match EditAll::new(edits) {
+            Some(change) => task.run(rt, console, change, Target::Edits(edits)),
+            None => Status::OutOfMemory.number(),
+        },
     }
 }
 
 // Applies a patch or a merge patch to each document.
 fn patch(rt: &HostRuntime, console: &mut Console, task: Task<'_>, patch: &Value) -> u8 {
     if task.verb == Verb::Merge {
-        return task.run(rt, console, ApplyMerge::new(patch.view()));
+        let change = ApplyMerge::new(patch.view());
+        return task.run(rt, console, change, Target::Document);
     }
     match ApplyPatch::new(patch.view()) {
-        Some(change) => task.run(rt, console, change),
+        Some(change) => task.run(rt, console, change, Target::Document),
         None => Status::OutOfMemory.number(),
     }
 }
@@ -203,8 +215,8 @@ pub fn carry_out(
         files: files.as_slice(),
     };
     match (verb, operands.as_slice()) {
-        (Verb::Fmt | Verb::Check, _) => task.run(rt, console, Unchanged),
-        (Verb::Get, [place, ..]) => get(rt, console, words, task, place),
+        (Verb::Fmt | Verb::Check, _) => { task.run(rt, console, Unchanged, Target::Document) }
+        (Verb::Get, _) => get(rt, console, task, operands),
         (Verb::Patch | Verb::Merge, [value, ..]) => patch(rt, console, task, value),
         (_, _) => edit(rt, console, task, operands),
     }

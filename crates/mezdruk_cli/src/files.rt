@@ -1,10 +1,11 @@
 // Documents from files and from standard input.
 
-use json_command::Console;
-use json_files::Document;
-use json_text::{ErrorCode, Result, Source, StdSource, read_all};
+use json_command::{Console, Status, report_text};
+use json_files::{Document, file_report};
+use json_text::{ErrorCode, Source, StdSource, read_all};
 use std::alloc::Global;
 use std::fs::File;
+use std::{fs, io};
 
 /// More bytes than a document may have, so that one that is too large is found to be so.
 const MAX_READ: usize = 4_294_967_296;
@@ -12,37 +13,116 @@ const MAX_READ: usize = 4_294_967_296;
 /// The name by which errors of standard input are reported.
 const STANDARD_INPUT: &str = "<stdin>";
 
-// Reads all bytes of a source, or returns `None` if that fails. Fails with `NoMemory` if memory
-// runs out.
-fn read_source<S: Source>(alloc: Global, source: &mut S) -> Result<Option<Vec<u8>>> {
+/// The reason where the system gives none.
+const NO_REASON: &str = "a read or a write failed";
+
+/// Why a file is not read.
+#[derive(Clone, Copy)]
+pub enum ReadFault {
+    /// Memory ran out.
+    OutOfMemory,
+    /// The system refused it, for this reason.
+    Refused(&'static str),
+}
+
+/// Returns the reason of the system in words.
+pub fn reason_of(error: &io::Error) -> &'static str {
+    match error.kind() {
+        io::ErrorKind::NotFound => "there is no such file",
+        io::ErrorKind::PermissionDenied => "permission is denied",
+        io::ErrorKind::IsADirectory => "it is a folder",
+        io::ErrorKind::NotADirectory => "a part of its path is no folder",
+        io::ErrorKind::FilesystemLoop => "its links go in a circle",
+        io::ErrorKind::InvalidFilename => "its name is too long",
+        io::ErrorKind::ReadOnlyFilesystem => "the file system is read-only",
+        io::ErrorKind::StorageFull => "no space is left",
+        io::ErrorKind::InvalidInput => "it is no regular file",
+        _ => NO_REASON,
+    }
+}
+
+// Reads all bytes of a source.
+fn read_source<S: Source>(alloc: Global, source: &mut S) -> Result<Vec<u8>, ReadFault> {
     match read_all(alloc, source, MAX_READ) {
-        Ok(bytes) => Ok(Some(bytes)),
+        Ok(bytes) => Ok(bytes),
         Err(error) => match error.code {
-            ErrorCode::NoMemory => Err(error),
-            _ => Ok(None),
+            ErrorCode::NoMemory => Err(ReadFault::OutOfMemory),
+            _ => Err(ReadFault::Refused(NO_REASON)),
         },
     }
 }
 
-/// Reads the bytes of a file, or those of standard input for `-`. Returns `None` if the file cannot
-/// be read, and fails with `NoMemory` if memory runs out.
-pub fn read_bytes(rt: &HostRuntime, console: &mut Console, file: &str) -> Result<Option<Vec<u8>>> {
+// Opens a file that is no folder.
+fn open_file(rt: &HostRuntime, file: &str) -> Result<File, ReadFault> {
+    if file.is_empty() {
+        return Err(ReadFault::Refused("the name of the file is empty"));
+    }
+    if fs::metadata(rt, file).is_ok_and(|metadata| metadata.is_dir()) {
+        return Err(ReadFault::Refused("it is a folder"));
+    }
+    File::open(rt, file).map_err(|error| ReadFault::Refused(reason_of(&error)))
+}
+
+/// Reads the bytes of a file, or those of standard input for `-`.
+pub fn read_bytes(
+    rt: &HostRuntime,
+    console: &mut Console,
+    file: &str,
+) -> Result<Vec<u8>, ReadFault> {
     if file == "-" {
         return read_source(rt.alloc(), &mut console.source);
     }
-    match File::open(rt, file) {
-        Ok(file) => read_source(rt.alloc(), &mut StdSource::new(file)),
-        Err(_) => Ok(None),
+    let opened = open_file(rt, file)?;
+    read_source(rt.alloc(), &mut StdSource::new(opened))
+}
+
+// Returns the name by which errors of a file are reported.
+fn shown_name(file: &str) -> &str {
+    match file {
+        "-" => STANDARD_INPUT,
+        "" => "''",
+        _ => file,
     }
 }
 
-/// Reads the document of a file, or that of standard input for `-`. Its bytes are `None` if the
-/// file cannot be read. Fails with `NoMemory` if memory runs out.
-pub fn read_document(rt: &HostRuntime, console: &mut Console, file: &str) -> Result<Document> {
+/// Reads the document of a file, or that of standard input for `-`.
+pub fn read_document(
+    rt: &HostRuntime,
+    console: &mut Console,
+    file: &str,
+) -> Result<Document, ReadFault> {
     let bytes = read_bytes(rt, console, file)?;
-    let name = if file == "-" { STANDARD_INPUT } else { file };
-    Ok(Document {
-        name: String::from_str(rt.alloc(), name)?,
-        bytes,
-    })
+    match String::from_str(rt.alloc(), shown_name(file)) {
+        Ok(name) => Ok(Document {
+            name,
+            bytes: Some(bytes),
+        }),
+        Err(_) => Err(ReadFault::OutOfMemory),
+    }
+}
+
+/// Reports why a file is not read or written, and returns this status, or that of memory that ran
+/// out.
+pub fn report_file(
+    rt: &HostRuntime,
+    console: &mut Console,
+    file: &str,
+    reason: &str,
+    status: Status,
+) -> u8 {
+    match file_report(rt.alloc(), shown_name(file), reason) {
+        Ok(report) => {
+            report_text(&mut console.errs, &report);
+            status.number()
+        }
+        Err(_) => Status::OutOfMemory.number(),
+    }
+}
+
+/// Reports why a file is not read, and returns the status.
+pub fn report_unread(rt: &HostRuntime, console: &mut Console, file: &str, fault: ReadFault) -> u8 {
+    match fault {
+        ReadFault::OutOfMemory => Status::OutOfMemory.number(),
+        ReadFault::Refused(reason) => { report_file(rt, console, file, reason, Status::ReadFailed) }
+    }
 }

@@ -9,18 +9,28 @@
 mod changes;
 mod files;
 mod in_place;
+mod missing;
 mod outlet;
 mod run;
 
 use crate::run::run;
-use json_command::Console;
+use json_command::{Console, Status, report_text};
 use json_programs::ABOUT_MEZDRUK;
+use json_text::StdSink;
 use std::process::ExitCode;
+
+/// What is reported if the arguments could not be read.
+const UNREAD: &[u8] = b"mezdruk: the arguments could not be read: each has to be UTF-8\n";
 
 fn main(rt: HostRuntime) -> ExitCode {
     let mut console = match Console::open(&rt, &ABOUT_MEZDRUK) {
         Ok(console) => console,
-        Err(status) => return ExitCode::from(status.number()),
+        Err(status) => {
+            if status == Status::NoArguments {
+                report_text(&mut StdSink::new(rt.stderr()), UNREAD);
+            }
+            return ExitCode::from(status.number());
+        }
     };
     ExitCode::from(run(&rt, &mut console))
 }

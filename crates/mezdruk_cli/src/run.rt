@@ -1,25 +1,26 @@
 // What a command does with each file.
 
 use crate::changes::{carry_out, report_arguments};
-use crate::files::read_document;
+use crate::files::{read_document, reason_of, report_file, report_unread};
 use crate::in_place::replace_content;
+use crate::missing::{Target, hint_of_target};
 use crate::outlet::Outlet;
-use json_arguments::read_arguments;
-use json_command::{Console, Status, report_text};
-use json_files::{Change, Document, Job, error_report, print_documents};
+use json_arguments::{help_asked, read_arguments};
+use json_command::{Console, Status, report_text, write_text};
+use json_files::{Change, Document, InputForm, Job, print_documents};
 use json_programs::ABOUT_MEZDRUK;
-use json_text::{Error, ErrorCode, Place, StdSink, VecSink, Words};
+use json_text::{StdSink, VecSink, Words};
 use mezdruk_programs::run_named;
 use std::cell::Cell;
 
-// The error of a file that could not be written.
-const WRITING_FAILED: Error = Error {
-    code: ErrorCode::Io,
-    place: Place::Writing,
-};
-
 // Runs a command of the tool, and returns the status.
 fn run_command(rt: &HostRuntime, console: &mut Console, words: &Words) -> u8 {
+    if let Some(verb) = help_asked(words) {
+        return match write_text(&mut console.sink, verb.help().as_bytes()) {
+            Ok(()) => Status::Success.number(),
+            Err(error) => Status::of_error(&error).number(),
+        };
+    }
     let status = match read_arguments(rt.alloc(), words) {
         Ok(arguments) => carry_out(rt, console, words, arguments),
         Err(error) => report_arguments(rt, console, words, &error),
@@ -28,13 +29,79 @@ fn run_command(rt: &HostRuntime, console: &mut Console, words: &Words) -> u8 {
     status
 }
 
+// Returns the words that arguments which ask for help or the version are short for: a command or
+// nothing, and an option. Returns `None` for all else.
+fn long_form(words: &Words) -> Option<(&str, &'static str)> {
+    if words.len() == 1 {
+        return match words.word(0) {
+            "help" | "-h" => Some(("", "--help")),
+            "-V" => Some(("", "--version")),
+            _ => None,
+        };
+    }
+    if words.len() != 2 {
+        return None;
+    }
+    match (words.word(0), words.word(1)) {
+        ("help", command) | (command, "-h") => Some((command, "--help")),
+        _ => None,
+    }
+}
+
+// Returns the arguments, where those that are short for others ask for help or the version.
+fn arguments_meant(rt: &HostRuntime, words: Words) -> json_text::Result<Words> {
+    let mut meant = Words::new(rt.alloc());
+    match long_form(&words) {
+        Some((command, option)) => {
+            if !command.is_empty() {
+                meant.push(command)?;
+            }
+            meant.push(option)?;
+        }
+        None => return Ok(words),
+    }
+    Ok(meant)
+}
+
 /// Does what the arguments ask for, and returns the status.
 pub fn run(rt: &HostRuntime, console: &mut Console) -> u8 {
     let words = std::mem::replace(&mut console.arguments, Words::new(rt.alloc()));
+    let Ok(words) = arguments_meant(rt, words) else {
+        return Status::OutOfMemory.number();
+    };
     let (source, sink, errs) = (&mut console.source, &mut console.sink, &mut console.errs);
+    if let Some(status) = ABOUT_MEZDRUK.say_asked(&words, sink) {
+        return status.number();
+    }
     match run_named(rt.alloc(), &words, source, sink, errs) {
         Some(status) => status,
         None => run_command(rt, console, &words),
+    }
+}
+
+/// What is done with each file.
+#[derive(Drop)]
+pub struct Work<'a, C> {
+    /// What is done with its documents.
+    pub job: Job<'a, C>,
+    /// Where the command leads in them.
+    pub target: Target<'a>,
+    /// Whether the file is written in place.
+    pub in_place: bool,
+}
+
+impl<'a, C> Work<'a, C> {
+    // Adds the hint at why the command does not apply to the one document of an input.
+    fn add_hint(&self, rt: &HostRuntime, console: &mut Console, document: &Document, status: u8) {
+        if status != Status::EditFailed.number() || self.job.input != InputForm::One {
+            return;
+        }
+        let Some(bytes) = &document.bytes else {
+            return;
+        };
+        if let Ok(Some(hint)) = hint_of_target(rt.alloc(), bytes, self.job.rules, self.target) {
+            report_text(&mut console.errs, hint.as_bytes());
+        }
     }
 }
 
@@ -43,28 +110,19 @@ fn print_document<C: Change>(
     rt: &HostRuntime,
     console: &mut Console,
     document: Document,
-    job: &Job<'_, C>,
+    work: &Work<'_, C>,
 ) -> u8 {
     let closed = Cell::new(false);
     let mut sink = StdSink::new(Outlet::new(rt.stdout(), &closed));
     let mut errs = VecSink::new(rt.alloc());
     let documents = [document];
-    let status = print_documents(rt.alloc(), &documents, job, &mut sink, &mut errs);
+    let status = print_documents(rt.alloc(), &documents, &work.job, &mut sink, &mut errs);
+    let [document] = documents;
     if !closed.get() {
         report_text(&mut console.errs, errs.as_slice());
+        work.add_hint(rt, console, &document, status);
     }
     status
-}
-
-// Reports that a file could not be written, and returns the status.
-fn report_failed_write(rt: &HostRuntime, console: &mut Console, name: &str) -> u8 {
-    match error_report(rt.alloc(), name, &WRITING_FAILED) {
-        Ok(report) => {
-            report_text(&mut console.errs, &report);
-            Status::WriteFailed.number()
-        }
-        Err(_) => Status::OutOfMemory.number(),
-    }
 }
 
 // Writes the changed document to its file, if its text is another one, and returns the status.
@@ -72,12 +130,14 @@ fn write_in_place<C: Change>(
     rt: &HostRuntime,
     console: &mut Console,
     document: Document,
-    job: &Job<'_, C>,
+    work: &Work<'_, C>,
 ) -> u8 {
     let mut sink = VecSink::new(rt.alloc());
     let documents = [document];
-    let status = print_documents(rt.alloc(), &documents, job, &mut sink, &mut console.errs);
+    let errs = &mut console.errs;
+    let status = print_documents(rt.alloc(), &documents, &work.job, &mut sink, errs);
     let [document] = documents;
+    work.add_hint(rt, console, &document, status);
     let same = document
         .bytes
         .as_ref()
@@ -87,7 +147,10 @@ fn write_in_place<C: Change>(
     }
     match replace_content(rt, document.name.as_str(), sink.as_slice()) {
         Ok(()) => status,
-        Err(_) => report_failed_write(rt, console, document.name.as_str()),
+        Err(error) => {
+            let (name, reason) = (document.name.as_str(), reason_of(&error));
+            report_file(rt, console, name, reason, Status::WriteFailed)
+        }
     }
 }
 
@@ -96,13 +159,12 @@ fn run_file<C: Change>(
     rt: &HostRuntime,
     console: &mut Console,
     file: &str,
-    job: &Job<'_, C>,
-    in_place: bool,
+    work: &Work<'_, C>,
 ) -> u8 {
     match read_document(rt, console, file) {
-        Ok(document) if in_place => write_in_place(rt, console, document, job),
-        Ok(document) => print_document(rt, console, document, job),
-        Err(error) => Status::of_error(&error).number(),
+        Ok(document) if work.in_place => write_in_place(rt, console, document, work),
+        Ok(document) => print_document(rt, console, document, work),
+        Err(fault) => report_unread(rt, console, file, fault),
     }
 }
 
@@ -112,18 +174,17 @@ pub fn run_files<C: Change>(
     rt: &HostRuntime,
     console: &mut Console,
     files: &[&str],
-    job: &Job<'_, C>,
-    in_place: bool,
+    work: &Work<'_, C>,
 ) -> u8 {
     if files.is_empty() {
-        return run_file(rt, console, "-", job, in_place);
+        return run_file(rt, console, "-", work);
     }
     let mut greatest = 0;
     for file in files {
-        let status = run_file(rt, console, file, job, in_place);
+        let status = run_file(rt, console, file, work);
         greatest = status.max(greatest);
         let ends = status == Status::OutOfMemory.number()
-            || !in_place && status == Status::WriteFailed.number();
+            || !work.in_place && status == Status::WriteFailed.number();
         if ends {
             break;
         }

@@ -26,7 +26,8 @@ end
 set -l first 'test (count (commandline -opc)) -eq 1'
 set -l prints fmt,get,edit,set,insert,push,remove,patch,merge
 set -l writes fmt,edit,set,insert,push,remove,patch,merge
-set -l layouts --compact --pretty --indent --tabs
+set -l texts set,insert,push
+set -l layouts -c --compact --pretty --indent --tabs
 complete -c mezdruk -n $first -f -a 'fmt' -d 'lay documents out'
 complete -c mezdruk -n $first -f -a 'check' -d 'print nothing but errors'
 complete -c mezdruk -n $first -f -a 'get' -d 'print the value at a path'
@@ -37,6 +38,7 @@ complete -c mezdruk -n $first -f -a 'merge' -d 'apply a JSON Merge Patch'
 complete -c mezdruk -n $first -f -a 'reshape lines rpc history' -d 'run that program'
 complete -c mezdruk -n "$first; and __mezdruk_is_script" -f -a 'json_patch' -d 'run that program'
 complete -c mezdruk -n "$first; and __mezdruk_is_script" -f -a '--build' -d 'prove and build the programs'
+complete -c mezdruk -n $first -f -a 'help' -d 'print the help of a command'
 complete -c mezdruk -n $first -f -a '--help' -d 'print the usage'
 complete -c mezdruk -n $first -f -a '--version' -d 'print the version'
 complete -c mezdruk -n "not $first; and __mezdruk_is_script; and test (commandline -opc)[2] = --build" -f -a 'reshape lines rpc history json_patch mezdruk all'
@@ -45,12 +47,15 @@ complete -c mezdruk -n "__mezdruk_takes $prints $layouts" -a '--compact' -d 'no 
 complete -c mezdruk -n "__mezdruk_takes $prints $layouts" -a '--pretty' -d 'indent by two spaces'
 complete -c mezdruk -n "__mezdruk_takes $prints $layouts" -a "--indent=(seq 0 8)" -d 'indent by so many spaces'
 complete -c mezdruk -n "__mezdruk_takes $prints $layouts" -a '--tabs' -d 'indent by a tab'
-complete -c mezdruk -n "__mezdruk_takes $prints --sort-keys" -a '--sort-keys' -d 'sort the members of each object'
+complete -c mezdruk -n "__mezdruk_takes $prints -S --sort-keys" -a '--sort-keys' -d 'sort the members of each object'
 complete -c mezdruk -n "__mezdruk_takes check,$prints --unique-keys --stream" -a '--unique-keys' -d 'refuse two members of one key'
 complete -c mezdruk -n "__mezdruk_takes check,$prints --depth --stream" -a '--depth=' -d 'refuse input of more levels, 254 without it'
 complete -c mezdruk -n "__mezdruk_takes check,$prints --lines --stream" -a '--lines' -d 'each line is a document'
 complete -c mezdruk -n "__mezdruk_takes check,$prints --lines --stream --unique-keys --depth" -a '--stream' -d 'documents follow one another'
-complete -c mezdruk -n '__mezdruk_takes get --raw' -a '--raw' -d 'print the content of a string'
+complete -c mezdruk -n '__mezdruk_takes get -r --raw' -a '--raw' -d 'print the content of a string'
+complete -c mezdruk -n "__mezdruk_takes $texts --string" -a '--string' -d 'take the value as a string'
+complete -c mezdruk -n "test (count (commandline -opc)) -eq 2; and __mezdruk_takes check,$prints" -a '--help' -d 'print the help of the command'
+complete -c mezdruk -n 'test (count (commandline -opc)) -eq 2; and test (commandline -opc)[2] = help' -f -a 'fmt check get edit set insert push remove patch merge reshape lines rpc history'
 complete -c mezdruk -n "__mezdruk_takes $writes -i --in-place" -a '--in-place' -d 'write each file in place'
 complete -c mezdruk -n '__mezdruk_takes edit --edits' -a '--edits=' -d 'take the edits from a file'
 complete -c mezdruk -n '__mezdruk_takes patch --patch' -a '--patch=' -d 'take the patch from a file'
