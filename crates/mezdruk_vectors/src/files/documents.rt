@@ -1,15 +1,14 @@
 // Documents, one after another.
-use crate::files::runs::{Named, Outcome, come_to, compact, documents_of};
-use json_files::Unchanged;
+use crate::files::runs::{Named, Outcome, come_to, documents_of};
+use json_files::{Job, Unchanged};
 use json_print::Style;
-use json_text::Result;
+use json_text::{Result, Rules};
 use std::alloc::Global;
 
 // Whether a run that prints documents in this style has this outcome.
 fn hold(alloc: Global, all: &[Named], style: Option<Style<'_>>, to: &Outcome<'_>) -> Result<bool> {
     let documents = documents_of(alloc, all)?;
-    let mut job = compact(Unchanged);
-    job.style = style;
+    let job = Job::new(Unchanged, style, Rules::usual());
     Ok(come_to(alloc, documents.as_slice(), &job, to))
 }
 

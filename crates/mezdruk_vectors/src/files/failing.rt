@@ -119,14 +119,19 @@ const WRITES: &[Write] = &[
     },
 ];
 
+// Whether the sink gained this text.
+fn is_written(sink: &FakeSink<'_>, text: &str) -> bool {
+    sink.as_slice() == text.as_bytes()
+}
+
 // Whether a run comes to what it has to, where this call of the sink fails.
 fn fails_at_write(alloc: Global, documents: &[Document], row: &Write) -> bool {
     let failing = [row.call];
     let mut sink = FakeSink::new(alloc, 1, &failing);
     let mut errs = VecSink::new(alloc);
     let status = print(alloc, documents, &mut sink, &mut errs);
-    let written = sink.as_slice() == row.output.as_bytes();
-    status == row.status && written && errs.as_slice() == row.reports.as_bytes()
+    let is_reported = errs.as_slice() == row.reports.as_bytes();
+    status == row.status && is_written(&sink, row.output) && is_reported
 }
 
 fn each_write_fails(alloc: Global) -> Result<bool> {
@@ -151,8 +156,8 @@ fn fails_at_report(alloc: Global, documents: &[Document], call: u64) -> bool {
     let mut sink = VecSink::new(alloc);
     let mut errs = FakeSink::new(alloc, 1, &failing);
     let status = print(alloc, documents, &mut sink, &mut errs);
-    let told = Some(errs.as_slice()) == REPORT.as_bytes().get(..call as usize);
-    status == 1 && sink.as_slice() == b"1\n2\n".as_slice() && told
+    let is_front = Some(errs.as_slice()) == REPORT.as_bytes().get(..call as usize);
+    status == 1 && sink.as_slice() == b"1\n2\n".as_slice() && is_front
 }
 
 fn each_report_fails(alloc: Global) -> Result<bool> {
