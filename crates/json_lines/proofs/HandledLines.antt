@@ -106,6 +106,7 @@ FinishesLines-from has a b c so_far none =
       reads = all.reads;
       all = all.all;
       drained = all.drained;
+      few = all.few;
       no_fault = all.no_fault;
       no_sink_fault = ap (λ s. s.faults) none.sink ∙ so_far.handled.rows.calm;
       same_loan = ap (λ s. s.loan) none.sink ∙ so_far.handled.rows.same_loan;

@@ -6,7 +6,7 @@ use Rattle.json_io.specs.Lending.{lent_as, ComesBack}
 use Rattle.json_io.specs.Outside.{SinkState, SourceState}
 use Rattle.json_io.specs.declared.error.Error.{Error}
 use Rattle.json_io.specs.Errors.{no_memory}
-use Rattle.json_io.proofs.Known.{known-append, known-nil, Consumes-nil}
+use Rattle.json_io.proofs.Known.{known-append, known-nil}
 use Rattle.json_io.proofs.Putting.{Puts-nil}
 use Rattle.json_layout.specs.Buffered.{held_behind}
 use Rattle.json_layout.specs.Pieces.{holds_any}
@@ -19,6 +19,7 @@ use Rattle.json_lines.specs.Running.{StopsEarly}
 use Rattle.json_lines.specs.TopCall.{streams, GainsRows, WritesAllRows, WritesFewerRows, WritesPartOfTable, WritesPrefixes}
 use Rattle.json_lines.specs.declared.run.Tally.{Tally}
 use Rattle.json_lines.proofs.HandledLines.{IfSome-map}
+use Rattle.json_lines.proofs.ReaderSteps.{gives_nothing}
 use Rattle.json_lines.proofs.SinkEnds.{came_back, sink_grew}
 
 module _ (has : List ℕ → Outcome → Type 0) (s u : SourceState) (old now errs errs' : SinkState) (name : GName) (held : List ℕ) (t : Tally) where
@@ -35,6 +36,9 @@ module _ (has : List ℕ → Outcome → Type 0) (s u : SourceState) (old now er
   lent_all : WritesAllRows has (streams s (lent_as old name old.gained) errs) (streams u (held_behind (lent_as now name old.gained) held) errs') t → WritesAllRows has (streams s old errs) (streams u now errs') t
   lent_all h =
       record {
+        bytes = h.bytes;
+        gives = h.gives;
+        few = h.few;
         drained = h.drained;
         no_fault = h.no_fault;
         no_sink_fault = h.no_sink_fault;
@@ -62,7 +66,7 @@ module _ (has : List ℕ → Outcome → Type 0) (s u : SourceState) (old now er
   lent_short g e h =
       record {
         bytes = h.bytes;
-        consumed = h.consumed;
+        gives = h.gives;
         prefixes = IfSome-map s.left (λ _. StopsEarly has (lent_as old name old.gained) (held_behind (lent_as now name old.gained) held) errs errs' t.muted h.bytes) (λ _. WritesPrefixes has old now errs errs' t.muted h.bytes)
             (λ _ b. lent_front g t.muted h.bytes b) h.stops;
         cause = h.cause;
@@ -96,7 +100,7 @@ short_none has s sink errs t e is unmuted =
     subst (WritesPartOfTable has (streams s sink errs) (streams s sink errs) t) (sym is)
     (record {
       bytes = [];
-      consumed = Consumes-nil s.left;
+      gives = gives_nothing s;
       prefixes = some_prefix s.left;
       cause = tt;
       reading_told = λ l. absurd (omega (arith, l));

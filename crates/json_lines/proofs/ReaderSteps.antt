@@ -1,5 +1,5 @@
 -- How the steps of a reader follow on each other.
-use Rattle.std.proofs.Common.{◌≡◌, ℕ, ◌+◌, ◌-◌, false, List, [], ◌++◌, length, take, drop, slice_range, None, refl, sym, ap, ◌∙◌, subst, arith, append_assoc, append-nil}
+use Rattle.std.proofs.Common.{◌≡◌, ℕ, ◌+◌, ◌-◌, ◌≤◌, false, List, [], ◌++◌, length, take, drop, slice_range, None, refl, sym, ap, ◌∙◌, subst, arith, append_assoc, append-nil}
 use Rattle.std.proofs.Math.Seq.{take-add}
 use Rattle.std.proofs.lemmas.List.{length-append, length-take, drop-append-le, append-nil}
 use Rattle.std.proofs.lemmas.Slice.{between_is}
@@ -10,9 +10,10 @@ use Rattle.json_io.specs.declared.error.ErrorCode.TheVariants.{Io, TooLarge}
 use Rattle.json_io.specs.declared.error.Place.{Place}
 use Rattle.json_io.specs.declared.error.Place.TheVariants.{None as nowhere, Reading}
 use Rattle.json_io.proofs.Known.{Consumes-nil, Consumes-trans}
+use Rattle.json_command.specs.Input.{max_bytes}
 use Rattle.json_lines.specs.declared.line_reader.LineReader.{LineReader}
 use Rattle.json_lines.specs.Lines.{has_newline}
-use Rattle.json_lines.specs.Reading.{ReaderState, line_reader_state, held_bytes, ReadsBytes, NextLineCause}
+use Rattle.json_lines.specs.Reading.{ReaderState, line_reader_state, held_bytes, ReadsBytes, GivesBytes, NextLineCause}
 use Rattle.json_lines.specs.LineRanges.{new_bytes, ReadsMore, NextLineFails, ReadsUnended}
 use Rattle.json_lines.proofs.Newlines.{unended}
 
@@ -88,3 +89,15 @@ NextLineFails-later a b c s t u e p reads no_fault halts =
       stops = halts.stops;
       cause = cause-later e.code e.place c s t u no_fault halts.cause;
     }
+
+-- ---- what a source gave
+
+pub gives_bytes : (a c : ReaderState) (s u : SourceState) (bytes : List ℕ) → ReadsBytes a c s u bytes → GivesBytes s u bytes
+gives_bytes a c s u bytes h = record { consumed = h.consumed; given_so = h.given_so }
+
+pub gives_nothing : (s : SourceState) → GivesBytes s s []
+gives_nothing s = record { consumed = Consumes-nil s.left; given_so = counted-none s.given }
+
+-- of a reader that had received nothing
+pub few_bytes : (n m k : ℕ) → n ≡ 0 → m ≡ n + k → m ≤ max_bytes → k ≤ max_bytes
+few_bytes n m k e f l = omega (arith, e, f, l)

@@ -3,7 +3,7 @@ use Rattle.std.proofs.Common.{◌≡◌, ◌≢◌, ◌⊎◌, inl, inr, ◌<◌
 use Rattle.std.specs.Prelude.{if◌then◌else◌}
 use Rattle.json_io.specs.Errors.{no_memory, bad_words}
 use Rattle.json_io.specs.FaultText.{text_of}
-use Rattle.json_io.specs.Known.{Consumes, Appends}
+use Rattle.json_io.specs.Known.{Appends}
 use Rattle.json_io.specs.Outside.{SinkState, SourceState, Rose}
 use Rattle.json_io.specs.Transfer.{AppendsFront}
 use Rattle.json_io.specs.declared.error.Error.{Error}
@@ -11,12 +11,12 @@ use Rattle.json_io.specs.declared.error.ErrorCode.{ErrorCode}
 use Rattle.json_io.specs.declared.error.ErrorCode.TheVariants.{NoMemory, Io, TooLarge}
 use Rattle.json_io.specs.declared.error.Place.{Place}
 use Rattle.json_io.specs.declared.error.Place.TheVariants.{None as nowhere, Reading, Writing}
-use Rattle.json_io.proofs.Known.{Consumes-nil}
 use Rattle.json_io.proofs.Putting.{AppendsFront-first}
 use Rattle.json_command.specs.Reporting.{Reports}
 use Rattle.json_lines.specs.Cells.{LinesCommand}
 use Rattle.json_lines.specs.Lines.{lines}
 use Rattle.json_lines.specs.Outcomes.{HasOutcome, HaveOutcomes}
+use Rattle.json_lines.specs.Reading.{GivesBytes}
 use Rattle.json_command.specs.Input.{max_bytes}
 use Rattle.json_lines.specs.Rows.{Outcome, HasWithin, rows_of, errors_from, some_bad}
 use Rattle.json_lines.specs.RunResults.{OfOutcomes, Completes, RefusesWords, AppendsRowsPrefix, TellsErrorsPrefix, FailsBeforeReading, FailsWhileReading, FailsRun, RunResult, NothingFails}
@@ -25,6 +25,7 @@ use Rattle.json_lines.specs.Words.{AsksForColumns, IsLinesRequest}
 use Rattle.json_lines.specs.declared.run.Tally.{Tally}
 use Rattle.json_lines.proofs.HandledLines.{IfSome-map}
 use Rattle.json_lines.proofs.OneOutcome.{some_outcomes, all_within}
+use Rattle.json_lines.proofs.ReaderSteps.{gives_nothing}
 use Rattle.json_lines.proofs.RunStatus.{Reports-from, Reports-last}
 use Rattle.json_lines.proofs.Statuses.{status_above, reading_rose, writing_rose, too_many, memory_alone}
 use Rattle.json_lines.proofs.Totals.{rows_of-append, AllHave-append}
@@ -53,7 +54,7 @@ pub completes-from : (words : List (List ℕ)) (command : LinesCommand) (a c : S
 completes-from words command a c t n asked all is =
     record {
       known = status_bool t.bad n is;
-      all = record { drained = all.drained; read = all.no_fault; written = all.no_sink_fault; flushed = all.flushed };
+      all = record { bytes = all.bytes; gives = all.gives; few = all.few; drained = all.drained; read = all.no_fault; written = all.no_sink_fault; flushed = all.flushed };
       rows = of_lines words command a.source.left a.sink c.sink a.errs c.errs t (λ os. Appends a.sink.gained c.sink.gained (rows_of os)) asked (λ b h. h.rows) all.handled;
       errors = of_lines words command a.source.left a.sink c.sink a.errs c.errs t (λ os. Reports (errors_from 1 os) a.errs c.errs) asked (λ b h. Reports-from t.muted a.errs c.errs (errors_from 1 h.outcomes) h.reports) all.handled;
       bad = of_lines words command a.source.left a.sink c.sink a.errs c.errs t (λ os. n ≡ (if some_bad os then 1 else 0)) asked (λ b h. is ∙ ap (λ t. if t then 1 else 0) h.bad) all.handled;
@@ -108,7 +109,7 @@ fails-from words command a c errs t e n asked part reported silent is =
       error = e;
       status_is = is;
       bytes = part.bytes;
-      consumed = part.consumed;
+      gives = part.gives;
       cause = cause_errs e.code e.place part.bytes a c errs part.cause;
       did = inr (record {
         command = command;
@@ -131,7 +132,7 @@ memory_ran_out words s sink errs errs' e n is told status =
       error = e;
       status_is = status;
       bytes = [];
-      consumed = Consumes-nil s.left;
+      gives = gives_nothing s;
       cause = subst (λ (x : Error). RunErrorCause [] (record { source = s; sink = sink; errs = errs }) (record { source = s; sink = sink; errs = errs' }) x.code x.place) (sym is) tt;
       did = inl (record { lacks = is; unread = refl; unwritten = refl; told = told });
       read_told = λ l. absurd (omega (arith, l));
@@ -186,8 +187,8 @@ module _ (words : List (List ℕ)) (old new : Streams) (n : ℕ) where
   pub is-write-fault : RunResult words old new n → n ≡ 5 → Rose old.sink.faults new.sink.faults
   is-write-fault h e = let b = is-failed h (omega (arith, e)) in writing_rose b.bytes old.source new.source old.sink new.sink b.error.code b.error.place b.cause (sym b.status_is ∙ e)
 
-  pub is-large : RunResult words old new n → n ≡ 7 → (bytes : List ℕ) × Consumes old.source.left new.source.left bytes × (max_bytes < length bytes)
-  is-large h e = let b = is-failed h (omega (arith, e)) in (b.bytes, b.consumed, too_many b.bytes old.source new.source old.sink new.sink b.error.code b.error.place b.cause (sym b.status_is ∙ e))
+  pub is-large : RunResult words old new n → n ≡ 7 → (bytes : List ℕ) × GivesBytes old.source new.source bytes × (max_bytes < length bytes)
+  is-large h e = let b = is-failed h (omega (arith, e)) in (b.bytes, b.gives, too_many b.bytes old.source new.source old.sink new.sink b.error.code b.error.place b.cause (sym b.status_is ∙ e))
 
   pub read-told : RunResult words old new n → old.source.faults < new.source.faults → n ≡ 4
   read-told (inl d) l = absurd (omega (arith, l, d.all.read))
@@ -211,4 +212,4 @@ module _ (words : List (List ℕ)) (old new : Streams) (n : ℕ) where
   pub is-complete : RunResult words old new n → NothingFails words old new → (n < 2) ⊎ (n ≡ 6)
   is-complete (inl d) good = inl (below d)
   is-complete (inr (inl (e, r))) good = absurd (r.unasked good.asked)
-  is-complete (inr (inr b)) good = inr (b.status_is ∙ memory_alone b.bytes old.source new.source old.sink new.sink good.bytes good.known good.few good.read good.written b.consumed b.error.code b.error.place b.cause)
+  is-complete (inr (inr b)) good = inr (b.status_is ∙ memory_alone b.bytes old.source new.source old.sink new.sink good.bytes good.known good.few good.read good.written b.gives.consumed b.error.code b.error.place b.cause)

@@ -9,7 +9,7 @@ use Rattle.json_io.specs.declared.error.ErrorCode.TheVariants.{NoMemory, Io}
 use Rattle.json_io.specs.declared.error.Place.{Place}
 use Rattle.json_io.specs.declared.error.Place.TheVariants.{None as nowhere, Writing}
 use Rattle.json_io.specs.Errors.{no_memory, writing_failed}
-use Rattle.json_io.proofs.Known.{Consumes-nil, Appends-nil, Appends-kept, Appends-trans}
+use Rattle.json_io.proofs.Known.{Appends-nil, Appends-kept, Appends-trans}
 use Rattle.json_io.proofs.Putting.{AppendsFront-first, AppendsFront-then, Puts-nil}
 use Rattle.json_command.specs.Reporting.{Reports, ReportsUnlessMuted}
 use Rattle.json_lines.specs.declared.run.Tally.{Tally}
@@ -21,6 +21,7 @@ use Rattle.json_lines.specs.Running.{IsFreshRun, HandlesLines, FinishesLines, Fa
 use Rattle.json_lines.specs.TopCall.{Streams, RunErrorCause, GainsRows, WritesAllRows, WritesFewerRows}
 use Rattle.json_lines.proofs.TextWriting.{Begins-part}
 use Rattle.json_lines.proofs.HandledLines.{IfSome-map}
+use Rattle.json_lines.proofs.ReaderSteps.{gives_bytes, gives_nothing, few_bytes}
 use Rattle.json_lines.proofs.SinkEnds.{same_faults, ok_no_error, err_same}
 use Rattle.json_lines.proofs.Statuses.{cause-line, cause-flush}
 
@@ -40,7 +41,7 @@ pub WritesFewerRows-run : (has : List ℕ → Outcome → Type 0) (a c : RunStat
 WritesFewerRows-run has a c e fresh fails =
     record {
       bytes = fails.bytes;
-      consumed = fails.reads.consumed;
+      gives = gives_bytes a.reader c.reader a.source c.source fails.bytes fails.reads;
       stops = fails.stops;
       cause = causes a c e fails.bytes _ _ (omega (arith, fails.reads.received_so, fresh.received)) fails.cause;
       reading_told = fails.reading_told;
@@ -52,7 +53,7 @@ pub WritesFewerRows-none : (has : List ℕ → Outcome → Type 0) (a : Streams)
 WritesFewerRows-none has a t unmuted =
     record {
       bytes = [];
-      consumed = Consumes-nil a.source.left;
+      gives = gives_nothing a.source;
       stops = some_stops a.source.left;
       cause = tt;
       reading_told = λ l. absurd (omega (arith, l));
@@ -85,9 +86,12 @@ gains_flushed : (has : List ℕ → Outcome → Type 0) (done : List (List ℕ))
 gains_flushed has done a c sink errs errs' t keeps h =
     record { outcomes = h.outcomes; have = h.have; rows = Appends-kept a.gained c.gained sink.gained (rows_of h.outcomes) h.rows.ok keeps; reports = h.reports; bad = h.bad }
 
-pub WritesAllRows-flushed : (has : List ℕ → Outcome → Type 0) (a c : RunState) (sink : SinkState) (u : Unit {0}) → FinishesLines has a c → FlushesAll c.sink sink (Ok u) → WritesAllRows has (streams_of a) (with_sink c sink) c.tally
-WritesAllRows-flushed has a c sink u run flush =
+pub WritesAllRows-flushed : (has : List ℕ → Outcome → Type 0) (a c : RunState) (sink : SinkState) (u : Unit {0}) → IsFreshRun a → FinishesLines has a c → FlushesAll c.sink sink (Ok u) → WritesAllRows has (streams_of a) (with_sink c sink) c.tally
+WritesAllRows-flushed has a c sink u fresh run flush =
     record {
+      bytes = run.bytes;
+      gives = gives_bytes a.reader c.reader a.source c.source run.bytes run.reads;
+      few = few_bytes a.reader.received c.reader.received (length run.bytes) fresh.received run.reads.received_so run.few;
       drained = run.drained;
       no_fault = run.no_fault;
       no_sink_fault = same_faults c.sink.faults sink.faults flush.later.faults (λ l. ok_no_error u writing_failed (flush.told l)) ∙ run.no_sink_fault;
@@ -119,7 +123,7 @@ pub WritesFewerRows-flush : (has : List ℕ → Outcome → Type 0) (a c : RunSt
 WritesFewerRows-flush has a c sink e run flush =
     record {
       bytes = run.bytes;
-      consumed = run.reads.consumed;
+      gives = gives_bytes a.reader c.reader a.source c.source run.bytes run.reads;
       stops = flush_stops has a.source.left run.bytes a.sink c.sink sink a.errs c.errs c.tally run.all run.handled flush.keeps;
       cause = cause-flush run.bytes a.source c.source a.sink sink e.code e.place c.sink run.no_sink_fault flush.cause;
       reading_told = λ l. absurd (omega (arith, l, run.no_fault));

@@ -2,6 +2,7 @@ pub mod Lines
 pub mod Reading
 pub mod LineRanges
 pub mod Ranges
+pub mod LineErrors
 pub mod Rows
 pub mod LineHandling
 pub mod Steps

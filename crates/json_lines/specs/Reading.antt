@@ -36,6 +36,11 @@ line_reader_state r = record { limit = r.limit; held = held_bytes r; received = 
 abbrev pub fresh_reader : ℕ → ReaderState
 fresh_reader limit = record { limit = limit; held = []; received = 0; stopped = None }
 
+-- the source gave these bytes
+pub record GivesBytes (source source' : SourceState) (bytes : List ℕ) : Type 0 where
+  pub consumed : Consumes source.left source'.left bytes
+  pub given_so : source'.given ≡ counted (length bytes) source.given
+
 -- the source gave the reader these bytes
 pub record ReadsBytes (old new : ReaderState) (source source' : SourceState) (bytes : List ℕ) : Type 0 where
   pub consumed : Consumes source.left source'.left bytes

@@ -1,6 +1,8 @@
 -- The outcomes of lines: a row of each good one, and an error of each bad one.
 use Rattle.std.specs.Prelude.{◌≡◌, ℕ, ◌+◌, ◌<◌, ◌≤◌, ◌⊎◌, Bool, true, false, ◌||◌, List, [], ◌∷◌, ◌++◌, length, codes, decimal, ⊤}
 use Rattle.std.specs.List.{flat_map}
+use Rattle.json_lines.specs.LineErrors.{line_error_text}
+use Rattle.json_lines.specs.declared.line_error.LineError.TheVariants.{LineTooLong}
 
 -- the outcome of one line: the bytes of its row, or the text of its error
 pub data Outcome : Type 0 where
@@ -24,7 +26,7 @@ error_bytes number (Row bytes) = []
 error_bytes number (Bad text) = error_line number text
 
 abbrev pub line_too_long : Outcome
-line_too_long = Bad (codes "LineTooLong\n")
+line_too_long = Bad (line_error_text LineTooLong)
 
 -- ---- of many lines
 

@@ -2,12 +2,13 @@
 use Rattle.std.specs.Prelude.{◌≡◌, ◌⊎◌, ℕ, ◌<◌, ◌≤◌, false, List, [], ◌++◌, length, Option, Some, IfSome, if◌then◌else◌}
 use Rattle.json_io.specs.Errors.{bad_words, no_memory}
 use Rattle.json_io.specs.FaultText.{text_of}
-use Rattle.json_io.specs.Known.{Consumes, Appends, told_as}
+use Rattle.json_io.specs.Known.{Appends, told_as}
 use Rattle.json_io.specs.Outside.{Rose}
 use Rattle.json_io.specs.Transfer.{AppendsFront}
 use Rattle.json_io.specs.declared.error.Error.{Error}
 use Rattle.json_lines.specs.Cells.{LinesCommand}
 use Rattle.json_lines.specs.Lines.{lines}
+use Rattle.json_lines.specs.Reading.{GivesBytes}
 use Rattle.json_lines.specs.Outcomes.{HaveOutcomes}
 use Rattle.json_command.specs.Input.{max_bytes}
 use Rattle.json_command.specs.Reporting.{Reports}
@@ -24,8 +25,12 @@ pub record OfOutcomes (words : List (List ℕ)) (known : Option (List ℕ)) (hol
 
 -- ---- status 0 or 1: the run is complete
 
--- the source was read to its end, no call of source or sink failed, and the sink was flushed
+-- the source was read to its end, which came within the limit, no call of source or sink failed,
+-- and the sink was flushed
 pub record ReadsAll (old new : Streams) : Type 0 where
+  pub bytes : List ℕ
+  pub gives : GivesBytes old.source new.source bytes
+  pub few : length bytes ≤ max_bytes
   pub drained : new.source.left ≡ told_as old.source.left []
   pub read : new.source.faults ≡ old.source.faults
   pub written : new.sink.faults ≡ old.sink.faults
@@ -96,7 +101,7 @@ pub record FailsRun (words : List (List ℕ)) (old new : Streams) (status : ℕ)
   pub status_is : status ≡ run_status error.code error.place
   -- the bytes that the source gave in this call
   pub bytes : List ℕ
-  pub consumed : Consumes old.source.left new.source.left bytes
+  pub gives : GivesBytes old.source new.source bytes
   pub cause : RunErrorCause bytes old new error.code error.place
   pub did : FailsBeforeReading error old new ⊎ FailsWhileReading words bytes error old new
   -- the status tells of each failed call of source or sink

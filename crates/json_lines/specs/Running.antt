@@ -41,6 +41,7 @@ pub record FinishesLines (has : List ℕ → Outcome → Type 0) (old new : RunS
   pub reads : ReadsBytes old.reader new.reader old.source new.source bytes
   pub all : IfSome old.source.left (λ b. b ≡ bytes)
   pub drained : new.source.left ≡ told_as old.source.left []
+  pub few : new.reader.received ≤ max_bytes
   pub no_fault : new.source.faults ≡ old.source.faults
   pub no_sink_fault : new.sink.faults ≡ old.sink.faults
   pub same_loan : new.sink.loan ≡ old.sink.loan

@@ -1,6 +1,6 @@
 -- What the call that writes all rows does.
-use Rattle.std.specs.Prelude.{◌≡◌, ℕ, ◌<◌, Bool, false, List, [], ◌++◌, length, IfSome, ⊤}
-use Rattle.json_io.specs.Known.{Consumes, Appends, told_as}
+use Rattle.std.specs.Prelude.{◌≡◌, ℕ, ◌<◌, ◌≤◌, Bool, false, List, [], ◌++◌, length, IfSome, ⊤}
+use Rattle.json_io.specs.Known.{Appends, told_as}
 use Rattle.json_io.specs.Errors.{reading_failed, writing_failed}
 use Rattle.json_io.specs.Outside.{SinkState, SourceState, Rose}
 use Rattle.json_io.specs.Transfer.{AppendsFront}
@@ -13,6 +13,7 @@ use Rattle.json_io.specs.declared.error.Place.{Place}
 use Rattle.json_io.specs.declared.error.Place.TheVariants.{None as nowhere, Reading, Writing}
 use Rattle.json_lines.specs.declared.run.Tally.{Tally}
 use Rattle.json_lines.specs.Lines.{lines}
+use Rattle.json_lines.specs.Reading.{GivesBytes}
 use Rattle.json_command.specs.Input.{max_bytes}
 use Rattle.json_command.specs.Reporting.{ReportsUnlessMuted}
 use Rattle.json_lines.specs.Rows.{Outcome, rows_of, errors_from, some_bad, AllHave}
@@ -48,6 +49,9 @@ pub record GainsRows (has : List ℕ → Outcome → Type 0) (done : List (List 
 
 -- all rows were written and flushed
 pub record WritesAllRows (has : List ℕ → Outcome → Type 0) (old new : Streams) (tally : Tally) : Type 0 where
+  pub bytes : List ℕ
+  pub gives : GivesBytes old.source new.source bytes
+  pub few : length bytes ≤ max_bytes
   pub drained : new.source.left ≡ told_as old.source.left []
   pub no_fault : new.source.faults ≡ old.source.faults
   pub no_sink_fault : new.sink.faults ≡ old.sink.faults
@@ -57,7 +61,7 @@ pub record WritesAllRows (has : List ℕ → Outcome → Type 0) (old new : Stre
 -- the call failed, and the writer may hold rows back
 pub record WritesFewerRows (has : List ℕ → Outcome → Type 0) (old new : Streams) (tally : Tally) (error : Error) : Type 0 where
   pub bytes : List ℕ
-  pub consumed : Consumes old.source.left new.source.left bytes
+  pub gives : GivesBytes old.source new.source bytes
   pub stops : IfSome old.source.left (λ _. StopsEarly has old.sink new.sink old.errs new.errs tally.muted bytes)
   pub cause : RunErrorCause bytes old new error.code error.place
   pub reading_told : old.source.faults < new.source.faults → error ≡ reading_failed
@@ -85,7 +89,7 @@ pub record WritesPrefixes (has : List ℕ → Outcome → Type 0) (sink sink' er
 -- the call failed, seen from the sink itself
 pub record WritesPartOfTable (has : List ℕ → Outcome → Type 0) (old new : Streams) (tally : Tally) (error : Error) : Type 0 where
   pub bytes : List ℕ
-  pub consumed : Consumes old.source.left new.source.left bytes
+  pub gives : GivesBytes old.source new.source bytes
   pub prefixes : IfSome old.source.left (λ _. WritesPrefixes has old.sink new.sink old.errs new.errs tally.muted bytes)
   pub cause : RunErrorCause bytes old new error.code error.place
   pub reading_told : old.source.faults < new.source.faults → error ≡ reading_failed

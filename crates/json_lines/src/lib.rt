@@ -20,11 +20,13 @@
 mod asked;
 mod cells;
 pub mod laws;
+mod line_error;
 mod line_reader;
 mod paths;
 mod run;
 mod table;
 mod top;
 
+pub use line_error::LineError;
 pub use line_reader::{Line, LineReader};
 pub use top::run_lines;

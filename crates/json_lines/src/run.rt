@@ -8,7 +8,7 @@ ghost use Rattle.json_lines.specs.TopCall.{IsNewTally, WritesAllRows, WritesFewe
 ghost use Rattle.json_lines.specs.Steps.{StepResult, StepFails};
 ghost use Rattle.json_command.specs.Reporting.{ReportsUnlessMuted};
 
-use crate::{Line, LineReader};
+use crate::{Line, LineError, LineReader};
 use itoa::Buffer;
 use json_doc::DocumentRoom;
 use json_text::{FaultText, Result, Sink, Source, flush_all, put_all};
@@ -137,7 +137,7 @@ impl Tally {
         let bytes = match line {
             Line::Whole(bytes) => bytes,
             Line::TooLong => {
-                self.report_bad(errs, b"LineTooLong\n");
+                self.report_bad(errs, LineError::LineTooLong.text());
                 return Ok(());
             }
         };

@@ -2,6 +2,7 @@
 ghost use Rattle.std.specs.Prelude.{◌≡◌, ◌≢◌, length, ◌+◌, ◌<◌, ◌≤◌, ◌⊎◌, List, ℕ, true, false, OnOk, IfErr, if◌then◌else◌};
 ghost use Rattle.json_lines.specs.Cells.{LinesCommand};
 ghost use Rattle.json_lines.specs.Outcomes.{HasOutcome};
+ghost use Rattle.json_lines.specs.Reading.{GivesBytes};
 ghost use Rattle.json_lines.specs.Rows.{HasWithin};
 ghost use Rattle.json_lines.specs.Tables.{table_command};
 ghost use Rattle.json_lines.specs.RunResults.{ReadsAll, AppendsRows, TellsErrors, StatusTellsBad, RefusesWords, FailsRun, RunResult, NothingFails};
@@ -10,7 +11,6 @@ ghost use Rattle.json_lines.specs.Words.{AsksForColumns, IsLinesRequest};
 ghost use Rattle.json_command.specs.Input.{max_bytes};
 ghost use Rattle.json_command.specs.Reporting.{Reports};
 ghost use Rattle.json_io.specs.FaultText.{text_of};
-ghost use Rattle.json_io.specs.Known.{Consumes};
 ghost use Rattle.json_command.specs.Statuses.{ReturnsReadStatus, ReturnsWriteStatus, MeansReadFailed, MeansWriteFailed};
 
 use crate::asked::asked;
@@ -186,7 +186,7 @@ pub fn run_lines<S: Source, K: Sink, E: Sink>(
     ensures reading { MeansReadFailed (S.state source.old) (S.state source.new) result }
     ensures writing { MeansWriteFailed (K.state sink.old) (K.state sink.new) result }
     ensures large { result ≡ 7 → (bytes : List ℕ)
-        × Consumes (S.state source.old).left (S.state source.new).left bytes
+        × GivesBytes (S.state source.old) (S.state source.new) bytes
         × (max_bytes < length bytes) }
     ensures read_told { ReturnsReadStatus (S.state source.old) (S.state source.new) result }
     ensures write_told { ReturnsWriteStatus (K.state sink.old) (K.state sink.new) result }

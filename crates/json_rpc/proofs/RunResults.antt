@@ -11,9 +11,9 @@ use Rattle.json_io.specs.declared.error.Place.TheVariants.{None as nowhere, Read
 use Rattle.json_io.specs.Errors.{no_memory, writing_failed}
 use Rattle.json_io.specs.Known.{Appends, Grows, append_known}
 use Rattle.json_io.specs.Lending.{lent_as, ComesBack}
-use Rattle.json_io.specs.Outside.{SinkState, SourceState, Rose, counted}
+use Rattle.json_io.specs.Outside.{SinkState, SourceState, Rose}
 use Rattle.json_io.specs.Transfer.{FlushesAll, WritingCause}
-use Rattle.json_io.proofs.Known.{known-nil, known-append, Consumes-nil}
+use Rattle.json_io.proofs.Known.{known-nil, known-append}
 use Rattle.json_layout.specs.Buffered.{held_behind}
 use Rattle.json_layout.specs.Pieces.{holds_any}
 use Rattle.json_layout.specs.TextWriting.{Begins as BeginsWith, StopCause}
@@ -22,30 +22,25 @@ use Rattle.json_command.proofs.Printing.{none_held}
 use Rattle.json_command.specs.Input.{max_bytes}
 use Rattle.json_lines.specs.Lines.{lines}
 use Rattle.json_lines.specs.Reading.{ReaderState, ReadsBytes, NextLineCause, fresh_reader}
+use Rattle.json_lines.proofs.ReaderSteps.{gives_bytes, gives_nothing, few_bytes}
 use Rattle.json_lines.proofs.SinkEnds.{same_faults, ok_no_error, err_same, came_back, sink_grew}
 use Rattle.json_lines.proofs.Statuses.{cause-line, cause-flush}
 use Rattle.json_rpc.specs.Serving.{Message, max_line_bytes}
 use Rattle.json_rpc.specs.Sessions.{AreMessages, replies}
 use Rattle.json_rpc.specs.Steps.{ServingState, IsFreshServing, FinishesServing, StopsServing}
-use Rattle.json_rpc.specs.RunResults.{ServiceStreams, service_streams, GivesBytes, ServesAll, ServingErrorCause, StopsRun, StopsBuffered}
+use Rattle.json_rpc.specs.RunResults.{ServiceStreams, service_streams, ServesAll, ServingErrorCause, StopsRun, StopsBuffered}
 
 pub fresh_run : (s : ServingState) → s.reader ≡ fresh_reader max_line_bytes → IsFreshServing s
 fresh_run s e = record { limit = ap (λ r. r.limit) e; held = ap (λ r. r.held) e; received = ap (λ r. r.received) e; going = ap (λ r. r.stopped) e }
 
 -- ---- the last flush
 
-gives_bytes : (a c : ServingState) (bytes : List ℕ) → ReadsBytes a.reader c.reader a.source c.source bytes → GivesBytes a.source c.source bytes
-gives_bytes a c bytes h = record { consumed = h.consumed; given_so = h.given_so }
-
-few_bytes : (n m k : ℕ) → n ≡ 0 → m ≡ n + k → m ≤ max_bytes → k ≤ max_bytes
-few_bytes n m k e f l = omega (arith, e, f, l)
-
 serves_all : (a c : ServingState) (out : SinkState) (u : Unit {0}) → IsFreshServing a → a.document ≡ null → FinishesServing a c → FlushesAll c.out out (Ok u) → ServesAll (service_streams a.source a.out) (service_streams c.source out)
 serves_all a c out u fresh begins all flush =
     record {
       reads = record {
         bytes = all.bytes;
-        gives = gives_bytes a c all.bytes all.reads;
+        gives = gives_bytes a.reader c.reader a.source c.source all.bytes all.reads;
         few = few_bytes a.reader.received c.reader.received (length all.bytes) fresh.received all.reads.received_so all.few;
         drained = all.drained;
         read = all.no_fault;
@@ -69,7 +64,7 @@ flush_stops : (a c : ServingState) (out : SinkState) (e : Error) → a.document 
 flush_stops a c out e begins all flush =
     record {
       bytes = all.bytes;
-      gives = gives_bytes a c all.bytes all.reads;
+      gives = gives_bytes a.reader c.reader a.source c.source all.bytes all.reads;
       messages = all.messages;
       are = both_some a.source.left all.bytes all.messages all.all all.are;
       prefix = subst (λ t. BeginsWith out.gained (append_known a.out.gained (replies t all.messages))) begins
@@ -100,7 +95,7 @@ loop_stops a c e fresh begins stop =
     let received : c.reader.received ≡ length stop.bytes = omega (arith, fresh.received, stop.reads.received_so) in
     record {
       bytes = stop.bytes;
-      gives = gives_bytes a c stop.bytes stop.reads;
+      gives = gives_bytes a.reader c.reader a.source c.source stop.bytes stop.reads;
       messages = stop.messages;
       are = stop.are;
       prefix = subst (λ t. BeginsWith c.out.gained (append_known a.out.gained (replies t stop.messages))) begins stop.prefix;
@@ -169,14 +164,11 @@ no_messages : (o : Option (List ℕ)) → IfSome o (λ _. AreMessages (lines [])
 no_messages None = tt
 no_messages (Some b) = tt
 
-counted_none : (n : ℕ) → n ≡ counted 0 n
-counted_none n = omega arith
-
 pub stops_at_once : (s : SourceState) (k : SinkState) (e : Error) → e ≡ no_memory → StopsRun (service_streams s k) (service_streams s k) e
 stops_at_once s k e h =
     record {
       bytes = [];
-      gives = record { consumed = Consumes-nil s.left; given_so = counted_none s.given };
+      gives = gives_nothing s;
       prefix = record {
         messages = [];
         are = no_messages s.left;

@@ -8,10 +8,11 @@ use Rattle.json_io.specs.declared.error.Place.{Place}
 use Rattle.json_io.specs.declared.error.Place.TheVariants.{None as nowhere, Reading, Writing}
 use Rattle.json_io.specs.Errors.{bad_words}
 use Rattle.json_io.specs.FaultText.{text_of}
-use Rattle.json_io.specs.Known.{Consumes, prepend_known}
+use Rattle.json_io.specs.Known.{prepend_known}
 use Rattle.json_io.specs.Outside.{SourceState, SinkState, Rose}
 use Rattle.json_command.specs.Input.{max_bytes}
 use Rattle.json_command.specs.Reporting.{Reports}
+use Rattle.json_lines.specs.Reading.{GivesBytes}
 use Rattle.json_lines.specs.TopCall.{run_status}
 use Rattle.json_lines.proofs.Statuses.{status_above, reading_rose, writing_rose, too_many, memory_alone}
 use Rattle.json_rpc.specs.RunResults.{ServiceStreams, ServesAll, ServingErrorCause, StopsRun, ServingRunFails, RefusesAnyWords, FailsServing, ReportsFailure, CompletesServing, ServingResult, IsRunStatus, NothingFailsServing}
@@ -82,8 +83,8 @@ module _ (words : List (List ℕ)) (old new : ServiceStreams) (errs errs' : Sink
   pub is-write-fault : ServingResult words old new errs errs' n → n ≡ 5 → Rose old.sink.faults new.sink.faults
   is-write-fault h e = let s = is-stopped h (omega (arith, e)) in writing_rose s.2.stops.bytes old.source new.source old.sink new.sink s.0.code s.0.place s.2.stops.cause (sym s.1 ∙ e)
 
-  pub is-large : ServingResult words old new errs errs' n → n ≡ 7 → (bytes : List ℕ) × Consumes old.source.left new.source.left bytes × (max_bytes < length bytes)
-  is-large h e = let s = is-stopped h (omega (arith, e)) in (s.2.stops.bytes, s.2.stops.gives.consumed, too_many s.2.stops.bytes old.source new.source old.sink new.sink s.0.code s.0.place s.2.stops.cause (sym s.1 ∙ e))
+  pub is-large : ServingResult words old new errs errs' n → n ≡ 7 → (bytes : List ℕ) × GivesBytes old.source new.source bytes × (max_bytes < length bytes)
+  is-large h e = let s = is-stopped h (omega (arith, e)) in (s.2.stops.bytes, s.2.stops.gives, too_many s.2.stops.bytes old.source new.source old.sink new.sink s.0.code s.0.place s.2.stops.cause (sym s.1 ∙ e))
 
   read_error : (e : Error) → ServingRunFails words old new e → old.source.faults < new.source.faults → run_status e.code e.place ≡ 4
   read_error e (inl r) l = absurd (omega (arith, l, ap (λ (s : SourceState). s.faults) r.unread))

@@ -6,13 +6,14 @@ use Rattle.json_io.specs.declared.error.ErrorCode.{ErrorCode}
 use Rattle.json_io.specs.declared.error.Place.{Place}
 use Rattle.json_io.specs.Errors.{reading_failed, writing_failed, bad_words}
 use Rattle.json_io.specs.FaultText.{text_of}
-use Rattle.json_io.specs.Known.{Appends, Consumes, append_known, told_as}
-use Rattle.json_io.specs.Outside.{SourceState, SinkState, Rose, counted}
+use Rattle.json_io.specs.Known.{Appends, append_known, told_as}
+use Rattle.json_io.specs.Outside.{SourceState, SinkState, Rose}
 use Rattle.json_io.specs.Transfer.{AppendsFront}
 use Rattle.json_layout.specs.TextWriting.{Begins as BeginsWith}
 use Rattle.json_command.specs.Input.{max_bytes}
 use Rattle.json_command.specs.Reporting.{Reports}
 use Rattle.json_lines.specs.Lines.{lines}
+use Rattle.json_lines.specs.Reading.{GivesBytes}
 use Rattle.json_lines.specs.TopCall.{ErrorCause, run_status}
 use Rattle.json_rpc.specs.Serving.{Message}
 use Rattle.json_rpc.specs.Sessions.{AreMessages, replies}
@@ -24,11 +25,6 @@ pub record ServiceStreams : Type 0 where
 
 abbrev pub service_streams : SourceState → SinkState → ServiceStreams
 service_streams source sink = record { source = source; sink = sink }
-
--- the source gave these bytes in this call
-pub record GivesBytes (source source' : SourceState) (bytes : List ℕ) : Type 0 where
-  pub consumed : Consumes source.left source'.left bytes
-  pub given_so : source'.given ≡ counted (length bytes) source.given
 
 -- ---- status 0: every line was served
 

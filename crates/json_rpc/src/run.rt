@@ -1,11 +1,10 @@
 // The whole program, over any source and any sinks.
 ghost use Rattle.std.specs.Prelude.{◌≡◌, ◌≢◌, ◌⊎◌, ◌<◌, List, ℕ, [], length, OnOk, IfErr};
 ghost use Rattle.json_command.specs.Input.{max_bytes};
-ghost use Rattle.json_lines.specs.Reading.{line_reader_state, fresh_reader};
+ghost use Rattle.json_lines.specs.Reading.{line_reader_state, fresh_reader, GivesBytes};
 ghost use Rattle.json_lines.specs.TopCall.{run_status as spec_run_status};
 ghost use Rattle.json_rpc.specs.RunResults.{service_streams, ReadsWholeSource, AppendsReplies, WritesAll, ServesAll, StopsRun, StopsBuffered, ServingRunFails, RefusesAnyWords, ReportsFailure, ServingResult, IsRunStatus, NothingFailsServing};
 ghost use Rattle.json_io.specs.Errors.{bad_words};
-ghost use Rattle.json_io.specs.Known.{Consumes};
 ghost use Rattle.json_command.specs.Statuses.{ReturnsReadStatus, ReturnsWriteStatus, MeansReadFailed, MeansWriteFailed};
 
 use crate::lines::serve_lines;
@@ -171,7 +170,7 @@ pub fn run_rpc<S: Source, K: Sink, E: Sink>(
     ensures reading { MeansReadFailed (S.state source.old) (S.state source.new) result }
     ensures writing { MeansWriteFailed (K.state sink.old) (K.state sink.new) result }
     ensures large { result ≡ 7 → (bytes : List ℕ)
-        × Consumes (S.state source.old).left (S.state source.new).left bytes
+        × GivesBytes (S.state source.old) (S.state source.new) bytes
         × (max_bytes < length bytes) }
     ensures read_told { ReturnsReadStatus (S.state source.old) (S.state source.new) result }
     ensures write_told { ReturnsWriteStatus (K.state sink.old) (K.state sink.new) result }

@@ -5,14 +5,14 @@ use Rattle.json_io.specs.Transfer.{FlushesAll}
 use Rattle.json_io.specs.declared.error.Error.{Error}
 use Rattle.json_lines.specs.Rows.{Outcome, HasWithin}
 use Rattle.json_lines.specs.Steps.{RunState}
-use Rattle.json_lines.specs.Running.{run_state, FinishesLines}
+use Rattle.json_lines.specs.Running.{run_state, IsFreshRun, FinishesLines}
 use Rattle.json_lines.specs.TopCall.{WritesAllRows, WritesFewerRows}
 use Rattle.json_lines.proofs.RunStatus.{WritesFewerRows-none, WritesAllRows-flushed, WritesFewerRows-flush, streams_of, with_sink}
 use Rattle.json_lines.proofs.run.write_all_rows.Goals as goal
 
-flushed : (has : List ℕ → Outcome → Type 0) (a c : RunState) (sink : SinkState) (r : Result (Unit {0}) Error) → FinishesLines has a c → FlushesAll c.sink sink r → OnOk r (WritesAllRows has (streams_of a) (with_sink c sink) c.tally)
-flushed has a c sink (Ok u) run flush = WritesAllRows-flushed has a c sink u run flush
-flushed has a c sink (Err e) run flush = tt
+flushed : (has : List ℕ → Outcome → Type 0) (a c : RunState) (sink : SinkState) (r : Result (Unit {0}) Error) → IsFreshRun a → FinishesLines has a c → FlushesAll c.sink sink r → OnOk r (WritesAllRows has (streams_of a) (with_sink c sink) c.tally)
+flushed has a c sink (Ok u) fresh run flush = WritesAllRows-flushed has a c sink u fresh run flush
+flushed has a c sink (Err e) fresh run flush = tt
 
 unflushed : (has : List ℕ → Outcome → Type 0) (a c : RunState) (sink : SinkState) (r : Result (Unit {0}) Error) → FinishesLines has a c → FlushesAll c.sink sink r → IfErr r (λ e. WritesFewerRows has (streams_of a) (with_sink c sink) c.tally e)
 unflushed has a c sink (Ok u) run flush = tt
@@ -29,7 +29,15 @@ returns-in-Ok-clause-ok g c =
     let limit = ap (λ s. s.limit) c.in_ok-reader.ensures.ok in
     let a = run_state c.in_ok-reader.reader (g.S.Source.state c.args.source.now) (g.K.Sink.state c.args.sink.now) (g.E.Sink.state c.args.errs.now) c.args.tally.now in
     let n = run_state c.write_rows.new.run.reader (g.S.Source.state c.write_rows.new.source) (g.K.Sink.state c.write_rows.new.sink) (g.E.Sink.state c.write_rows.new.errs) c.write_rows.new.tally in
-    flushed (HasWithin 1048576 has) a n (g.K.Sink.state c.flush_all.new.sink) c.flush_all.result
+    let fresh : IsFreshRun a = record {
+      held = ap (λ s. s.held) c.in_ok-reader.ensures.ok;
+      received = ap (λ s. s.received) c.in_ok-reader.ensures.ok;
+      going = ap (λ s. s.stopped) c.in_ok-reader.ensures.ok;
+      number = c.requires.number;
+      good = c.requires.good;
+      unmuted = c.requires.unmuted;
+    } in
+    flushed (HasWithin 1048576 has) a n (g.K.Sink.state c.flush_all.new.sink) c.flush_all.result fresh
     (subst (λ m. FinishesLines (HasWithin m has) a n) limit c.in-Ok.ensures.ok) c.flush_all.ensures
 
 pub returns-in-Ok-clause-err : goal.returns-in-Ok-clause-err
