@@ -1,12 +1,15 @@
 -- The document of the operations between two trees is a patch that leads from the one to the other.
-use Rattle.std.proofs.Common.{◌≡◌, ◌↔◌, List, [], ◌∷◌, map, true, Some, Ok, refl, sym, ap, ap₂, ◌∙◌, subst}
-use Rattle.json_grammar.specs.Tree.{Tree, list, no_trees}
+use Rattle.std.proofs.Common.{◌≡◌, ◌↔◌, ℕ, ◌+◌, ◌≤◌, List, [], ◌∷◌, length, map, true, Some, Ok, refl, sym, ap, ap₂, ◌∙◌, subst, arith}
+use Rattle.std.proofs.lemmas.List.{length-map}
+use Rattle.json_grammar.specs.Sizes.{nodes}
+use Rattle.json_grammar.specs.Tree.{Tree, list, no_trees, list_trees, trees_list}
 use Rattle.json_model.specs.Same.{same}
 use Rattle.json_patch.specs.Patch.{Operation, add, remove, replace, move, copy, test, operation_with_value, with_path, operation_of, applied_from, patched}
 use Rattle.json_diff.specs.Diff.{operations_between}
-use Rattle.json_diff.specs.DiffDocument.{operation_below, patch_document, patch_between, PatchLeads, EmptyPatchBetweenSame}
+use Rattle.json_diff.specs.DiffDocument.{operation_below, patch_document, patch_between, operation_count, PatchLeads, EmptyPatchBetweenSame}
 use Rattle.json_patch.proofs.PointerTexts.{pointer_text_parses}
 use Rattle.json_patch.proofs.PatchOrder.{patch_applies_operations}
+use Rattle.json_diff.proofs.FewOperations.{few_operations}
 use Rattle.json_diff.proofs.DiffSteps.{IsBelowRoot, AreBelowRoot}
 use Rattle.json_diff.proofs.OperationsLead.{all_operations_below, operations_lead, no_operations_between_same}
 
@@ -41,3 +44,13 @@ leads_in t u p e = subst (λ (q : Tree). (w : Tree) × (patched t q ≡ Ok w) ×
 
 pub same_in : (t u p : Tree) → p ≡ patch_between t u → (p ≡ list no_trees) ↔ (same t u ≡ true)
 same_in t u p e = let a = empty_patch_between_same t u in (λ h. a.1 (sym e ∙ h), λ h. e ∙ a.0 h)
+
+listed : (ts : List Tree) → length (trees_list (list_trees ts)) ≡ length ts
+listed [] = refl
+listed (t ∷ ts) = omega (arith, listed ts)
+
+count_of : (os : List Operation) → operation_count (patch_document os) ≡ length os
+count_of os = listed (map (operation_below []) os) ∙ length-map os (operation_below [])
+
+pub few_in : (t u p : Tree) → p ≡ patch_between t u → operation_count p ≤ nodes t + nodes u
+few_in t u p e = subst (λ q. operation_count q ≤ nodes t + nodes u) (sym e) (omega (arith, count_of (operations_between t u), few_operations t u))

@@ -5,6 +5,7 @@ mod DiffSteps
 mod DiffMembers
 mod DiffElements
 mod OperationsLead
+mod FewOperations
 mod DiffDocument
 mod OperationsBelow
 mod DiffParts

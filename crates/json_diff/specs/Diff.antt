@@ -1,5 +1,6 @@
 -- The JSON Patch (RFC 6902) that leads from one tree to another.
-use Rattle.std.specs.Prelude.{◌≡◌, ℕ, zero, suc, ◌-◌, List, [], ◌∷◌, ◌++◌, length, map, take, reverse, Bool, true, false, cond, ◌&&◌, nat_lt, Option, None, Some, Ok, decimal}
+use Rattle.std.specs.Prelude.{◌≡◌, ℕ, zero, suc, ◌+◌, ◌-◌, ◌≤◌, List, [], ◌∷◌, ◌++◌, length, map, take, reverse, Bool, true, false, cond, ◌&&◌, nat_lt, Option, None, Some, Ok, decimal}
+use Rattle.json_grammar.specs.Sizes.{nodes}
 use Rattle.json_grammar.specs.Tree.{Tree, null, boolean, num, text, list, pairs, Trees, no_trees, tree_and, trees_list, Pairs, no_pairs, pair_and}
 use Rattle.json_model.specs.Edit.{has_key}
 use Rattle.json_model.specs.Same.{first_value, same}
@@ -105,3 +106,7 @@ OperationsLead = (t u : Tree) → OperationsMakeSame (operations_between t u) t 
 -- there are none exactly if the trees are the same
 abbrev pub NoOperationsBetweenSame : Type 0
 NoOperationsBetweenSame = (t u : Tree) → same t u ≡ true → operations_between t u ≡ []
+
+-- there are at most as many as the two trees have values and names
+abbrev pub FewOperations : Type 0
+FewOperations = (t u : Tree) → length (operations_between t u) ≤ nodes t + nodes u

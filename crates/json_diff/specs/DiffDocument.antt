@@ -1,10 +1,10 @@
 -- The document of a JSON Patch (RFC 6902, section 3): an array of its operations.
-use Rattle.std.specs.Prelude.{◌≡◌, ℕ, List, [], ◌++◌, map, Ok, codes, true}
+use Rattle.std.specs.Prelude.{◌≡◌, ℕ, List, [], ◌++◌, length, map, Ok, codes, true}
 use Rattle.json_grammar.specs.Tree.{Tree, text, list, pairs, Pairs, no_pairs, pair_and, no_trees, list_trees}
 use Rattle.json_model.specs.Same.{same}
 use Rattle.json_patch.specs.Pointer.{ReferenceToken, pointer_text}
 use Rattle.json_patch.specs.Patch.{Operation, add, remove, replace, move, copy, test, patched}
-use Rattle.json_diff.specs.Diff.{operations_between}
+use Rattle.json_diff.specs.Diff.{array_elements, operations_between}
 
 -- the text of the pointer from the value at b
 abbrev pub pointer_below : List ℕ → List ReferenceToken → Tree
@@ -30,6 +30,10 @@ patch_document os = list (list_trees (map (operation_below []) os))
 -- the patch between two trees
 abbrev pub patch_between : Tree → Tree → Tree
 patch_between t u = patch_document (operations_between t u)
+
+-- how many operations a patch has
+abbrev pub operation_count : Tree → ℕ
+operation_count p = length (array_elements p)
 
 -- ---- laws
 

@@ -1,9 +1,10 @@
 // The JSON Patch (RFC 6902) that leads from one value to another.
-ghost use Rattle.std.specs.Prelude.{◌≡◌, ◌↔◌, ◌++◌, ◌∷◌, ◌&&◌, ◌≤◌, [], Ok, true, map, option_map, slice_get, is_some, length, string_bytes, codes, OnOk, IfOk, IfSome};
+ghost use Rattle.std.specs.Prelude.{◌≡◌, ◌↔◌, ◌++◌, ◌∷◌, ◌&&◌, ◌≤◌, ◌+◌, [], Ok, true, map, option_map, slice_get, is_some, length, string_bytes, codes, OnOk, IfOk, IfSome};
+ghost use Rattle.json_grammar.specs.Sizes.{nodes};
 ghost use Rattle.json_grammar.specs.Tree.{Tree, text, list as array, pairs as object, no_trees, no_pairs, pair_and, list_pairs, list_trees};
 ghost use Rattle.json_model.specs.Same.{same};
 ghost use Rattle.json_diff.specs.Diff.{whole, key_removals, common_back, element_removals, operations_between, members_operations, element_operations};
-ghost use Rattle.json_diff.specs.DiffDocument.{operation_members, patch_between};
+ghost use Rattle.json_diff.specs.DiffDocument.{operation_members, operation_count, patch_between};
 ghost use Rattle.json_diff.specs.DiffParts.{are_keyed, are_arrays, child_operations, operations_at};
 ghost use Rattle.json_diff.specs.DiffWriting.{AppendsTrees, AppendsOperations};
 ghost use Rattle.json_patch.specs.Patch.{remove, patched};
@@ -319,8 +320,8 @@ fn between(alloc: Global, from: &Value, to: &Value) -> Result<Value>
 ///
 /// Members that both objects have, and elements at the same index, are led to each other. Others
 /// are added or removed. The last elements of two arrays that are the same are kept. Where a key
-/// repeats in one of two objects that differ, the object is replaced. Fails with `NoMemory` if
-/// memory runs out.
+/// repeats in one of two objects that differ, the object is replaced. There are at most as many
+/// operations as the two have values and names. Fails with `NoMemory` if memory runs out.
 ///
 /// ```
 /// use json_diff::diff;
@@ -342,6 +343,8 @@ pub fn diff(alloc: Global, from: &Value, to: &Value) -> Result<Value>
         × (same w (tree_of to.now) ≡ true)) }
     ensures same { IfOk result (λ p. (tree_of p ≡ array no_trees)
         ↔ (same (tree_of from.now) (tree_of to.now) ≡ true)) }
+    ensures few { IfOk result (λ p. operation_count (tree_of p)
+        ≤ nodes (tree_of from.now) + nodes (tree_of to.now)) }
     ensures only { OnlyNoMemory result }
 {
     between(alloc, from, to)

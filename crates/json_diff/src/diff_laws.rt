@@ -1,4 +1,5 @@
 // Laws of the patches that lead from one tree to another.
+ghost use Rattle.json_diff.specs.Diff.{FewOperations};
 ghost use Rattle.json_diff.specs.DiffDocument.{PatchLeads, EmptyPatchBetweenSame};
 ghost use Rattle.json_diff.specs.MergeDiff.{MergePatchLeads, MergePatchOfSame, MergePatchExists};
 
@@ -25,4 +26,9 @@ pub fn patch_leads()
 /// The patch between two trees is the empty array exactly if they are the same.
 pub fn empty_patch_between_same()
     ensures { EmptyPatchBetweenSame }
+{}
+
+/// The patch between two trees has at most as many operations as they have values and names.
+pub fn few_operations()
+    ensures { FewOperations }
 {}

@@ -234,8 +234,8 @@ fn between(alloc: Global, from: &Value, to: &Value) -> Result<Option<Value>>
 /// same it is the empty object. Keys that are gone are removed, members that differ are changed,
 /// and an array that differs is replaced.
 ///
-/// Returns `None` where `to` has a null member that `from` has not: no merge patch makes one. So
-/// where a key repeats in one of two objects that differ. Fails with `NoMemory` if memory runs out.
+/// Returns `None` where `to` has a null member that `from` has not, and where a key repeats in one
+/// of two objects that differ. Fails with `NoMemory` if memory runs out.
 ///
 /// ```
 /// use json_diff::merge_diff;
