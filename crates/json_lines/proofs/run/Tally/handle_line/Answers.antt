@@ -1,6 +1,5 @@
 use Rattle.std.proofs.Common.{rules, subst, sym, refl}
-use Rattle.json_command.specs.Reporting.{ReportsUnlessMuted}
-use Rattle.json_lines.specs.Rows.{line_too_long, error_line}
+use Rattle.json_lines.specs.Rows.{line_too_long}
 use Rattle.json_lines.specs.LineHandling.{LineHas}
 use Rattle.json_lines.proofs.TextWriting.{WritesText-nil}
 use Rattle.json_lines.proofs.run.Tally.handle_line.Goals as goal
@@ -11,7 +10,7 @@ returns-in-TooLong-clause-ok g c =
       outcome = line_too_long;
       has_it = subst (λ l. LineHas (g.R.RowWriter.has_outcome c.args.room.now.rows.now) l line_too_long) (sym c.in-TooLong.is) refl;
       row = WritesText-nil _;
-      report = subst (λ s. ReportsUnlessMuted _ _ _ _ (error_line _ s)) c.text.ensures c.report_bad.ensures.reports;
+      report = rw c.report_bad.ensures.number (rw c.text.ensures at c.report_bad.ensures.reports);
       number = search rules;
       bad = search rules;
     }
