@@ -1,3 +1,4 @@
+pub mod HelpAsked
 pub mod Operands
 pub mod CommandLines
 pub mod Lines
