@@ -24,6 +24,7 @@ typedef struct {
     uint32_t next;         /* the node that is read next */
     PyObject *parse_int;   /* NULL for int */
     PyObject *parse_float; /* NULL for float */
+    PyObject *object_hook; /* NULL for none */
     PyObject *names;       /* each name that was made: equal names share one object */
     char *bytes;           /* a copied text, with a zero after it */
     size_t room;           /* of `bytes`, the zero not counted */
@@ -224,7 +225,7 @@ static PyObject *make_list(reader *r, size_t length)
     return list;
 }
 
-/* Of members of one name the last counts. */
+/* Of members of one name the last counts. The hook of the caller, if any, gets the dict. */
 static PyObject *make_dict(reader *r, size_t length)
 {
     PyObject *dict = PyDict_New(), *name, *value;
@@ -237,7 +238,11 @@ static PyObject *make_dict(reader *r, size_t length)
         Py_XDECREF(name);
         Py_XDECREF(value);
     }
-    return dict;
+    if (!dict || !r->object_hook)
+        return dict;
+    value = PyObject_CallFunctionObjArgs(r->object_hook, dict, NULL);
+    Py_DECREF(dict);
+    return value;
 }
 
 /* Reads the next value. A document has at most 1,024 levels. */
@@ -309,8 +314,8 @@ static PyObject *read_text(PyObject *module, PyObject *const *arguments, Py_ssiz
     PyObject *value;
     reader *r;
     (void)module;
-    if (count != 6 || !PyBytes_CheckExact(arguments[0])) {
-        PyErr_SetString(PyExc_TypeError, "read takes bytes and five more arguments");
+    if (count != 7 || !PyBytes_CheckExact(arguments[0])) {
+        PyErr_SetString(PyExc_TypeError, "read takes bytes and six more arguments");
         return NULL;
     }
     options.depth = (uint32_t)PyLong_AsUnsignedLongMask(arguments[1]);
@@ -328,16 +333,17 @@ static PyObject *read_text(PyObject *module, PyObject *const *arguments, Py_ssiz
     }
     r->parse_int = arguments[3] == Py_None ? NULL : arguments[3];
     r->parse_float = arguments[4] == Py_None ? NULL : arguments[4];
+    r->object_hook = arguments[5] == Py_None ? NULL : arguments[5];
     status = parse(r, arguments[0], &options, &fault);
     r->next = r->document.root;
-    value = status == MEZDRUK_OK ? next_value(r) : raise_fault(arguments[5], status, &fault);
+    value = status == MEZDRUK_OK ? next_value(r) : raise_fault(arguments[6], status, &fault);
     clear(r);
     return value;
 }
 
 static PyMethodDef METHODS[] = {
     {"read", (PyCFunction)(void (*)(void))read_text, METH_FASTCALL,
-     "read(text, depth, unique_keys, parse_int, parse_float, fail)\n--\n\n"
+     "read(text, depth, unique_keys, parse_int, parse_float, object_hook, fail)\n--\n\n"
      "Returns the value of a JSON text, or calls fail(status, code, offset, line, column, item)."},
     {NULL, NULL, 0, NULL},
 };

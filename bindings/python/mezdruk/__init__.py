@@ -14,8 +14,9 @@ from __future__ import annotations
 
 from mezdruk._calls import check, edit, get, is_valid, merge_patch, patch
 from mezdruk._document import Document, View
+from mezdruk._dumps import dump, dumps
 from mezdruk._errors import ApplyError, ArgumentError, Error, TextError
-from mezdruk._loads import loads
+from mezdruk._loads import load, loads
 
 __version__ = "0.1.0"
 
@@ -27,9 +28,12 @@ __all__ = [
     "TextError",
     "View",
     "check",
+    "dump",
+    "dumps",
     "edit",
     "get",
     "is_valid",
+    "load",
     "loads",
     "merge_patch",
     "patch",

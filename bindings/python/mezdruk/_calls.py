@@ -2,21 +2,27 @@
 
 from __future__ import annotations
 
-import json
 from typing import Any, Sequence, TypeVar, Union
 
+from mezdruk._encode import encode
 from mezdruk._errors import Error, fail
 from mezdruk._native import ffi, lib
 
 Text = TypeVar("Text", str, bytes)
+Source = Union[str, bytes, bytearray, memoryview]
 Indent = Union[None, int, str]
 
 
-def encoded(text: Union[str, bytes]) -> bytes:
+def encoded(text: Source) -> bytes:
     """Returns the bytes of a text. Those of a `bytearray`, which may change, are copied."""
     if isinstance(text, str):
         return text.encode("utf-8", "surrogatepass")
-    return text if type(text) is bytes else bytes(memoryview(text))
+    if type(text) is bytes:
+        return text
+    try:
+        return bytes(memoryview(text))
+    except TypeError:
+        raise TypeError(f"a text is str or bytes, and not {type(text).__name__}") from None
 
 
 def checked_depth(depth: int) -> int:
@@ -50,7 +56,7 @@ def options(
 def _json(argument: Any) -> bytes:
     if isinstance(argument, (str, bytes)):
         return encoded(argument)
-    return json.dumps(argument, separators=(",", ":")).encode("ascii")
+    return encode(argument).encode("utf-8", "surrogatepass")
 
 
 def _changed(call: Any, text: Text, argument: bytes, asked: Any) -> Text:
@@ -62,7 +68,7 @@ def _changed(call: Any, text: Text, argument: bytes, asked: Any) -> Text:
         asked, output, fault,
     )
     if status:
-        fail(status, fault)
+        fail(status, fault, source, argument)
     try:
         result = bytes(ffi.buffer(output.bytes, output.length))
     finally:
@@ -70,7 +76,7 @@ def _changed(call: Any, text: Text, argument: bytes, asked: Any) -> Text:
     return result.decode() if isinstance(text, str) else result
 
 
-def check(text: Union[str, bytes], *, depth: int = 254, unique_keys: bool = False) -> None:
+def check(text: Source, *, depth: int = 254, unique_keys: bool = False) -> None:
     """Raises TextError unless the text is JSON of at most `depth` levels.
 
     With `unique_keys` the names of each object have to differ.
@@ -80,10 +86,10 @@ def check(text: Union[str, bytes], *, depth: int = 254, unique_keys: bool = Fals
     asked = options(depth, unique_keys)
     status = lib.mezdruk_check(ffi.from_buffer(source), len(source), asked, fault)
     if status:
-        fail(status, fault)
+        fail(status, fault, source)
 
 
-def is_valid(text: Union[str, bytes], *, depth: int = 254, unique_keys: bool = False) -> bool:
+def is_valid(text: Source, *, depth: int = 254, unique_keys: bool = False) -> bool:
     """Returns whether the text is JSON of at most `depth` levels."""
     try:
         check(text, depth=depth, unique_keys=unique_keys)

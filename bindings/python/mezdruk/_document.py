@@ -2,10 +2,12 @@
 
 from __future__ import annotations
 
+import decimal
 import threading
-from typing import Any, Iterator, Tuple, Union
+from typing import Any, Iterator, List, Tuple, Union, overload
 
-from mezdruk._calls import Indent, encoded, options
+from mezdruk._calls import Indent, Source, encoded, options
+from mezdruk._encode import Exact
 from mezdruk._errors import fail
 from mezdruk._native import ffi, lib
 
@@ -23,7 +25,7 @@ class Document:
     """
 
     def __init__(
-        self, text: Union[str, bytes], *, depth: int = 254, unique_keys: bool = False
+        self, text: Source, *, depth: int = 254, unique_keys: bool = False
     ) -> None:
         source = encoded(text)
         fault = ffi.new("mezdruk_fault *")
@@ -33,7 +35,7 @@ class Document:
             ffi.from_buffer(source), len(source), options(depth, unique_keys), self._handle, fault
         )
         if status:
-            fail(status, fault)
+            fail(status, fault, source)
 
     @property
     def root(self) -> View:
@@ -47,10 +49,24 @@ class Document:
         return self._handle
 
 
-class View:
+def _number(literal: str) -> Tuple[str, Any]:
+    """Returns what equals that of another number, and nothing else, if the exact values are equal.
+
+    Of a literal whose exponent is too large for a `Decimal` it has the literal.
+    """
+    try:
+        return "number", decimal.Decimal(literal)
+    except decimal.InvalidOperation:
+        return "number", literal
+
+
+class View(Exact):
     """A value of a document.
 
-    An array has a length, indexes and iteration; an object has a length, names and `items()`.
+    An array has a length, indexes, slices and iteration. An object has a length, names, `in`,
+    `get`, `keys`, `values` and `items`. A view is true as its value is: null, false, zero and what
+    is empty are not. It equals what `value()` returns, and another view if the values are equal,
+    numbers by their exact values.
     """
 
     __slots__ = ("_document", "_node", "_shown")
@@ -69,28 +85,82 @@ class View:
 
     def __len__(self) -> int:
         if self._shown.kind in (lib.MEZDRUK_ARRAY, lib.MEZDRUK_OBJECT):
-            return self._shown.length
+            return int(self._shown.length)
         raise TypeError(f"a value of kind {self.kind} has no length")
 
     def __bool__(self) -> bool:
-        return True
+        kind = self._shown.kind
+        if kind == lib.MEZDRUK_BOOLEAN:
+            return bool(self._shown.boolean)
+        if kind == lib.MEZDRUK_NUMBER:
+            mantissa = self.literal.lower().partition("e")[0]
+            return bool(mantissa.strip("-0."))
+        return bool(kind != lib.MEZDRUK_NULL and self._shown.length)
 
-    def __getitem__(self, step: Union[int, str]) -> View:
+    def __eq__(self, other: object) -> bool:
+        if isinstance(other, View):
+            exact = {"parse_int": _number, "parse_float": _number}
+            return bool(self.value(**exact) == other.value(**exact))
+        return bool(self.value() == other)
+
+    __hash__ = None  # type: ignore[assignment]
+
+    def __repr__(self) -> str:
+        kind, count = self.kind, self._shown.length
+        if kind == "array":
+            return f"<View: array of {count} element{'s' * (count != 1)}>"
+        if kind == "object":
+            return f"<View: object of {count} member{'s' * (count != 1)}>"
+        text = self.print()
+        return f"<View: {text if len(text) <= 60 else text[:57] + '...'}>"
+
+    @overload
+    def __getitem__(self, step: Union[int, str]) -> View: ...
+
+    @overload
+    def __getitem__(self, step: slice) -> List[View]: ...
+
+    def __getitem__(self, step: Union[int, str, slice]) -> Union[View, List[View]]:
+        if isinstance(step, slice):
+            if self._shown.kind != lib.MEZDRUK_ARRAY:
+                raise TypeError(f"a value of kind {self.kind} has no slices")
+            return list(self._elements())[step]
         if isinstance(step, str):
             for name, node in self._members():
                 if name == step:
                     return View(self._document, node)
             raise KeyError(step)
         index = step + len(self) if step < 0 else step
-        node = ffi.new("uint32_t *")
-        if index < 0 or not lib.mezdruk_element(self._document.handle(), self._node, index, node):
+        found = ffi.new("uint32_t *")
+        if index < 0 or not lib.mezdruk_element(self._document.handle(), self._node, index, found):
             raise IndexError(step)
-        return View(self._document, node[0])
+        return View(self._document, found[0])
 
     def __iter__(self) -> Iterator[Any]:
         if self._shown.kind == lib.MEZDRUK_OBJECT:
             return (name for name, _ in self._members())
         return self._elements()
+
+    def __contains__(self, it: object) -> bool:
+        """Whether an object has the name, or an array an element that equals the value."""
+        if self._shown.kind == lib.MEZDRUK_OBJECT:
+            return any(name == it for name, _ in self._members())
+        return any(element == it for element in self._elements())
+
+    def get(self, name: str, default: Any = None) -> Any:
+        """The value of the first member of an object with the name, or the default."""
+        for found, node in self._members():
+            if found == name:
+                return View(self._document, node)
+        return default
+
+    def keys(self) -> Iterator[str]:
+        """The names of an object, in their order."""
+        return (name for name, _ in self._members())
+
+    def values(self) -> Iterator[View]:
+        """The values of an object, in their order."""
+        return (View(self._document, node) for _, node in self._members())
 
     def items(self) -> Iterator[Tuple[str, View]]:
         """The names and values of an object, in their order."""
@@ -141,7 +211,7 @@ class View:
         asked = options(254, False, sort_keys, indent)
         status = lib.mezdruk_print(self._document.handle(), self._node, asked, output, fault)
         if status:
-            fail(status, fault)
+            fail(status, fault, b"")
         try:
             return bytes(ffi.buffer(output.bytes, output.length)).decode()
         finally:

@@ -35,15 +35,23 @@ _NAMES = {
 }
 
 _NONE = 2**64 - 1
+# The bytes that do not begin a character of UTF-8.
+_CONTINUATION = bytes(range(0x80, 0xC0))
 
 
 class Error(ValueError):
     """Why a call failed.
 
-    `code` is the name of the error. `offset`, `line` and `column` are the position in bytes, with
-    lines and columns counted from 1, or None. `item` is the index of the edit or the operation that
-    does not apply, or None.
+    `code` is the name of the error. `offset`, `line` and `column` are the position in bytes of
+    UTF-8, with lines and columns counted from 1, or None. `pos`, `lineno` and `colno` are the same
+    position in characters, as `json.JSONDecodeError` has it. Of an `ArgumentError` it is the
+    position in the edits, the patch or the pointer. `item` is the index of the edit or the
+    operation that does not apply, or None.
     """
+
+    pos: Optional[int] = None
+    lineno: Optional[int] = None
+    colno: Optional[int] = None
 
     def __init__(
         self,
@@ -87,22 +95,33 @@ _CLASSES = {
 }
 
 
-def fail(status: int, fault: Any) -> NoReturn:
-    """Raises the error of a status and a fault."""
-    fail_with(status, fault.code, fault.offset, fault.line, fault.column, fault.item)
+def fail(status: int, fault: Any, text: bytes, argument: bytes = b"") -> NoReturn:
+    """Raises the error of a status and a fault of a call on a text and an argument."""
+    parts = (fault.code, fault.offset, fault.line, fault.column, fault.item)
+    fail_with(argument if status == lib.MEZDRUK_BAD_ARGUMENT else text, status, *parts)
 
 
 def fail_with(
-    status: int, code: int, offset: int, line: int, column: int, item: int
+    text: bytes, status: int, code: int, offset: int, line: int, column: int, item: int
 ) -> NoReturn:
-    """Raises the error of a status and of what a fault has."""
+    """Raises the error of a status and of what a fault has, which is of this text."""
     if status == lib.MEZDRUK_NO_MEMORY:
         raise MemoryError
     placed = offset != _NONE
-    raise _CLASSES[status](
+    error = _CLASSES[status](
         _NAMES.get(code, str(code)),
         offset if placed else None,
         line if placed else None,
         column if placed else None,
         item if item != _NONE else None,
     )
+    if placed:
+        error.pos = _characters(text[:offset])
+        error.lineno = line
+        error.colno = _characters(text[text.rfind(b"\n", 0, offset) + 1 : offset]) + 1
+    raise error
+
+
+def _characters(text: bytes) -> int:
+    """Returns how many characters begin in the bytes."""
+    return len(text.translate(None, _CONTINUATION))

@@ -2,18 +2,20 @@
 
 from __future__ import annotations
 
-from typing import Any, Callable, Union
+import functools
+from typing import IO, Any, Callable, Dict, Optional
 
-from mezdruk._calls import checked_depth, encoded
+from mezdruk._calls import Source, checked_depth, encoded
 from mezdruk._errors import fail_with
 from mezdruk._reader import read
 
 
 def loads(
-    text: Union[str, bytes],
+    text: Source,
     *,
     parse_int: Callable[[str], Any] = int,
     parse_float: Callable[[str], Any] = float,
+    object_hook: Optional[Callable[[Dict[str, Any]], Any]] = None,
     depth: int = 254,
     unique_keys: bool = False,
 ) -> Any:
@@ -21,12 +23,21 @@ def loads(
 
     `parse_int` and `parse_float` get the literal of a number as it is in the text: `parse_float` if
     it has a fraction or an exponent, as with `json.loads`. Of members of one name the last counts.
+    `object_hook` gets each dict once it is read, innermost first, and what it returns takes the
+    place of the dict.
     """
+    source = encoded(text)
     return read(
-        encoded(text),
+        source,
         checked_depth(depth),
         bool(unique_keys),
         None if parse_int is int else parse_int,
         None if parse_float is float else parse_float,
-        fail_with,
+        object_hook,
+        functools.partial(fail_with, source),
     )
+
+
+def load(file: IO[Any], **choices: Any) -> Any:
+    """Returns the value of the JSON text of a file; the choices are those of `loads`."""
+    return loads(file.read(), **choices)
