@@ -83,7 +83,7 @@ pub fn run(rt: &HostRuntime, console: &mut Console) -> u8 {
 #[derive(Drop)]
 pub struct Work<'a, C> {
     /// What is done with its documents.
-    pub job: Job<'a, C>,
+    pub job: Job<'static, C>,
     /// Where the command leads in them.
     pub target: Target<'a>,
     /// Whether the file is written in place.
