@@ -6,6 +6,9 @@ use json_text::{Result, Rules, check_utf8};
 use json_value::{Edit, Path, PointerNode, Value, View};
 use std::alloc::Global;
 
+// The bytes that a document has at most.
+const MAX_BYTES: usize = 4_294_967_295;
+
 /// Where a command leads in each document.
 #[derive(Clone, Copy)]
 pub enum Target<'a> {
@@ -179,6 +182,9 @@ pub fn hint_of_target(
     rules: Rules,
     target: Target<'_>,
 ) -> Result<Option<String>> {
+    if bytes.len() > MAX_BYTES {
+        return Ok(None);
+    }
     let doc = read_document_with(alloc, check_utf8(bytes)?, rules)?;
     let value = Value::from_place(alloc, &doc, doc.root())?;
     let root = value.view();
