@@ -1,7 +1,7 @@
 // Changes of documents, and the content of strings.
 use crate::files::runs::{Outcome, Row, all_hold, compact};
-use json_doc::read_document;
 use json_files::{ApplyMerge, ApplyPatch, EditAll, GetPath, GetPointer, InputForm, Unchanged};
+use json_fixtures::read;
 use json_patch::Pointer;
 use json_text::Result;
 use json_value::{Edit, Path, PointerNode, Text, Value, View};
@@ -126,7 +126,7 @@ fn a_value_of_a_stream_to_which_an_edit_does_not_apply(rt: HostRuntime) {
 
 // Whether a patch makes of inputs what the rows say.
 fn patch_makes(alloc: Global, patch: &str, rows: &[Row]) -> Result<bool> {
-    let patch = read_document(alloc, patch)?;
+    let patch = read(alloc, patch)?;
     match ApplyPatch::new(View::packed(patch.view())) {
         Some(change) => Ok(all_hold(alloc, &compact(change), rows)),
         None => Ok(false),
@@ -176,7 +176,7 @@ fn a_patch_that_is_none(rt: HostRuntime) {
 
 // Whether a merge patch makes of inputs what the rows say.
 fn merge_makes(alloc: Global, patch: &str, rows: &[Row]) -> Result<bool> {
-    let patch = read_document(alloc, patch)?;
+    let patch = read(alloc, patch)?;
     let change = ApplyMerge::new(View::packed(patch.view()));
     Ok(all_hold(alloc, &compact(change), rows))
 }

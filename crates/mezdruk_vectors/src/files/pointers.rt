@@ -1,6 +1,6 @@
 // Edits at the places of pointers.
-use json_doc::read_document;
 use json_files::{Change, ChangeCode, ChangeError, EditAt};
+use json_fixtures::read;
 use json_patch::Pointer;
 use json_text::Result;
 use json_value::{Edit, Path, PointerNode, Text, Value};
@@ -76,7 +76,7 @@ fn has_number(error: &ChangeError) -> bool {
 
 fn holds(alloc: Global, row: &Row) -> Result<bool> {
     let (input, number, pointer, expected) = *row;
-    let doc = read_document(alloc, input)?;
+    let doc = read(alloc, input)?;
     let mut value = Value::from_place(alloc, &doc, doc.root())?;
     let Ok(pointer) = Pointer::parse(alloc, pointer) else {
         return Ok(false);
