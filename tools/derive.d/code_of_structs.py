@@ -20,7 +20,7 @@ class Names:
 
 
 def names_beside(taken):
-    """The usual parameters, or these with a number behind them where a type has the name."""
+    """The usual parameters, or these with a number after them where a type has the name."""
     return Names(*(next(it for it in (letter, *(f"{letter}{number}" for number in range(1, 100))) if it not in taken) for letter in "STE"))
 
 

@@ -76,7 +76,7 @@ def path_from_below(names, outside):
 
 
 def read_kind(stream, outside):
-    """The type that comes next. `outside` has the names of other crates."""
+    """The next type. `outside` has the names of other crates."""
     while stream.peek().kind == "comment":
         stream.take()
     token = stream.take()

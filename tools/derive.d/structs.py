@@ -31,10 +31,10 @@ class Struct:
 
 
 def mark_of(token):
-    """What a comment asks for behind `// json:`, or None if it is no mark."""
+    """What a comment asks for after `// json:`, or None if it is no mark."""
     if match := re.fullmatch(r"// json:(?: (.*))?", token.text):
         if not (match[1] or "").strip():
-            raise Refused("nothing is behind `// json:`", token.line)
+            raise Refused("nothing follows `// json:`", token.line)
         return match[1].strip()
     words = r"(?:derive(?: strict)?|default\b.*|name\b.*)"
     if re.fullmatch(rf"//+!?\s*json\s*:\s*(?:{words})?", token.text, re.I) or re.fullmatch(r"//+!?\s*json\s+derive(?: strict)?", token.text, re.I):
@@ -194,7 +194,7 @@ class Reader:
         return found, line
 
     def member(self, struct):
-        """The field that comes next, with the comma behind it."""
+        """The next field, with the comma after it."""
         options, line = self.options()
         if self.stream.peek().text in ("}", ""):
             raise Refused("no field is below the mark" if line else f"the struct `{struct.name}` does not end", line or struct.line)
@@ -212,7 +212,7 @@ class Reader:
         return found
 
     def end_member(self, line):
-        """Takes the comma behind a field and the comments on the lines of the field."""
+        """Takes the comma after a field and the comments on the lines of the field."""
         while self.stream.peek().kind == "comment":
             if mark_of(self.stream.take()) is not None:
                 raise Refused("a mark is on a line of its own, above its field", self.stream.last().line)

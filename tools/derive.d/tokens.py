@@ -70,7 +70,7 @@ class Stream:
         return self.tokens[self.at - 1] if self.at else END
 
     def skip_brackets(self):
-        """Takes what is between the bracket that comes next and the one that closes it, with both."""
+        """Takes what is between the next bracket and the one that closes it, with both."""
         opens, depth = self.peek().text, 0
         while (token := self.take()) is not END:
             depth += token.text == opens

@@ -55,7 +55,7 @@ def _replaced(value: Any, default: Default) -> Any:
 
 
 def _name(key: Any) -> str:
-    """Returns the text of a key, with the colon behind it: keys are converted as `json` does."""
+    """Returns the text of a key, with the colon after it: keys are converted as `json` does."""
     return _plain({key: 0})[1:-2]
 
 
