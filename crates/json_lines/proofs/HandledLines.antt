@@ -82,6 +82,23 @@ HandledLines-more has a b c so_far takes =
           new.report (omega (arith, new.number, so_far.number)) new.bad;
     }
 
+-- the rows so far were sent
+pub HandledLines-sent : (has : List ℕ → Outcome → Type 0) (a b : RunState) (sink : SinkState) (u : Unit {0}) → HandledLines has a b → WritesText b.sink sink [] (Ok u) → HandledLines has a (record b { sink = sink })
+HandledLines-sent has a b sink u so_far sent =
+    let h = so_far.handled in
+    record {
+      done = so_far.done;
+      read = so_far.read;
+      number = so_far.number;
+      handled = record {
+        outcomes = h.outcomes;
+        have = h.have;
+        rows = subst (λ l. WritesText a.sink sink l (Ok tt)) (append-nil (rows_of h.outcomes)) (WritesText-then a.sink b.sink sink (rows_of h.outcomes) [] tt (Ok u) h.rows sent);
+        reports = h.reports;
+        bad = h.bad;
+      };
+    }
+
 -- what is left to do gets smaller
 pub HandledLines-smaller : (has : List ℕ → Outcome → Type 0) (a b c : RunState) → HandledLines has a b → TakesLine has b c
     → 4294967295 - c.reader.received + length c.reader.held < 4294967295 - b.reader.received + length b.reader.held
@@ -176,6 +193,33 @@ FailsEarly-handling has a b c e so_far fails =
         reports = subst (λ d. ReportsUnlessMuted false d a.errs c.errs (errors_from 1 os)) (sym failed.muted) (subst (λ s. ReportsUnlessMuted false b.tally.muted a.errs s (errors_from 1 os)) (sym failed.silent) so_far.handled.reports);
       }) (ReadsLines-parted a.reader c.reader a.source c.source (so_far.done ++ more.bytes ∷ []) now);
       cause = inr (row-cause e.code e.place a.sink c.sink writes.cause, now.no_fault, now.few);
+      reading_told = λ l. absurd (omega (arith, l, now.no_fault));
+      writing_told = λ l. err_same e writing_failed (Err e) refl (writes.told l);
+      same_loan = writes.same_loan;
+    }
+
+pub FailsEarly-sending : (has : List ℕ → Outcome → Type 0) (a b : RunState) (sink : SinkState) (e : Error) → HandledLines has a b → WritesText b.sink sink [] (Err e) → FailsEarly (HasWithin a.reader.limit has) a (record b { sink = sink }) e
+FailsEarly-sending has a b sink e so_far failed =
+    let within = HasWithin a.reader.limit has in
+    let h = so_far.handled in
+    let now = so_far.read in
+    let writes : WritesText a.sink sink (rows_of h.outcomes ++ []) (Err e) = WritesText-then a.sink b.sink sink (rows_of h.outcomes) [] tt (Err e) h.rows failed in
+    record {
+      bytes = now.bytes;
+      reads = now.reads;
+      stops = IfSome-map a.source.left (λ _. lines now.bytes ≡ so_far.done ++ lines b.reader.held) (λ _. StopsEarly within a.sink sink a.errs b.errs b.tally.muted now.bytes) (λ _ is. record {
+        done = so_far.done;
+        begun = [];
+        later = lines b.reader.held;
+        parted = is;
+        outcomes = h.outcomes;
+        have = h.have;
+        next = [];
+        next_have = tt;
+        rows = writes.prefix;
+        reports = h.reports;
+      }) (ReadsLines-parted a.reader b.reader a.source b.source so_far.done now);
+      cause = inr (row-cause e.code e.place a.sink sink writes.cause, now.no_fault, now.few);
       reading_told = λ l. absurd (omega (arith, l, now.no_fault));
       writing_told = λ l. err_same e writing_failed (Err e) refl (writes.told l);
       same_loan = writes.same_loan;

@@ -8,6 +8,7 @@ pub mod Totals
 pub mod HandledLines
 pub mod Statuses
 pub mod SinkEnds
+pub mod Flushing
 pub mod RunStatus
 pub mod OneOutcome
 pub mod CellTexts

@@ -5,7 +5,7 @@ ghost use Rattle.json_lines.specs.Lines.{IsFirstNewline, has_newline};
 ghost use Rattle.json_lines.specs.Ranges.{IsRangeFrom, IsLastRange};
 
 use json_text::{Error, ErrorCode, Failed, Place, Result, Source};
-use memchr::memchr;
+use memchr::{memchr, memrchr};
 use std::alloc::Global;
 
 // The buffer has this many bytes more than the limit, and one read asks for no more: what is read
@@ -65,6 +65,8 @@ pub struct LineReader {
     // The bytes from `start` to `end` were read and not yet returned.
     start: usize,
     end: usize,
+    // The last read ended lines up to this offset. It is a hint: no line rests on it.
+    lines_end: usize,
     received: u64,
     stopped: Option<Error>,
     ghost order: { start ≤ end },
@@ -79,6 +81,16 @@ fn find_newline(bytes: &[u8]) -> Option<usize>
     ensures { IsFirstNewline bytes.now result }
 {
     memchr(b'\n', bytes)
+}
+
+// Returns the offset after the last newline of what was read at an offset, or else the one before.
+fn end_of_lines(read: &[u8], at: usize, before: usize) -> usize
+    requires { at + length read.now ≤ usize.MAX }
+{
+    match memrchr(b'\n', read) {
+        Some(last) => at + last + 1,
+        None => before,
+    }
 }
 
 impl LineReader {
@@ -106,9 +118,17 @@ impl LineReader {
             limit,
             start: 0,
             end: 0,
+            lines_end: 0,
             received: 0,
             stopped: None,
         })
+    }
+
+    /// Returns whether the next line may have to be read from the source. It is a hint for when to
+    /// send what is written so far.
+    #[inline(always)]
+    pub(crate) fn needs_read(&self) -> bool {
+        self.start >= self.lines_end
     }
 
     // Reads once, after the bytes that are held.
@@ -127,6 +147,7 @@ impl LineReader {
             Ok(count) => {
                 self.end = end + count;
                 self.received += count as u64;
+                self.lines_end = end_of_lines(&self.buffer[end..self.end], end, self.lines_end);
                 if self.received > MAX_BYTES {
                     let error = Error {
                         code: ErrorCode::TooLarge,
@@ -161,6 +182,7 @@ impl LineReader {
             self.buffer.copy_within(self.start..self.end, 0);
             self.start = 0;
             self.end = held;
+            self.lines_end = 0;
         }
     }
 

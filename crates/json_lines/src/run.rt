@@ -1,11 +1,12 @@
 // Writes the row of each line, and reports the error of each bad one.
-ghost use Rattle.std.specs.Prelude.{◌≡◌, ◌+◌, ◌++◌, ◌<◌, ◌≤◌, List, ℕ, length, IfOk, IfErr, OnOk, Ok, Err, true, Bool, ◌⊎◌};
+ghost use Rattle.std.specs.Prelude.{◌≡◌, ◌+◌, ◌++◌, ◌<◌, ◌≤◌, [], List, ℕ, length, IfOk, IfErr, OnOk, Ok, Err, true, Bool, ◌⊎◌};
 ghost use Rattle.json_io.specs.Transfer.{Puts};
 ghost use Rattle.json_lines.specs.Rows.{Outcome, HasWithin, error_line};
 ghost use Rattle.json_lines.specs.Reading.{line_reader_state};
 ghost use Rattle.json_lines.specs.Running.{IsFreshRun, FinishesLines, FailsEarly, run_state};
 ghost use Rattle.json_lines.specs.TopCall.{IsNewTally, WritesAllRows, WritesFewerRows, streams};
 ghost use Rattle.json_lines.specs.Steps.{StepResult, StepFails};
+ghost use Rattle.json_layout.specs.TextWriting.{WritesText};
 ghost use Rattle.json_command.specs.Reporting.{ReportsUnlessMuted};
 
 use crate::{Line, LineError, LineReader};
@@ -185,6 +186,18 @@ fn step<R: RowWriter<K>, S: Source, K: Sink, E: Sink>(
     }
 }
 
+// Sends the rows so far before a read that may wait, so that rows flow as lines come.
+#[inline(always)]
+fn send_before_read<K: Sink>(reader: &LineReader, sink: &mut K) -> Result<()>
+    ensures { WritesText (K.state sink.old) (K.state sink.new) [] result }
+{
+    if reader.needs_read() {
+        flush_all(sink)
+    } else {
+        Ok(())
+    }
+}
+
 // Reads and handles all lines.
 fn write_rows<R: RowWriter<K>, S: Source, K: Sink, E: Sink>(
     run: &mut LineRun<'_, R>,
@@ -211,6 +224,10 @@ fn write_rows<R: RowWriter<K>, S: Source, K: Sink, E: Sink>(
         (S.state source.new) (K.state sink.new) (E.state errs.new) tally.new) e) }
 {
     'line: loop {
+        match send_before_read(&run.reader, sink) {
+            Ok(()) => {}
+            Err(error) => return Err(error),
+        }
         match step(run, source, sink, errs, tally) {
             Ok(true) => {}
             Ok(false) => return Ok(()),

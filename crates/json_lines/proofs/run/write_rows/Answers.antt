@@ -1,9 +1,9 @@
-use Rattle.std.proofs.Common.{ℕ, List, true, inl, inr, refl, ◌∙◌, subst}
+use Rattle.std.proofs.Common.{ℕ, List, true, false, inl, inr, refl, ◌∙◌, subst}
 use Rattle.json_io.specs.declared.error.Error.{Error}
 use Rattle.json_lines.specs.Running.{run_state, FailsEarly}
 use Rattle.json_lines.specs.Rows.{Outcome, HasWithin}
 use Rattle.json_lines.specs.Steps.{RunState, StepResult, StepFails}
-use Rattle.json_lines.proofs.HandledLines.{HandledLines, HandledLines-start, HandledLines-more, HandledLines-smaller, FailsEarly-reading, FailsEarly-handling}
+use Rattle.json_lines.proofs.HandledLines.{HandledLines, HandledLines-start, HandledLines-more, HandledLines-sent, HandledLines-smaller, FinishesLines-from, FailsEarly-reading, FailsEarly-handling, FailsEarly-sending}
 use Rattle.json_lines.proofs.run.write_rows.Goals as goal
 
 fails : (has : List ℕ → Outcome → Type 0) (a b n : RunState) (e : Error) → HandledLines has a b → StepFails has b n e → FailsEarly (HasWithin a.reader.limit has) a n e
@@ -13,15 +13,24 @@ fails has a b n e so_far (inr handling) = FailsEarly-handling has a b n e so_far
 pub line-init : goal.line-init
 line-init g c = record { handled = HandledLines-start _ _ c.requires.fresh; same_rows = refl }
 
+pub returns-in-Err-clause-err : goal.returns-in-Err-clause-err
+returns-in-Err-clause-err g c =
+    let has = g.R.RowWriter.has_outcome in
+    let rows = c.args.run.now.room.rows.now in
+    let a = run_state c.args.run.now.reader (g.S.Source.state c.args.source.now) (g.K.Sink.state c.args.sink.now) (g.E.Sink.state c.args.errs.now) c.args.tally.now in
+    let b = run_state c.line.run.reader (g.S.Source.state c.line.source) (g.K.Sink.state c.line.sink) (g.E.Sink.state c.line.errs) c.line.tally in
+    FailsEarly-sending (has rows) a b (g.K.Sink.state c.send_before_read.new.sink) c.in-Err.error c.line.invariant.handled c.in-Err.ensures
+
 pub line-smaller : goal.line-smaller
 line-smaller g c =
     let has = g.R.RowWriter.has_outcome in
     let rows = c.args.run.now.room.rows.now in
     let a = run_state c.args.run.now.reader (g.S.Source.state c.args.source.now) (g.K.Sink.state c.args.sink.now) (g.E.Sink.state c.args.errs.now) c.args.tally.now in
     let b = run_state c.line.run.reader (g.S.Source.state c.line.source) (g.K.Sink.state c.line.sink) (g.E.Sink.state c.line.errs) c.line.tally in
+    let m = run_state c.line.run.reader (g.S.Source.state c.line.source) (g.K.Sink.state c.send_before_read.new.sink) (g.E.Sink.state c.line.errs) c.line.tally in
     let n = run_state c.step.new.run.reader (g.S.Source.state c.step.new.source) (g.K.Sink.state c.step.new.sink) (g.E.Sink.state c.step.new.errs) c.step.new.tally in
-    HandledLines-smaller (has rows) a b n c.line.invariant.handled
-    (subst (λ r. StepResult (has r) b n true) c.line.invariant.same_rows (subst (StepResult (has c.line.run.room.rows.now) b n) c.in-Ok-true.field-0-test c.in-Ok-true.ensures.ok))
+    HandledLines-smaller (has rows) a m n (HandledLines-sent (has rows) a b (g.K.Sink.state c.send_before_read.new.sink) tt c.line.invariant.handled c.in-Ok.ensures)
+    (subst (λ r. StepResult (has r) m n true) c.line.invariant.same_rows (subst (StepResult (has c.line.run.room.rows.now) m n) c.in-Ok-true.field-0-test c.in-Ok-true.ensures.ok))
 
 pub line-preserved : goal.line-preserved
 line-preserved g c =
@@ -29,18 +38,32 @@ line-preserved g c =
     let rows = c.args.run.now.room.rows.now in
     let a = run_state c.args.run.now.reader (g.S.Source.state c.args.source.now) (g.K.Sink.state c.args.sink.now) (g.E.Sink.state c.args.errs.now) c.args.tally.now in
     let b = run_state c.line.run.reader (g.S.Source.state c.line.source) (g.K.Sink.state c.line.sink) (g.E.Sink.state c.line.errs) c.line.tally in
+    let m = run_state c.line.run.reader (g.S.Source.state c.line.source) (g.K.Sink.state c.send_before_read.new.sink) (g.E.Sink.state c.line.errs) c.line.tally in
     let n = run_state c.step.new.run.reader (g.S.Source.state c.step.new.source) (g.K.Sink.state c.step.new.sink) (g.E.Sink.state c.step.new.errs) c.step.new.tally in
     record {
-      handled = HandledLines-more (has rows) a b n c.line.invariant.handled
-          (subst (λ r. StepResult (has r) b n true) c.line.invariant.same_rows (subst (StepResult (has c.line.run.room.rows.now) b n) c.in-Ok-true.field-0-test c.in-Ok-true.ensures.ok));
+      handled = HandledLines-more (has rows) a m n (HandledLines-sent (has rows) a b (g.K.Sink.state c.send_before_read.new.sink) tt c.line.invariant.handled c.in-Ok.ensures)
+          (subst (λ r. StepResult (has r) m n true) c.line.invariant.same_rows (subst (StepResult (has c.line.run.room.rows.now) m n) c.in-Ok-true.field-0-test c.in-Ok-true.ensures.ok));
       same_rows = c.in-Ok-true.ensures.rows ∙ c.line.invariant.same_rows;
     }
 
-pub returns-in-Err-clause-err : goal.returns-in-Err-clause-err
-returns-in-Err-clause-err g c =
+pub returns-in-Ok-false-clause-ok : goal.returns-in-Ok-false-clause-ok
+returns-in-Ok-false-clause-ok g c =
     let has = g.R.RowWriter.has_outcome in
     let rows = c.args.run.now.room.rows.now in
     let a = run_state c.args.run.now.reader (g.S.Source.state c.args.source.now) (g.K.Sink.state c.args.sink.now) (g.E.Sink.state c.args.errs.now) c.args.tally.now in
     let b = run_state c.line.run.reader (g.S.Source.state c.line.source) (g.K.Sink.state c.line.sink) (g.E.Sink.state c.line.errs) c.line.tally in
+    let m = run_state c.line.run.reader (g.S.Source.state c.line.source) (g.K.Sink.state c.send_before_read.new.sink) (g.E.Sink.state c.line.errs) c.line.tally in
     let n = run_state c.step.new.run.reader (g.S.Source.state c.step.new.source) (g.K.Sink.state c.step.new.sink) (g.E.Sink.state c.step.new.errs) c.step.new.tally in
-    fails (has rows) a b n c.in-Err.error c.line.invariant.handled (subst (λ r. StepFails (has r) b n c.in-Err.error) c.line.invariant.same_rows c.in-Err.ensures.err)
+    FinishesLines-from (has rows) a m n (HandledLines-sent (has rows) a b (g.K.Sink.state c.send_before_read.new.sink) tt c.line.invariant.handled c.in-Ok.ensures)
+    (subst (λ r. StepResult (has r) m n false) c.line.invariant.same_rows (subst (StepResult (has c.line.run.room.rows.now) m n) c.in-Ok-false.field-0-test c.in-Ok-false.ensures.ok))
+
+pub returns-in-Err-step-clause-err : goal.returns-in-Err-step-clause-err
+returns-in-Err-step-clause-err g c =
+    let has = g.R.RowWriter.has_outcome in
+    let rows = c.args.run.now.room.rows.now in
+    let a = run_state c.args.run.now.reader (g.S.Source.state c.args.source.now) (g.K.Sink.state c.args.sink.now) (g.E.Sink.state c.args.errs.now) c.args.tally.now in
+    let b = run_state c.line.run.reader (g.S.Source.state c.line.source) (g.K.Sink.state c.line.sink) (g.E.Sink.state c.line.errs) c.line.tally in
+    let m = run_state c.line.run.reader (g.S.Source.state c.line.source) (g.K.Sink.state c.send_before_read.new.sink) (g.E.Sink.state c.line.errs) c.line.tally in
+    let n = run_state c.step.new.run.reader (g.S.Source.state c.step.new.source) (g.K.Sink.state c.step.new.sink) (g.E.Sink.state c.step.new.errs) c.step.new.tally in
+    fails (has rows) a m n c.in-Err-step.error (HandledLines-sent (has rows) a b (g.K.Sink.state c.send_before_read.new.sink) tt c.line.invariant.handled c.in-Ok.ensures)
+    (subst (λ r. StepFails (has r) m n c.in-Err-step.error) c.line.invariant.same_rows c.in-Err-step.ensures.err)
