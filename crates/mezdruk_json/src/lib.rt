@@ -84,9 +84,9 @@ pub mod patch;
 pub use json_access::{JsonContainerTrait, JsonValueMutTrait, JsonValueTrait};
 pub use json_containers::{ArrayCalls, Entry, IntoIter, ObjectCalls, OccupiedEntry, VacantEntry};
 pub use json_data::{
-    Deserialize, DeserializeFrom, FromKey, IgnoredAny, Lent, Members, TextTokens, Tokens,
-    ValueTokens, find_members, from_reader, from_slice, from_slice_unchecked, from_slice_with,
-    from_str, from_value, read_members, refusal,
+    Deserialize, DeserializeFrom, FromKey, IgnoredAny, Lent, Members, TextTokens, Token, TokenKind,
+    TokenOf, Tokens, ValueTokens, find_members, from_reader, from_slice, from_slice_unchecked,
+    from_slice_with, from_str, from_value, leave_after, read_members, refusal,
 };
 pub use json_derive as derive;
 pub use json_doc::{Doc, DocView, DocumentRoom, JsonType, read_document, read_document_with};
@@ -95,13 +95,14 @@ pub use json_history as history;
 pub use json_lines as lines;
 pub use json_number::{Integer, JsonNumberTrait, Number, RawNumber};
 pub use json_print::{
-    BufferedWriter, CompactFormatter, Events, Formatter, Layout, PrettyFormatter, Serializer, Style,
+    BufferedWriter, CompactFormatter, Events, Formatter, Layout, ManyLines, OneLine,
+    PrettyFormatter, Serializer, Style,
 };
 pub use json_rpc as rpc;
 pub use json_stream::{Deserializer, StreamDeserializer};
 pub use json_text::{
-    Category, Error, ErrorCode, Place, Result, Rules, Sink, SinkError, SliceSource, Source,
-    StdSink, StdSource, VecSink, check_utf8, read_all, repair,
+    Category, Error, ErrorCode, Failed, Place, Result, Rules, Sink, SinkError, SliceSource, Source,
+    StdSink, StdSource, VecSink, Words, check_utf8, read_all, repair,
 };
 pub use json_value::{
     Array, ArrayIter, ArrayView, Edit, Index, Iter, Literal, Object, ObjectView, Pair, Path,
