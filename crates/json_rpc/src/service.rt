@@ -92,6 +92,35 @@ impl Service {
         }
     }
 
+    /// Returns a service whose document is this value. Allocates nothing.
+    ///
+    /// ```
+    /// use json_data::from_str;
+    /// use json_rpc::Service;
+    /// use json_value::Value;
+    /// let service = Service::with_document(from_str::<Value>(alloc, "{\"port\":8080}")?);
+    /// assert_eq!(rt; service.document().to_string(alloc)?.as_str(), "{\"port\":8080}");
+    /// ```
+    pub fn with_document(document: Value) -> Service
+        ensures { document_of result ≡ tree_of document }
+    {
+        Service { document }
+    }
+
+    /// Returns the document.
+    pub fn document(&self) -> &Value
+        ensures { tree_of result.now ≡ document_of self.now }
+    {
+        &self.document
+    }
+
+    /// Returns the document, and ends the service.
+    pub fn into_document(self) -> Value
+        ensures { tree_of result ≡ document_of self }
+    {
+        self.document
+    }
+
     /// Serves a line and returns the reply, if there is one. Whitespace alone, a notification and a
     /// batch of notifications have none (JSON-RPC 2.0, sections 4.1 and 6).
     ///
