@@ -1,12 +1,26 @@
 // What a program says of itself.
 ghost use Rattle.std.specs.Prelude.{◌≡◌, ◌≢◌, None, option_map, IfSome, IfNone};
-ghost use Rattle.json_command.specs.Arguments.{text_asked, StatusWrites, SaysAsked};
+ghost use Rattle.json_command.specs.Arguments.{asks_for_help, asks_for_version, text_asked, StatusWrites, SaysAsked};
 ghost use Rattle.json_command.specs.Reporting.{Reports};
 
 use crate::output::write_text;
 use crate::reporting::report_text;
 use crate::status::Status;
 use json_text::{Sink, Words};
+
+// Whether an argument asks for the help.
+fn asks_for_help(argument: &str) -> bool
+    ensures { result ≡ asks_for_help argument.now }
+{
+    argument == "--help" || argument == "-h"
+}
+
+// Whether an argument asks for the version.
+fn asks_for_version(argument: &str) -> bool
+    ensures { result ≡ asks_for_version argument.now }
+{
+    argument == "--version" || argument == "-V"
+}
 
 /// What a program says of itself: its help, its version, and where to look for help.
 ///
@@ -26,17 +40,17 @@ use json_text::{Sink, Words};
 /// ```
 #[derive(Clone, Copy, Debug)]
 pub struct About {
-    /// What `--help` prints.
+    /// What `--help` and `-h` print.
     pub help: &'static str,
-    /// What `--version` prints.
+    /// What `--version` and `-V` print.
     pub version: &'static str,
     /// What is added to the error of invalid arguments.
     pub hint: &'static str,
 }
 
 impl About {
-    /// Returns the text that the arguments ask for: the help for `--help` alone, the version for
-    /// `--version` alone, and `None` for all else.
+    /// Returns the text that the arguments ask for: the help for `--help` or `-h` alone, the version
+    /// for `--version` or `-V` alone, and `None` for all else.
     pub fn text_asked(&self, arguments: &Words) -> Option<&'static str>
         ensures { option_map (λ s. s.now) result
             ≡ text_asked self.now.help.now self.now.version.now arguments.now }
@@ -44,11 +58,14 @@ impl About {
         if arguments.len() != 1 {
             return None;
         }
-        match arguments.word(0) {
-            "--help" => Some(self.help),
-            "--version" => Some(self.version),
-            _ => None,
+        let argument = arguments.word(0);
+        if asks_for_help(argument) {
+            return Some(self.help);
         }
+        if asks_for_version(argument) {
+            return Some(self.version);
+        }
+        None
     }
 
     /// Writes the text that the arguments ask for, flushed, and returns the status: `Success`,

@@ -8,12 +8,15 @@ ghost use Rattle.json_command.specs.Input.{IsInput, IsValid};
 
 use crate::about::About;
 use crate::document::MAX_BYTES;
+use crate::reporting::report_text;
 use crate::status::Status;
+use crate::streams::{ErrorStream, Note, NotedStream, reason_of};
 use json_doc::{Doc, read_document_with};
 use json_text::{Error, ErrorCode, Place, Rules, StdSink, StdSource, Words};
 use std::alloc::Global;
+use std::cell::Cell;
 use std::rc::Rc;
-use std::rt::{Stderr, Stdin, Stdout};
+use std::rt::{Stdin, Stdout};
 use std::{env, io};
 
 /// The error of arguments that are not valid.
@@ -76,11 +79,13 @@ pub struct Console {
     /// The arguments, without the program's name.
     pub arguments: Words,
     /// Standard input.
-    pub source: StdSource<Stdin>,
+    pub source: StdSource<NotedStream<Stdin>>,
     /// Standard output.
-    pub sink: StdSink<Stdout>,
-    /// Standard error.
-    pub errs: StdSink<Stderr>,
+    pub sink: StdSink<NotedStream<Stdout>>,
+    /// Standard error. It takes reports and shows none once nobody reads standard output any more.
+    pub errs: StdSink<ErrorStream>,
+    read: Note,
+    written: Note,
 }
 
 impl Console {
@@ -95,17 +100,54 @@ impl Console {
                 .push(argument.as_str())
                 .map_err(|_| Status::OutOfMemory)?;
         }
-        let mut sink = StdSink::new(rt.stdout());
+        let (read, written) = (new_note(rt)?, new_note(rt)?);
+        let mut sink = StdSink::new(NotedStream::new(rt.stdout(), share(&written)?));
         match about.say_asked(&arguments, &mut sink) {
             Some(status) => Err(status),
             None => Ok(Console {
                 arguments,
-                source: StdSource::new(rt.stdin()),
+                source: StdSource::new(NotedStream::new(rt.stdin(), share(&read)?)),
                 sink,
-                errs: StdSink::new(rt.stderr()),
+                errs: StdSink::new(ErrorStream::new(rt.stderr(), share(&written)?)),
+                read,
+                written,
             }),
         }
     }
+
+    // Returns what failed in a run with this status, and why, where a reason is known.
+    fn failure(&self, status: u8) -> Option<(&'static str, &'static str)> {
+        let (failure, note) = if status == Status::ReadFailed.number() {
+            ("standard input could not be read", &self.read)
+        } else if status == Status::WriteFailed.number() {
+            ("standard output could not be written", &self.written)
+        } else {
+            return None;
+        };
+        let reason = reason_of(note.get()?)?;
+        Some((failure, reason))
+    }
+
+    /// Explains the status of a run in which a standard stream failed: writes to standard error
+    /// which one, and why, where the system gave a reason. Writes nothing for any other status.
+    pub fn explain_failure(&mut self, alloc: Global, program: &str, status: u8) {
+        let Some((failure, reason)) = self.failure(status) else {
+            return;
+        };
+        if let Ok(text) = format!(in alloc; "{program}: {failure}: {reason}\n") {
+            report_text(&mut self.errs, text.as_bytes());
+        }
+    }
+}
+
+// Returns one more handle of a note.
+fn share(note: &Note) -> Result<Note, Status> {
+    note.clone().map_err(|_| Status::OutOfMemory)
+}
+
+// Returns a note of no failure.
+fn new_note(rt: &HostRuntime) -> Result<Note, Status> {
+    Rc::new(rt.alloc(), Cell::new(None)).map_err(|_| Status::OutOfMemory)
 }
 
 // The status where the arguments could not be read.

@@ -26,6 +26,7 @@ mod output;
 mod reporting;
 pub mod rows;
 mod status;
+mod streams;
 
 pub use about::About;
 pub use arguments::{BAD_WORDS, Console, arguments_error, read_argument};
@@ -34,3 +35,4 @@ pub use options::option_number;
 pub use output::{print_value, write_text};
 pub use reporting::{report, report_text};
 pub use status::Status;
+pub use streams::{ErrorStream, NotedStream};
