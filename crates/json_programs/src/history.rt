@@ -1,7 +1,11 @@
 // What the program `mezdruk history` says of itself.
+use crate::usage::{
+    HELP_OPTION, Missing, OPERAND_GROUP, SHORT_HELP_OPTION, SHORT_VERSION_OPTION, TextArgument,
+    TextForm, Usage, VERSION_OPTION,
+};
 use json_command::About;
 
-/// What `--help` alone prints.
+/// What `--help` or `-h` alone prints.
 const HELP: &str = "\
 mezdruk history reads a JSON text from standard input, makes edits, undos and
 redos in turn, and writes the value after them to standard output, compact.
@@ -24,8 +28,8 @@ A path is an array of steps, from the root on: a key, or an index from 0.
 The path [] is the root.
 
 Options:
-  --help        print this text; stands alone
-  --version     print the version; stands alone
+  -h, --help    print this text; given alone
+  -V, --version print the version; given alone
 
 Status:
   0  done
@@ -39,7 +43,7 @@ Status:
   8  the arguments could not be read, for example because one is not UTF-8
 ";
 
-/// What `--version` alone prints.
+/// What `--version` or `-V` alone prints.
 const VERSION: &str = "mezdruk history 0.1.0\nRattle logic dac8208d650f15bf\n";
 
 /// What the program says of itself.
@@ -47,4 +51,24 @@ pub const ABOUT_HISTORY: About = About {
     help: HELP,
     version: VERSION,
     hint: "Run `mezdruk history --help` for usage.\n",
+};
+
+/// What the program takes on its command line.
+pub const USAGE_HISTORY: Usage = Usage {
+    program: "mezdruk history",
+    about: ABOUT_HISTORY,
+    options: &[
+        HELP_OPTION,
+        SHORT_HELP_OPTION,
+        VERSION_OPTION,
+        SHORT_VERSION_OPTION,
+    ],
+    operand: Some(TextArgument {
+        name: "CALLS",
+        form: TextForm::Calls,
+    }),
+    missing: Some(Missing {
+        group: OPERAND_GROUP,
+        name: "CALLS",
+    }),
 };

@@ -1,7 +1,11 @@
 // What the program `json_patch` says of itself.
+use crate::usage::{
+    HELP_OPTION, Missing, OptionForm, OptionValue, SHORT_HELP_OPTION, SHORT_VERSION_OPTION,
+    TextArgument, TextForm, Usage, VERSION_OPTION,
+};
 use json_command::About;
 
-/// What `--help` alone prints.
+/// What `--help` or `-h` alone prints.
 const HELP: &str = "\
 json_patch reads a JSON text from standard input, changes it by a patch, and
 writes it to standard output, compact.
@@ -13,8 +17,8 @@ Usage: json_patch --patch=PATCH
       json_patch --patch='[{\"op\": \"remove\", \"path\": \"/tags/0\"}]'
   --merge=PATCH   apply a JSON Merge Patch (RFC 7396)
       json_patch --merge='{\"license\": \"MIT\", \"private\": null}'
-  --help          print this text
-  --version       print the version
+  -h, --help      print this text
+  -V, --version   print the version
 
 PATCH is a JSON text of at most 254 levels. A JSON Patch is an array of
 operations, which are applied in order, all or none:
@@ -38,7 +42,7 @@ Status:
   8  the arguments could not be read, for example because one is not UTF-8
 ";
 
-/// What `--version` alone prints.
+/// What `--version` or `-V` alone prints.
 const VERSION: &str = "json_patch 0.1.0\nRattle logic dac8208d650f15bf\n";
 
 /// What the program says of itself.
@@ -46,4 +50,37 @@ pub const ABOUT_JSON_PATCH: About = About {
     help: HELP,
     version: VERSION,
     hint: "Run `json_patch --help` for usage.\n",
+};
+
+/// What the program takes on its command line.
+pub const USAGE_JSON_PATCH: Usage = Usage {
+    program: "json_patch",
+    about: ABOUT_JSON_PATCH,
+    options: &[
+        OptionForm {
+            name: "--patch",
+            value: OptionValue::Text(TextArgument {
+                name: "PATCH",
+                form: TextForm::Any,
+            }),
+            group: 1,
+        },
+        OptionForm {
+            name: "--merge",
+            value: OptionValue::Text(TextArgument {
+                name: "PATCH",
+                form: TextForm::Any,
+            }),
+            group: 1,
+        },
+        HELP_OPTION,
+        SHORT_HELP_OPTION,
+        VERSION_OPTION,
+        SHORT_VERSION_OPTION,
+    ],
+    operand: None,
+    missing: Some(Missing {
+        group: 1,
+        name: "--patch=PATCH or --merge=PATCH",
+    }),
 };

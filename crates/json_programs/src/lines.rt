@@ -1,7 +1,11 @@
 // What the program `mezdruk lines` says of itself.
+use crate::usage::{
+    HELP_OPTION, Missing, OPERAND_GROUP, OptionForm, OptionValue, SHORT_HELP_OPTION,
+    SHORT_VERSION_OPTION, TextArgument, TextForm, Usage, VERSION_OPTION,
+};
 use json_command::About;
 
-/// What `--help` alone prints.
+/// What `--help` or `-h` alone prints.
 const HELP: &str = "\
 mezdruk lines reads JSON Lines from standard input, one JSON text a line, and
 writes a row of cells for each line to standard output.
@@ -21,8 +25,8 @@ The path [] is the root.
 Options, before or after the columns:
   --has=PATH    write a row only where the path leads to a value
       mezdruk lines --has='[\"error\"]' '[[[], \"json\"]]'
-  --help        print this text; stands alone
-  --version     print the version; stands alone
+  -h, --help    print this text; given alone
+  -V, --version print the version; given alone
 
 The cells of a row are separated by tabs. A cell is - where the path leads to
 no value, or to one of another kind. Lines of whitespace are skipped. A line
@@ -41,7 +45,7 @@ Status:
   8  the arguments could not be read, for example because one is not UTF-8
 ";
 
-/// What `--version` alone prints.
+/// What `--version` or `-V` alone prints.
 const VERSION: &str = "mezdruk lines 0.1.0\nRattle logic dac8208d650f15bf\n";
 
 /// What the program says of itself.
@@ -49,4 +53,32 @@ pub const ABOUT_LINES: About = About {
     help: HELP,
     version: VERSION,
     hint: "Run `mezdruk lines --help` for usage.\n",
+};
+
+/// What the program takes on its command line.
+pub const USAGE_LINES: Usage = Usage {
+    program: "mezdruk lines",
+    about: ABOUT_LINES,
+    options: &[
+        OptionForm {
+            name: "--has",
+            value: OptionValue::Text(TextArgument {
+                name: "PATH",
+                form: TextForm::Path,
+            }),
+            group: 1,
+        },
+        HELP_OPTION,
+        SHORT_HELP_OPTION,
+        VERSION_OPTION,
+        SHORT_VERSION_OPTION,
+    ],
+    operand: Some(TextArgument {
+        name: "COLUMNS",
+        form: TextForm::Columns,
+    }),
+    missing: Some(Missing {
+        group: OPERAND_GROUP,
+        name: "COLUMNS",
+    }),
 };

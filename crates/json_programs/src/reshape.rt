@@ -1,8 +1,12 @@
 // What the program `reshape` says of itself.
 
+use crate::usage::{
+    ALONE, HELP_OPTION, OptionForm, OptionValue, SHORT_HELP_OPTION, SHORT_VERSION_OPTION,
+    TextArgument, TextForm, Usage, VERSION_OPTION,
+};
 use json_command::About;
 
-/// What `--help` alone prints.
+/// What `--help` or `-h` alone prints.
 const HELP: &str = "\
 reshape reads a JSON text from standard input, edits it, and writes it to
 standard output.
@@ -17,10 +21,10 @@ Options, in any order, each at most once, and one of the first three at most:
   --unique-keys refuse input in which an object has two members of one key
   --depth=N     refuse input of more than N levels, 0 to 1024; 254 without it
   --make=N      read nothing; make an array of N records, 0 to 100000, print it
-                compact and sorted, and tell the bytes and sums of both; stands
+                compact and sorted, and tell the bytes and sums of both; given
                 alone
-  --help        print this text; stands alone
-  --version     print the version; stands alone
+  -h, --help    print this text; given alone
+  -V, --version print the version; given alone
 
 EDITS is a JSON array of edits, which are applied in order:
   [\"set\", path, value]           put the value where the path leads
@@ -47,7 +51,7 @@ Status:
   8  the arguments could not be read, for example because one is not UTF-8
 ";
 
-/// What `--version` alone prints.
+/// What `--version` or `-V` alone prints.
 const VERSION: &str = "reshape 0.1.0\nRattle logic dac8208d650f15bf\n";
 
 /// What the program says of itself.
@@ -55,4 +59,56 @@ pub const ABOUT_RESHAPE: About = About {
     help: HELP,
     version: VERSION,
     hint: "Run `reshape --help` for usage.\n",
+};
+
+/// What the program takes on its command line.
+pub const USAGE_RESHAPE: Usage = Usage {
+    program: "reshape",
+    about: ABOUT_RESHAPE,
+    options: &[
+        OptionForm {
+            name: "--pretty",
+            value: OptionValue::Nothing,
+            group: 1,
+        },
+        OptionForm {
+            name: "--indent",
+            value: OptionValue::Number(8),
+            group: 1,
+        },
+        OptionForm {
+            name: "--tabs",
+            value: OptionValue::Nothing,
+            group: 1,
+        },
+        OptionForm {
+            name: "--sort-keys",
+            value: OptionValue::Nothing,
+            group: 2,
+        },
+        OptionForm {
+            name: "--unique-keys",
+            value: OptionValue::Nothing,
+            group: 3,
+        },
+        OptionForm {
+            name: "--depth",
+            value: OptionValue::Number(1_024),
+            group: 4,
+        },
+        OptionForm {
+            name: "--make",
+            value: OptionValue::Number(100_000),
+            group: ALONE,
+        },
+        HELP_OPTION,
+        SHORT_HELP_OPTION,
+        VERSION_OPTION,
+        SHORT_VERSION_OPTION,
+    ],
+    operand: Some(TextArgument {
+        name: "EDITS",
+        form: TextForm::Edits,
+    }),
+    missing: None,
 };

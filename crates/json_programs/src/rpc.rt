@@ -1,7 +1,8 @@
 // What the program `mezdruk rpc` says of itself.
+use crate::usage::{HELP_OPTION, SHORT_HELP_OPTION, SHORT_VERSION_OPTION, Usage, VERSION_OPTION};
 use json_command::About;
 
-/// What `--help` alone prints.
+/// What `--help` or `-h` alone prints.
 const HELP: &str = "\
 mezdruk rpc serves JSON-RPC 2.0 over one JSON document, which begins as null.
 It reads requests from standard input, one line each, and writes each reply as
@@ -10,8 +11,8 @@ a line to standard output before it reads the next line.
 Usage: mezdruk rpc [OPTION]
 
 Options, at most one:
-  --help        print this text
-  --version     print the version
+  -h, --help    print this text
+  -V, --version print the version
 
 A line is a request or a batch of requests, at most 1,048,576 bytes and 254
 levels. The methods take their params by position:
@@ -45,7 +46,7 @@ Status:
   8  the arguments could not be read, for example because one is not UTF-8
 ";
 
-/// What `--version` alone prints.
+/// What `--version` or `-V` alone prints.
 const VERSION: &str = "mezdruk rpc 0.1.0\nRattle logic dac8208d650f15bf\n";
 
 /// What the program says of itself.
@@ -53,4 +54,18 @@ pub const ABOUT_RPC: About = About {
     help: HELP,
     version: VERSION,
     hint: "Run `mezdruk rpc --help` for usage.\n",
+};
+
+/// What the program takes on its command line.
+pub const USAGE_RPC: Usage = Usage {
+    program: "mezdruk rpc",
+    about: ABOUT_RPC,
+    options: &[
+        HELP_OPTION,
+        SHORT_HELP_OPTION,
+        VERSION_OPTION,
+        SHORT_VERSION_OPTION,
+    ],
+    operand: None,
+    missing: None,
 };
