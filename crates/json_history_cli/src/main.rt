@@ -8,16 +8,17 @@
 
 use json_command::Console;
 use json_history::run_history;
-use json_programs::ABOUT_HISTORY;
+use json_programs::USAGE_HISTORY;
 use std::process::ExitCode;
 
 fn main(rt: HostRuntime) -> ExitCode {
-    let mut console = match Console::open(&rt, &ABOUT_HISTORY) {
+    let mut console = match Console::open(&rt, &USAGE_HISTORY.about) {
         Ok(console) => console,
         Err(status) => return ExitCode::from(status.number()),
     };
     let (source, sink, errs) = (&mut console.source, &mut console.sink, &mut console.errs);
     let status = run_history(rt.alloc(), &console.arguments, source, sink, errs);
-    ABOUT_HISTORY.add_hint(status, &mut console.errs);
+    USAGE_HISTORY.explain(rt.alloc(), &console.arguments, status, &mut console.errs);
+    console.explain_failure(rt.alloc(), USAGE_HISTORY.program, status);
     ExitCode::from(status)
 }

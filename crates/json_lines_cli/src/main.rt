@@ -7,16 +7,17 @@
 
 use json_command::Console;
 use json_lines::run_lines;
-use json_programs::ABOUT_LINES;
+use json_programs::USAGE_LINES;
 use std::process::ExitCode;
 
 fn main(rt: HostRuntime) -> ExitCode {
-    let mut console = match Console::open(&rt, &ABOUT_LINES) {
+    let mut console = match Console::open(&rt, &USAGE_LINES.about) {
         Ok(console) => console,
         Err(status) => return ExitCode::from(status.number()),
     };
     let (source, sink, errs) = (&mut console.source, &mut console.sink, &mut console.errs);
     let status = run_lines(rt.alloc(), &console.arguments, source, sink, errs);
-    ABOUT_LINES.add_hint(status, &mut console.errs);
+    USAGE_LINES.explain(rt.alloc(), &console.arguments, status, &mut console.errs);
+    console.explain_failure(rt.alloc(), USAGE_LINES.program, status);
     ExitCode::from(status)
 }

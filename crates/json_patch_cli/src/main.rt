@@ -7,16 +7,17 @@
 
 use json_command::Console;
 use json_patch::run_patch;
-use json_programs::ABOUT_JSON_PATCH;
+use json_programs::USAGE_JSON_PATCH;
 use std::process::ExitCode;
 
 fn main(rt: HostRuntime) -> ExitCode {
-    let mut console = match Console::open(&rt, &ABOUT_JSON_PATCH) {
+    let mut console = match Console::open(&rt, &USAGE_JSON_PATCH.about) {
         Ok(console) => console,
         Err(status) => return ExitCode::from(status.number()),
     };
     let (source, sink, errs) = (&mut console.source, &mut console.sink, &mut console.errs);
     let status = run_patch(rt.alloc(), &console.arguments, source, sink, errs);
-    ABOUT_JSON_PATCH.add_hint(status, &mut console.errs);
+    USAGE_JSON_PATCH.explain(rt.alloc(), &console.arguments, status, &mut console.errs);
+    console.explain_failure(rt.alloc(), USAGE_JSON_PATCH.program, status);
     ExitCode::from(status)
 }

@@ -6,17 +6,18 @@
 #![tactic(auto)]
 
 use json_command::Console;
-use json_programs::ABOUT_RPC;
+use json_programs::USAGE_RPC;
 use json_rpc::run_rpc;
 use std::process::ExitCode;
 
 fn main(rt: HostRuntime) -> ExitCode {
-    let mut console = match Console::open(&rt, &ABOUT_RPC) {
+    let mut console = match Console::open(&rt, &USAGE_RPC.about) {
         Ok(console) => console,
         Err(status) => return ExitCode::from(status.number()),
     };
     let (source, sink, errs) = (&mut console.source, &mut console.sink, &mut console.errs);
     let status = run_rpc(rt.alloc(), &console.arguments, source, sink, errs);
-    ABOUT_RPC.add_hint(status, &mut console.errs);
+    USAGE_RPC.explain(rt.alloc(), &console.arguments, status, &mut console.errs);
+    console.explain_failure(rt.alloc(), USAGE_RPC.program, status);
     ExitCode::from(status)
 }

@@ -29,34 +29,28 @@ fn run_command(rt: &HostRuntime, console: &mut Console, words: &Words) -> u8 {
     status
 }
 
-// Returns the words that arguments which ask for help or the version are short for: a command or
-// nothing, and an option. Returns `None` for all else.
-fn long_form(words: &Words) -> Option<(&str, &'static str)> {
-    if words.len() == 1 {
-        return match words.word(0) {
-            "help" | "-h" => Some(("", "--help")),
-            "-V" => Some(("", "--version")),
-            _ => None,
-        };
-    }
-    if words.len() != 2 {
+// Returns the command whose help `help` asks for, and an empty word where it asks for that of the
+// program. Returns `None` for all else.
+fn command_of_help(words: &Words) -> Option<&str> {
+    if words.len() == 0 || words.word(0) != "help" {
         return None;
     }
-    match (words.word(0), words.word(1)) {
-        ("help", command) | (command, "-h") => Some((command, "--help")),
+    match words.len() {
+        1 => Some(""),
+        2 => Some(words.word(1)),
         _ => None,
     }
 }
 
-// Returns the arguments, where those that are short for others ask for help or the version.
+// Returns the arguments, where `help` and a command are the command and `--help`.
 fn arguments_meant(rt: &HostRuntime, words: Words) -> json_text::Result<Words> {
     let mut meant = Words::new(rt.alloc());
-    match long_form(&words) {
-        Some((command, option)) => {
+    match command_of_help(&words) {
+        Some(command) => {
             if !command.is_empty() {
                 meant.push(command)?;
             }
-            meant.push(option)?;
+            meant.push("--help")?;
         }
         None => return Ok(words),
     }
@@ -74,7 +68,10 @@ pub fn run(rt: &HostRuntime, console: &mut Console) -> u8 {
         return status.number();
     }
     match run_named(rt.alloc(), &words, source, sink, errs) {
-        Some(status) => status,
+        Some(status) => {
+            console.explain_failure(rt.alloc(), "mezdruk", status);
+            status
+        }
         None => run_command(rt, console, &words),
     }
 }

@@ -2,10 +2,10 @@
 ghost use Rattle.std.specs.Prelude.{◌≡◌, drop, IfOk, IfNone};
 ghost use Rattle.json_io.specs.Errors.{OnlyNoMemory};
 
-use json_command::{About, Status};
+use json_command::Status;
 use json_history::run_history;
 use json_lines::run_lines;
-use json_programs::{ABOUT_HISTORY, ABOUT_LINES, ABOUT_RESHAPE, ABOUT_RPC};
+use json_programs::{USAGE_HISTORY, USAGE_LINES, USAGE_RESHAPE, USAGE_RPC, Usage};
 use json_rpc::run_rpc;
 use json_text::{Result, Sink, Source, Words};
 use std::alloc::Global;
@@ -31,13 +31,13 @@ impl Program {
         }
     }
 
-    // Returns what the program says of itself.
-    fn about(self) -> About {
+    // Returns what the program says of itself, and what it takes on its command line.
+    fn usage(self) -> Usage {
         match self {
-            Program::Reshape => ABOUT_RESHAPE,
-            Program::Lines => ABOUT_LINES,
-            Program::Rpc => ABOUT_RPC,
-            Program::History => ABOUT_HISTORY,
+            Program::Reshape => USAGE_RESHAPE,
+            Program::Lines => USAGE_LINES,
+            Program::Rpc => USAGE_RPC,
+            Program::History => USAGE_HISTORY,
         }
     }
 }
@@ -75,8 +75,8 @@ pub fn run_named<S: Source, K: Sink, E: Sink>(
     let Ok(arguments) = later_words(alloc, words) else {
         return Some(Status::OutOfMemory.number());
     };
-    let about = program.about();
-    if let Some(status) = about.say_asked(&arguments, sink) {
+    let usage = program.usage();
+    if let Some(status) = usage.about.say_asked(&arguments, sink) {
         return Some(status.number());
     }
     let status = match program {
@@ -85,6 +85,6 @@ pub fn run_named<S: Source, K: Sink, E: Sink>(
         Program::Rpc => run_rpc(alloc, &arguments, source, sink, errs),
         Program::History => run_history(alloc, &arguments, source, sink, errs),
     };
-    about.add_hint(status, errs);
+    usage.explain(alloc, &arguments, status, errs);
     Some(status)
 }

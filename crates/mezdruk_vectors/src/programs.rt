@@ -1,5 +1,10 @@
-// What the tool hands on to other programs.
+// What the tool hands on to other programs, and what programs say of arguments that are not valid.
+mod invalid;
+
+use invalid::{INVALID_ROWS, JSON_PATCH_ROWS};
 use json_command::rows::differing_rows;
+use json_patch::run_patch;
+use json_programs::USAGE_JSON_PATCH;
 use json_text::{FakeSource, Result, VecSink, Words};
 use mezdruk_programs::run_named;
 use std::alloc::Global;
@@ -21,23 +26,21 @@ const ROWS: &str = r#"# no program
 [1,]|1||InvalidJsonValue at offset 3, line 1 column 4|reshape|
 {}|3||NotFound in edit 0|reshape|[["remove", [], "a"]]|
 |0|reshape 0.1.0%0ARattle logic dac8208d650f15bf%0A||reshape|--version|
-|2||BadWords%0ARun `reshape --help` for usage.|reshape|--version|--version|
-|2||BadWords%0ARun `reshape --help` for usage.|reshape|lines|[]|
+|0|reshape 0.1.0%0ARattle logic dac8208d650f15bf%0A||reshape|-V|
 # lines
 {"a":1}%0A|0|1%0A||lines|[[["a"],"int"]]|
 [1%0A2%0A|1|-%0A|1: EofWhileParsing at offset 2, line 1 column 3|lines|[[[0],"int"]]|
 |0|mezdruk lines 0.1.0%0ARattle logic dac8208d650f15bf%0A||lines|--version|
-|2||BadWords%0ARun `mezdruk lines --help` for usage.|lines|
-|2||BadWords%0ARun `mezdruk lines --help` for usage.|lines|--|[[["a"],"int"]]|
+|0|mezdruk lines 0.1.0%0ARattle logic dac8208d650f15bf%0A||lines|-V|
 # rpc
 {"jsonrpc":"2.0","method":"get","params":[[]],"id":1}%0A|0|{"jsonrpc":"2.0","result":null,"id":1}%0A||rpc|
 |0|mezdruk rpc 0.1.0%0ARattle logic dac8208d650f15bf%0A||rpc|--version|
-|2||BadWords%0ARun `mezdruk rpc --help` for usage.|rpc|--pretty|
+|0|mezdruk rpc 0.1.0%0ARattle logic dac8208d650f15bf%0A||rpc|-V|
 # history
 [0]|0|[0,1]||history|[["push", [], 1], ["undo"], ["redo"]]|
 [0]|3||NotFound in edit 0|history|[["remove", [], 5]]|
 |0|mezdruk history 0.1.0%0ARattle logic dac8208d650f15bf%0A||history|--version|
-|2||BadWords%0ARun `mezdruk history --help` for usage.|history|
+|0|mezdruk history 0.1.0%0ARattle logic dac8208d650f15bf%0A||history|-V|
 "#;
 
 // Runs the named program, and returns its status.
@@ -56,16 +59,47 @@ fn each_row_is_that_of_the_program(rt: HostRuntime) {
     assert!(rt; matches!(differing_rows(rt.alloc(), ROWS, 3, run), Ok(0)));
 }
 
-fn help_words(alloc: Global, name: &str) -> Result<Words> {
+#[test]
+fn each_invalid_argument_is_named_with_what_is_wrong(rt: HostRuntime) {
+    assert!(rt; matches!(differing_rows(rt.alloc(), INVALID_ROWS, 3, run), Ok(0)));
+}
+
+// Runs `json_patch`, and returns its status.
+fn run_json_patch(
+    alloc: Global,
+    words: &Words,
+    source: &mut FakeSource<'_>,
+    sink: &mut VecSink,
+    errs: &mut VecSink,
+) -> u8 {
+    if let Some(status) = USAGE_JSON_PATCH.about.say_asked(words, sink) {
+        return status.number();
+    }
+    let status = run_patch(alloc, words, source, sink, errs);
+    USAGE_JSON_PATCH.explain(alloc, words, status, errs);
+    status
+}
+
+#[test]
+fn json_patch_names_each_invalid_argument(rt: HostRuntime) {
+    assert!(rt;
+        matches!(
+            differing_rows(rt.alloc(), JSON_PATCH_ROWS, 3, run_json_patch),
+            Ok(0)
+        )
+    );
+}
+
+fn help_words(alloc: Global, name: &str, option: &str) -> Result<Words> {
     let mut words = Words::new(alloc);
     words.push(name)?;
-    words.push("--help")?;
+    words.push(option)?;
     Ok(words)
 }
 
 // Whether the program of this name reads nothing and writes this help.
-fn says_help(alloc: Global, name: &str, help: &str) -> Result<bool> {
-    let words = help_words(alloc, name)?;
+fn says_help(alloc: Global, name: &str, option: &str, help: &str) -> Result<bool> {
+    let words = help_words(alloc, name, option)?;
     let mut source = FakeSource::new(b"", 1, &[0]);
     let (mut sink, mut errs) = (VecSink::new(alloc), VecSink::new(alloc));
     let status = run(alloc, &words, &mut source, &mut sink, &mut errs);
@@ -75,15 +109,17 @@ fn says_help(alloc: Global, name: &str, help: &str) -> Result<bool> {
 
 #[test]
 fn a_help_is_that_of_the_program(rt: HostRuntime) {
-    for (name, help) in [
-        ("reshape", json_programs::ABOUT_RESHAPE.help),
-        ("lines", json_programs::ABOUT_LINES.help),
-        ("rpc", json_programs::ABOUT_RPC.help),
-        ("history", json_programs::ABOUT_HISTORY.help),
+    for (name, option, help) in [
+        ("reshape", "--help", json_programs::ABOUT_RESHAPE.help),
+        ("reshape", "-h", json_programs::ABOUT_RESHAPE.help),
+        ("lines", "--help", json_programs::ABOUT_LINES.help),
+        ("rpc", "--help", json_programs::ABOUT_RPC.help),
+        ("rpc", "-h", json_programs::ABOUT_RPC.help),
+        ("history", "--help", json_programs::ABOUT_HISTORY.help),
     ] {
         assert!(rt;
-            matches!(says_help(rt.alloc(), name, help), Ok(true)),
-            "{name}"
+            matches!(says_help(rt.alloc(), name, option, help), Ok(true)),
+            "{name} {option}"
         );
     }
 }

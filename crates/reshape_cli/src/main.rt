@@ -6,17 +6,18 @@
 #![tactic(auto)]
 
 use json_command::Console;
-use json_programs::ABOUT_RESHAPE;
+use json_programs::USAGE_RESHAPE;
 use reshape::run;
 use std::process::ExitCode;
 
 fn main(rt: HostRuntime) -> ExitCode {
-    let mut console = match Console::open(&rt, &ABOUT_RESHAPE) {
+    let mut console = match Console::open(&rt, &USAGE_RESHAPE.about) {
         Ok(console) => console,
         Err(status) => return ExitCode::from(status.number()),
     };
     let (source, sink, errs) = (&mut console.source, &mut console.sink, &mut console.errs);
     let status = run(rt.alloc(), &console.arguments, source, sink, errs);
-    ABOUT_RESHAPE.add_hint(status, &mut console.errs);
+    USAGE_RESHAPE.explain(rt.alloc(), &console.arguments, status, &mut console.errs);
+    console.explain_failure(rt.alloc(), USAGE_RESHAPE.program, status);
     ExitCode::from(status)
 }
