@@ -1,0 +1,125 @@
+//! The calls of `mezdruk.h`. This is the only module with `unsafe` code.
+//!
+//! The header says what a caller owes. Slices are not null and have at most 2^63 - 1 bytes. Only
+//! the calls write to a buffer or a document, and dropping it frees it, once. A document stays in
+//! its thread: the raw pointer in it makes it neither `Send` nor `Sync`.
+#![allow(unsafe_code)]
+
+use crate::raw::*;
+use std::cell::{RefCell, UnsafeCell};
+use std::collections::hash_map::{Entry, HashMap};
+use std::slice::from_raw_parts;
+use std::str::from_utf8_unchecked;
+
+/// A call that makes a text of a text and an argument.
+#[derive(Clone, Copy)]
+pub(crate) struct Change(ChangeCall);
+
+pub(crate) const EDIT: Change = Change(mezdruk_edit);
+pub(crate) const PATCH: Change = Change(mezdruk_patch);
+pub(crate) const MERGE: Change = Change(mezdruk_merge);
+pub(crate) const GET: Change = Change(mezdruk_get);
+
+pub(crate) fn check(text: &[u8], options: &Options) -> Result<(), Failure> {
+    // SAFETY: the pointers are those of a slice and of references.
+    called(|fault| unsafe { mezdruk_check(text.as_ptr(), text.len(), options, fault) })
+}
+
+impl Change {
+    /// Returns the text that the call makes.
+    pub(crate) fn of(self, text: &[u8], argument: &[u8], options: &Options) -> Printed {
+        let Change(call) = self;
+        let (bytes, length) = (argument.as_ptr(), argument.len());
+        let mut output = Buffer::EMPTY;
+        called(|fault| {
+            // SAFETY: the pointers are those of slices and of references; the output is empty.
+            unsafe { call(text.as_ptr(), text.len(), bytes, length, options, &mut output, fault) }
+        })?;
+        Ok(output.to_text())
+    }
+}
+
+impl Buffer {
+    /// Returns a copy of the text that a call that succeeded left.
+    fn to_text(&self) -> String {
+        // SAFETY: the buffer has a JSON text, which is UTF-8 and has a byte at least.
+        unsafe { from_utf8_unchecked(from_raw_parts(self.bytes, self.length)) }.to_owned()
+    }
+}
+
+impl Drop for Buffer {
+    fn drop(&mut self) {
+        // SAFETY: the buffer is empty, or what a call left.
+        unsafe { mezdruk_free(self) }
+    }
+}
+
+/// A parsed document, which the calls that read it write to while they run.
+pub(crate) struct Parsed(UnsafeCell<Document>, RefCell<HashMap<u32, Box<str>>>);
+
+impl Parsed {
+    pub(crate) fn parse(text: &[u8], options: &Options) -> Result<Parsed, Failure> {
+        let parsed = Parsed(UnsafeCell::new(Document::EMPTY), RefCell::default());
+        called(|fault| {
+            // SAFETY: the pointers are those of a slice, of references and of an empty document.
+            unsafe { mezdruk_parse(text.as_ptr(), text.len(), options, parsed.0.get(), fault) }
+        })?;
+        Ok(parsed)
+    }
+
+    pub(crate) fn root(&self) -> u32 {
+        // SAFETY: no call runs, so none writes.
+        unsafe { (*self.0.get()).root }
+    }
+
+    /// Returns what a call that reads the document wrote, if it found it.
+    fn found<T>(&self, mut it: T, call: impl FnOnce(*mut Document, &mut T) -> bool) -> Option<T> {
+        call(self.0.get(), &mut it).then_some(it)
+    }
+
+    /// Returns what a node is, if there is such a node.
+    pub(crate) fn read(&self, node: u32) -> Option<Node> {
+        // SAFETY: the pointers are those of a document and of a reference.
+        self.found(Node::default(), |of, it| unsafe { mezdruk_read(of, node, it) })
+    }
+
+    /// Returns the node of an element of an array.
+    pub(crate) fn element(&self, array: u32, index: usize) -> Option<u32> {
+        // SAFETY: as in `read`.
+        self.found(0, |of, it| unsafe { mezdruk_element(of, array, index, it) })
+    }
+
+    /// Returns a string, a name or a literal that is kept. It is copied the first time.
+    pub(crate) fn text(&self, node: u32) -> Option<&str> {
+        let mut copies = self.1.borrow_mut();
+        let copy: *const str = match copies.entry(node) {
+            Entry::Occupied(entry) => &**entry.get(),
+            Entry::Vacant(entry) => &**entry.insert(self.copied(node)?.into()),
+        };
+        // SAFETY: what is in the box stays where it is until the document is dropped.
+        Some(unsafe { &*copy })
+    }
+
+    fn copied(&self, node: u32) -> Option<String> {
+        let mut bytes = vec![0; self.read(node)?.length];
+        let (pointer, room) = (bytes.as_mut_ptr(), bytes.len());
+        // SAFETY: as in `read`, and the vector has `room` bytes.
+        let length =
+            self.found(0, |of, it| unsafe { mezdruk_text(of, node, pointer, room, it) })?;
+        String::from_utf8(bytes).ok().filter(|_| length == room)
+    }
+
+    pub(crate) fn print(&self, node: u32, options: &Options) -> Printed {
+        let mut output = Buffer::EMPTY;
+        // SAFETY: the pointers are those of a document and of references; the output is empty.
+        called(|fault| unsafe { mezdruk_print(self.0.get(), node, options, &mut output, fault) })?;
+        Ok(output.to_text())
+    }
+}
+
+impl Drop for Parsed {
+    fn drop(&mut self) {
+        // SAFETY: the document is empty, or what a call left.
+        unsafe { mezdruk_free_document(self.0.get()) }
+    }
+}
