@@ -12,8 +12,8 @@
  * mezdruk_free, or until it is the output of another call that succeeds, which frees what it had.
  *
  * A document is a parsed text. Its nodes are numbered in the order of the text, from `root` on, and
- * each name of an object is a node before its value. Calls that read a document change nothing that
- * C can see, but they write to the struct while they run.
+ * each name of an object is a node before its value. Calls that read a document leave it as it was,
+ * but they write to the struct while they run.
  *
  * What you owe
  * ------------
@@ -27,6 +27,7 @@
  *   the call may write: the output, the fault, the document, the bytes. These do not overlap each
  *   other or the texts. The bytes of a buffer are read only.
  * - A document or a buffer is used by the thread that made it.
+ * - The bytes that a document lends are read only, and only until it is freed or replaced.
  * - malloc, realloc and free are those of one allocator, and align as C says. No call is made from
  *   a signal handler, nor in the child of a fork of a process with threads.
  *
@@ -136,10 +137,25 @@ typedef struct mezdruk_document {
 
 #define MEZDRUK_DOCUMENT_INIT {0, {0, 0}}
 
+/* Bytes that stay for ever. There is no zero after them. */
+typedef struct mezdruk_slice {
+    const uint8_t *bytes; /* not null, also before a call that writes it */
+    size_t length;
+} mezdruk_slice;
+
+#define MEZDRUK_SLICE_INIT {(const uint8_t *)"", 0}
+
 /* Frees the bytes of a buffer, or a document. Both are empty then; to free an empty one does
  * nothing. */
 void mezdruk_free(mezdruk_buffer *buffer);
 void mezdruk_free_document(mezdruk_document *document);
+
+/* The version of the library, such as 0.1.0. */
+void mezdruk_version(mezdruk_slice *version);
+
+/* The name of a fault's code, such as EofWhileParsing. Returns false, and writes nothing, if the
+ * number is no code. */
+bool mezdruk_code_name(uint8_t code, mezdruk_slice *name);
 
 /* ---- texts ---- */
 
@@ -206,15 +222,36 @@ typedef struct mezdruk_node {
 mezdruk_status mezdruk_parse(const uint8_t *text, size_t length, const mezdruk_options *options,
                              mezdruk_document *document, mezdruk_fault *fault);
 
-/* Each returns false, and writes nothing, if there is no such node, element or member. An element
- * or a member takes `index` steps: to go through all of a value, read its nodes in turn. */
+/* Each call from here to mezdruk_name returns false, and writes nothing, if there is no such node,
+ * element, member or text. An element or a member takes `index` steps. */
 bool mezdruk_read(mezdruk_document *document, uint32_t node, mezdruk_node *shown);
 bool mezdruk_element(mezdruk_document *document, uint32_t node, size_t index, uint32_t *element);
 bool mezdruk_member(mezdruk_document *document, uint32_t node, size_t index, uint32_t *value);
 
-/* The bytes of a string, or of the literal of a number that is no integer of 64 bits, copied to
- * `bytes`. Returns false if there is no such text. `*length` is the length of the text; the text is
- * copied only if there is room for it. */
+/* The node after the value at a node and all that is below it, in one step. So all of a value is
+ * read in as many steps as it has nodes: the first element of an array is the node after the
+ * array's, and each further one is that after the one before. The first name of an object is the
+ * node after the object's, its value comes next, and each further name is the node after the value
+ * before it. How many there are is the `length` that mezdruk_read writes: the last one is followed
+ * by what is after the whole value, which need not be a node. */
+bool mezdruk_after(mezdruk_document *document, uint32_t node, uint32_t *after);
+
+/* The double nearest to a number, of two that are equally near the even one. It is false if that is
+ * not finite, and for any value that is not a number. */
+bool mezdruk_real(mezdruk_document *document, uint32_t node, double *number);
+
+/* The bytes of a string or a name, or of the literal of a number that is no integer of 64 bits, as
+ * they are in the document: `*length` bytes at `*bytes`, with no zero after them. They stay until
+ * the document is freed, or until it is the output of another call that succeeds. */
+bool mezdruk_lend(mezdruk_document *document, uint32_t node, const uint8_t **bytes,
+                  size_t *length);
+
+/* The name of a member, lent in the same way. */
+bool mezdruk_lend_name(mezdruk_document *document, uint32_t node, size_t index,
+                       const uint8_t **bytes, size_t *length);
+
+/* The same bytes as mezdruk_lend lends, copied to `bytes`. `*length` is the length of the text; no
+ * byte is written if there is no room for it. */
 bool mezdruk_text(mezdruk_document *document, uint32_t node, uint8_t *bytes, size_t room,
                   size_t *length);
 

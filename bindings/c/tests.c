@@ -219,26 +219,71 @@ enum { ARGUMENT_COUNT = sizeof ARGUMENTS / sizeof *ARGUMENTS };
 static const mezdruk_options PLAIN = MEZDRUK_OPTIONS_INIT;
 static const mezdruk_options SORTED = {20, 1, 1, MEZDRUK_SPACES(3)};
 
+/* What is lent of a node, and the double of a number, agree with what is copied of it. */
+static void try_lent(mezdruk_document *document, uint32_t node, const mezdruk_node *shown)
+{
+    uint8_t *copy = __real_malloc(shown->length ? shown->length : 1);
+    const uint8_t *lent = NULL;
+    size_t copied = 0, length = 0;
+    double number = 0;
+    bool has_text = mezdruk_text(document, node, copy, shown->length, &copied);
+    expect(mezdruk_lend(document, node, &lent, &length) == has_text, "a text is lent", (long)node);
+    if (has_text)
+        expect(length == copied && copied == shown->length && !memcmp(lent, copy, length),
+               "the bytes that are lent", (long)node);
+    else
+        expect(!lent && !length, "nothing is lent", (long)node);
+    if (mezdruk_real(document, node, &number) && shown->form == MEZDRUK_LITERAL) {
+        char literal[64] = "";
+        if (length < sizeof literal) {
+            memcpy(literal, lent, length);
+            expect(strtod(literal, NULL) == number, "the double of a literal", (long)node);
+        }
+    } else
+        expect(shown->kind == MEZDRUK_NUMBER || number == 0, "the double of no number", (long)node);
+    free(copy);
+}
+
+/* The names that are lent and copied of a member agree, and are those of the node before its
+ * value. */
+static void try_name(mezdruk_document *document, uint32_t node, size_t index, uint32_t value)
+{
+    const uint8_t *lent, *before;
+    uint8_t copy[8];
+    size_t length, copied, before_length;
+    expect(mezdruk_name(document, node, index, copy, sizeof copy, &copied)
+           && mezdruk_lend_name(document, node, index, &lent, &length) && length == copied
+           && (length > sizeof copy || !memcmp(lent, copy, length)), "a name", (long)index);
+    expect(mezdruk_lend(document, value - 1, &before, &before_length) && before == lent
+           && before_length == length, "the node of a name", (long)index);
+}
+
 /* Reads each node below one, and returns how many there are. */
 static long walk(mezdruk_document *document, uint32_t node, int levels)
 {
     mezdruk_node shown;
-    uint8_t copy[8];
-    size_t length, i;
-    uint32_t child;
+    size_t i;
+    uint32_t child, next = node + 1;
     long count = 1;
     if (!mezdruk_read(document, node, &shown))
         return 0;
-    if (mezdruk_text(document, node, copy, sizeof copy, &length))
-        expect(length == shown.length, "the length of a text", (long)node);
+    try_lent(document, node, &shown);
     for (i = 0; levels && i < shown.length; i++) {
-        if (shown.kind == MEZDRUK_ARRAY && mezdruk_element(document, node, i, &child))
+        if (shown.kind == MEZDRUK_ARRAY && mezdruk_element(document, node, i, &child)) {
+            expect(child == next, "the node of an element", (long)i);
             count += walk(document, child, levels - 1);
+            expect(mezdruk_after(document, child, &next), "what is after an element", (long)i);
+        }
         if (shown.kind == MEZDRUK_OBJECT && mezdruk_member(document, node, i, &child)) {
-            expect(mezdruk_name(document, node, i, copy, sizeof copy, &length), "a name", (long)i);
+            expect(child == next + 1, "the node of a member", (long)i);
+            try_name(document, node, i, child);
             count += 1 + walk(document, child, levels - 1);
+            expect(mezdruk_after(document, child, &next), "what is after a member", (long)i);
         }
     }
+    if (levels)
+        expect(next == node + count && mezdruk_after(document, node, &child) && child == next,
+               "what is after a value", (long)node);
     expect(!mezdruk_element(document, node, shown.length, &child), "an element too many",
            (long)node);
     expect(!mezdruk_member(document, node, SIZE_MAX, &child), "a member too many", (long)node);
@@ -254,8 +299,12 @@ static void read_document(bytes text, mezdruk_status expected, long where)
     mezdruk_status status = mezdruk_parse(text.at, text.length, &PLAIN, &document, &fault);
     expect(status == expected || status == MEZDRUK_NO_MEMORY, "parse and check differ", where);
     if (status == MEZDRUK_OK) {
+        uint32_t root = document.root, after = 7;
         expect(walk(&document, document.root, 300) > 0, "no root", where);
         expect(!mezdruk_read(&document, UINT32_MAX, &shown), "a node too many", where);
+        expect(!mezdruk_after(&document, UINT32_MAX, &after) && after == 7, "after a node too many",
+               where);
+        expect(document.root == root, "reading moves the root", where);
         if (mezdruk_print(&document, document.root, &SORTED, &output, &fault) == MEZDRUK_OK)
             expect(output.length > 0, "an empty text", where);
     } else
@@ -404,6 +453,100 @@ static long try_refusals(void)
     return count;
 }
 
+/* ---- numbers, and texts that do not fit ---- */
+
+static void try_reals(void)
+{
+    static const struct {
+        const char *text;
+        bool finite;
+        double number;
+    } ROWS[] = {
+        {"1.5", true, 1.5}, {"-0", true, -0.0}, {"0.1", true, 0.1}, {"12", true, 12},
+        {"-7", true, -7}, {"1e400", false, 0}, {"-1e400", false, 0}, {"1e-400", true, 0},
+        {"9007199254740993", true, 9007199254740992.0}, {"true", false, 0}, {"\"1\"", false, 0},
+        {"18446744073709551615", true, 18446744073709551616.0}, {"[1]", false, 0},
+    };
+    size_t i;
+    for (i = 0; i < sizeof ROWS / sizeof *ROWS; i++) {
+        mezdruk_document document = MEZDRUK_DOCUMENT_INIT;
+        mezdruk_fault fault;
+        double number = 99;
+        const uint8_t *text = (const uint8_t *)ROWS[i].text;
+        expect(mezdruk_parse(text, strlen(ROWS[i].text), &PLAIN, &document, &fault) == MEZDRUK_OK,
+               "a number", (long)i);
+        expect(mezdruk_real(&document, document.root, &number) == ROWS[i].finite, "is it finite",
+               (long)i);
+        expect(number == (ROWS[i].finite ? ROWS[i].number : 99), "the nearest double", (long)i);
+        mezdruk_free_document(&document);
+    }
+}
+
+static void try_room(void)
+{
+    mezdruk_document document = MEZDRUK_DOCUMENT_INIT;
+    mezdruk_fault fault;
+    uint8_t copy[4] = {9, 9, 9, 9};
+    size_t length = 0;
+    const uint8_t *text = (const uint8_t *)"[\"abc\",1]";
+    expect(mezdruk_parse(text, 9, &PLAIN, &document, &fault) == MEZDRUK_OK, "a string", 0);
+    expect(mezdruk_text(&document, 1, copy, 2, &length) && length == 3 && copy[0] == 9,
+           "no byte is written without room", 0);
+    expect(mezdruk_text(&document, 1, copy, 4, &length) && !memcmp(copy, "abc\t", 4),
+           "a text and no more is written", 0);
+    length = 77;
+    expect(!mezdruk_text(&document, 2, copy, 4, &length) && length == 77, "an integer has no text",
+           0);
+    mezdruk_free_document(&document);
+}
+
+/* ---- names of codes ---- */
+
+static void try_codes(void)
+{
+    static const struct {
+        uint8_t code;
+        const char *name;
+    } ROWS[] = {
+        {MEZDRUK_CODE_NO_MEMORY, "NoMemory"},
+        {MEZDRUK_CODE_TOO_LARGE, "TooLarge"},
+        {MEZDRUK_CODE_INVALID_UTF8, "InvalidUTF8"},
+        {MEZDRUK_CODE_EOF_WHILE_PARSING, "EofWhileParsing"},
+        {MEZDRUK_CODE_INVALID_LITERAL, "InvalidLiteral"},
+        {MEZDRUK_CODE_INVALID_NUMBER, "InvalidNumber"},
+        {MEZDRUK_CODE_EXPECTED_COLON, "ExpectedColon"},
+        {MEZDRUK_CODE_EXPECTED_ARRAY_COMMA_OR_END, "ExpectedArrayCommaOrEnd"},
+        {MEZDRUK_CODE_EXPECTED_OBJECT_COMMA_OR_END, "ExpectedObjectCommaOrEnd"},
+        {MEZDRUK_CODE_EXPECT_OBJECT_KEY_OR_END, "ExpectObjectKeyOrEnd"},
+        {MEZDRUK_CODE_TRAILING_COMMA, "TrailingComma"},
+        {MEZDRUK_CODE_INVALID_JSON_VALUE, "InvalidJsonValue"},
+        {MEZDRUK_CODE_CONTROL_CHARACTER, "ControlCharacter"},
+        {MEZDRUK_CODE_INVALID_ESCAPE, "InvalidEscape"},
+        {MEZDRUK_CODE_INVALID_SURROGATE, "InvalidSurrogate"},
+        {MEZDRUK_CODE_TRAILING_CHARACTERS, "TrailingCharacters"},
+        {MEZDRUK_CODE_RECURSION_LIMIT_EXCEEDED, "RecursionLimitExceeded"},
+        {MEZDRUK_CODE_NOT_FOUND, "NotFound"},
+        {MEZDRUK_CODE_TYPE_UNMATCHED, "TypeUnmatched"},
+        {MEZDRUK_CODE_NUMBER_OUT_OF_RANGE, "NumberOutOfRange"},
+        {MEZDRUK_CODE_DUPLICATE_KEY, "DuplicateKey"},
+        {MEZDRUK_CODE_BAD_POINTER, "BadPointer"},
+        {MEZDRUK_CODE_BAD_PATCH, "BadPatch"},
+        {MEZDRUK_CODE_TEST_FAILED, "TestFailed"},
+        {MEZDRUK_CODE_BAD_OPTIONS, "BadOptions"},
+    };
+    mezdruk_slice name = MEZDRUK_SLICE_INIT;
+    size_t i, named = 0;
+    int code;
+    for (i = 0; i < sizeof ROWS / sizeof *ROWS; i++)
+        expect(mezdruk_code_name(ROWS[i].code, &name) && name.length == strlen(ROWS[i].name)
+               && !memcmp(name.bytes, ROWS[i].name, name.length), ROWS[i].name, (long)i);
+    for (code = 0; code < 256; code++)
+        named += mezdruk_code_name((uint8_t)code, &name);
+    expect(named == sizeof ROWS / sizeof *ROWS, "how many codes have names", (long)named);
+    mezdruk_version(&name);
+    expect(name.length == 5 && !memcmp(name.bytes, "0.1.0", 5), "the version", 0);
+}
+
 /* ---- options ---- */
 
 static void try_options(void)
@@ -433,6 +576,9 @@ int main(int count, char **arguments)
     }
     printf("%ld rows\n", try_rows(arguments[1]));
     try_options();
+    try_reals();
+    try_room();
+    try_codes();
     printf("%ld damaged texts\n", try_damaged());
     printf("%ld random texts\n", try_random(20000));
     printf("%ld refusals of memory\n", try_refusals());

@@ -7,25 +7,6 @@ from cffi import FFI
 
 here = os.path.dirname(os.path.abspath(__file__))
 
-SOURCE = r"""
-#include "mezdruk.h"
-
-/* Returns the node after the value at a node and all that is below it. */
-static uint32_t mezdruk_after(mezdruk_document *document, uint32_t node)
-{
-    mezdruk_node shown;
-    uint64_t left = 1;
-    for (; left && mezdruk_read(document, node, &shown); node++) {
-        left--;
-        if (shown.kind == MEZDRUK_ARRAY)
-            left += shown.length;
-        else if (shown.kind == MEZDRUK_OBJECT)
-            left += 2 * (uint64_t)shown.length;
-    }
-    return node;
-}
-"""
-
 
 def declarations():
     """Returns what cffi reads of the header: its types, its calls and its numbers."""
@@ -34,14 +15,14 @@ def declarations():
     text = re.sub(r"/\*.*?\*/", "", text, flags=re.S)
     text = re.sub(r"#ifdef __cplusplus\n.*?#e(lse|ndif)\n", "", text, flags=re.S)
     text = re.sub(r"^#.*$", "", text, flags=re.M)
-    return text + "uint32_t mezdruk_after(mezdruk_document *, uint32_t);"
+    return text
 
 
 builder = FFI()
 builder.cdef(declarations())
 builder.set_source(
     "mezdruk._native",
-    SOURCE,
+    '#include "mezdruk.h"',
     include_dirs=[here],
     extra_objects=[os.path.join(here, "libmezdruk.a")],
 )

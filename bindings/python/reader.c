@@ -186,9 +186,8 @@ static PyObject *make_literal(reader *r, uint32_t node)
     }
     if (r->parse_float)
         return parse_by(r->parse_float, r->bytes);
-    value = PyOS_string_to_double(r->bytes, NULL, NULL);
-    if (value == -1.0 && PyErr_Occurred())
-        return NULL;
+    if (!mezdruk_real(&r->document, node, &value))
+        value = *r->bytes == '-' ? -Py_HUGE_VAL : Py_HUGE_VAL;
     return PyFloat_FromDouble(value);
 }
 

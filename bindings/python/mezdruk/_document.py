@@ -48,6 +48,20 @@ class Document:
             raise RuntimeError("a document is used by the thread that made it")
         return self._handle
 
+    def after(self, node: int) -> int:
+        """Returns the node after the value at a node and all that is below it."""
+        found = ffi.new("uint32_t *")
+        if not lib.mezdruk_after(self.handle(), node, found):
+            raise IndexError(node)
+        return int(found[0])
+
+    def text_at(self, node: int) -> str:
+        """Returns the string or the name at a node, or the literal that is no integer of 64 bits."""
+        at, length = ffi.new("const uint8_t **"), ffi.new("size_t *")
+        if not lib.mezdruk_lend(self.handle(), node, at, length):
+            raise IndexError(node)
+        return bytes(ffi.buffer(at[0], length[0])).decode()
+
 
 def _number(literal: str) -> Tuple[str, Any]:
     """Returns what equals that of another number, and nothing else, if the exact values are equal.
@@ -170,15 +184,15 @@ class View(Exact):
         node = self._node + 1
         for _ in range(len(self)):
             yield View(self._document, node)
-            node = lib.mezdruk_after(self._document.handle(), node)
+            node = self._document.after(node)
 
     def _members(self) -> Iterator[Tuple[str, int]]:
         if self._shown.kind != lib.MEZDRUK_OBJECT:
             raise TypeError(f"a value of kind {self.kind} has no members")
         node = self._node + 1
         for _ in range(len(self)):
-            yield self._copied(node), node + 1
-            node = lib.mezdruk_after(self._document.handle(), node + 1)
+            yield self._document.text_at(node), node + 1
+            node = self._document.after(node + 1)
 
     @property
     def literal(self) -> str:
@@ -189,14 +203,14 @@ class View(Exact):
             return str(self._shown.negative)
         if self._shown.kind != lib.MEZDRUK_NUMBER:
             raise TypeError(f"a value of kind {self.kind} has no literal")
-        return self._copied(self._node)
+        return self._document.text_at(self._node)
 
     @property
     def text(self) -> str:
         """The string."""
         if self._shown.kind != lib.MEZDRUK_STRING:
             raise TypeError(f"a value of kind {self.kind} is no string")
-        return self._copied(self._node)
+        return self._document.text_at(self._node)
 
     def value(self, **choices: Any) -> Any:
         """Returns the value as Python objects; the choices are those of `loads`."""
@@ -219,15 +233,3 @@ class View(Exact):
 
     def __str__(self) -> str:
         return self.print()
-
-    def _copied(self, node: int) -> str:
-        handle = self._document.handle()
-        length = ffi.new("size_t *")
-        room = 64
-        while True:
-            copy = ffi.new("uint8_t[]", room)
-            if not lib.mezdruk_text(handle, node, copy, room, length):
-                raise IndexError(node)
-            if length[0] <= room:
-                return bytes(ffi.buffer(copy, length[0])).decode()
-            room = length[0]

@@ -20,14 +20,17 @@ use Rattle.json_value.specs.EditTrees.{both, each_in, edit_in, edits_in}
 use Rattle.reshape.specs.Reshape.{Layout, laid_out, Reshapes, ReadsUnfit, ReshapingRefuses}
 use Rattle.reshape.specs.Words.{SpellsEdits}
 use Rattle.reshape.proofs.Spelled.{none_spelled}
-use Rattle.mezdruk_c.specs.Editing.{EditedText, UnfitText, EditingFails}
+use Rattle.mezdruk_c.specs.Editing.{EditedText, UnfitText, EditingFails, EditsNotRead}
 
 -- ---- edits that are spelled
 
 -- what is not read spells no edits, or memory ran out
-pub not_spelled : (b : List ℕ) (code : ErrorCode) (place : Place) → TypedReadingFails 254 (read_list read_edit) b code place → (code ≡ NoMemory) ⊎ ((es : List Edit) → ¬ (SpellsEdits b es))
+not_spelled : (b : List ℕ) (code : ErrorCode) (place : Place) → TypedReadingFails 254 (read_list read_edit) b code place → (code ≡ NoMemory) ⊎ ((es : List Edit) → ¬ (SpellsEdits b es))
 not_spelled b NoMemory place h = inl refl
 not_spelled b code place h = inr (none_spelled b code place (λ e. cc) h)
+
+pub edits_not_read : (b : List ℕ) (code : ErrorCode) (place : Place) → TypedReadingFails 254 (read_list read_edit) b code place → EditsNotRead b code place
+edits_not_read b code place h = record { why = h; none = not_spelled b code place h }
 
 same_some : {A : Type 0} {x y : A} → Some x ≡ Some y → x ≡ y
 same_some e = cc

@@ -125,7 +125,7 @@ module _ (o : Options) (b p : List ℕ) where
 -- ---- a pointer
 
 -- why a pointer is not parsed
-not_parsed : (tree : Tree) (b : List ℕ) (code : PatchCode) (op : Option ℕ) → PointerFails (pointer_of b) code op → PatchCodeFails tree b code
+not_parsed : (tree : Tree) (b : List ℕ) (code : PatchCode) (op : Option ℕ) → PointerFails (pointer_of b) code op → PatchCodeFails tree b code op
 not_parsed tree b NoMemory None h = tt
 not_parsed tree b BadPointer None h = h
 not_parsed tree b code op h = absurd h

@@ -6,6 +6,9 @@ use Rattle.json_command.specs.Input.{IsInput}
 use Rattle.json_model.specs.Edit.{Edit, edited, Refusal, not_found, type_unmatched}
 use Rattle.json_io.specs.declared.error.ErrorCode.{ErrorCode}
 use Rattle.json_io.specs.declared.error.ErrorCode.TheVariants.{NoMemory, NotFound, TypeUnmatched}
+use Rattle.json_data.specs.Calls.{TypedReadingFails}
+use Rattle.json_data.specs.Reading.{read_list}
+use Rattle.json_data.specs.ReadingValues.{read_edit}
 use Rattle.json_io.specs.declared.error.Place.{Place}
 use Rattle.json_io.specs.declared.error.Place.TheVariants.{Edit as in_edit}
 use Rattle.reshape.specs.Words.{SpellsEdits}
@@ -51,9 +54,14 @@ pub record FailsOnText (o : Options) (text edits : List ℕ) (code : ErrorCode) 
   pub spelled : SpellsEdits edits es
   pub why : EditingFails (rules_of_options o) es text code place
 
+-- why no edits are read, with the place: memory ran out, or a list of edits is not read of the bytes, and then they spell none
+pub record EditsNotRead (edits : List ℕ) (code : ErrorCode) (place : Place) : Type 0 where
+  pub why : TypedReadingFails 254 (read_list read_edit) edits code place
+  pub none : (code ≡ NoMemory) ⊎ ((es : List Edit) → ¬ (SpellsEdits edits es))
+
 -- why editing fails: one row for each kind of failure
 abbrev pub EditFails : Options → List ℕ → List ℕ → Failure → Type 0
 EditFails o text edits bad_options = ¬ (AreOptions o)
-EditFails o text edits (Argument e) = (e.code ≡ NoMemory) ⊎ ((es : List Edit) → ¬ (SpellsEdits edits es))
+EditFails o text edits (Argument e) = EditsNotRead edits e.code e.place
 EditFails o text edits (Text e) = FailsOnText o text edits e.code e.place
 EditFails o text edits failure = ⊥

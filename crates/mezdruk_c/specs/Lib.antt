@@ -1,6 +1,7 @@
 pub mod Asked
 pub mod Buffers
 pub mod Checking
+pub mod Codes
 pub mod Copying
 pub mod Documents
 pub mod Editing
@@ -9,12 +10,14 @@ pub mod Faults
 pub mod Given
 pub mod Held
 pub mod Layouts
+pub mod Lending
 pub mod Nodes
 pub mod Owned
 pub mod Parsing
 pub mod Patching
 pub mod Payloads
 pub mod Pointing
+pub mod Placed
 pub mod PrintedNodes
 pub mod Shown
 pub mod Texts

@@ -1,5 +1,5 @@
 -- What a pointer references in a text.
-use Rattle.std.specs.Prelude.{◌≡◌, ℕ, List, Some, None}
+use Rattle.std.specs.Prelude.{◌≡◌, ℕ, List, Option, Some, None}
 use Rattle.std.specs.Result.{result_ok}
 use Rattle.json_grammar.specs.Tree.{Tree}
 use Rattle.json_command.specs.Input.{IsInput}
@@ -27,16 +27,16 @@ pub record PointsNowhere (tree : Tree) (pointer : List ℕ) : Type 0 where
   pub parsed : pointer_of pointer ≡ Some tokens
   pub found : result_ok (value_at_pointer tokens tree) ≡ None
 
--- why a pointer references nothing: memory ran out, it is none, or there is no such value
-abbrev pub PatchCodeFails : Tree → List ℕ → PatchCode → Type 0
-PatchCodeFails tree pointer NoMemory = Unit {0}
-PatchCodeFails tree pointer BadPointer = pointer_of pointer ≡ None
-PatchCodeFails tree pointer NotFound = PointsNowhere tree pointer
-PatchCodeFails tree pointer code = ⊥
+-- why a pointer references nothing: memory ran out, it is none, or there is no such value; no operation is named
+abbrev pub PatchCodeFails : Tree → List ℕ → PatchCode → Option ℕ → Type 0
+PatchCodeFails tree pointer NoMemory None = Unit {0}
+PatchCodeFails tree pointer BadPointer None = pointer_of pointer ≡ None
+PatchCodeFails tree pointer NotFound None = PointsNowhere tree pointer
+PatchCodeFails tree pointer code op = ⊥
 
 abbrev pub PointingFails : Tree → List ℕ → Failure → Type 0
 PointingFails tree pointer (Text e) = e ≡ no_memory_for_text
-PointingFails tree pointer (Patch e) = PatchCodeFails tree pointer e.code
+PointingFails tree pointer (Patch e) = PatchCodeFails tree pointer e.code e.op
 PointingFails tree pointer failure = ⊥
 
 -- the output is the text of the part of the tree that the pointer references
@@ -48,14 +48,14 @@ pub record GetsText (o : Options) (text pointer output : List ℕ) : Type 0 wher
   pub is : text_by_options o part ≡ Some output
 
 -- the text was read, and the pointer references nothing in its tree
-pub record FailsInTree (o : Options) (text pointer : List ℕ) (code : PatchCode) : Type 0 where
+pub record FailsInTree (o : Options) (text pointer : List ℕ) (code : PatchCode) (op : Option ℕ) : Type 0 where
   pub tree : Tree
   pub input : IsInput (rules_of_options o) text tree
-  pub why : PatchCodeFails tree pointer code
+  pub why : PatchCodeFails tree pointer code op
 
 -- why there is no such part: one row for each kind of failure
 abbrev pub GetFails : Options → List ℕ → List ℕ → Failure → Type 0
 GetFails o text pointer bad_options = ¬ (AreOptions o)
 GetFails o text pointer (Argument e) = Utf8Cause pointer e.code e.place
 GetFails o text pointer (Text e) = ReadingTextFails (rules_of_options o) text e.code e.place
-GetFails o text pointer (Patch e) = FailsInTree o text pointer e.code
+GetFails o text pointer (Patch e) = FailsInTree o text pointer e.code e.op

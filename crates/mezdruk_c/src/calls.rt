@@ -1,16 +1,17 @@
 // The calls that read a document.
-ghost use Rattle.std.specs.Prelude.{◌≡◌, ◌↔◌, None, IfSome, IsSome, IsTrue};
+ghost use Rattle.std.specs.Prelude.{◌≡◌, ◌↔◌, None, Some, IfSome, IsSome, IsTrue};
 ghost use Rattle.std.specs.Bool.{OnTrue, OnFalse};
 ghost use Rattle.mezdruk_c.specs.Copying.{CopiesText};
-ghost use Rattle.mezdruk_c.specs.Documents.{document_node_tree, text_at, name_at};
+ghost use Rattle.mezdruk_c.specs.Documents.{document_node_tree, text_at, name_at, real_at, IsSameDocument, IsChildNode, IsAfterNode};
 ghost use Rattle.mezdruk_c.specs.Nodes.{ShowsTree};
-ghost use Rattle.mezdruk_c.specs.Owned.{owned_payload};
 ghost use Rattle.mezdruk_c.specs.Payloads.{element_of, member_of};
 
 use crate::document::Document;
 use crate::node::Node;
 use crate::owner::Owner;
-use crate::reading::{copy_found, element_in, member_in, name_in, node_in, text_in};
+use crate::reading::{
+    after_in, copy_found, element_in, member_in, name_in, node_in, real_in, text_in,
+};
 use std::alloc::Global;
 
 /// Writes what a node of the document is. Returns false if the document is empty or has no such
@@ -25,7 +26,8 @@ pub extern "C" fn mezdruk_read(
     ensures known { IsTrue result ↔ IsSome (document_node_tree document.old node) }
     ensures shown { OnTrue result
         (IfSome (document_node_tree document.old node) (ShowsTree shown.new)) }
-    ensures kept { owned_payload document.new.owner ≡ owned_payload document.old.owner }
+    ensures untouched { OnFalse result (shown.new ≡ shown.old) }
+    ensures kept { IsSameDocument document.old document.new }
 {
     let Some(payload) = document.owner.take(alloc) else {
         return false;
@@ -52,9 +54,11 @@ pub extern "C" fn mezdruk_element(
 ) -> bool
     ensures found { OnTrue result (document_node_tree document.old element.new
         ≡ element_of (document_node_tree document.old node) index) }
+    ensures numbered { OnTrue result (IsChildNode document.old node index element.new) }
     ensures lacks { OnFalse result
         (element_of (document_node_tree document.old node) index ≡ None) }
-    ensures kept { owned_payload document.new.owner ≡ owned_payload document.old.owner }
+    ensures untouched { OnFalse result (element.new ≡ element.old) }
+    ensures kept { IsSameDocument document.old document.new }
 {
     let Some(payload) = document.owner.take(alloc) else {
         return false;
@@ -82,8 +86,10 @@ pub extern "C" fn mezdruk_member(
 ) -> bool
     ensures found { OnTrue result (document_node_tree document.old value.new
         ≡ member_of (document_node_tree document.old node) index) }
+    ensures numbered { OnTrue result (IsChildNode document.old node index value.new) }
     ensures lacks { OnFalse result (member_of (document_node_tree document.old node) index ≡ None) }
-    ensures kept { owned_payload document.new.owner ≡ owned_payload document.old.owner }
+    ensures untouched { OnFalse result (value.new ≡ value.old) }
+    ensures kept { IsSameDocument document.old document.new }
 {
     let Some(payload) = document.owner.take(alloc) else {
         return false;
@@ -112,7 +118,8 @@ pub extern "C" fn mezdruk_text(
     ensures known { IsTrue result ↔ IsSome (text_at document.old node) }
     ensures copied { OnTrue result (IfSome (text_at document.old node)
         (CopiesText bytes.old bytes.new length.new)) }
-    ensures kept { owned_payload document.new.owner ≡ owned_payload document.old.owner }
+    ensures untouched { OnFalse result ((bytes.new ≡ bytes.old) × (length.new ≡ length.old)) }
+    ensures kept { IsSameDocument document.old document.new }
 {
     let Some(payload) = document.owner.take(alloc) else {
         return false;
@@ -142,7 +149,8 @@ pub extern "C" fn mezdruk_name(
     ensures known { IsTrue result ↔ IsSome (name_at document.old node index) }
     ensures copied { OnTrue result (IfSome (name_at document.old node index)
         (CopiesText bytes.old bytes.new length.new)) }
-    ensures kept { owned_payload document.new.owner ≡ owned_payload document.old.owner }
+    ensures untouched { OnFalse result ((bytes.new ≡ bytes.old) × (length.new ≡ length.old)) }
+    ensures kept { IsSameDocument document.old document.new }
 {
     let Some(payload) = document.owner.take(alloc) else {
         return false;
@@ -152,6 +160,62 @@ pub extern "C" fn mezdruk_name(
     match copied {
         Some(n) => {
             *length = n;
+            true
+        }
+        None => false,
+    }
+}
+
+/// Writes the node after the value at a node and all that is below it: of an element the next one,
+/// and of a member's value the next name, if there are more. Returns false if there is no such node.
+#[unsafe(no_mangle)]
+pub extern "C" fn mezdruk_after(
+    alloc: Global,
+    document: &mut Document,
+    node: u32,
+    after: &mut u32,
+) -> bool
+    ensures known { IsTrue result ↔ IsSome (document_node_tree document.old node) }
+    ensures numbered { OnTrue result (IsAfterNode document.old node after.new) }
+    ensures untouched { OnFalse result (after.new ≡ after.old) }
+    ensures kept { IsSameDocument document.old document.new }
+{
+    let Some(payload) = document.owner.take(alloc) else {
+        return false;
+    };
+    let found = after_in(&payload, node);
+    document.owner = Owner::of(payload);
+    match found {
+        Some(n) => {
+            *after = n;
+            true
+        }
+        None => false,
+    }
+}
+
+/// Writes the double nearest to a number, of two that are equally near the even one. Returns false
+/// if it is not finite, and for any other node.
+#[unsafe(no_mangle)]
+pub extern "C" fn mezdruk_real(
+    alloc: Global,
+    document: &mut Document,
+    node: u32,
+    number: &mut f64,
+) -> bool
+    ensures nearest { OnTrue result (real_at document.old node ≡ Some number.new) }
+    ensures lacks { OnFalse result (real_at document.old node ≡ None) }
+    ensures untouched { OnFalse result (number.new ≡ number.old) }
+    ensures kept { IsSameDocument document.old document.new }
+{
+    let Some(payload) = document.owner.take(alloc) else {
+        return false;
+    };
+    let found = real_in(&payload, node);
+    document.owner = Owner::of(payload);
+    match found {
+        Some(x) => {
+            *number = x;
             true
         }
         None => false,

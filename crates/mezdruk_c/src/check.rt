@@ -39,6 +39,7 @@ pub extern "C" fn mezdruk_check(
     options: &Options,
     fault: &mut Fault,
 ) -> u8
+    ensures allowed { result ≡ 0 → HasRules options.now }
     ensures valid { result ≡ 0 → IsValid (rules_of_options options.now) text.now }
     ensures failed { result ≢ 0 → CallFailsFor (CheckFails options.now text.now) result fault.new }
     ensures complete { HasRules options.now → IsValid (rules_of_options options.now) text.now

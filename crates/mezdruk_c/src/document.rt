@@ -2,6 +2,7 @@
 ghost use Rattle.std.specs.Prelude.{◌≡◌, None, Some, IfOk};
 
 use crate::owner::Owner;
+use crate::parsed::Parsed;
 use crate::payload::Payload;
 use json_doc::Doc;
 use json_text::Result;
@@ -21,7 +22,7 @@ impl Document {
     ghost use Rattle.json_doc.specs.Docs.{doc_root};
     ghost use Rattle.json_io.specs.Errors.{OnlyNoMemory};
     ghost use Rattle.mezdruk_c.specs.Owned.{owned_payload};
-    ghost use Rattle.mezdruk_c.specs.declared.payload.Payload.TheVariants.{Document as a_document};
+    ghost use Rattle.mezdruk_c.specs.Payloads.{document_owned};
 
     /// An empty document.
     pub fn empty(alloc: Global) -> Document
@@ -35,12 +36,12 @@ impl Document {
 
     /// A document of these contents. Fails with `NoMemory` if memory runs out.
     pub fn of(alloc: Global, doc: Rc<Doc>) -> Result<Document>
-        ensures ok { IfOk result (λ d. owned_payload d.owner ≡ Some (a_document doc)) }
+        ensures ok { IfOk result (λ d. document_owned (owned_payload d.owner) ≡ Some doc.value) }
         ensures root { IfOk result (λ d. d.root ≡ doc_root doc.value) }
         ensures only { OnlyNoMemory result }
     {
         let root = doc.root();
-        match Box::new(alloc, Payload::Document(doc)) {
+        match Box::new(alloc, Payload::Document(Parsed::of(doc))) {
             Ok(payload) => Ok(Document {
                 root,
                 owner: Owner::of(payload),

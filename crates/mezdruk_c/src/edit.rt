@@ -1,13 +1,12 @@
 // Editing a text.
-ghost use Rattle.std.specs.Prelude.{◌≡◌, ◌≢◌, ◌⊎◌, ◌<◌, ◌^◌, List, length, map, IfOk, IfErr};
-ghost use Rattle.json_model.specs.Edit.{Edit as TreeEdit};
+ghost use Rattle.std.specs.Prelude.{◌≡◌, ◌≢◌, ◌<◌, ◌^◌, length, map, IfOk, IfErr, OnOk};
 ghost use Rattle.json_text.specs.Ruled.{rules_of};
-ghost use Rattle.json_io.specs.declared.error.ErrorCode.TheVariants.{NoMemory};
 ghost use Rattle.json_value.specs.Edits.{edit_of};
 ghost use Rattle.json_layout.specs.Styles.{printed};
 ghost use Rattle.reshape.specs.Words.{SpellsEdits};
+ghost use Rattle.mezdruk_c.specs.Asked.{AreOptions};
 ghost use Rattle.mezdruk_c.specs.Buffers.{buffer_bytes};
-ghost use Rattle.mezdruk_c.specs.Editing.{EditedText, EditingFails, EditsText, EditFails};
+ghost use Rattle.mezdruk_c.specs.Editing.{EditedText, EditingFails, EditsNotRead, EditsText, EditFails};
 ghost use Rattle.mezdruk_c.specs.Faults.{CallFailsFor};
 
 use crate::buffer::Buffer;
@@ -24,8 +23,7 @@ use std::alloc::Global;
 // Returns the edits that a text spells.
 fn read_edits(alloc: Global, edits: &[u8]) -> TextResult<Vec<Edit>>
     ensures ok { IfOk result (λ v. SpellsEdits edits.now (map edit_of v.items)) }
-    ensures failed { IfErr result (λ e. (e.code ≡ NoMemory)
-        ⊎ ((es : List TreeEdit) → ¬ (SpellsEdits edits.now es))) }
+    ensures failed { IfErr result (λ e. EditsNotRead edits.now e.code e.place) }
 {
     match from_slice::<Vec<Edit>>(alloc, edits) {
         Ok(list) => Ok(list),
@@ -57,6 +55,7 @@ fn edit_text(
 
 // Returns the text of the edited tree, by the options.
 fn edit(alloc: Global, text: &[u8], edits: &[u8], options: &Options) -> Result<Buffer, Failure>
+    ensures allowed { OnOk result (AreOptions options.now) }
     ensures done { IfOk result (λ b. EditsText options.now text.now edits.now (buffer_bytes b)) }
     ensures failed { IfErr result (EditFails options.now text.now edits.now) }
 {
@@ -85,6 +84,7 @@ pub extern "C" fn mezdruk_edit(
     output: &mut Buffer,
     fault: &mut Fault,
 ) -> u8
+    ensures allowed { result ≡ 0 → AreOptions options.now }
     ensures done { result ≡ 0
         → EditsText options.now text.now edits.now (buffer_bytes output.new) }
     ensures failed { result ≢ 0

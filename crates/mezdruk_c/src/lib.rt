@@ -2,6 +2,8 @@
 //! them.
 #![tactic(auto)]
 
+mod about;
+mod address;
 mod buffer;
 mod calls;
 mod check;
@@ -12,10 +14,12 @@ mod fault;
 mod free;
 mod held;
 mod input;
+mod lending;
 mod node;
 mod options;
 mod owner;
 mod parse;
+mod parsed;
 mod parts;
 mod patch;
 mod payload;
@@ -23,4 +27,5 @@ mod pointer;
 mod printer;
 mod printing;
 mod reading;
+mod slice;
 mod values;

@@ -93,7 +93,7 @@ impl Options {
     /// Returns the rules and the style, or `None` if the options are not valid.
     pub fn asked(&self) -> Option<Asked>
         ensures { MatchOption result (¬ (AreOptions self.now))
-            (λ a. (rules_of a.rules ≡ rules_of_options self.now)
+            (λ a. AreOptions self.now × (rules_of a.rules ≡ rules_of_options self.now)
             × ((tree : Tree) → text_by_options self.now tree ≡ Some (printed a.style tree))) }
     {
         match (self.rules(), self.style()) {

@@ -1,5 +1,6 @@
 // Parsing a text into a document.
-ghost use Rattle.std.specs.Prelude.{◌≡◌, ◌≢◌, IfOk, IfErr};
+ghost use Rattle.std.specs.Prelude.{◌≡◌, ◌≢◌, IfOk, IfErr, OnOk};
+ghost use Rattle.mezdruk_c.specs.Asked.{HasRules};
 ghost use Rattle.mezdruk_c.specs.Checking.{CheckFails};
 ghost use Rattle.mezdruk_c.specs.Faults.{CallFailsFor};
 ghost use Rattle.mezdruk_c.specs.Parsing.{IsDocumentOf, KeepsDocument};
@@ -13,6 +14,7 @@ use std::alloc::Global;
 
 // Parses a text, and fails unless it is valid by the rules of the options.
 fn parse(alloc: Global, text: &[u8], options: &Options) -> Result<Document, Failure>
+    ensures allowed { OnOk result (HasRules options.now) }
     ensures done { IfOk result (IsDocumentOf options.now text.now) }
     ensures failed { IfErr result (CheckFails options.now text.now) }
 {
@@ -51,6 +53,7 @@ pub extern "C" fn mezdruk_parse(
     document: &mut Document,
     fault: &mut Fault,
 ) -> u8
+    ensures allowed { result ≡ 0 → HasRules options.now }
     ensures done { result ≡ 0 → IsDocumentOf options.now text.now document.new }
     ensures failed { result ≢ 0 → CallFailsFor (CheckFails options.now text.now) result fault.new }
     ensures kept { result ≢ 0 → document.new ≡ document.old }

@@ -1,5 +1,6 @@
 // Patching a text.
-ghost use Rattle.std.specs.Prelude.{◌≡◌, ◌≢◌, IfOk, IfErr};
+ghost use Rattle.std.specs.Prelude.{◌≡◌, ◌≢◌, IfOk, IfErr, OnOk};
+ghost use Rattle.mezdruk_c.specs.Asked.{AreOptions};
 ghost use Rattle.mezdruk_c.specs.Buffers.{buffer_bytes};
 ghost use Rattle.mezdruk_c.specs.Patching.{PatchesText, PatchCallFails, MergesText, MergeFails};
 ghost use Rattle.mezdruk_c.specs.Faults.{CallFailsFor};
@@ -16,6 +17,7 @@ use std::alloc::Global;
 // Returns the text of what a patch makes of a text.
 #[tactic(auto, using(crate::proofs::PatchedTexts::argument_not_patched, crate::proofs::PatchedTexts::text_not_patched, crate::proofs::PatchedTexts::patch_no_memory))]
 fn patched(alloc: Global, text: &[u8], patch: &[u8], options: &Options) -> Result<Buffer, Failure>
+    ensures allowed { OnOk result (AreOptions options.now) }
     ensures done { IfOk result (λ b. PatchesText options.now text.now patch.now (buffer_bytes b)) }
     ensures failed { IfErr result (PatchCallFails options.now text.now patch.now) }
 {
@@ -39,6 +41,7 @@ fn patched(alloc: Global, text: &[u8], patch: &[u8], options: &Options) -> Resul
 // Returns the text of what a merge patch makes of a text.
 #[tactic(auto, using(crate::proofs::PatchedTexts::argument_not_merged, crate::proofs::PatchedTexts::text_not_merged, crate::proofs::PatchedTexts::merge_no_memory))]
 fn merged(alloc: Global, text: &[u8], patch: &[u8], options: &Options) -> Result<Buffer, Failure>
+    ensures allowed { OnOk result (AreOptions options.now) }
     ensures done { IfOk result (λ b. MergesText options.now text.now patch.now (buffer_bytes b)) }
     ensures failed { IfErr result (MergeFails options.now text.now patch.now) }
 {
@@ -72,6 +75,7 @@ pub extern "C" fn mezdruk_patch(
     output: &mut Buffer,
     fault: &mut Fault,
 ) -> u8
+    ensures allowed { result ≡ 0 → AreOptions options.now }
     ensures done { result ≡ 0
         → PatchesText options.now text.now operations.now (buffer_bytes output.new) }
     ensures failed { result ≢ 0
@@ -94,6 +98,7 @@ pub extern "C" fn mezdruk_merge(
     output: &mut Buffer,
     fault: &mut Fault,
 ) -> u8
+    ensures allowed { result ≡ 0 → AreOptions options.now }
     ensures done { result ≡ 0
         → MergesText options.now text.now patch.now (buffer_bytes output.new) }
     ensures failed { result ≢ 0

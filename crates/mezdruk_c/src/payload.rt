@@ -1,7 +1,6 @@
 // What a pointer that C keeps leads to.
 
-use json_doc::Doc;
-use std::rc::Rc;
+use crate::parsed::Parsed;
 
 /// A value that one call hands out, for other calls to read and to free.
 #[derive(Drop)]
@@ -11,5 +10,5 @@ pub enum Payload {
     /// The bytes of a result.
     Bytes(Vec<u8>),
     /// A parsed document.
-    Document(Rc<Doc>),
+    Document(Parsed),
 }

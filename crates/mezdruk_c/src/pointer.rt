@@ -1,5 +1,6 @@
 // The value that a pointer references in a text.
-ghost use Rattle.std.specs.Prelude.{◌≡◌, ◌≢◌, IfOk, IfErr};
+ghost use Rattle.std.specs.Prelude.{◌≡◌, ◌≢◌, IfOk, IfErr, OnOk};
+ghost use Rattle.mezdruk_c.specs.Asked.{AreOptions};
 ghost use Rattle.mezdruk_c.specs.Buffers.{buffer_bytes};
 ghost use Rattle.mezdruk_c.specs.Pointing.{GetsText, GetFails, IsPointed, PointingFails};
 ghost use Rattle.mezdruk_c.specs.Faults.{CallFailsFor};
@@ -38,6 +39,7 @@ fn value_at(alloc: Global, value: &Value, pointer: &str) -> Result<Value, Failur
 
 // Returns the text of the value that the pointer references in a text.
 fn get(alloc: Global, text: &[u8], pointer: &[u8], options: &Options) -> Result<Buffer, Failure>
+    ensures allowed { OnOk result (AreOptions options.now) }
     ensures done { IfOk result (λ b. GetsText options.now text.now pointer.now (buffer_bytes b)) }
     ensures failed { IfErr result (GetFails options.now text.now pointer.now) }
 {
@@ -71,6 +73,7 @@ pub extern "C" fn mezdruk_get(
     output: &mut Buffer,
     fault: &mut Fault,
 ) -> u8
+    ensures allowed { result ≡ 0 → AreOptions options.now }
     ensures done { result ≡ 0
         → GetsText options.now text.now pointer.now (buffer_bytes output.new) }
     ensures failed { result ≢ 0

@@ -1,12 +1,12 @@
 // The text of a node of a document.
-ghost use Rattle.std.specs.Prelude.{◌≡◌, ◌≢◌, ◌<◌, length, IfOk, IfErr};
+ghost use Rattle.std.specs.Prelude.{◌≡◌, ◌≢◌, ◌<◌, length, IfOk, IfErr, OnOk};
 ghost use Rattle.json_doc.specs.Docs.{doc_cells, doc_tree};
 ghost use Rattle.json_layout.specs.Styles.{printed};
 ghost use Rattle.json_io.specs.Errors.{no_memory};
+ghost use Rattle.mezdruk_c.specs.Asked.{AreOptions};
 ghost use Rattle.mezdruk_c.specs.Buffers.{buffer_bytes};
-ghost use Rattle.mezdruk_c.specs.Documents.{document_node_tree};
+ghost use Rattle.mezdruk_c.specs.Documents.{document_node_tree, IsSameDocument};
 ghost use Rattle.mezdruk_c.specs.Faults.{CallFailsFor};
-ghost use Rattle.mezdruk_c.specs.Owned.{owned_payload};
 ghost use Rattle.mezdruk_c.specs.Payloads.{tree_in};
 ghost use Rattle.mezdruk_c.specs.PrintedNodes.{IsPrintedTree, FailsToPrint, PrintsNode, PrintFails};
 
@@ -56,9 +56,9 @@ fn print_node(
     ensures failed { IfErr result (FailsToPrint (tree_in payload.now node)) }
 {
     match payload {
-        Payload::Document(doc) => {
-            if (node as usize) < doc.cells().len() {
-                print_place(alloc, doc, node, style)
+        Payload::Document(parsed) => {
+            if (node as usize) < parsed.doc.cells().len() {
+                print_place(alloc, &parsed.doc, node, style)
             } else {
                 Err(NO_NODE)
             }
@@ -78,7 +78,7 @@ fn print(
         (λ b. IsPrintedTree style.entry (document_node_tree document.old node)
         (buffer_bytes b)) }
     ensures failed { IfErr result (FailsToPrint (document_node_tree document.old node)) }
-    ensures kept { owned_payload document.new.owner ≡ owned_payload document.old.owner }
+    ensures kept { IsSameDocument document.old document.new }
 {
     let Some(payload) = document.owner.take(alloc) else {
         return Err(NO_NODE);
@@ -95,10 +95,11 @@ fn print_by(
     node: u32,
     options: &Options,
 ) -> Result<Buffer, Failure>
+    ensures allowed { OnOk result (AreOptions options.now) }
     ensures done { IfOk result (λ b. PrintsNode options.now (document_node_tree document.old node)
         (buffer_bytes b)) }
     ensures failed { IfErr result (PrintFails options.now (document_node_tree document.old node)) }
-    ensures kept { owned_payload document.new.owner ≡ owned_payload document.old.owner }
+    ensures kept { IsSameDocument document.old document.new }
 {
     match options.asked() {
         Some(asked) => print(alloc, document, node, asked.style),
@@ -118,12 +119,13 @@ pub extern "C" fn mezdruk_print(
     output: &mut Buffer,
     fault: &mut Fault,
 ) -> u8
+    ensures allowed { result ≡ 0 → AreOptions options.now }
     ensures done { result ≡ 0 → PrintsNode options.now (document_node_tree document.old node)
         (buffer_bytes output.new) }
     ensures failed { result ≢ 0
         → CallFailsFor (PrintFails options.now
         (document_node_tree document.old node)) result fault.new }
-    ensures kept { owned_payload document.new.owner ≡ owned_payload document.old.owner }
+    ensures kept { IsSameDocument document.old document.new }
     ensures stays { result ≢ 0 → output.new ≡ output.old }
 {
     give(print_by(alloc, document, node, options), output, fault)

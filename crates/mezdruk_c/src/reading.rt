@@ -1,24 +1,28 @@
 // Reading what C holds.
-ghost use Rattle.std.specs.Prelude.{◌≡◌, None, MatchOption, IsSomeAnd, option_map};
+ghost use Rattle.std.specs.Prelude.{◌≡◌, ◌<◌, None, IfSome, MatchOption, IsSomeAnd, length, option_map};
 ghost use Rattle.std.specs.Option.{option_and_then};
+ghost use Rattle.json_doc.specs.Docs.{doc_cells};
+ghost use Rattle.json_doc.specs.Places.{place_behind};
 ghost use Rattle.json_doc.specs.Seen.{view_tree};
-ghost use Rattle.mezdruk_c.specs.Payloads.{tree_in, element_of, member_of, member_name};
+ghost use Rattle.json_value.specs.Doubles.{double_in};
 ghost use Rattle.mezdruk_c.specs.Copying.{CopiesText, CopiesFound};
 ghost use Rattle.mezdruk_c.specs.Nodes.{ShowsTree};
+ghost use Rattle.mezdruk_c.specs.Payloads.{tree_in, element_of, member_of, member_name, IsChildIn, IsAfterIn};
 ghost use Rattle.mezdruk_c.specs.Trees.{text_or_literal};
 
 use crate::node::{Node, node_of, text_of};
 use crate::payload::Payload;
-use json_doc::DocView;
+use json_doc::{Cell, Doc, DocView};
+use json_value::View;
 
 /// Returns the view of a node, or `None` if there is no document or it has no such node.
 pub fn view_in(payload: &Payload, node: u32) -> Option<DocView<'_>>
     ensures { option_map view_tree result ≡ tree_in payload.now node }
 {
     match payload {
-        Payload::Document(doc) => {
-            if (node as usize) < doc.cells().len() {
-                Some(doc.view_at(node))
+        Payload::Document(parsed) => {
+            if (node as usize) < parsed.doc.cells().len() {
+                Some(parsed.doc.view_at(node))
             } else {
                 None
             }
@@ -40,13 +44,14 @@ pub fn node_in(payload: &Payload, node: u32) -> Option<Node>
 
 /// Returns the node of an element of an array.
 pub fn element_in(payload: &Payload, node: u32, index: usize) -> Option<u32>
-    ensures { option_and_then (tree_in payload.now) result
+    ensures tree { option_and_then (tree_in payload.now) result
         ≡ element_of (tree_in payload.now node) index }
+    ensures numbered { IfSome result (IsChildIn payload.now node index) }
 {
     match payload {
-        Payload::Document(doc) => {
-            if (node as usize) < doc.cells().len() {
-                match doc.view_at(node).element(index) {
+        Payload::Document(parsed) => {
+            if (node as usize) < parsed.doc.cells().len() {
+                match parsed.doc.view_at(node).element(index) {
                     Some(element) => Some(element.place()),
                     None => None,
                 }
@@ -60,13 +65,14 @@ pub fn element_in(payload: &Payload, node: u32, index: usize) -> Option<u32>
 
 /// Returns the node of the value of a member of an object.
 pub fn member_in(payload: &Payload, node: u32, index: usize) -> Option<u32>
-    ensures { option_and_then (tree_in payload.now) result
+    ensures tree { option_and_then (tree_in payload.now) result
         ≡ member_of (tree_in payload.now node) index }
+    ensures numbered { IfSome result (IsChildIn payload.now node index) }
 {
     match payload {
-        Payload::Document(doc) => {
-            if (node as usize) < doc.cells().len() {
-                match doc.view_at(node).pair_value(index) {
+        Payload::Document(parsed) => {
+            if (node as usize) < parsed.doc.cells().len() {
+                match parsed.doc.view_at(node).pair_value(index) {
                     Some(value) => Some(value.place()),
                     None => None,
                 }
@@ -75,6 +81,45 @@ pub fn member_in(payload: &Payload, node: u32, index: usize) -> Option<u32>
             }
         }
         _ => None,
+    }
+}
+
+// Returns the node after the value at a node and all that is below it.
+fn after_node(doc: &Doc, node: u32) -> u32
+    requires { node < length (doc_cells doc.now) }
+    ensures { result ≡ place_behind (doc_cells doc.now) node }
+{
+    match doc.cells()[node as usize] {
+        Cell::Array { link, .. } => link,
+        Cell::Object { link, .. } => link,
+        _ => node + 1,
+    }
+}
+
+/// Returns the node after the value at a node and all that is below it.
+pub fn after_in(payload: &Payload, node: u32) -> Option<u32>
+    ensures { MatchOption (tree_in payload.now node) (result ≡ None)
+        (λ t. IsSomeAnd result (IsAfterIn payload.now node)) }
+{
+    match payload {
+        Payload::Document(parsed) => {
+            if (node as usize) < parsed.doc.cells().len() {
+                Some(after_node(&parsed.doc, node))
+            } else {
+                None
+            }
+        }
+        _ => None,
+    }
+}
+
+/// Returns the double nearest to a number, if it is finite.
+pub fn real_in(payload: &Payload, node: u32) -> Option<f64>
+    ensures { result ≡ option_and_then double_in (tree_in payload.now node) }
+{
+    match view_in(payload, node) {
+        Some(view) => View::packed(view).as_f64(),
+        None => None,
     }
 }
 

@@ -1,0 +1,93 @@
+// A parsed document, and where its texts are.
+ghost use Rattle.std.specs.Prelude.{◌≡◌, ◌<◌, length, slice_index_or};
+ghost use Rattle.json_doc.specs.Docs.{doc_cells};
+ghost use Rattle.json_doc.specs.declared.cell.Cell.TheVariants.{Null as null_cell};
+ghost use Rattle.mezdruk_c.specs.Placed.{placed_once};
+ghost use denote.RawPtr.{InBlock};
+
+use crate::address::address;
+use json_doc::{Cell, Doc};
+use std::rc::Rc;
+
+/// A parsed document, and the address of its texts. Their memory stays the same as long as the
+/// document is held.
+#[derive(Drop)]
+pub struct Parsed {
+    pub(crate) doc: Rc<Doc>,
+    texts: *const u8,
+    ghost placed: { InBlock texts } by { placed_once texts },
+}
+
+/// Bytes that a document lends: `length` bytes at `bytes`.
+#[derive(Clone, Copy)]
+pub struct Lent {
+    /// The address of the first.
+    pub bytes: *const u8,
+    /// How many bytes there are.
+    pub length: usize,
+}
+
+// Returns the cell of a node.
+fn cell_at(doc: &Doc, node: u32) -> Cell
+    requires { node < length (doc_cells doc.now) }
+    ensures { result ≡ slice_index_or (doc_cells doc.now) node null_cell }
+{
+    doc.cells()[node as usize]
+}
+
+impl Parsed {
+    ghost use Rattle.std.specs.Prelude.{MatchOption, None, IsSomeAnd};
+    ghost use Rattle.mezdruk_c.specs.Lending.{LendsText};
+    ghost use Rattle.mezdruk_c.specs.Payloads.{node_tree, node_text, member_name};
+    ghost use denote.RawPtr.{◌+ₚ◌};
+
+    /// Holds a document.
+    pub fn of(doc: Rc<Doc>) -> Parsed
+        ensures { result.doc ≡ doc }
+    {
+        let texts = address(doc.text().as_bytes());
+        Parsed { doc, texts }
+    }
+
+    // Lends a range of the texts.
+    fn range(&self, start: u32, len: u32) -> Lent
+        ensures at { result.bytes ≡ self.now.texts +ₚ start }
+        ensures length { result.length ≡ len }
+    {
+        Lent {
+            bytes: unsafe { self.texts.byte_add(start as usize) },
+            length: len as usize,
+        }
+    }
+
+    /// Lends the bytes of a string or a name, or the literal of a number that is no integer of 64
+    /// bits. Returns `None` for any other node.
+    pub fn lend(&self, node: u32) -> Option<Lent>
+        ensures { MatchOption (node_text self.now.doc.value node) (result ≡ None)
+            (λ s. IsSomeAnd result (λ l. LendsText self.now s l.bytes l.length)) }
+    {
+        if node as usize >= self.doc.cells().len() {
+            return None;
+        }
+        match cell_at(&self.doc, node) {
+            Cell::Str { start, len } => Some(self.range(start, len)),
+            Cell::Raw { start, len } => Some(self.range(start, len)),
+            _ => None,
+        }
+    }
+
+    /// Lends the name of a member of an object, counted from 0. Returns `None` if there is none.
+    pub fn lend_name(&self, node: u32, index: usize) -> Option<Lent>
+        ensures { MatchOption (member_name (node_tree self.now.doc.value node) index)
+            (result ≡ None)
+            (λ s. IsSomeAnd result (λ l. LendsText self.now s l.bytes l.length)) }
+    {
+        if node as usize >= self.doc.cells().len() {
+            return None;
+        }
+        match self.doc.view_at(node).key_view(index) {
+            Some(name) => self.lend(name.place()),
+            None => None,
+        }
+    }
+}
