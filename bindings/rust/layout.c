@@ -26,5 +26,8 @@ AT(mezdruk_node, length, 24);
 SIZE(mezdruk_buffer, 32);
 AT(mezdruk_buffer, length, 8);
 
-SIZE(mezdruk_document, 24);
+SIZE(mezdruk_slice, 16);
+AT(mezdruk_slice, length, 8);
+
+typedef char size_of_document[sizeof(mezdruk_document) <= 32 ? 1 : -1];
 AT(mezdruk_document, root, 0);

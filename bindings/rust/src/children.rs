@@ -2,7 +2,6 @@
 
 use crate::ffi::Parsed;
 use crate::node::Node;
-use crate::raw;
 use std::fmt;
 use std::iter::FusedIterator;
 
@@ -34,7 +33,7 @@ impl<'d> Children<'d> {
         self.left = self.left.checked_sub(1)?;
         let value = self.next + names;
         if self.left > 0 {
-            self.next = after(self.parsed, value)?;
+            self.next = self.parsed.after(value)?;
         }
         Some(value)
     }
@@ -52,22 +51,6 @@ impl<'d> Children<'d> {
         }
         self.parsed.text(self.next)
     }
-}
-
-/// Returns the number of the node after a value and all that is below it.
-fn after(parsed: &Parsed, value: u32) -> Option<u32> {
-    let (mut node, mut left) = (value, 1);
-    while left > 0 {
-        let shown = parsed.read(node)?;
-        left += match shown.kind {
-            raw::OBJECT => 2 * shown.length,
-            raw::ARRAY => shown.length,
-            _ => 0,
-        };
-        left -= 1;
-        node += 1;
-    }
-    Some(node)
 }
 
 impl<'d> Elements<'d> {

@@ -6,8 +6,8 @@
 #![allow(unsafe_code)]
 
 use crate::raw::*;
-use std::cell::{RefCell, UnsafeCell};
-use std::collections::hash_map::{Entry, HashMap};
+use std::cell::UnsafeCell;
+use std::ptr::null;
 use std::slice::from_raw_parts;
 use std::str::from_utf8_unchecked;
 
@@ -23,6 +23,15 @@ pub(crate) const GET: Change = Change(mezdruk_get);
 pub(crate) fn check(text: &[u8], options: &Options) -> Result<(), Failure> {
     // SAFETY: the pointers are those of a slice and of references.
     called(|fault| unsafe { mezdruk_check(text.as_ptr(), text.len(), options, fault) })
+}
+
+pub(crate) fn version() -> &'static str {
+    let mut version = Slice { bytes: "".as_ptr(), length: 0 };
+    // SAFETY: the pointer is that of a reference, and the text that it is written is never freed.
+    unsafe {
+        mezdruk_version(&mut version);
+        from_utf8_unchecked(from_raw_parts(version.bytes, version.length))
+    }
 }
 
 impl Change {
@@ -55,11 +64,11 @@ impl Drop for Buffer {
 }
 
 /// A parsed document, which the calls that read it write to while they run.
-pub(crate) struct Parsed(UnsafeCell<Document>, RefCell<HashMap<u32, Box<str>>>);
+pub(crate) struct Parsed(UnsafeCell<Document>);
 
 impl Parsed {
     pub(crate) fn parse(text: &[u8], options: &Options) -> Result<Parsed, Failure> {
-        let parsed = Parsed(UnsafeCell::new(Document::EMPTY), RefCell::default());
+        let parsed = Parsed(UnsafeCell::new(Document::EMPTY));
         called(|fault| {
             // SAFETY: the pointers are those of a slice, of references and of an empty document.
             unsafe { mezdruk_parse(text.as_ptr(), text.len(), options, parsed.0.get(), fault) }
@@ -89,24 +98,26 @@ impl Parsed {
         self.found(0, |of, it| unsafe { mezdruk_element(of, array, index, it) })
     }
 
-    /// Returns a string, a name or a literal that is kept. It is copied the first time.
-    pub(crate) fn text(&self, node: u32) -> Option<&str> {
-        let mut copies = self.1.borrow_mut();
-        let copy: *const str = match copies.entry(node) {
-            Entry::Occupied(entry) => &**entry.get(),
-            Entry::Vacant(entry) => &**entry.insert(self.copied(node)?.into()),
-        };
-        // SAFETY: what is in the box stays where it is until the document is dropped.
-        Some(unsafe { &*copy })
+    /// Returns the node after a value and all that is below it.
+    pub(crate) fn after(&self, value: u32) -> Option<u32> {
+        // SAFETY: as in `read`.
+        self.found(0, |of, it| unsafe { mezdruk_after(of, value, it) })
     }
 
-    fn copied(&self, node: u32) -> Option<String> {
-        let mut bytes = vec![0; self.read(node)?.length];
-        let (pointer, room) = (bytes.as_mut_ptr(), bytes.len());
-        // SAFETY: as in `read`, and the vector has `room` bytes.
-        let length =
-            self.found(0, |of, it| unsafe { mezdruk_text(of, node, pointer, room, it) })?;
-        String::from_utf8(bytes).ok().filter(|_| length == room)
+    /// Returns the nearest double to a number, if it is finite.
+    pub(crate) fn real(&self, number: u32) -> Option<f64> {
+        // SAFETY: as in `read`.
+        self.found(0.0, |of, it| unsafe { mezdruk_real(of, number, it) })
+    }
+
+    /// Returns a string, a name or a literal that is kept.
+    pub(crate) fn text(&self, node: u32) -> Option<&str> {
+        // SAFETY: as in `read`.
+        let (bytes, length) = self.found((null(), 0), |of, (bytes, length)| unsafe {
+            mezdruk_lend(of, node, bytes, length)
+        })?;
+        // SAFETY: the document has these bytes until it is freed, and they are UTF-8.
+        Some(unsafe { from_utf8_unchecked(from_raw_parts(bytes, length)) })
     }
 
     pub(crate) fn print(&self, node: u32, options: &Options) -> Printed {

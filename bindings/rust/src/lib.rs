@@ -122,3 +122,12 @@ pub fn merge_patch(text: impl AsRef<[u8]>, patch: impl AsRef<[u8]>) -> Result<St
 pub fn get(text: impl AsRef<[u8]>, pointer: &str) -> Result<String, Error> {
     Options::new().get(text, pointer)
 }
+
+/// Returns the version of the C library.
+///
+/// ```
+/// assert_eq!(mezdruk::version(), env!("CARGO_PKG_VERSION"));
+/// ```
+pub fn version() -> &'static str {
+    ffi::version()
+}

@@ -108,15 +108,7 @@ impl<'d> Node<'d> {
     /// # Ok::<(), mezdruk::Error>(())
     /// ```
     pub fn as_f64(self) -> Option<f64> {
-        match self.shown.form {
-            raw::NATURAL => Some(self.shown.natural as f64),
-            raw::NEGATIVE => Some(self.shown.negative as f64),
-            _ if self.kind() == Kind::Number => {
-                let double: f64 = self.parsed.text(self.number)?.parse().ok()?;
-                Some(double).filter(|it| it.is_finite())
-            }
-            _ => None,
-        }
+        self.parsed.real(self.number)
     }
 
     /// Returns the literal of a number as it was in the text, or `None` if this is no number. That
@@ -210,13 +202,15 @@ impl<'d> Node<'d> {
 
     /// Returns the elements of an array, in their order. Of any other value there are none.
     ///
-    /// To go through all of them takes as many steps as there are values in the array.
+    /// To go through all of them takes one step for each.
     pub fn elements(self) -> Elements<'d> {
         Elements::of(self.parsed, self.number, self.count(Kind::Array))
     }
 
     /// Returns the names and the values of the members of an object, in their order. Of any other
     /// value there are none.
+    ///
+    /// To go through all of them takes one step for each.
     ///
     /// ```
     /// let document = mezdruk::Document::parse(r#"{"b": 1, "a": 2, "b": 3}"#)?;

@@ -13,13 +13,12 @@ pub(crate) const NOT_APPLIED: u8 = 3;
 /// What a fault has in place of an offset or an item that is not known.
 pub(crate) const NONE: usize = usize::MAX;
 
-/// The kinds of nodes.
+/// The kinds of nodes; any other is an array.
 pub(crate) const NULL: u8 = 0;
 pub(crate) const BOOLEAN: u8 = 1;
 pub(crate) const NUMBER: u8 = 2;
 pub(crate) const STRING: u8 = 3;
 pub(crate) const OBJECT: u8 = 4;
-pub(crate) const ARRAY: u8 = 5;
 
 /// The forms of integers of 64 bits.
 pub(crate) const NATURAL: u8 = 1;
@@ -73,6 +72,12 @@ pub(crate) struct Node {
 }
 
 #[repr(C)]
+pub(crate) struct Slice {
+    pub(crate) bytes: *const u8,
+    pub(crate) length: usize,
+}
+
+#[repr(C)]
 struct Owner {
     full: bool,
     held: *mut c_void,
@@ -91,14 +96,15 @@ impl Buffer {
     pub(crate) const EMPTY: Buffer = Buffer { bytes: null(), length: 0, owner: NOTHING };
 }
 
+/// A document is at most as large as this, and one of zeros is empty.
 #[repr(C)]
 pub(crate) struct Document {
     pub(crate) root: u32,
-    owner: Owner,
+    private: [*mut c_void; 3],
 }
 
 impl Document {
-    pub(crate) const EMPTY: Document = Document { root: 0, owner: NOTHING };
+    pub(crate) const EMPTY: Document = Document { root: 0, private: [null_mut(); 3] };
 }
 
 /// A call that makes a text of a text and an argument.
@@ -128,13 +134,16 @@ extern "C" {
     pub(crate) fn mezdruk_read(document: *mut Document, node: u32, shown: &mut Node) -> bool;
     pub(crate) fn mezdruk_element(document: *mut Document, node: u32, index: usize,
         element: &mut u32) -> bool;
-    pub(crate) fn mezdruk_text(document: *mut Document, node: u32, bytes: *mut u8, room: usize,
+    pub(crate) fn mezdruk_after(document: *mut Document, node: u32, after: &mut u32) -> bool;
+    pub(crate) fn mezdruk_lend(document: *mut Document, node: u32, bytes: &mut *const u8,
         length: &mut usize) -> bool;
+    pub(crate) fn mezdruk_version(version: &mut Slice);
+    pub(crate) fn mezdruk_real(document: *mut Document, node: u32, number: &mut f64) -> bool;
 }
 
 #[cfg(test)]
 mod tests {
-    use super::{Buffer, Document, Fault, Node, Options};
+    use super::{Buffer, Document, Fault, Node, Options, Slice};
     use std::mem::{forget, size_of};
 
     /// Returns the offset of a field.
@@ -146,7 +155,8 @@ mod tests {
     #[test]
     fn structs_are_as_in_c() {
         assert_eq!((size_of::<Fault>(), size_of::<Options>(), size_of::<Node>()), (40, 8, 32));
-        assert_eq!((size_of::<Buffer>(), size_of::<Document>()), (32, 24));
+        assert_eq!((size_of::<Buffer>(), size_of::<Document>()), (32, 32));
+        assert_eq!(size_of::<Slice>(), 16);
         let it = Fault::default();
         assert_eq!((at(&it, &it.line), at(&it, &it.column)), (8, 16));
         assert_eq!((at(&it, &it.item), at(&it, &it.code)), (24, 32));

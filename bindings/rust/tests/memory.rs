@@ -17,7 +17,7 @@ fn calls(count: usize) {
         assert!(mezdruk::get(TEXT, "/a/3").is_ok());
         assert!(mezdruk::get(TEXT, "/c").is_err());
         assert!(options.parse(&TEXT[1..]).is_err());
-        assert_eq!(texts(&Document::parse(TEXT).unwrap()), 13);
+        assert_eq!(texts(&Document::parse(TEXT).unwrap()), 15);
     }
 }
 
@@ -27,7 +27,7 @@ fn texts(document: &Document) -> usize {
     let names: usize = root.members().map(|(name, value)| name.len() + value.len()).sum();
     let literals = root.get("a").unwrap().elements().filter_map(|it| it.literal());
     let string = root.get("b").and_then(|it| it.as_str()).unwrap();
-    names + literals.map(|it| it.len()).sum::<usize>() + string.len() - 1
+    names + literals.map(|it| it.len()).sum::<usize>() + string.len()
 }
 
 #[cfg(all(target_os = "linux", target_env = "gnu"))]
