@@ -187,7 +187,7 @@ def writer_of(struct, names):
 
 
 def explains_members(struct, lent, names):
-    """The functions that explain a member, and one that is missing."""
+    """The functions that explain a member, and that name one that is missing."""
     arms, missing = [], []
     for it in struct.fields:
         arms += [
@@ -197,23 +197,21 @@ def explains_members(struct, lent, names):
             "            }",
         ]
         if it.default is None:
-            missing += [f"        if !self.{it.name} {{", f"            return Ok(Some(Refusal::lacks(alloc, {it.key})?));", "        }"]
-    other = "Ok(Some(Refusal::key(alloc, ErrorCode::TypeUnmatched)))" if struct.strict else "Ok(None)"
+            missing += [f"        if !self.{it.name} {{", f"            return Some({it.key});", "        }"]
+    skip = ["            _ => {", "                tokens.skip()?;", "                Ok(None)", "            }"]
+    refuse = ["            _ => explain_key(alloc, tokens, ErrorCode::TypeUnmatched),"]
     return [
         f"    fn member<{names.tokens}: Tokens<{lent}>>(&mut self, alloc: Global, key: &Piece<{lent}>, name: &str, tokens: &mut {names.tokens}) -> Result<Option<Refusal>> {{",
         "        let _ = key;",
         "        match name {",
         *arms,
-        "            _ => {",
-        "                tokens.skip()?;",
-        f"                {other}",
-        "            }",
+        *(refuse if struct.strict else skip),
         "        }",
         "    }",
         "",
-        "    fn missing(&self, alloc: Global) -> Result<Option<Refusal>> {",
-        *(missing or ["        let _ = alloc;"]),
-        "        Ok(None)",
+        "    fn missing(&self) -> Option<&str> {",
+        *missing,
+        "        None",
         "    }",
         "}",
         "",
@@ -286,7 +284,7 @@ def imports_of(structs, paths, body):
     fields = used(["field_datum", "or_default", "read_struct as spec_read_struct", "required as needed", "struct_datum"])
     explained = used(["field_reading", "object_refused", "struct_reading"])
     calls = used(["Builder", "DeserializeFrom", "ErrorCode", "Events", "Field", "KeyRoom", "Lent", "Result", "Serialize", "Tokens", "find_struct", "give_fields", "read_struct", "refusal", "required"])
-    explaining = used(["Explain", "ExplainMembers", "Piece", "Refusal", "explain_members"])
+    explaining = used(["Explain", "ExplainMembers", "Piece", "Refusal", "explain_key", "explain_members"])
     own = sorted(named_above(structs))
     return [
         *named("ghost use Rattle.std.specs.Prelude.", ["[]", "◌∷◌", *used(["codes", "false", "negsuc", "pos", "true"])]),

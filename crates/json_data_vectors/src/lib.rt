@@ -10,11 +10,15 @@ mod derived;
 #[cfg(test)]
 mod explained;
 #[cfg(test)]
+mod floats_explained;
+#[cfg(test)]
 mod kept;
 #[cfg(test)]
 mod keys;
 #[cfg(test)]
 mod looks;
+#[cfg(test)]
+mod repeated_names;
 #[cfg(test)]
 mod rows;
 #[cfg(test)]

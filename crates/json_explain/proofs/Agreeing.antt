@@ -1,18 +1,19 @@
 -- A type refuses a tree exactly where it says where.
 use Rattle.std.proofs.Common.{refl, ℕ, suc, List, [], Option, Some, None}
 use Rattle.json_grammar.specs.Tree.{Tree, null, boolean, num, text, list, pairs, Trees, no_trees, tree_and, Pairs, no_pairs, pair_and}
+use Rattle.json_io.specs.declared.error.ErrorCode.TheVariants.{TypeUnmatched}
 use Rattle.json_model.specs.Datum.{Rows, no_rows}
-use Rattle.json_model.specs.Edit.{Step, key_step, index_step}
-use Rattle.json_data.specs.Reading.{Reading, gives, refuses, Series, gives_all, stops, prepend_reading, as_list, each, row_step, rows_from, insert_row}
-use Rattle.json_explain.specs.Laws.{Agrees, Explained, WholeExplained, OptionExplained, ListExplained, MapExplained}
-use Rattle.json_explain.specs.Refused.{Refused, map_reading, reading_refused, first_refused, part_refused, elements_refused, members_refused}
+use Rattle.json_data.specs.Reading.{Reading, gives, refuses, Series, gives_all, stops, prepend_reading, as_list, each, two, row_step, rows_from, insert_row}
+use Rattle.json_explain.specs.Laws.{Agrees, Explained, WholeExplained, OptionExplained, ListExplained, PairExplained, MapExplained}
+use Rattle.json_explain.specs.Refused.{Refused, Step, element_step, member_step, map_reading, reading_refused, name_refused, first_refused, part_refused, elements_refused, two_refused, other_length, members_refused}
+use Rattle.json_explain.specs.declared.refusal.Wanted.{Wanted}
 
-at_reading : (r : Reading) → Agrees r (reading_refused r)
-at_reading (gives d) = tt
-at_reading (refuses c) = refl
+at_reading : (r : Reading) (w : Wanted) (t : Tree) → Agrees r (reading_refused r w t)
+at_reading (gives d) w t = tt
+at_reading (refuses c) w t = refl
 
 pub whole_explained : WholeExplained
-whole_explained f t = at_reading (f t)
+whole_explained f w t = at_reading (f t) w t
 
 pub option_explained : OptionExplained
 option_explained f r h null = tt
@@ -33,7 +34,7 @@ one_more (refuses c) (Some r) s o p h k = h
 
 each_explained : (f : Tree → Reading) (r : Tree → Option Refused) → Explained f r → (i : ℕ) (ts : Trees) → Agrees (as_list (each f ts)) (elements_refused r i ts)
 each_explained f r h i no_trees = tt
-each_explained f r h i (tree_and t ts) = one_more (f t) (r t) (each f ts) (elements_refused r (suc i) ts) (index_step i) (h t) (each_explained f r h (suc i) ts)
+each_explained f r h i (tree_and t ts) = one_more (f t) (r t) (each f ts) (elements_refused r (suc i) ts) (element_step i) (h t) (each_explained f r h (suc i) ts)
 
 pub list_explained : ListExplained
 list_explained f r h null = refl
@@ -43,17 +44,41 @@ list_explained f r h (text s) = refl
 list_explained f r h (list ts) = each_explained f r h 0 ts
 list_explained f r h (pairs ps) = refl
 
-row_more : (x y : Reading) (z : Option Refused) (g : Rows → Reading) (rs : Rows) (o : Option Refused) (p : Step) → Agrees y z → ((qs : Rows) → Agrees (g qs) o)
-    → Agrees (row_step x y g rs) (first_refused (part_refused p (first_refused (reading_refused x) z)) o)
-row_more (refuses c) y z g rs o p h k = refl
-row_more (gives d) (refuses c) None g rs o p h k = absurd h
-row_more (gives d) (refuses c) (Some r) g rs o p h k = h
-row_more (gives d) (gives v) None g rs o p h k = k (insert_row d v rs)
-row_more (gives d) (gives v) (Some r) g rs o p h k = absurd h
+last_part : (x : Reading) (y : Option Refused) (p : Step) → Agrees x y → Agrees (as_list (prepend_reading x (gives_all []))) (part_refused p y)
+last_part (gives d) None p h = tt
+last_part (gives d) (Some r) p h = absurd h
+last_part (refuses c) None p h = absurd h
+last_part (refuses c) (Some r) p h = h
 
-rows_explained : (k : List ℕ → Reading) (f : Tree → Reading) (r : Tree → Option Refused) → Explained f r → (ps : Pairs) (rs : Rows) → Agrees (rows_from k f rs ps) (members_refused (map_reading k r) [] ps)
-rows_explained k f r h no_pairs rs = tt
-rows_explained k f r h (pair_and n t ps) rs = row_more (k n) (f t) (r t) (λ qs. rows_from k f qs ps) rs (members_refused (map_reading k r) [] ps) (key_step n) (h t) (λ qs. rows_explained k f r h ps qs)
+two_explained : (f g : Tree → Reading) (r s : Tree → Option Refused) → Explained f r → Explained g s → (ts : Trees) → Agrees (as_list (two f g ts)) (two_refused r s ts)
+two_explained f g r s h k no_trees = refl
+two_explained f g r s h k (tree_and t no_trees) = one_more (f t) (r t) (stops TypeUnmatched) other_length (element_step 0) (h t) refl
+two_explained f g r s h k (tree_and t (tree_and u no_trees)) =
+    one_more (f t) (r t) (prepend_reading (g u) (gives_all [])) (part_refused (element_step 1) (s u)) (element_step 0) (h t) (last_part (g u) (s u) (element_step 1) (k u))
+two_explained f g r s h k (tree_and t (tree_and u (tree_and v ts))) =
+    one_more (f t) (r t) (prepend_reading (g u) (stops TypeUnmatched)) (first_refused (part_refused (element_step 1) (s u)) other_length) (element_step 0) (h t)
+    (one_more (g u) (s u) (stops TypeUnmatched) other_length (element_step 1) (k u) refl)
+
+pub pair_explained : PairExplained
+pair_explained f g r s h k null = refl
+pair_explained f g r s h k (boolean b) = refl
+pair_explained f g r s h k (num l) = refl
+pair_explained f g r s h k (text b) = refl
+pair_explained f g r s h k (list ts) = two_explained f g r s h k ts
+pair_explained f g r s h k (pairs ps) = refl
+
+row_more : (x y : Reading) (t : Tree) (z : Option Refused) (g : Rows → Reading) (rs : Rows) (o : Option Refused) (p : Step) → Agrees y z → ((qs : Rows) → Agrees (g qs) o)
+    → Agrees (row_step x y g rs) (first_refused (part_refused p (first_refused (name_refused x t) z)) o)
+row_more (refuses c) y t z g rs o p h k = refl
+row_more (gives d) (refuses c) t None g rs o p h k = absurd h
+row_more (gives d) (refuses c) t (Some r) g rs o p h k = h
+row_more (gives d) (gives v) t None g rs o p h k = k (insert_row d v rs)
+row_more (gives d) (gives v) t (Some r) g rs o p h k = absurd h
+
+rows_explained : (k : List ℕ → Reading) (f : Tree → Reading) (r : Tree → Option Refused) → Explained f r → (ps : Pairs) (i : ℕ) (rs : Rows) → Agrees (rows_from k f rs ps) (members_refused (map_reading k r) i [] ps)
+rows_explained k f r h no_pairs i rs = tt
+rows_explained k f r h (pair_and n t ps) i rs =
+    row_more (k n) (f t) t (r t) (λ qs. rows_from k f qs ps) rs (members_refused (map_reading k r) (suc i) [] ps) (member_step i n) (h t) (λ qs. rows_explained k f r h ps (suc i) qs)
 
 pub map_explained : MapExplained
 map_explained k f r h null = refl
@@ -61,4 +86,4 @@ map_explained k f r h (boolean b) = refl
 map_explained k f r h (num l) = refl
 map_explained k f r h (text s) = refl
 map_explained k f r h (list ts) = refl
-map_explained k f r h (pairs ps) = rows_explained k f r h ps no_rows
+map_explained k f r h (pairs ps) = rows_explained k f r h ps 0 no_rows

@@ -2,4 +2,5 @@ pub mod Parts
 pub mod Texts
 pub mod Agreeing
 pub mod Taken
-pub mod Trails
+pub mod Two
+pub mod Walking

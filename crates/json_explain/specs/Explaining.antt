@@ -1,45 +1,64 @@
 -- What it is to explain a refusal.
-use Rattle.std.specs.Prelude.{◌≡◌, ℕ, ◌≤◌, List, false, Option, option_map, string_bytes, map, reverse, drop}
+use Rattle.std.specs.Prelude.{◌≡◌, ℕ, ◌≤◌, List, false, true, Option, None, option_map, string_bytes, map, IfSome}
+use Rattle.json_grammar.specs.Fault.{reads}
 use Rattle.json_grammar.specs.Grammar.{is_text}
 use Rattle.json_grammar.specs.Tree.{Tree, Token as Tok, depth}
-use Rattle.json_grammar.specs.Fault.{reads}
-use Rattle.json_model.specs.Edit.{Step as StepOf, key_step, index_step}
 use Rattle.json_io.specs.declared.error.Place.{Place}
 use Rattle.json_io.specs.Positions.{place_at}
-use Rattle.json_doc.specs.declared.json_type.JsonType.{JsonType}
 use Rattle.json_doc.specs.Readings.{type_of}
+use Rattle.json_tokens.specs.Refusals.{is_refusal}
 use Rattle.json_tokens.specs.Stand.{TokensState, TakesTree}
-use Rattle.json_explain.specs.Refused.{Refused}
-use Rattle.json_explain.specs.Paths.{LeadsToOffset}
+use Rattle.json_explain.specs.declared.explanation.Explanation.{Explanation}
+use Rattle.json_explain.specs.Refused.{Refused, Step as StepOf, element_step, member_step}
+use Rattle.json_explain.specs.Paths.{LeadsTo, BeginsAt}
 use Rattle.json_explain.specs.declared.refusal.Step.{Step}
 use Rattle.json_explain.specs.declared.refusal.Step.TheVariants as step
 use Rattle.json_explain.specs.declared.refusal.Refusal.{Refusal}
 
 abbrev pub explained_step : Step → StepOf
-explained_step (step.Key k) = key_step (string_bytes k)
-explained_step (step.Index i) = index_step i
+explained_step (step.Key k i) = member_step i (string_bytes k)
+explained_step (step.Index i) = element_step i
+
+-- the steps of a refusal, from the whole value on
+abbrev pub refusal_steps : Refusal → List StepOf
+refusal_steps r = map explained_step r.steps.items
 
 -- what a refusal says
 abbrev pub refused_of : Refusal → Refused
-refused_of r = record { path = reverse (map explained_step r.steps.items); code = r.code; member = option_map string_bytes r.member }
+refused_of r = record { path = refusal_steps r; code = r.code; member = option_map string_bytes r.member; wanted = r.wanted; found = r.found }
 
 abbrev pub refused_in : Option Refusal → Option Refused
 refused_in o = option_map refused_of o
 
--- one tree was taken, and r is where it is refused
+-- the path leads to a value of t, which is of the kind that was found
+abbrev pub IsWithin : Tree → Refused → Type 0
+IsWithin t x = (v : Tree) × (xs : List Tok) × LeadsTo t x.path v xs × (type_of v ≡ x.found)
+
+-- one tree was taken, and r is where it is refused: at a value of it
 pub record Explains {S : Type 0} (taken : S → List Tok → Type 0) (stand : S → TokensState) (f : Tree → Option Refused) (a b : S) (r : Option Refused) : Type 0 where
   pub tree : Tree
   pub takes : TakesTree taken stand a b tree
   pub answer : f tree ≡ r
+  pub within : IfSome r (IsWithin tree)
 
--- the bytes are a text of a tree of so many levels at most, and r is where that is refused, if it is
-abbrev pub TextRefused : ℕ → (Tree → Option Refused) → List ℕ → Option Refused → Type 0
-TextRefused limit f b r = (t : Tree) × is_text false t b × (depth t ≤ limit) × (f t ≡ r)
+-- the path leads to a value of t, which is of the kind that was found, and begins in the text b at the place p
+abbrev pub IsPlaced : ℕ → List ℕ → Tree → Place → Refused → Type 0
+IsPlaced limit b t p x = (v : Tree) × (xs : List Tok) × LeadsTo t x.path v xs × (type_of v ≡ x.found) × (i : ℕ) × BeginsAt limit b xs v i × (p ≡ place_at b i)
 
--- the steps of a refusal, the innermost first
-abbrev pub refusal_steps : Refusal → List StepOf
-refusal_steps r = map explained_step r.steps.items
+-- the bytes are a text of a tree of so many levels at most, and r is where that is refused, if it is; p is the place of the value there
+abbrev pub TextRefused : ℕ → (Tree → Option Refused) → List ℕ → Option Refused → Place → Type 0
+TextRefused limit f b r p = (t : Tree) × is_text false t b × (depth t ≤ limit) × (f t ≡ r) × IfSome r (IsPlaced limit b t p)
 
--- the value to which these steps lead, the innermost step first, begins at p and is of the kind j
-abbrev pub FoundAt : List ℕ → List StepOf → Place → JsonType → Type 0
-FoundAt b steps p j = (i : ℕ) × LeadsToOffset b steps i × (t : Tree) × (k : ℕ) × reads false (drop i b) t k × (type_of t ≡ j) × (p ≡ place_at b i)
+-- what explains an error of the text b: where it is refused, if the error is a refusal
+pub record IsExplained (limit : ℕ) (f : Tree → Option Refused) (b : List ℕ) (x : Explanation) : Type 0 where
+  pub refused : is_refusal x.error.code ≡ true → TextRefused limit f b (refused_in x.refusal) x.place
+  pub plain : is_refusal x.error.code ≡ false → x.refusal ≡ None
+  pub elsewhere : x.refusal ≡ None → x.place ≡ x.error.place
+
+-- the value that the bytes begin with has a tree of which this holds
+abbrev pub TextReads : (Tree → Type 0) → List ℕ → Type 0
+TextReads P b = (t : Tree) × (k : ℕ) × reads false b t k × P t
+
+-- r is where the tree is refused, if it is: at a value of it
+abbrev pub TreeRefused : (Tree → Option Refused) → Tree → Option Refused → Type 0
+TreeRefused f t r = (f t ≡ r) × IfSome r (IsWithin t)

@@ -1,8 +1,9 @@
 -- Laws of what is said of refusals: a type refuses a tree exactly where it says where, with the code that it says, if its parts do.
 use Rattle.std.specs.Prelude.{◌≡◌, ℕ, List, [], Option, Some, None}
 use Rattle.json_grammar.specs.Tree.{Tree}
-use Rattle.json_data.specs.Reading.{Reading, gives, refuses, read_list, read_option, read_map}
-use Rattle.json_explain.specs.Refused.{Refused, whole_refused, option_refused, list_refused, object_refused, map_reading}
+use Rattle.json_data.specs.Reading.{Reading, gives, refuses, read_list, read_option, read_pair, read_map}
+use Rattle.json_explain.specs.Refused.{Refused, whole_refused, option_refused, list_refused, pair_refused, object_refused, map_reading}
+use Rattle.json_explain.specs.declared.refusal.Wanted.{Wanted}
 
 abbrev pub Agrees : Reading → Option Refused → Type 0
 Agrees (gives d) None = Unit {0}
@@ -14,13 +15,16 @@ abbrev pub Explained : (Tree → Reading) → (Tree → Option Refused) → Type
 Explained f r = (t : Tree) → Agrees (f t) (r t)
 
 abbrev pub WholeExplained : Type 0
-WholeExplained = (f : Tree → Reading) → Explained f (whole_refused f)
+WholeExplained = (f : Tree → Reading) (w : Wanted) → Explained f (whole_refused f w)
 
 abbrev pub OptionExplained : Type 0
 OptionExplained = (f : Tree → Reading) (r : Tree → Option Refused) → Explained f r → Explained (read_option f) (option_refused r)
 
 abbrev pub ListExplained : Type 0
 ListExplained = (f : Tree → Reading) (r : Tree → Option Refused) → Explained f r → Explained (read_list f) (list_refused r)
+
+abbrev pub PairExplained : Type 0
+PairExplained = (f g : Tree → Reading) (r s : Tree → Option Refused) → Explained f r → Explained g s → Explained (read_pair f g) (pair_refused r s)
 
 abbrev pub MapExplained : Type 0
 MapExplained = (k : List ℕ → Reading) (f : Tree → Reading) (r : Tree → Option Refused) → Explained f r → Explained (read_map k f) (object_refused (map_reading k r) [])

@@ -1,73 +1,70 @@
--- Which value of a text comes next, by its path, and where it begins.
-use Rattle.std.specs.Prelude.{◌≡◌, ◌⊎◌, ◌+◌, ◌<◌, ◌≤◌, ℕ, suc, List, [], ◌∷◌, false, Option, Some, None, length, map}
+-- To which value of a tree a path leads, and where a text has it.
+use Rattle.std.specs.Prelude.{◌≡◌, ◌<◌, ◌≤◌, ℕ, suc, pred, List, [], ◌∷◌, ◌++◌, false, Option, Some, length}
 use Rattle.json_grammar.specs.declared.Kind.{Kind}
 use Rattle.json_grammar.specs.declared.Kind.TheVariants.{Array as array, Object as object}
 use Rattle.json_grammar.specs.declared.Spot.{Spot}
 use Rattle.json_grammar.specs.Given.{piece}
+use Rattle.json_grammar.specs.Grammar.{is_text as is_text_of}
 use Rattle.json_grammar.specs.Needs.{IsGap}
-use Rattle.json_grammar.specs.Tree.{Token as Tok, begin, end, key_token}
-use Rattle.json_model.specs.Edit.{Step, key_step, index_step}
+use Rattle.json_grammar.specs.Tree.{Tree, list, pairs, Token as Tok, tokens, trees_tokens, pairs_tokens, trees_list, list_trees, pairs_list, list_pairs, begin, end, key_token, depth}
 use Rattle.json_text.specs.declared.event.Event.{Event}
-use Rattle.json_text.specs.declared.event.Event.TheVariants as event
-use Rattle.json_text.specs.Parsing.{ParserState, HasGiven}
+use Rattle.json_text.specs.Events.{Means, event_bytes}
+use Rattle.json_text.specs.Parsing.{ParserState, HasGiven, TakesToken}
 use Rattle.json_text.specs.Standing.{Stood}
+use Rattle.json_explain.specs.Refused.{Step, element_step, member_step}
 
--- of each open container, the innermost first, the step to the value that comes next in it; None if a name or the end comes next
-abbrev pub Trail : Type 0
-Trail = List (Option Step)
+-- a step leads from t to the value u in it, and xs are the tokens of t before u
+abbrev pub StepsTo : Tree → Step → Tree → List Tok → Type 0
+StepsTo (list ts) (element_step i) u xs = (before after : List Tree) × (trees_list ts ≡ before ++ u ∷ after) × (length before ≡ i) × (xs ≡ begin array ∷ trees_tokens (list_trees before))
+StepsTo (pairs ps) (member_step i k) u xs =
+    (before after : List (List ℕ × Tree)) × (pairs_list ps ≡ before ++ (k, u) ∷ after) × (length before ≡ i) × (xs ≡ begin object ∷ (pairs_tokens (list_pairs before) ++ key_token k ∷ []))
+StepsTo t s u xs = ⊥
 
-abbrev pub after_value : Trail → Trail
-after_value [] = []
-after_value (None ∷ p) = None ∷ p
-after_value (Some (key_step k) ∷ p) = None ∷ p
-after_value (Some (index_step i) ∷ p) = Some (index_step (suc i)) ∷ p
+-- a path leads from t to the value v, and xs are the tokens of t before v
+abbrev pub LeadsTo : Tree → List Step → Tree → List Tok → Type 0
+LeadsTo t [] v xs = (t ≡ v) × (xs ≡ [])
+LeadsTo t (s ∷ p) v xs = (u : Tree) × (ys zs : List Tok) × StepsTo t s u ys × LeadsTo u p v zs × (xs ≡ ys ++ zs)
 
-abbrev pub outer : Trail → Trail
-outer [] = []
-outer (s ∷ p) = p
+-- in the text b the value v, before which are the tokens xs, begins at the offset i: the first `before` bytes have those tokens, a gap follows,
+-- and the first token of v is at i, byte for byte
+pub record BeginsAt (limit : ℕ) (b : List ℕ) (xs : List Tok) (v : Tree) (i : ℕ) : Type 0 where
+  pub opened : List Kind
+  pub expected : Spot
+  pub before : ℕ
+  pub stood : Stood false limit b before opened expected xs
+  pub gap : IsGap (piece b before i)
+  pub first : Tok
+  pub rest : List Tok
+  pub begins : tokens v ≡ first ∷ rest
+  pub event : Event
+  pub means : Means event first
+  pub after : ℕ
+  pub order : (before ≤ i) × (i < after) × (after ≤ length b)
+  pub bytes : piece b i after ≡ event_bytes event
 
-abbrev pub trail_step : Trail → Tok → Trail
-trail_step p (begin array) = Some (index_step 0) ∷ p
-trail_step p (begin object) = None ∷ p
-trail_step p (key_token k) = Some (key_step k) ∷ outer p
-trail_step p (end k) = after_value (outer p)
-trail_step p x = after_value p
+-- ---- on the way to a value
 
-abbrev pub trail_after : Trail → List Tok → Trail
-trail_after p [] = p
-trail_after p (x ∷ xs) = trail_after (trail_step p x) xs
-
--- so many containers are open within a value after one more event of it, if m were before
-abbrev pub LevelsAfter : Event → ℕ → ℕ → Type 0
-LevelsAfter event.BeginArray m n = n ≡ m + 1
-LevelsAfter event.BeginObject m n = n ≡ m + 1
-LevelsAfter event.EndArray m n = m ≡ n + 1
-LevelsAfter event.EndObject m n = m ≡ n + 1
-LevelsAfter (event.Key v) m n = (n ≡ m) × (0 < m)
-LevelsAfter event.End m n = ⊥
-LevelsAfter _ m n = n ≡ m
-
--- the tokens that were taken of the text b lead to p
-pub record StandsAt (b : List ℕ) (s : ParserState) (p : Trail) : Type 0 where
+-- the tokens of the text b of t were xs so far, and ys come next
+pub record OnTheWay (limit : ℕ) (b : List ℕ) (t : Tree) (s : ParserState) (xs ys : List Tok) : Type 0 where
   pub text : s.text ≡ b
   pub start : s.start ≡ 0
   pub mode : s.lossy ≡ false
-  pub limit : s.limit ≡ 254
-  pub tokens : List Tok
-  pub given : HasGiven s tokens
-  pub trail : trail_after [] tokens ≡ p
+  pub limit_is : s.limit ≡ limit
+  pub given : HasGiven s xs
+  pub is_text : is_text_of false t b
+  pub fits : depth t ≤ limit
+  pub row : tokens t ≡ xs ++ ys
 
--- a comma, a colon or nothing
-abbrev pub IsMark : List ℕ → Type 0
-IsMark g = (g ≡ []) ⊎ ((g ≡ 44 ∷ []) ⊎ (g ≡ 58 ∷ []))
+-- the token x was taken, right before the new offset
+pub record TakesNext (limit : ℕ) (b : List ℕ) (t : Tree) (old new : ParserState) (xs : List Tok) (x : Tok) (ys : List Tok) (result : Option Event) : Type 0 where
+  pub event : Event
+  pub some : result ≡ Some event
+  pub means : Means event x
+  pub takes : TakesToken old event new
+  pub goes : OnTheWay limit b t new (xs ++ x ∷ []) ys
 
--- the value to which these steps lead, the innermost step first, begins at i: the bytes up to `end` have the tokens before it, and a gap follows
-pub record LeadsToOffset (b : List ℕ) (steps : List Step) (i : ℕ) : Type 0 where
-  pub tokens : List Tok
-  pub trail : trail_after [] tokens ≡ map Some steps
-  pub opened : List Kind
-  pub expected : Spot
-  pub end : ℕ
-  pub stood : Stood false 254 b end opened expected tokens
-  pub order : (end ≤ i) × (i ≤ length b)
-  pub gap : IsGap (piece b end i)
+-- how many containers are open behind a token, if n were before it
+abbrev pub levels_behind : Tok → ℕ → ℕ
+levels_behind (begin k) n = suc n
+levels_behind (end k) n = pred n
+levels_behind x n = n

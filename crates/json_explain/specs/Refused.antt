@@ -1,23 +1,44 @@
 -- Where the reading of a tree refuses it: the path to the innermost value that is refused.
 use Rattle.std.specs.Prelude.{ℕ, suc, List, [], ◌∷◌, Bool, true, false, bytes_eq, if◌then◌else◌, Option, Some, None, option_map}
 use Rattle.json_grammar.specs.Tree.{Tree, null, list, pairs, Trees, no_trees, tree_and, Pairs, no_pairs, pair_and}
-use Rattle.json_model.specs.Edit.{Step, key_step, index_step}
 use Rattle.json_io.specs.declared.error.ErrorCode.{ErrorCode}
 use Rattle.json_io.specs.declared.error.ErrorCode.TheVariants.{TypeUnmatched}
+use Rattle.json_doc.specs.declared.json_type.JsonType.{JsonType}
+use Rattle.json_doc.specs.declared.json_type.JsonType.TheVariants as kind
+use Rattle.json_doc.specs.Readings.{type_of}
 use Rattle.json_data.specs.Reading.{Reading, gives, refuses}
+use Rattle.json_explain.specs.declared.refusal.Wanted.{Wanted}
+use Rattle.json_explain.specs.declared.refusal.Wanted.TheVariants as wanted
 
--- the path from the whole value to the innermost one that is refused, why, and the name of the member that is missing there, if one is
+-- a step from a container to one of its values: to the element with this index, or to the member with this index, which has this name.
+-- A name may repeat (RFC 8259, section 4), so the name alone does not say which member it is
+pub data Step : Type 0 where
+  element_step : ℕ → Step
+  member_step : ℕ → List ℕ → Step
+
+-- the path from the whole value to the innermost one that is refused, why, the name of the member that is missing there, if one is,
+-- what is wanted in its place, if any value is, and what it is
 pub record Refused : Type 0 where
   pub path : List Step
   pub code : ErrorCode
   pub member : Option (List ℕ)
+  pub wanted : Option Wanted
+  pub found : JsonType
 
 -- the value itself is refused, and not one within it
-abbrev pub here : ErrorCode → Refused
-here c = record { path = []; code = c; member = None }
+abbrev pub refused_here : ErrorCode → Option (List ℕ) → Option Wanted → JsonType → Refused
+refused_here c m w j = record { path = []; code = c; member = m; wanted = w; found = j }
 
+abbrev pub here : ErrorCode → Wanted → Tree → Refused
+here c w t = refused_here c None (Some w) (type_of t)
+
+-- it is refused because of the name of its member
+abbrev pub key_refused : ErrorCode → Tree → Refused
+key_refused c t = refused_here c None None (type_of t)
+
+-- an object is refused because it has no member of that name
 abbrev pub lacks_member : List ℕ → Refused
-lacks_member k = record { path = []; code = TypeUnmatched; member = Some k }
+lacks_member k = refused_here TypeUnmatched (Some k) None kind.Object
 
 -- as seen from the container around it
 abbrev pub refused_within : Step → Refused → Refused
@@ -32,12 +53,12 @@ first_refused None o = o
 
 -- ---- values without parts
 
-abbrev pub reading_refused : Reading → Option Refused
-reading_refused (gives d) = None
-reading_refused (refuses c) = Some (here c)
+abbrev pub reading_refused : Reading → Wanted → Tree → Option Refused
+reading_refused (gives d) w t = None
+reading_refused (refuses c) w t = Some (here c w t)
 
-abbrev pub whole_refused : (Tree → Reading) → Tree → Option Refused
-whole_refused f t = reading_refused (f t)
+abbrev pub whole_refused : (Tree → Reading) → Wanted → Tree → Option Refused
+whole_refused f w t = reading_refused (f t) w t
 
 abbrev pub option_refused : (Tree → Option Refused) → Tree → Option Refused
 option_refused r null = None
@@ -48,34 +69,54 @@ option_refused r t = r t
 -- the first element that is refused, where the first of them has the index i
 abbrev pub elements_refused : (Tree → Option Refused) → ℕ → Trees → Option Refused
 elements_refused r i no_trees = None
-elements_refused r i (tree_and t ts) = first_refused (part_refused (index_step i) (r t)) (elements_refused r (suc i) ts)
+elements_refused r i (tree_and t ts) = first_refused (part_refused (element_step i) (r t)) (elements_refused r (suc i) ts)
 
 abbrev pub list_refused : (Tree → Option Refused) → Tree → Option Refused
 list_refused r (list ts) = elements_refused r 0 ts
-list_refused r t = Some (here TypeUnmatched)
+list_refused r t = Some (here TypeUnmatched wanted.Array t)
+
+-- an array that has not two elements
+abbrev pub other_length : Option Refused
+other_length = Some (refused_here TypeUnmatched None (Some wanted.Pair) kind.Array)
+
+-- of an array of two, the first element that is refused, and then the array, if it has another length
+abbrev pub two_refused : (Tree → Option Refused) → (Tree → Option Refused) → Trees → Option Refused
+two_refused r s no_trees = other_length
+two_refused r s (tree_and t no_trees) = first_refused (part_refused (element_step 0) (r t)) other_length
+two_refused r s (tree_and t (tree_and u no_trees)) = first_refused (part_refused (element_step 0) (r t)) (part_refused (element_step 1) (s u))
+two_refused r s (tree_and t (tree_and u (tree_and v ts))) =
+    first_refused (part_refused (element_step 0) (r t)) (first_refused (part_refused (element_step 1) (s u)) other_length)
+
+abbrev pub pair_refused : (Tree → Option Refused) → (Tree → Option Refused) → Tree → Option Refused
+pair_refused r s (list ts) = two_refused r s ts
+pair_refused r s t = Some (here TypeUnmatched wanted.Pair t)
 
 -- ---- objects
 
 -- how the members of an object are read: where each is refused, by its name and value; which fields were seen, after each name;
--- and which member is missing in the end
+-- and the name of the member that is missing in the end, if one is
 pub record ObjectReading : Type 0 where
   pub member : List ℕ → Tree → Option Refused
   pub seen : List Bool → List ℕ → List Bool
-  pub missing : List Bool → Option Refused
+  pub missing : List Bool → Option (List ℕ)
 
-abbrev pub members_refused : ObjectReading → List Bool → Pairs → Option Refused
-members_refused r seen no_pairs = r.missing seen
-members_refused r seen (pair_and k t ps) = first_refused (part_refused (key_step k) (r.member k t)) (members_refused r (r.seen seen k) ps)
+-- the first member that is refused, where the first of them has the index i, or else the object, where a member is missing
+abbrev pub members_refused : ObjectReading → ℕ → List Bool → Pairs → Option Refused
+members_refused r i seen no_pairs = option_map lacks_member (r.missing seen)
+members_refused r i seen (pair_and k t ps) = first_refused (part_refused (member_step i k) (r.member k t)) (members_refused r (suc i) (r.seen seen k) ps)
 
--- the first member that is refused, or else the object, where a member is missing
 abbrev pub object_refused : ObjectReading → List Bool → Tree → Option Refused
-object_refused r seen (pairs ps) = members_refused r seen ps
-object_refused r seen t = Some (here TypeUnmatched)
+object_refused r seen (pairs ps) = members_refused r 0 seen ps
+object_refused r seen t = Some (here TypeUnmatched wanted.Object t)
 
 -- ---- maps: a key is refused before its value, and none is missing
 
+abbrev pub name_refused : Reading → Tree → Option Refused
+name_refused (gives d) t = None
+name_refused (refuses c) t = Some (key_refused c t)
+
 abbrev pub map_reading : (List ℕ → Reading) → (Tree → Option Refused) → ObjectReading
-map_reading f r = record { member = λ k t. first_refused (reading_refused (f k)) (r t); seen = λ bs k. bs; missing = λ bs. None }
+map_reading f r = record { member = λ k t. first_refused (name_refused (f k) t) (r t); seen = λ bs k. bs; missing = λ bs. None }
 
 -- ---- structs
 
@@ -88,13 +129,13 @@ pub record FieldReading : Type 0 where
 abbrev pub field_reading : List ℕ → (Tree → Option Refused) → Bool → FieldReading
 field_reading k r b = record { name = k; refused = r; needed = b }
 
-abbrev pub unknown_refused : Bool → Option Refused
-unknown_refused true = Some (here TypeUnmatched)
-unknown_refused false = None
+abbrev pub unknown_refused : Bool → Tree → Option Refused
+unknown_refused true t = Some (key_refused TypeUnmatched t)
+unknown_refused false t = None
 
 -- a member of another name is refused under strict
 abbrev pub field_refused : Bool → List FieldReading → List ℕ → Tree → Option Refused
-field_refused strict [] k t = unknown_refused strict
+field_refused strict [] k t = unknown_refused strict t
 field_refused strict (f ∷ fs) k t = if bytes_eq k f.name then f.refused t else field_refused strict fs k t
 
 abbrev pub fields_seen : List FieldReading → List Bool → List ℕ → List Bool
@@ -105,9 +146,9 @@ abbrev pub no_fields_seen : List FieldReading → List Bool
 no_fields_seen [] = []
 no_fields_seen (f ∷ fs) = false ∷ no_fields_seen fs
 
--- the first field whose member must be there and was not seen
-abbrev pub field_missing : List FieldReading → List Bool → Option Refused
-field_missing (f ∷ fs) (b ∷ bs) = if b then field_missing fs bs else (if f.needed then Some (lacks_member f.name) else field_missing fs bs)
+-- the name of the first field whose member must be there and was not seen
+abbrev pub field_missing : List FieldReading → List Bool → Option (List ℕ)
+field_missing (f ∷ fs) (b ∷ bs) = if b then field_missing fs bs else (if f.needed then Some f.name else field_missing fs bs)
 field_missing fs bs = None
 
 abbrev pub struct_reading : Bool → List FieldReading → ObjectReading

@@ -1,14 +1,17 @@
 // Brackets of arrays and objects, and names.
-ghost use Rattle.std.specs.Prelude.{◌≡◌, ◌≢◌, ℕ, List, true, false, None, Some, OnOk, IfOk, IfSome};
+ghost use Rattle.std.specs.Prelude.{◌≡◌, ◌≢◌, ℕ, List, None, Some, OnOk, IfOk, IfSome};
 ghost use Rattle.json_grammar.specs.declared.Kind.TheVariants.{Object as object};
 ghost use Rattle.json_grammar.specs.Tree.{Tree, Token as Tok, begin as begin_token, end as end_token, key_token};
+ghost use Rattle.json_doc.specs.Readings.{type_of};
 ghost use Rattle.json_tokens.specs.declared.token.TokenKind.TheVariants as TokenKind;
 ghost use Rattle.json_tokens.specs.Kinds.{kind_of, first_kind};
 ghost use Rattle.json_tokens.specs.Pieces.{Says};
 ghost use Rattle.json_tokens.specs.Spots.{InObject};
 ghost use Rattle.json_tokens.specs.Stand.{NotWhole, WantsValue, TakesOne, TakesTree, TakesKeyPiece, FailsWithTokens};
 
+use crate::kinds::type_of as type_of_kind;
 use json_data::{Lent, Piece, Token, TokenKind, Tokens};
+use json_doc::JsonType;
 use json_grammar::Kind;
 use json_text::Result;
 
@@ -22,23 +25,24 @@ fn begin_kind(kind: Kind) -> TokenKind
     }
 }
 
-// Takes the bracket that opens a container of the kind, and returns whether it came. Another value
-// is taken whole.
-pub(crate) fn open<S: Lent, T: Tokens<S>>(tokens: &mut T, kind: Kind) -> Result<bool>
+// Takes the bracket that opens a container of the kind. Another value is taken whole, and its kind is
+// returned.
+pub(crate) fn open<S: Lent, T: Tokens<S>>(tokens: &mut T, kind: Kind) -> Result<Option<JsonType>>
     requires { WantsValue (T.stand tokens.old) }
-    ensures begun { IfOk result (λ b. b ≡ true
+    ensures begun { IfOk result (λ o. o ≡ None
         → TakesOne T.taken T.stand tokens.old tokens.new (begin_token kind)) }
-    ensures other { IfOk result (λ b. b ≡ false
-        → (t : Tree) × TakesTree T.taken T.stand tokens.old tokens.new t
-        × (first_kind t ≢ kind_of (begin_token kind))) }
+    ensures other { IfOk result (λ o. IfSome o (λ found.
+        (t : Tree) × TakesTree T.taken T.stand tokens.old tokens.new t
+        × (first_kind t ≢ kind_of (begin_token kind)) × (type_of t ≡ found))) }
     ensures err { FailsWithTokens (T.stand tokens.old) (T.stand tokens.new) result }
 {
-    if tokens.peek()? != begin_kind(kind) {
+    let next = tokens.peek()?;
+    if next != begin_kind(kind) {
         tokens.skip()?;
-        return Ok(false);
+        return Ok(Some(type_of_kind(next)));
     }
     let _begin = tokens.next()?;
-    Ok(true)
+    Ok(None)
 }
 
 // Takes the next token.

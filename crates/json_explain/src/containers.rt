@@ -1,19 +1,21 @@
 // Arrays and objects, part by part.
-ghost use Rattle.std.specs.Prelude.{◌≡◌, ℕ, List, Bool, Some, true, OnOk, IfOk, IfErr};
+ghost use Rattle.std.specs.Prelude.{◌≡◌, ℕ, List, Bool, Some, None, true, option_map, OnOk, IfOk, IfErr};
 ghost use Rattle.json_grammar.specs.declared.Kind.TheVariants.{Array as array, Object as object};
 ghost use Rattle.json_grammar.specs.Tree.{begin as begin_token};
 ghost use Rattle.json_io.specs.Errors.{OnlyNoMemory};
+ghost use Rattle.json_io.specs.declared.error.ErrorCode.TheVariants.{TypeUnmatched};
 ghost use Rattle.json_tokens.specs.Pieces.{Says};
 ghost use Rattle.json_data.specs.Reader.{GivesUp, GivesUpOnErr};
 ghost use Rattle.json_tokens.specs.Spots.{IsOpen, InArray, InObject};
 ghost use Rattle.json_tokens.specs.Stand.{WantsValue, TakesOne, Leaves};
-ghost use Rattle.json_explain.specs.Refused.{ObjectReading, list_refused, object_refused, refused_within as spec_within};
+ghost use Rattle.json_explain.specs.Refused.{ObjectReading, lacks_member, list_refused, object_refused, refused_here, refused_within as spec_within};
 ghost use Rattle.json_explain.specs.Explaining.{Explains, refused_in, refused_of, explained_step};
 
 use crate::brackets::{next_name, open, pass};
 use crate::explain::Explain;
 use crate::refusal::{Refusal, Step, Wanted};
 use json_data::{Lent, Piece, TokenKind, Tokens, refusal};
+use json_doc::JsonType;
 use json_grammar::Kind;
 use json_text::{ErrorCode, Result};
 use std::alloc::Global;
@@ -22,7 +24,7 @@ use std::alloc::Global;
 ///
 /// ```
 /// use json_data::{Lent, TextTokens, Tokens};
-/// use json_explain::{ExplainMembers, Piece, Refusal, explain_members};
+/// use json_explain::{ExplainMembers, Piece, Refusal, explain_key, explain_members};
 /// use json_text::ErrorCode;
 /// #[derive(Drop)]
 /// struct NoMembers(bool);
@@ -38,11 +40,10 @@ use std::alloc::Global;
 ///         _: &str,
 ///         tokens: &mut T,
 ///     ) -> json_text::Result<Option<Refusal>> {
-///         tokens.skip()?;
-///         Ok(Some(Refusal::key(alloc, ErrorCode::TypeUnmatched)))
+///         explain_key(alloc, tokens, ErrorCode::TypeUnmatched)
 ///     }
-///     fn missing(&self, _: Global) -> json_text::Result<Option<Refusal>> {
-///         Ok(None)
+///     fn missing(&self) -> Option<&str> {
+///         None
 ///     }
 /// }
 /// let mut members = NoMembers(true);
@@ -58,7 +59,8 @@ pub trait ExplainMembers<S: Lent>: Sized {
     ghost seen: { Self → List Bool };
 
     /// Takes the value of the member of that key, whose text is `name`, and returns where it is
-    /// refused, or `None` if it is read.
+    /// refused, or `None` if it is read. Fails as the source of tokens does, or with `NoMemory` if
+    /// memory runs out.
     fn member<T: Tokens<S>>(
         &mut self,
         alloc: Global,
@@ -73,15 +75,36 @@ pub trait ExplainMembers<S: Lent>: Sized {
         ensures seen { OnOk result (seen self.new ≡ reading.seen (seen self.old) name.now) }
         ensures err { GivesUpOnErr (T.stand tokens.old) (T.stand tokens.new) result };
 
-    /// Returns the refusal of the object in which no member is left, if a member is missing. Fails
-    /// with `NoMemory` if memory runs out.
-    fn missing(&self, alloc: Global) -> Result<Option<Refusal>>
-        ensures ok { IfOk result (λ o. refused_in o ≡ reading.missing (seen self.now)) }
-        ensures only { OnlyNoMemory result };
+    /// Returns the name of the member that is missing, if one is, of an object in which no member
+    /// is left.
+    fn missing(&self) -> Option<&str>
+        ensures { option_map (λ s. s.now) result ≡ reading.missing (seen self.now) };
+}
+
+// The refusal of an object in which a member of that name is missing, if there is a name. Fails if
+// memory runs out.
+fn lacking(alloc: Global, member: Option<&str>) -> Result<Option<Refusal>>
+    ensures ok { IfOk result (λ o. refused_in o ≡ option_map (λ s. lacks_member s.now) member.entry) }
+    ensures only { OnlyNoMemory result }
+{
+    match member {
+        Some(name) => {
+            let refused = Refusal::lacks(alloc, name)?;
+            Ok(Some(refused))
+        }
+        None => Ok(None),
+    }
+}
+
+// The refusal of a whole value of the kind `found` that is no container of the kind that is wanted.
+pub(crate) fn mismatch(alloc: Global, wanted: Wanted, found: JsonType) -> Refusal
+    ensures { refused_of result ≡ refused_here TypeUnmatched None (Some wanted) found }
+{
+    Refusal::here(alloc, ErrorCode::TypeUnmatched, wanted, found)
 }
 
 // The refusal of a part, as seen from the container, whose rest is taken.
-fn leave_within<S: Lent, T: Tokens<S>>(
+pub(crate) fn leave_within<S: Lent, T: Tokens<S>>(
     tokens: &mut T,
     refused: Refusal,
     step: Step,
@@ -153,6 +176,7 @@ fn explain_rest<S: Lent, M: ExplainMembers<S>, T: Tokens<S>>(
     ensures err { (a : T) → TakesOne T.taken T.stand a tokens.old (begin_token object)
         → IfErr result (λ e. GivesUp (T.stand a) (T.stand tokens.new) e) }
 {
+    let mut index: usize = 0;
     'each: loop {
         let next = match next_name(tokens) {
             Ok(next) => next,
@@ -160,7 +184,7 @@ fn explain_rest<S: Lent, M: ExplainMembers<S>, T: Tokens<S>>(
         };
         let key = match next {
             Some(key) => key,
-            None => return members.missing(alloc),
+            None => return lacking(alloc, members.missing()),
         };
         let name = match key.copy(alloc) {
             Ok(name) => name,
@@ -171,13 +195,17 @@ fn explain_rest<S: Lent, M: ExplainMembers<S>, T: Tokens<S>>(
             Err(error) => return Err(error),
         };
         if let Some(refused) = refused {
-            return leave_within(tokens, refused, Step::Key(name));
+            return leave_within(tokens, refused, Step::Key(name, index));
         }
+        index = match index.checked_add(1) {
+            Some(next) => next,
+            None => return Err(refusal(ErrorCode::NoMemory)),
+        };
     }
 }
 
 /// Takes one tree and returns where it is refused as an object with these members, or `None` if it
-/// is read.
+/// is read. Fails as the source of tokens does, or with `NoMemory` if memory runs out.
 pub fn explain_members<S: Lent, M: ExplainMembers<S>, T: Tokens<S>>(
     alloc: Global,
     members: &mut M,
@@ -189,8 +217,8 @@ pub fn explain_members<S: Lent, M: ExplainMembers<S>, T: Tokens<S>>(
     ensures err { GivesUpOnErr (T.stand tokens.old) (T.stand tokens.new) result }
 {
     match open(tokens, Kind::Object) {
-        Ok(true) => explain_rest(alloc, members, tokens),
-        Ok(false) => Ok(Some(Refusal::here(alloc, ErrorCode::TypeUnmatched, Wanted::Object))),
+        Ok(None) => explain_rest(alloc, members, tokens),
+        Ok(Some(found)) => Ok(Some(mismatch(alloc, Wanted::Object, found))),
         Err(error) => Err(error),
     }
 }
@@ -200,8 +228,8 @@ impl<S: Lent, V: Explain<S>> Explain<S> for Vec<V> {
 
     fn explain<T: Tokens<S>>(alloc: Global, tokens: &mut T) -> Result<Option<Refusal>> {
         match open(tokens, Kind::Array) {
-            Ok(true) => explain_elements::<S, V, T>(alloc, tokens),
-            Ok(false) => Ok(Some(Refusal::here(alloc, ErrorCode::TypeUnmatched, Wanted::Array))),
+            Ok(None) => explain_elements::<S, V, T>(alloc, tokens),
+            Ok(Some(found)) => Ok(Some(mismatch(alloc, Wanted::Array, found))),
             Err(error) => Err(error),
         }
     }

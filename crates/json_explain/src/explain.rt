@@ -1,14 +1,15 @@
 // Values whose refusals can be explained.
-ghost use Rattle.std.specs.Prelude.{◌≡◌, Option, true, IfOk};
+ghost use Rattle.std.specs.Prelude.{◌≡◌, Option, Some, true, IfOk};
 ghost use Rattle.json_grammar.specs.Tree.{Tree};
 ghost use Rattle.json_data.specs.Reader.{GivesUpOnErr};
 ghost use Rattle.json_tokens.specs.Stand.{WantsValue};
-ghost use Rattle.json_explain.specs.Refused.{Refused, whole_refused};
+ghost use Rattle.json_explain.specs.Refused.{Refused, key_refused, whole_refused};
 ghost use Rattle.json_explain.specs.Explaining.{Explains, refused_in};
 
+use crate::kinds::type_of;
 use crate::refusal::{Refusal, Wanted};
 use json_data::{DeserializeFrom, Lent, Tokens, is_refusal};
-use json_text::Result;
+use json_text::{ErrorCode, Result};
 use std::alloc::Global;
 
 /// A type of which it can be said where its reading refuses a tree.
@@ -26,7 +27,7 @@ use std::alloc::Global;
 ///
 /// ```text
 /// impl<S: Lent> Explain<S> for Colour {
-///     ghost refused = { whole_refused ⟦<Colour as DeserializeFrom<S>>⟧.from_tree };
+///     ghost refused = { whole_refused ⟦<Colour as DeserializeFrom<S>>⟧.from_tree wanted.String };
 ///
 ///     fn explain<T: Tokens<S>>(alloc: Global, tokens: &mut T) -> Result<Option<Refusal>> {
 ///         explain_whole::<S, Colour, T>(alloc, tokens, Wanted::String)
@@ -37,7 +38,8 @@ pub trait Explain<S: Lent>: DeserializeFrom<S> + Drop {
     /// Where the reading of a tree refuses it, if it does.
     ghost refused: { Tree → Option Refused };
 
-    /// Takes one tree and returns where it is refused, or `None` if it is read.
+    /// Takes one tree and returns where it is refused, or `None` if it is read. Fails as the
+    /// source of tokens does, or with `NoMemory` if memory runs out.
     fn explain<T: Tokens<S>>(alloc: Global, tokens: &mut T) -> Result<Option<Refusal>>
         requires { WantsValue (T.stand tokens.old) }
         ensures ok { IfOk result (λ o.
@@ -46,24 +48,51 @@ pub trait Explain<S: Lent>: DeserializeFrom<S> + Drop {
 }
 
 /// Takes one tree and returns its refusal as a whole, or `None` if it is read: the body of
-/// [`Explain::explain`] of a type whose values have no parts. `wanted` says what is read.
+/// [`Explain::explain`] of a type whose values have no parts. `wanted` says what is read. Fails as
+/// the source of tokens does, or with `NoMemory` if memory runs out.
 pub fn explain_whole<S: Lent, V: DeserializeFrom<S> + Drop, T: Tokens<S>>(
     alloc: Global,
     tokens: &mut T,
     wanted: Wanted,
 ) -> Result<Option<Refusal>>
     requires { WantsValue (T.stand tokens.old) }
-    ensures ok { IfOk result (λ o. Explains T.taken T.stand (whole_refused V.from_tree)
+    ensures ok { IfOk result (λ o. Explains T.taken T.stand (whole_refused V.from_tree wanted)
         tokens.old tokens.new (refused_in o)) }
     ensures err { GivesUpOnErr (T.stand tokens.old) (T.stand tokens.new) result }
 {
+    let kind = match tokens.peek() {
+        Ok(kind) => kind,
+        Err(error) => return Err(error),
+    };
     match V::deserialize(alloc, tokens) {
         Ok(_) => Ok(None),
         Err(error) => {
             if is_refusal(error.code) {
-                return Ok(Some(Refusal::here(alloc, error.code, wanted)));
+                return Ok(Some(Refusal::here(alloc, error.code, wanted, type_of(kind))));
             }
             Err(error)
         }
+    }
+}
+
+/// Takes one tree, the value of a member, and returns its refusal because of the member's key, whose
+/// code is `code`. Fails as the source of tokens does.
+pub fn explain_key<S: Lent, T: Tokens<S>>(
+    alloc: Global,
+    tokens: &mut T,
+    code: ErrorCode,
+) -> Result<Option<Refusal>>
+    requires { WantsValue (T.stand tokens.old) }
+    ensures ok { IfOk result (λ o. Explains T.taken T.stand (λ t. Some (key_refused code t))
+        tokens.old tokens.new (refused_in o)) }
+    ensures err { GivesUpOnErr (T.stand tokens.old) (T.stand tokens.new) result }
+{
+    let kind = match tokens.peek() {
+        Ok(kind) => kind,
+        Err(error) => return Err(error),
+    };
+    match tokens.skip() {
+        Ok(()) => Ok(Some(Refusal::key(alloc, code, type_of(kind)))),
+        Err(error) => Err(error),
     }
 }

@@ -1,5 +1,6 @@
 // Integers.
 ghost use Rattle.json_explain.specs.Refused.{whole_refused};
+ghost use Rattle.json_explain.specs.declared.refusal.Wanted.TheVariants as wanted;
 
 use crate::explain::{Explain, explain_whole};
 use crate::refusal::{Refusal, Wanted};
@@ -8,7 +9,7 @@ use json_text::Result;
 use std::alloc::Global;
 
 impl<S: Lent> Explain<S> for u8 {
-    ghost refused = { whole_refused ⟦<u8 as DeserializeFrom<S>>⟧.from_tree };
+    ghost refused = { whole_refused ⟦<u8 as DeserializeFrom<S>>⟧.from_tree wanted.U8 };
 
     fn explain<T: Tokens<S>>(alloc: Global, tokens: &mut T) -> Result<Option<Refusal>> {
         explain_whole::<S, u8, T>(alloc, tokens, Wanted::U8)
@@ -16,7 +17,7 @@ impl<S: Lent> Explain<S> for u8 {
 }
 
 impl<S: Lent> Explain<S> for u16 {
-    ghost refused = { whole_refused ⟦<u16 as DeserializeFrom<S>>⟧.from_tree };
+    ghost refused = { whole_refused ⟦<u16 as DeserializeFrom<S>>⟧.from_tree wanted.U16 };
 
     fn explain<T: Tokens<S>>(alloc: Global, tokens: &mut T) -> Result<Option<Refusal>> {
         explain_whole::<S, u16, T>(alloc, tokens, Wanted::U16)
@@ -24,7 +25,7 @@ impl<S: Lent> Explain<S> for u16 {
 }
 
 impl<S: Lent> Explain<S> for u32 {
-    ghost refused = { whole_refused ⟦<u32 as DeserializeFrom<S>>⟧.from_tree };
+    ghost refused = { whole_refused ⟦<u32 as DeserializeFrom<S>>⟧.from_tree wanted.U32 };
 
     fn explain<T: Tokens<S>>(alloc: Global, tokens: &mut T) -> Result<Option<Refusal>> {
         explain_whole::<S, u32, T>(alloc, tokens, Wanted::U32)
@@ -32,7 +33,7 @@ impl<S: Lent> Explain<S> for u32 {
 }
 
 impl<S: Lent> Explain<S> for u64 {
-    ghost refused = { whole_refused ⟦<u64 as DeserializeFrom<S>>⟧.from_tree };
+    ghost refused = { whole_refused ⟦<u64 as DeserializeFrom<S>>⟧.from_tree wanted.U64 };
 
     fn explain<T: Tokens<S>>(alloc: Global, tokens: &mut T) -> Result<Option<Refusal>> {
         explain_whole::<S, u64, T>(alloc, tokens, Wanted::U64)
@@ -40,7 +41,7 @@ impl<S: Lent> Explain<S> for u64 {
 }
 
 impl<S: Lent> Explain<S> for usize {
-    ghost refused = { whole_refused ⟦<usize as DeserializeFrom<S>>⟧.from_tree };
+    ghost refused = { whole_refused ⟦<usize as DeserializeFrom<S>>⟧.from_tree wanted.U64 };
 
     fn explain<T: Tokens<S>>(alloc: Global, tokens: &mut T) -> Result<Option<Refusal>> {
         explain_whole::<S, usize, T>(alloc, tokens, Wanted::U64)
@@ -48,7 +49,7 @@ impl<S: Lent> Explain<S> for usize {
 }
 
 impl<S: Lent> Explain<S> for u128 {
-    ghost refused = { whole_refused ⟦<u128 as DeserializeFrom<S>>⟧.from_tree };
+    ghost refused = { whole_refused ⟦<u128 as DeserializeFrom<S>>⟧.from_tree wanted.U128 };
 
     fn explain<T: Tokens<S>>(alloc: Global, tokens: &mut T) -> Result<Option<Refusal>> {
         explain_whole::<S, u128, T>(alloc, tokens, Wanted::U128)
@@ -56,7 +57,7 @@ impl<S: Lent> Explain<S> for u128 {
 }
 
 impl<S: Lent> Explain<S> for i8 {
-    ghost refused = { whole_refused ⟦<i8 as DeserializeFrom<S>>⟧.from_tree };
+    ghost refused = { whole_refused ⟦<i8 as DeserializeFrom<S>>⟧.from_tree wanted.I8 };
 
     fn explain<T: Tokens<S>>(alloc: Global, tokens: &mut T) -> Result<Option<Refusal>> {
         explain_whole::<S, i8, T>(alloc, tokens, Wanted::I8)
@@ -64,7 +65,7 @@ impl<S: Lent> Explain<S> for i8 {
 }
 
 impl<S: Lent> Explain<S> for i16 {
-    ghost refused = { whole_refused ⟦<i16 as DeserializeFrom<S>>⟧.from_tree };
+    ghost refused = { whole_refused ⟦<i16 as DeserializeFrom<S>>⟧.from_tree wanted.I16 };
 
     fn explain<T: Tokens<S>>(alloc: Global, tokens: &mut T) -> Result<Option<Refusal>> {
         explain_whole::<S, i16, T>(alloc, tokens, Wanted::I16)
@@ -72,7 +73,7 @@ impl<S: Lent> Explain<S> for i16 {
 }
 
 impl<S: Lent> Explain<S> for i32 {
-    ghost refused = { whole_refused ⟦<i32 as DeserializeFrom<S>>⟧.from_tree };
+    ghost refused = { whole_refused ⟦<i32 as DeserializeFrom<S>>⟧.from_tree wanted.I32 };
 
     fn explain<T: Tokens<S>>(alloc: Global, tokens: &mut T) -> Result<Option<Refusal>> {
         explain_whole::<S, i32, T>(alloc, tokens, Wanted::I32)
@@ -80,7 +81,7 @@ impl<S: Lent> Explain<S> for i32 {
 }
 
 impl<S: Lent> Explain<S> for i64 {
-    ghost refused = { whole_refused ⟦<i64 as DeserializeFrom<S>>⟧.from_tree };
+    ghost refused = { whole_refused ⟦<i64 as DeserializeFrom<S>>⟧.from_tree wanted.I64 };
 
     fn explain<T: Tokens<S>>(alloc: Global, tokens: &mut T) -> Result<Option<Refusal>> {
         explain_whole::<S, i64, T>(alloc, tokens, Wanted::I64)
@@ -88,7 +89,7 @@ impl<S: Lent> Explain<S> for i64 {
 }
 
 impl<S: Lent> Explain<S> for isize {
-    ghost refused = { whole_refused ⟦<isize as DeserializeFrom<S>>⟧.from_tree };
+    ghost refused = { whole_refused ⟦<isize as DeserializeFrom<S>>⟧.from_tree wanted.I64 };
 
     fn explain<T: Tokens<S>>(alloc: Global, tokens: &mut T) -> Result<Option<Refusal>> {
         explain_whole::<S, isize, T>(alloc, tokens, Wanted::I64)
@@ -96,7 +97,7 @@ impl<S: Lent> Explain<S> for isize {
 }
 
 impl<S: Lent> Explain<S> for i128 {
-    ghost refused = { whole_refused ⟦<i128 as DeserializeFrom<S>>⟧.from_tree };
+    ghost refused = { whole_refused ⟦<i128 as DeserializeFrom<S>>⟧.from_tree wanted.I128 };
 
     fn explain<T: Tokens<S>>(alloc: Global, tokens: &mut T) -> Result<Option<Refusal>> {
         explain_whole::<S, i128, T>(alloc, tokens, Wanted::I128)

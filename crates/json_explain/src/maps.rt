@@ -3,7 +3,7 @@ ghost use Rattle.std.specs.Prelude.{[]};
 ghost use Rattle.json_explain.specs.Refused.{map_reading, object_refused};
 
 use crate::containers::{ExplainMembers, explain_members};
-use crate::explain::Explain;
+use crate::explain::{Explain, explain_key};
 use crate::refusal::Refusal;
 use json_data::{DeserializeFrom, FromKey, Lent, Piece, Tokens, is_refusal};
 use json_text::Result;
@@ -36,15 +36,13 @@ impl<S: Lent, K: FromKey<S> + Drop, V: Explain<S>> ExplainMembers<S> for Entries
                 if !is_refusal(error.code) {
                     return Err(error);
                 }
-                tokens.skip()?;
-                Ok(Some(Refusal::key(alloc, error.code)))
+                explain_key(alloc, tokens, error.code)
             }
         }
     }
 
-    fn missing(&self, alloc: Global) -> Result<Option<Refusal>> {
-        let _ = alloc;
-        Ok(None)
+    fn missing(&self) -> Option<&str> {
+        None
     }
 }
 

@@ -1,163 +1,160 @@
 // Where a value begins in a text.
-ghost use Rattle.std.specs.Prelude.{◌≡◌, ◌≤◌, ℕ, List, ◌∷◌, Some, None, true, length, map, IfSome};
-ghost use Rattle.json_grammar.specs.Given.{piece};
-ghost use Rattle.json_grammar.specs.Grammar.{chars};
-ghost use Rattle.json_grammar.specs.Needs.{IsGap};
-ghost use Rattle.json_model.specs.Edit.{index_step, key_step};
+ghost use Rattle.std.specs.Prelude.{◌≡◌, ◌≤◌, ◌<◌, ◌+◌, ℕ, List, ◌∷◌, [], ◌++◌, Some, true, false, length, map, IfSome};
+ghost use Rattle.json_grammar.specs.Grammar.{is_text};
+ghost use Rattle.json_grammar.specs.Tree.{Tree, Token as Tok, depth as depth_of, tokens, trees_tokens, list_trees, pairs_tokens, list_pairs, key_token};
+ghost use Rattle.json_text.specs.Events.{Means, event_bytes};
+ghost use Rattle.json_text.specs.Parsing.{SameInput};
 ghost use Rattle.json_explain.specs.Explaining.{explained_step};
-ghost use Rattle.json_explain.specs.Paths.{Trail, after_value, LevelsAfter, StandsAt, IsMark, LeadsToOffset};
+ghost use Rattle.json_explain.specs.Paths.{BeginsAt, LeadsTo, StepsTo, OnTheWay, TakesNext, levels_behind};
 
 use crate::refusal::Step;
-use json_text::{Event, Parser, Span, ws_run};
-use std::alloc::Global;
+use json_text::{Event, Parser};
 
-// Whether a name is the key. It is taken for another if it has escapes and memory runs out.
-fn is_key(alloc: Global, name: Span<'_>, key: &str) -> bool
-    ensures { result ≡ true → (s : List ℕ) → chars name.entry.lossy s name.entry.raw.now
-        → s ≡ key.now }
+// Takes the next token.
+fn take<'a>(parser: &mut Parser<'a>) -> Option<Event<'a>>
+    ensures same { SameInput parser.old parser.new }
+    ensures forward { IfSome result (λ _. (parser.old.index < parser.new.index)
+        × (parser.new.index ≤ length parser.new.text)) }
+    ensures next { (limit : ℕ) (b : List ℕ) (t : Tree) (xs ys : List Tok) (x : Tok)
+        → OnTheWay limit b t parser.old xs (x ∷ ys)
+        → TakesNext limit b t parser.old parser.new xs x ys result }
 {
-    if let Some(plain) = name.plain() {
-        return plain == key;
-    }
-    match Vec::with_capacity(alloc, name.raw_len()) {
-        Ok(mut bytes) => {
-            name.unescape_into(&mut bytes);
-            bytes.as_slice() == key.as_bytes()
-        }
-        Err(_) => false,
+    let event = match parser.next() {
+        Ok(event) => event,
+        Err(_) => return None,
+    };
+    match event {
+        Event::End => None,
+        _ => Some(event),
     }
 }
 
-// How many containers are open within a value after one more event of it, if it can come there.
-fn levels_after(event: Event<'_>, levels: usize) -> Option<usize>
-    ensures { IfSome result (LevelsAfter event.entry levels) }
+// How many containers are open within a value after one more event of it.
+fn levels_after(event: Event<'_>, levels: usize, most: usize) -> usize
+    requires { levels < most }
+    ensures most { result ≤ most }
+    ensures levels { (x : Tok) → Means event.entry x → result ≡ levels_behind x levels }
 {
     match event {
-        Event::BeginArray | Event::BeginObject => levels.checked_add(1),
-        Event::EndArray | Event::EndObject => levels.checked_sub(1),
-        Event::Key(_) => { if levels == 0 { None } else { Some(levels) } }
-        Event::End => None,
-        _ => Some(levels),
+        Event::BeginArray | Event::BeginObject => levels + 1,
+        Event::EndArray | Event::EndObject => levels.saturating_sub(1),
+        _ => levels,
     }
 }
 
-// Takes the value that comes next, of at most so many events, and returns whether it was taken.
-fn skip_value(parser: &mut Parser<'_>, events: usize) -> bool
-    ensures { result ≡ true → (b : List ℕ) (q : Trail) → StandsAt b parser.old q
-        → StandsAt b parser.new (after_value q) }
+// Takes the value that comes next, and returns whether it was taken.
+fn skip_value(parser: &mut Parser<'_>) -> bool
+    ensures same { SameInput parser.old parser.new }
+    ensures next { (limit : ℕ) (b : List ℕ) (t u : Tree) (xs ys : List Tok)
+        → OnTheWay limit b t parser.old xs (tokens u ++ ys)
+        → (result ≡ true) × OnTheWay limit b t parser.new (xs ++ tokens u) ys }
 {
     let mut levels: usize = 0;
-    for _ in 0..events {
-        let event = match parser.next() {
-            Ok(event) => event,
-            Err(_) => return false,
-        };
-        levels = match levels_after(event, levels) {
-            Some(levels) => levels,
+    'each: loop {
+        let event = match take(parser) {
+            Some(event) => event,
             None => return false,
         };
+        levels = levels_after(event, levels, parser.index());
         if levels == 0 {
             return true;
         }
     }
-    false
 }
 
-// Takes what comes before the element of this index in the array that comes next.
-fn enter_array(parser: &mut Parser<'_>, index: usize, events: usize) -> bool
-    ensures { result ≡ true → (b : List ℕ) (q : Trail) → StandsAt b parser.old q
-        → StandsAt b parser.new (Some (index_step index) ∷ q) }
+// Takes so many elements of an array, from the first on.
+fn skip_elements(parser: &mut Parser<'_>, count: usize) -> bool
+    ensures next { (limit : ℕ) (b : List ℕ) (t : Tree) (us : List Tree) (xs ys : List Tok)
+        → length us ≡ count
+        → OnTheWay limit b t parser.old xs (trees_tokens (list_trees us) ++ ys)
+        → (result ≡ true)
+        × OnTheWay limit b t parser.new (xs ++ trees_tokens (list_trees us)) ys }
 {
-    match parser.next() {
-        Ok(Event::BeginArray) => {}
-        _ => return false,
-    }
-    for i in 0..index {
-        let _ = i;
-        if !skip_value(parser, events) {
+    let mut left = count;
+    'each: while left > 0 {
+        if !skip_value(parser) {
             return false;
         }
+        left -= 1;
     }
     true
 }
 
-// Takes what comes before the value of the first member with this key in the object that comes
-// next.
-fn enter_object(alloc: Global, parser: &mut Parser<'_>, key: &str, events: usize) -> bool
-    ensures { result ≡ true → (b : List ℕ) (q : Trail) → StandsAt b parser.old q
-        → StandsAt b parser.new (Some (key_step key.now) ∷ q) }
+// Takes so many members of an object, from the first on, and the key of the next.
+fn skip_members(parser: &mut Parser<'_>, count: usize) -> bool
+    ensures next { (limit : ℕ) (b : List ℕ) (t : Tree) (us : List (List ℕ × Tree)) (k : List ℕ)
+        (xs ys : List Tok)
+        → length us ≡ count
+        → OnTheWay limit b t parser.old xs (pairs_tokens (list_pairs us) ++ key_token k ∷ ys)
+        → (result ≡ true) × OnTheWay limit b t parser.new
+        (xs ++ (pairs_tokens (list_pairs us) ++ key_token k ∷ [])) ys }
 {
-    match parser.next() {
-        Ok(Event::BeginObject) => {}
-        _ => return false,
-    }
-    for _ in 0..events {
-        let name = match parser.next() {
-            Ok(Event::Key(name)) => name,
-            _ => return false,
-        };
-        if is_key(alloc, name, key) {
-            return true;
+    let mut left = count;
+    'each: while left > 0 {
+        match take(parser) {
+            Some(_) => {}
+            None => return false,
         }
-        if !skip_value(parser, events) {
+        if !skip_value(parser) {
             return false;
         }
-    }
-    false
-}
-
-// Takes what comes before the value to which a step leads, and returns whether there is one.
-fn enter(alloc: Global, parser: &mut Parser<'_>, step: &Step, events: usize) -> bool
-    ensures { result ≡ true → (b : List ℕ) (q : Trail) → StandsAt b parser.old q
-        → StandsAt b parser.new (Some (explained_step step.now) ∷ q) }
-{
-    match step {
-        Step::Index(index) => enter_array(parser, *index, events),
-        Step::Key(key) => enter_object(alloc, parser, key.as_str(), events),
-    }
-}
-
-// The offset after a comma or a colon, if one is there.
-fn mark_end(bytes: &[u8], at: usize) -> usize
-    requires { at ≤ length bytes.now }
-    ensures order { (at ≤ result) × (result ≤ length bytes.now) }
-    ensures mark { IsMark (piece bytes.now at result) }
-{
-    if at == bytes.len() {
-        return at;
-    }
-    if bytes[at] == b',' {
-        return at + 1;
-    }
-    if bytes[at] == b':' {
-        return at + 1;
-    }
-    at
-}
-
-// The end of a gap: of whitespace with at most one comma or colon in it.
-fn gap_end(bytes: &[u8], from: usize) -> usize
-    requires { from ≤ length bytes.now }
-    ensures order { (from ≤ result) × (result ≤ length bytes.now) }
-    ensures gap { IsGap (piece bytes.now from result) }
-{
-    let start = ws_run(bytes, from);
-    let mark = mark_end(bytes, start);
-    ws_run(bytes, mark)
-}
-
-/// The offset of the value to which steps lead in a text, the innermost step first.
-pub(crate) fn offset_of(alloc: Global, text: &str, steps: &[Step]) -> Option<usize>
-    ensures { IfSome result (λ i. LeadsToOffset text.now (map explained_step steps.now) i) }
-{
-    let mut parser = Parser::new(text);
-    let mut left = steps.len();
-    'each: while left > 0 {
         left -= 1;
-        if !enter(alloc, &mut parser, &steps[left], text.len()) {
+    }
+    match take(parser) {
+        Some(_) => true,
+        None => false,
+    }
+}
+
+// Takes what comes before the value to which a step leads from the value that comes next.
+fn enter(parser: &mut Parser<'_>, step: &Step) -> bool
+    ensures next { (limit : ℕ) (b : List ℕ) (t u v : Tree) (xs ys zs : List Tok)
+        → OnTheWay limit b t parser.old xs (tokens u ++ zs)
+        → StepsTo u (explained_step step.now) v ys
+        → (result ≡ true) × ((rest : List Tok)
+        × OnTheWay limit b t parser.new (xs ++ ys) (tokens v ++ rest)) }
+{
+    match take(parser) {
+        Some(_) => {}
+        None => return false,
+    }
+    match step {
+        Step::Index(index) => skip_elements(parser, *index),
+        Step::Key(_, index) => skip_members(parser, *index),
+    }
+}
+
+// The offset at which an event begins whose token ends there.
+fn start_of(event: Event<'_>, end: usize) -> Option<usize>
+    ensures { (i : ℕ) → i + length (event_bytes event.entry) ≡ end → result ≡ Some i }
+{
+    match event {
+        Event::Null | Event::Bool(true) => end.checked_sub(4),
+        Event::Bool(false) => end.checked_sub(5),
+        Event::Number(literal) => end.checked_sub(literal.len()),
+        Event::Str(span) | Event::Key(span) => end.checked_sub(span.raw_len())?.checked_sub(2),
+        Event::End => Some(end),
+        _ => end.checked_sub(1),
+    }
+}
+
+/// The offset of the value to which a path leads in a text of so many levels at most.
+pub(crate) fn offset_of(text: &str, depth: u32, steps: &[Step]) -> Option<usize>
+    requires { depth ≤ 1024 }
+    ensures { (t v : Tree) (xs : List Tok) → is_text false t text.now → depth_of t ≤ depth
+        → LeadsTo t (map explained_step steps.now) v xs
+        → (i : ℕ) × (result ≡ Some i) × BeginsAt depth text.now xs v i }
+{
+    let mut parser = Parser::new(text).depth(depth);
+    let mut index: usize = 0;
+    'each: while index < steps.len() {
+        if !enter(&mut parser, &steps[index]) {
             return None;
         }
+        index += 1;
     }
-    let end = parser.index().min(text.len());
-    Some(gap_end(text.as_bytes(), end))
+    match take(&mut parser) {
+        Some(event) => start_of(event, parser.index()),
+        None => None,
+    }
 }

@@ -1,9 +1,10 @@
 // Where a value is refused.
 ghost use Rattle.std.specs.Prelude.{◌≡◌, Some, None, IfOk, option_map};
 ghost use Rattle.json_io.specs.Errors.{OnlyNoMemory};
-ghost use Rattle.json_explain.specs.Refused.{here as spec_here, lacks_member, refused_within as spec_within};
+ghost use Rattle.json_explain.specs.Refused.{refused_here, lacks_member, refused_within as spec_within};
 ghost use Rattle.json_explain.specs.Explaining.{explained_step, refused_of};
 
+use json_doc::JsonType;
 use json_text::{ErrorCode, Result};
 use std::alloc::Global;
 use std::fmt;
@@ -12,14 +13,17 @@ use std::fmt;
 ///
 /// ```
 /// use json_explain::{Step, from_str};
-/// let error = from_str::<Vec<bool>>(alloc, "[true, 1]").err().ok_or("no error")?;
+/// use std::collections::BTreeMap;
+/// let text = "{\"a\": [true], \"a\": [true, 1]}";
+/// let error = from_str::<BTreeMap<String, Vec<bool>>>(alloc, text).err().ok_or("no error")?;
 /// let refusal = error.refusal().ok_or("no refusal")?;
-/// assert!(rt; matches!(refusal.steps(), [Step::Index(1)]));
+/// assert!(rt; matches!(refusal.steps(), [Step::Key(key, 1), Step::Index(1)] if key.as_str() == "a"));
 /// ```
 #[derive(Drop)]
 pub enum Step {
-    /// To the member with this key.
-    Key(String),
+    /// To the member with this key, and with this index among all members of its object, counted
+    /// from 0: a key may repeat (RFC 8259, section 4).
+    Key(String, usize),
     /// To the element with this index, counted from 0.
     Index(usize),
 }
@@ -47,6 +51,9 @@ pub enum Wanted {
     I32,
     I64,
     I128,
+    /// A number whose nearest float of the type of that name is finite.
+    F32,
+    F64,
     /// An integer that lies in `i64` or in `u64`.
     Number,
     /// A number, or a string that is one.
@@ -57,6 +64,8 @@ pub enum Wanted {
     String,
     /// An array.
     Array,
+    /// An array of two elements.
+    Pair,
     /// An object.
     Object,
     /// An array of keys and indexes.
@@ -83,11 +92,14 @@ impl Wanted {
             Wanted::I32 => "an integer from -2147483648 to 2147483647",
             Wanted::I64 => "an integer from -9223372036854775808 to 9223372036854775807",
             Wanted::I128 => "an integer from -2^127 to 2^127 - 1",
+            Wanted::F32 => "a number in the range of a single-precision float",
+            Wanted::F64 => "a number in the range of a double",
             Wanted::Number => "an integer from -9223372036854775808 to 18446744073709551615",
             Wanted::Literal => "a number",
             Wanted::Character => "a string of one character",
             Wanted::String => "a string",
             Wanted::Array => "an array",
+            Wanted::Pair => "an array of two elements",
             Wanted::Object => "an object",
             Wanted::Path => "an array of keys and indexes",
             Wanted::Edit => "an edit",
@@ -102,47 +114,54 @@ impl fmt::Display for Wanted {
     }
 }
 
-/// Where a value is refused: the path to the innermost value that is refused, why, and what is
-/// wanted there. It is displayed as a JSON Pointer (RFC 6901).
+/// Where a value is refused: the path to the innermost value that is refused, why, what is wanted
+/// there and what was found. It is displayed as a JSON Pointer (RFC 6901), escaped as within a JSON
+/// string (section 5).
 ///
 /// ```
+/// use json_doc::JsonType;
 /// use json_explain::{Wanted, from_str};
 /// let error = from_str::<Vec<u8>>(alloc, "[1,\n 300]").err().ok_or("no error")?;
 /// let refusal = error.refusal().ok_or("no refusal")?;
 /// assert_eq!(rt; format!(in alloc; "{refusal}")?.as_str(), "/1");
 /// assert_eq!(rt; refusal.wanted(), Some(Wanted::U8));
+/// assert_eq!(rt; refusal.found(), JsonType::Number);
 /// ```
 #[derive(Drop)]
 pub struct Refusal {
-    // the innermost first
+    // from the whole value on
     steps: Vec<Step>,
     code: ErrorCode,
     member: Option<String>,
     wanted: Option<Wanted>,
+    found: JsonType,
 }
 
 impl Refusal {
-    /// Returns the refusal of a whole value, where `wanted` says what is read there.
-    pub fn here(alloc: Global, code: ErrorCode, wanted: Wanted) -> Refusal
-        ensures { refused_of result ≡ spec_here code }
+    /// Returns the refusal of a whole value of the kind `found`, where `wanted` says what is read
+    /// there.
+    pub fn here(alloc: Global, code: ErrorCode, wanted: Wanted, found: JsonType) -> Refusal
+        ensures { refused_of result ≡ refused_here code None (Some wanted) found }
     {
         Refusal {
             steps: Vec::new(alloc),
             code,
             member: None,
             wanted: Some(wanted),
+            found,
         }
     }
 
-    /// Returns the refusal of a member because of its key.
-    pub fn key(alloc: Global, code: ErrorCode) -> Refusal
-        ensures { refused_of result ≡ spec_here code }
+    /// Returns the refusal of a member's value, of the kind `found`, because of its key.
+    pub fn key(alloc: Global, code: ErrorCode, found: JsonType) -> Refusal
+        ensures { refused_of result ≡ refused_here code None None found }
     {
         Refusal {
             steps: Vec::new(alloc),
             code,
             member: None,
             wanted: None,
+            found,
         }
     }
 
@@ -158,6 +177,7 @@ impl Refusal {
             code: ErrorCode::TypeUnmatched,
             member: Some(member),
             wanted: None,
+            found: JsonType::Object,
         })
     }
 
@@ -173,17 +193,19 @@ impl Refusal {
             code,
             member,
             wanted,
+            found,
         } = self;
-        steps.push(step)?;
+        steps.insert(0, step)?;
         Ok(Refusal {
             steps,
             code,
             member,
             wanted,
+            found,
         })
     }
 
-    /// Returns the steps of the path, the innermost first.
+    /// Returns the steps of the path, from the whole value to the innermost that is refused.
     pub fn steps(&self) -> &[Step]
         ensures { result.now ≡ self.now.steps.items }
     {
@@ -210,10 +232,41 @@ impl Refusal {
     /// Returns what is wanted in place of the value. It is `None` if the key of the value is
     /// refused, or if a member is missing.
     pub fn wanted(&self) -> Option<Wanted>
-        ensures { result ≡ self.now.wanted }
+        ensures { result ≡ (refused_of self.now).wanted }
     {
         self.wanted
     }
+
+    /// Returns the kind of the value that is refused.
+    pub fn found(&self) -> JsonType
+        ensures { result ≡ (refused_of self.now).found }
+    {
+        self.found
+    }
+}
+
+// Writes a character as it is within a JSON string (RFC 8259, section 7).
+fn write_character<W: fmt::Write>(f: &mut fmt::Formatter<W>, character: char) -> fmt::Result {
+    match character {
+        '"' => f.write_str("\\\""),
+        '\\' => f.write_str("\\\\"),
+        '\n' => f.write_str("\\n"),
+        '\r' => f.write_str("\\r"),
+        '\t' => f.write_str("\\t"),
+        '\0'..='\u{1f}' => {
+            let code = character as u32;
+            write!(f, "\\u{code:04x}")
+        }
+        _ => f.write_char(character),
+    }
+}
+
+// Writes a text as it is within a JSON string.
+pub(crate) fn write_text<W: fmt::Write>(f: &mut fmt::Formatter<W>, text: &str) -> fmt::Result {
+    for character in text.chars() {
+        write_character(f, character)?;
+    }
+    Ok(())
 }
 
 // Writes the text of a step of a JSON Pointer (RFC 6901, section 3).
@@ -223,7 +276,7 @@ fn write_key<W: fmt::Write>(f: &mut fmt::Formatter<W>, key: &str) -> fmt::Result
         match character {
             '~' => f.write_str("~0")?,
             '/' => f.write_str("~1")?,
-            _ => f.write_char(character)?,
+            _ => write_character(f, character)?,
         }
     }
     Ok(())
@@ -231,9 +284,9 @@ fn write_key<W: fmt::Write>(f: &mut fmt::Formatter<W>, key: &str) -> fmt::Result
 
 impl fmt::Display for Refusal {
     fn fmt<W: fmt::Write>(&self, f: &mut fmt::Formatter<W>) -> fmt::Result {
-        for step in self.steps.iter().rev() {
+        for step in self.steps.iter() {
             match step {
-                Step::Key(key) => write_key(f, key.as_str())?,
+                Step::Key(key, _) => write_key(f, key.as_str())?,
                 Step::Index(index) => write!(f, "/{index}")?,
             }
         }

@@ -1,5 +1,6 @@
 // Values without parts.
 ghost use Rattle.json_explain.specs.Refused.{whole_refused};
+ghost use Rattle.json_explain.specs.declared.refusal.Wanted.TheVariants as wanted;
 
 use crate::explain::{Explain, explain_whole};
 use crate::refusal::{Refusal, Wanted};
@@ -11,7 +12,7 @@ use std::alloc::Global;
 use std::borrow::CowStr;
 
 impl<S: Lent> Explain<S> for bool {
-    ghost refused = { whole_refused ⟦<bool as DeserializeFrom<S>>⟧.from_tree };
+    ghost refused = { whole_refused ⟦<bool as DeserializeFrom<S>>⟧.from_tree wanted.Boolean };
 
     fn explain<T: Tokens<S>>(alloc: Global, tokens: &mut T) -> Result<Option<Refusal>> {
         explain_whole::<S, bool, T>(alloc, tokens, Wanted::Boolean)
@@ -19,7 +20,7 @@ impl<S: Lent> Explain<S> for bool {
 }
 
 impl<S: Lent> Explain<S> for () {
-    ghost refused = { whole_refused ⟦<() as DeserializeFrom<S>>⟧.from_tree };
+    ghost refused = { whole_refused ⟦<() as DeserializeFrom<S>>⟧.from_tree wanted.Null };
 
     fn explain<T: Tokens<S>>(alloc: Global, tokens: &mut T) -> Result<Option<Refusal>> {
         explain_whole::<S, (), T>(alloc, tokens, Wanted::Null)
@@ -27,7 +28,7 @@ impl<S: Lent> Explain<S> for () {
 }
 
 impl<S: Lent> Explain<S> for char {
-    ghost refused = { whole_refused ⟦<char as DeserializeFrom<S>>⟧.from_tree };
+    ghost refused = { whole_refused ⟦<char as DeserializeFrom<S>>⟧.from_tree wanted.Character };
 
     fn explain<T: Tokens<S>>(alloc: Global, tokens: &mut T) -> Result<Option<Refusal>> {
         explain_whole::<S, char, T>(alloc, tokens, Wanted::Character)
@@ -35,7 +36,7 @@ impl<S: Lent> Explain<S> for char {
 }
 
 impl<S: Lent> Explain<S> for String {
-    ghost refused = { whole_refused ⟦<String as DeserializeFrom<S>>⟧.from_tree };
+    ghost refused = { whole_refused ⟦<String as DeserializeFrom<S>>⟧.from_tree wanted.String };
 
     fn explain<T: Tokens<S>>(alloc: Global, tokens: &mut T) -> Result<Option<Refusal>> {
         explain_whole::<S, String, T>(alloc, tokens, Wanted::String)
@@ -43,7 +44,7 @@ impl<S: Lent> Explain<S> for String {
 }
 
 impl<S: Lent> Explain<S> for IgnoredAny {
-    ghost refused = { whole_refused ⟦<IgnoredAny as DeserializeFrom<S>>⟧.from_tree };
+    ghost refused = { whole_refused ⟦<IgnoredAny as DeserializeFrom<S>>⟧.from_tree wanted.Other };
 
     fn explain<T: Tokens<S>>(alloc: Global, tokens: &mut T) -> Result<Option<Refusal>> {
         explain_whole::<S, IgnoredAny, T>(alloc, tokens, Wanted::Other)
@@ -51,7 +52,7 @@ impl<S: Lent> Explain<S> for IgnoredAny {
 }
 
 impl<S: Lent> Explain<S> for Number {
-    ghost refused = { whole_refused ⟦<Number as DeserializeFrom<S>>⟧.from_tree };
+    ghost refused = { whole_refused ⟦<Number as DeserializeFrom<S>>⟧.from_tree wanted.Number };
 
     fn explain<T: Tokens<S>>(alloc: Global, tokens: &mut T) -> Result<Option<Refusal>> {
         explain_whole::<S, Number, T>(alloc, tokens, Wanted::Number)
@@ -59,7 +60,7 @@ impl<S: Lent> Explain<S> for Number {
 }
 
 impl<S: Lent> Explain<S> for RawNumber {
-    ghost refused = { whole_refused ⟦<RawNumber as DeserializeFrom<S>>⟧.from_tree };
+    ghost refused = { whole_refused ⟦<RawNumber as DeserializeFrom<S>>⟧.from_tree wanted.Literal };
 
     fn explain<T: Tokens<S>>(alloc: Global, tokens: &mut T) -> Result<Option<Refusal>> {
         explain_whole::<S, RawNumber, T>(alloc, tokens, Wanted::Literal)
@@ -67,7 +68,7 @@ impl<S: Lent> Explain<S> for RawNumber {
 }
 
 impl<S: Lent> Explain<S> for Value {
-    ghost refused = { whole_refused ⟦<Value as DeserializeFrom<S>>⟧.from_tree };
+    ghost refused = { whole_refused ⟦<Value as DeserializeFrom<S>>⟧.from_tree wanted.Other };
 
     fn explain<T: Tokens<S>>(alloc: Global, tokens: &mut T) -> Result<Option<Refusal>> {
         explain_whole::<S, Value, T>(alloc, tokens, Wanted::Other)
@@ -75,7 +76,7 @@ impl<S: Lent> Explain<S> for Value {
 }
 
 impl<S: Lent> Explain<S> for Array {
-    ghost refused = { whole_refused ⟦<Array as DeserializeFrom<S>>⟧.from_tree };
+    ghost refused = { whole_refused ⟦<Array as DeserializeFrom<S>>⟧.from_tree wanted.Array };
 
     fn explain<T: Tokens<S>>(alloc: Global, tokens: &mut T) -> Result<Option<Refusal>> {
         explain_whole::<S, Array, T>(alloc, tokens, Wanted::Array)
@@ -83,7 +84,7 @@ impl<S: Lent> Explain<S> for Array {
 }
 
 impl<S: Lent> Explain<S> for Object {
-    ghost refused = { whole_refused ⟦<Object as DeserializeFrom<S>>⟧.from_tree };
+    ghost refused = { whole_refused ⟦<Object as DeserializeFrom<S>>⟧.from_tree wanted.Object };
 
     fn explain<T: Tokens<S>>(alloc: Global, tokens: &mut T) -> Result<Option<Refusal>> {
         explain_whole::<S, Object, T>(alloc, tokens, Wanted::Object)
@@ -91,7 +92,7 @@ impl<S: Lent> Explain<S> for Object {
 }
 
 impl<S: Lent> Explain<S> for Path {
-    ghost refused = { whole_refused ⟦<Path as DeserializeFrom<S>>⟧.from_tree };
+    ghost refused = { whole_refused ⟦<Path as DeserializeFrom<S>>⟧.from_tree wanted.Path };
 
     fn explain<T: Tokens<S>>(alloc: Global, tokens: &mut T) -> Result<Option<Refusal>> {
         explain_whole::<S, Path, T>(alloc, tokens, Wanted::Path)
@@ -99,7 +100,7 @@ impl<S: Lent> Explain<S> for Path {
 }
 
 impl<S: Lent> Explain<S> for Edit {
-    ghost refused = { whole_refused ⟦<Edit as DeserializeFrom<S>>⟧.from_tree };
+    ghost refused = { whole_refused ⟦<Edit as DeserializeFrom<S>>⟧.from_tree wanted.Edit };
 
     fn explain<T: Tokens<S>>(alloc: Global, tokens: &mut T) -> Result<Option<Refusal>> {
         explain_whole::<S, Edit, T>(alloc, tokens, Wanted::Edit)
@@ -107,7 +108,7 @@ impl<S: Lent> Explain<S> for Edit {
 }
 
 impl<'de> Explain<&'de str> for CowStr<'de> {
-    ghost refused = { whole_refused ⟦<CowStr<'de> as DeserializeFrom<&'de str>>⟧.from_tree };
+    ghost refused = { whole_refused ⟦<CowStr<'de> as DeserializeFrom<&'de str>>⟧.from_tree wanted.String };
 
     fn explain<T: Tokens<&'de str>>(alloc: Global, tokens: &mut T) -> Result<Option<Refusal>> {
         explain_whole::<&'de str, CowStr<'de>, T>(alloc, tokens, Wanted::String)

@@ -9,7 +9,7 @@ use json_derive::{
     Builder, DeserializeFrom, ErrorCode, Events, Field, KeyRoom, Lent, Result, Serialize, Tokens,
     find_struct, give_fields, read_struct, refusal, required,
 };
-use json_explain::{Explain, ExplainMembers, Piece, Refusal, explain_members};
+use json_explain::{Explain, ExplainMembers, Piece, Refusal, explain_key, explain_members};
 use std::alloc::Global;
 
 // What was read of the members of `Server` so far.
@@ -121,14 +121,14 @@ impl<S: Lent> ExplainMembers<S> for ServerSeen {
         }
     }
 
-    fn missing(&self, alloc: Global) -> Result<Option<Refusal>> {
+    fn missing(&self) -> Option<&str> {
         if !self.host {
-            return Ok(Some(Refusal::lacks(alloc, "host")?));
+            return Some("host");
         }
         if !self.port {
-            return Ok(Some(Refusal::lacks(alloc, "port")?));
+            return Some("port");
         }
-        Ok(None)
+        None
     }
 }
 
@@ -299,18 +299,15 @@ impl<S: Lent> ExplainMembers<S> for ConfigSeen {
                 self.waits = true;
                 <Vec<Option<u32>> as Explain<S>>::explain(alloc, tokens)
             }
-            _ => {
-                tokens.skip()?;
-                Ok(Some(Refusal::key(alloc, ErrorCode::TypeUnmatched)))
-            }
+            _ => explain_key(alloc, tokens, ErrorCode::TypeUnmatched),
         }
     }
 
-    fn missing(&self, alloc: Global) -> Result<Option<Refusal>> {
+    fn missing(&self) -> Option<&str> {
         if !self.servers {
-            return Ok(Some(Refusal::lacks(alloc, "servers")?));
+            return Some("servers");
         }
-        Ok(None)
+        None
     }
 }
 

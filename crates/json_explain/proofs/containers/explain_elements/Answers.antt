@@ -1,4 +1,4 @@
-use Rattle.std.proofs.Common.{◌≡◌, ℕ, suc, Option, refl, sym, subst, arith}
+use Rattle.std.proofs.Common.{◌≡◌, ℕ, suc, Option, sym, subst, arith}
 use Rattle.json_grammar.specs.Tree.{no_trees, tree_and}
 use Rattle.json_grammar.specs.TokenStates.{TokenState}
 use Rattle.json_tokens.specs.Spots.{InArray}
@@ -6,12 +6,12 @@ use Rattle.json_data.proofs.Lists.{begun, closes, join, one_more, peeks_on, in_a
 use Rattle.json_tokens.proofs.Told.{is_kind}
 use Rattle.json_explain.specs.Explaining.{Explains, refused_in}
 use Rattle.json_explain.specs.declared.refusal.Refusal.{Refusal}
-use Rattle.json_explain.proofs.Parts.{Passed, passed-more}
+use Rattle.json_explain.proofs.Parts.{Passed, passed-none, passed-more}
 use Rattle.json_explain.proofs.Taken.{array_left, array_ends}
 use Rattle.json_explain.proofs.containers.explain_elements.Goals as goal
 
 pub each-init : goal.each-init
-each-init g c = (no_trees, λ a h. begun h, c.requires, record { rest = λ us. refl })
+each-init g c = (no_trees, λ a h. begun h, c.requires, passed-none _)
 
 pub returns-in-Ok-pass-clause-ok : goal.returns-in-Ok-pass-clause-ok
 returns-in-Ok-pass-clause-ok g c = λ a h.

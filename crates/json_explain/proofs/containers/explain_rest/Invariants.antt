@@ -11,7 +11,7 @@ abbrev pub invariant-each : goal.invariant-each
 invariant-each g l = (ps : Pairs)
     × ((a : _) → TakesOne g.T.Tokens.taken g.T.Tokens.stand a l.fn.tokens (begin object) → InPairs g.T.Tokens.taken g.T.Tokens.stand a l.tokens ps)
     × InObject (g.T.Tokens.stand l.tokens).spot
-    × PassedMembers g.M.ExplainMembers.reading (g.M.ExplainMembers.seen l.fn.members) ps (g.M.ExplainMembers.seen l.members)
+    × PassedMembers g.M.ExplainMembers.reading (g.M.ExplainMembers.seen l.fn.members) ps l.index (g.M.ExplainMembers.seen l.members)
 
 abbrev pub decreases-each : goal.decreases-each
 decreases-each g l = (g.T.Tokens.stand l.tokens).left

@@ -1,0 +1,124 @@
+-- An array of two, and where it is refused.
+use denote.Enum.Bare.{sameb}
+use Rattle.std.proofs.Common.{◌≡◌, ◌≢◌, ℕ, List, [], ◌∷◌, ◌++◌, Bool, false, rules, Option, Some, None, Result, Ok, Err, length, sym, subst, refl, IfOk, OnOk}
+use Rattle.json_grammar.specs.declared.Kind.{Kind}
+use Rattle.json_grammar.specs.declared.Kind.TheVariants.{Array as array}
+use Rattle.json_grammar.specs.TokenStates.{TokenState, Expected, a_value, element_or_end, name_or_end, nothing}
+use Rattle.json_grammar.specs.Tree.{Tree, Trees, no_trees, tree_and, trees_tokens, trees_list, list, Token as Tok, end}
+use Rattle.json_tokens.specs.contracts.token.TokenKind.{the_type}
+use Rattle.json_tokens.specs.Spots.{InArray, KindMayCome, BeforeElement}
+use Rattle.json_tokens.specs.declared.token.TokenKind.{TokenKind}
+use Rattle.json_tokens.specs.declared.token.TokenKind.TheVariants as kind
+use Rattle.json_tokens.specs.Stand.{TokensState, TakesTokens, TakesTree, TakesOne, Peeks, Leaves, FirstIs, WantsValue, WantsAt, WantsValueAt}
+use Rattle.json_tokens.proofs.Steps.{is_end, peek_one}
+use Rattle.json_data.proofs.Exits.{join-join}
+use Rattle.json_data.proofs.Lists.{InList, join, one_more, leaves, peeks_on, ended}
+use Rattle.json_explain.specs.Refused.{Refused, element_step, refused_within, pair_refused, other_length}
+use Rattle.json_explain.specs.Explaining.{Explains, refused_in}
+use Rattle.json_explain.specs.declared.refusal.Refusal.{Refusal}
+use Rattle.json_explain.proofs.Parts.{element_within}
+
+-- ---- trees
+
+pub first_refused : (r s : Tree → Option Refused) (x : Refused) (t : Tree) (us : Trees) → r t ≡ Some x → pair_refused r s (list (tree_and t us)) ≡ Some (refused_within (element_step 0) x)
+first_refused r s x t no_trees e = rw e
+first_refused r s x t (tree_and u no_trees) e = rw e
+first_refused r s x t (tree_and u (tree_and v us)) e = rw e
+
+pub second_refused : (r s : Tree → Option Refused) (x : Refused) (t u : Tree) (us : Trees) → r t ≡ None → s u ≡ Some x
+    → pair_refused r s (list (tree_and t (tree_and u us))) ≡ Some (refused_within (element_step 1) x)
+second_refused r s x t u no_trees e h = rw (e, h)
+second_refused r s x t u (tree_and v us) e h = rw (e, h)
+
+pub third_refused : (r s : Tree → Option Refused) (t u v : Tree) (us : Trees) → r t ≡ None → s u ≡ None → pair_refused r s (list (tree_and t (tree_and u (tree_and v us)))) ≡ other_length
+third_refused r s t u v us e h = rw (e, h)
+
+pub one_refused : (r s : Tree → Option Refused) (t : Tree) → r t ≡ None → pair_refused r s (list (tree_and t no_trees)) ≡ other_length
+one_refused r s t e = rw e
+
+pub two_read : (r s : Tree → Option Refused) (t u : Tree) → r t ≡ None → s u ≡ None → pair_refused r s (list (tree_and t (tree_and u no_trees))) ≡ None
+two_read r s t u e h = rw (e, h)
+
+-- ---- what comes next
+
+value_kind : (k : TokenKind) (e : Expected) (c : List Kind) → BeforeElement e c → KindMayCome (record { opened = c; expected = e }) k → k ≢ kind.EndArray → WantsAt e (Some k)
+value_kind k a_value c i m n = absurd i
+value_kind k name_or_end c i m n = absurd i
+value_kind k nothing c i m n = absurd i
+value_kind kind.Key element_or_end c i m n = absurd m
+value_kind kind.EndArray element_or_end c i m n = absurd (n refl)
+value_kind kind.EndObject element_or_end c i m n = absurd m
+value_kind kind.Null element_or_end c i m n = refl
+value_kind kind.Bool element_or_end c i m n = refl
+value_kind kind.Int element_or_end c i m n = refl
+value_kind kind.Raw element_or_end c i m n = refl
+value_kind kind.Text element_or_end c i m n = refl
+value_kind kind.BeginArray element_or_end c i m n = refl
+value_kind kind.BeginObject element_or_end c i m n = refl
+
+pub no_end : (k : TokenKind) (r : Bool) → r ≡ sameb the_type k kind.EndArray → r ≡ false → k ≢ kind.EndArray
+no_end k r e t = search rules
+
+-- an array goes on with a value where it does not end
+pub goes_on : {a b : TokensState} {k : TokenKind} → InArray a.spot → Peeks a b k → k ≢ kind.EndArray → WantsValue b
+goes_on {a = a} {b = b} {k = k} i p n =
+    let w = value_kind k a.spot.expected a.spot.opened i p.may n in
+    subst (λ (o : Option TokenKind). WantsValueAt b.spot o) (sym p.told) (subst (λ (s : TokenState). WantsValueAt s (Some k)) (sym p.spot) w)
+
+-- ---- what was taken
+
+-- what is left begins with no end
+another : (h : Tree → Option Refused) (y : Refused) (ts : Trees) (k : TokenKind) (xs : List Tok) → FirstIs xs k → k ≢ kind.EndArray
+    → ((t : Tree) (us : Trees) → h (list (join ts (tree_and t us))) ≡ Some y)
+    → (us : Trees) → xs ≡ trees_tokens us ++ end array ∷ [] → h (list (join ts us)) ≡ Some y
+another h y ts k xs f n q no_trees i = absurd (n (sym (subst (λ (ys : List Tok). FirstIs ys k) i f)))
+another h y ts k xs f n q (tree_and t us) i = q t us
+
+module _ {S : Type 0} {taken : S → List Tok → Type 0} {stand : S → TokensState} where
+  pub takes_end : {a b c : S} {k : TokenKind} {x : Tok} → k ≡ kind.EndArray → Peeks (stand a) (stand b) k → TakesTokens taken a [] b → TakesOne taken stand b c x → TakesOne taken stand a c (end array)
+  takes_end {a = a} {b = b} {c = c} {x = x} i p z r =
+      let h = subst (λ (j : TokenKind). Peeks (stand a) (stand b) j) i p in
+      let e : x ≡ end array = is_end x (r.as_told.told kind.EndArray h.told) in
+      subst (λ (y : Tok). TakesOne taken stand a c y) e (peek_one h z r)
+
+  -- another element comes, and the array is left
+  pub longer : {h : Tree → Option Refused} {a b c d : S} {ts : Trees} {k : TokenKind}
+      → InList taken stand a b ts → Peeks (stand b) (stand c) k → TakesTokens taken b [] c → k ≢ kind.EndArray → Leaves taken stand c d
+      → ((t : Tree) (us : Trees) → h (list (join ts (tree_and t us))) ≡ other_length) → Explains taken stand h a d other_length
+  longer {h = h} {ts = ts} {k = k} w p z n l q =
+      let x = leaves (peeks_on w p z) l in
+      record { tree = list (join ts x.0); takes = x.1; answer = another h _ ts k l.rest (l.as_told k p.told) n q x.0 x.2; within = (list (join ts x.0), [], (refl, refl), refl) }
+
+  -- the array ends
+  pub shorter : {h : Tree → Option Refused} {a b c : S} {ts : Trees}
+      → InList taken stand a b ts → TakesOne taken stand b c (end array) → h (list ts) ≡ other_length → Explains taken stand h a c other_length
+  shorter {ts = ts} w e q = record { tree = list ts; takes = ended w e; answer = q; within = (list ts, [], (refl, refl), refl) }
+
+  pub both_read : {h : Tree → Option Refused} {a b c : S} {ts : Trees}
+      → InList taken stand a b ts → TakesOne taken stand b c (end array) → h (list ts) ≡ None → Explains taken stand h a c None
+  both_read {ts = ts} w e q = record { tree = list ts; takes = ended w e; answer = q; within = tt }
+
+  -- an element was refused, and then the array was left
+  element_stops : {f h : Tree → Option Refused} {x : Refused} {a b c d : S} {ts : Trees} (i : ℕ) → length (trees_list ts) ≡ i
+      → InList taken stand a b ts → Explains taken stand f b c (Some x) → Leaves taken stand c d
+      → ((t : Tree) (us : Trees) → f t ≡ Some x → h (list (join ts (tree_and t us))) ≡ Some (refused_within (element_step i) x))
+      → Explains taken stand h a d (Some (refused_within (element_step i) x))
+  element_stops {x = x} {a = a} {d = d} {ts = ts} i m w e l q =
+      let p = leaves (one_more w e.takes) l in
+      let y : join (join ts (tree_and e.tree no_trees)) p.0 ≡ join ts (tree_and e.tree p.0) = join-join ts (tree_and e.tree no_trees) p.0 in
+      record {
+        tree = list (join ts (tree_and e.tree p.0));
+        takes = subst (λ (us : Trees). TakesTree taken stand a d (list us)) y p.1;
+        answer = q e.tree p.0 e.answer;
+        within = element_within ts p.0 e.tree i x m e.within;
+      }
+
+  pub element_left : {f : Tree → Option Refused} (h : Tree → Option Refused) {x : Refused} {a b c : S} {ts : Trees} {E : Type 0} (i : ℕ) → length (trees_list ts) ≡ i → (d : S) (r : Result (Option Refusal) E)
+      → InList taken stand a b ts → Explains taken stand f b c (Some x) → OnOk r (Leaves taken stand c d) → IfOk r (λ o. refused_in o ≡ Some (refused_within (element_step i) x))
+      → ((t : Tree) (us : Trees) → f t ≡ Some x → h (list (join ts (tree_and t us))) ≡ Some (refused_within (element_step i) x))
+      → IfOk r (λ o. Explains taken stand h a d (refused_in o))
+  element_left h {a = a} i m d (Ok o) w e l p q = subst (λ (z : Option Refused). Explains taken stand h a d z) (sym p) (element_stops i m w e l q)
+  element_left h i m d (Err e) w x l p q = tt
+
+  pub said : {f : Tree → Option Refused} {a d : S} {x y : Refused} → y ≡ x → Explains taken stand f a d (Some x) → Explains taken stand f a d (Some y)
+  said {f = f} {a = a} {d = d} e h = subst (λ (z : Refused). Explains taken stand f a d (Some z)) (sym e) h

@@ -1,0 +1,141 @@
+// Errors that say where.
+ghost use Rattle.std.specs.Prelude.{◌≡◌, None, option_map};
+ghost use Rattle.json_io.specs.Errors.{line_of, column_of};
+
+use crate::refusal::{Refusal, write_text};
+use json_doc::JsonType;
+use json_text::{Error, Place};
+use std::fmt;
+
+/// Why no value was read, and where.
+///
+/// ```
+/// use json_explain::from_str;
+/// use std::collections::BTreeMap;
+/// let text = "{\"ports\":\n [80, 70000]}";
+/// let error = from_str::<BTreeMap<String, Vec<u16>>>(alloc, text).err().ok_or("no error")?;
+/// assert_eq!(rt; (error.line(), error.column()), (Some(2), Some(7)));
+/// let shown = format!(in alloc; "{error}")?;
+/// assert_eq!(rt; shown.as_str(), "line 2 column 7, path \"/ports/1\": a number, where an integer from 0 to 65535 is wanted");
+/// ```
+#[derive(Drop)]
+pub struct Explanation {
+    pub(crate) error: Error,
+    pub(crate) refusal: Option<Refusal>,
+    pub(crate) place: Place,
+}
+
+impl Explanation {
+    // That of an error that is no refusal.
+    pub(crate) fn plain(error: Error) -> Explanation
+        ensures error { result.error ≡ error }
+        ensures refusal { result.refusal ≡ None }
+        ensures place { result.place ≡ error.place }
+    {
+        Explanation {
+            error,
+            refusal: None,
+            place: error.place,
+        }
+    }
+
+    /// Returns the error as the call of `json_data` with the same name has it.
+    pub fn error(&self) -> Error
+        ensures { result ≡ self.now.error }
+    {
+        self.error
+    }
+
+    /// Returns where the value is refused, and what was wanted there. It is `None` if no value was
+    /// refused: if the text has no value, or memory ran out.
+    pub fn refusal(&self) -> Option<&Refusal>
+        ensures { option_map (λ r. r.now) result ≡ self.now.refusal }
+    {
+        self.refusal.as_ref()
+    }
+
+    /// Returns the kind of the value that is refused.
+    pub fn found(&self) -> Option<JsonType>
+        ensures { result ≡ option_map (λ r. r.found) self.now.refusal }
+    {
+        match &self.refusal {
+            Some(refusal) => Some(refusal.found()),
+            None => None,
+        }
+    }
+
+    /// Returns the place of the innermost value that is refused, or of the fault of the text. A
+    /// `Value` that is refused has none.
+    pub fn place(&self) -> Place
+        ensures { result ≡ self.now.place }
+    {
+        self.place
+    }
+
+    /// Returns the line of that place, counted from 1.
+    pub fn line(&self) -> Option<usize>
+        ensures { result ≡ line_of self.now.place }
+    {
+        match self.place {
+            Place::At { line, .. } => Some(line),
+            _ => None,
+        }
+    }
+
+    /// Returns the column of it in bytes, counted from 1.
+    pub fn column(&self) -> Option<usize>
+        ensures { result ≡ column_of self.now.place }
+    {
+        match self.place {
+            Place::At { column, .. } => Some(column),
+            _ => None,
+        }
+    }
+}
+
+// What was found.
+fn found_text(found: JsonType) -> &'static str {
+    match found {
+        JsonType::Null => "null",
+        JsonType::Boolean => "a boolean",
+        JsonType::Number => "a number",
+        JsonType::String => "a string",
+        JsonType::Object => "an object",
+        JsonType::Array => "an array",
+    }
+}
+
+// Writes why a value is refused.
+fn write_cause<W: fmt::Write>(f: &mut fmt::Formatter<W>, refusal: &Refusal) -> fmt::Result {
+    if let Some(member) = refusal.member() {
+        f.write_str("the member \"")?;
+        write_text(f, member)?;
+        return f.write_str("\" is missing");
+    }
+    let found = found_text(refusal.found());
+    match refusal.wanted() {
+        Some(wanted) => write!(f, "{found}, where {wanted} is wanted"),
+        None => write!(f, "no member with this key is wanted"),
+    }
+}
+
+impl fmt::Display for Explanation {
+    fn fmt<W: fmt::Write>(&self, f: &mut fmt::Formatter<W>) -> fmt::Result {
+        let Some(refusal) = &self.refusal else {
+            return write!(f, "{}", self.error);
+        };
+        if let Place::At { line, column, .. } = self.place {
+            write!(f, "line {line} column {column}, ")?;
+        }
+        write!(f, "path \"{refusal}\": ")?;
+        write_cause(f, refusal)
+    }
+}
+
+impl fmt::Debug for Explanation {
+    fn fmt<W: fmt::Write>(&self, f: &mut fmt::Formatter<W>) -> fmt::Result {
+        fmt::Display::fmt(self, f)
+    }
+}
+
+impl std::error::Error for Explanation {}
