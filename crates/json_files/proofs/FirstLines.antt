@@ -32,7 +32,7 @@ lines_of-alone (b ∷ c ∷ bs) some none =
 
 -- ---- whitespace
 
-ws_at : (b : List ℕ) (k : ℕ) → ws b → k < length b → IsWhitespace (get_or b k 0)
+pub ws_at : (b : List ℕ) (k : ℕ) → ws b → k < length b → IsWhitespace (get_or b k 0)
 ws_at [] k w l = absurd (omega (arith, l))
 ws_at (x ∷ b) zero w l = w.0
 ws_at (x ∷ b) (suc k) w l = ws_at b k w.1 (omega (arith, l))

@@ -1,8 +1,8 @@
 -- What is done with the values of a document, one after another.
-use Rattle.std.proofs.Common.{◌≡◌, ◌⊎◌, inl, inr, ℕ, ◌+◌, ◌-◌, ◌≤◌, Bool, true, false, List, [], ◌∷◌, ◌++◌, length, take, drop, arith, None, Some, Ok, Err, refl, sym, ap, ap₂, ◌∙◌, subst, append-nil, append_assoc, IsUtf8}
-use Rattle.std.proofs.lemmas.List.{take_rest}
+use Rattle.std.proofs.Common.{◌≡◌, ◌⊎◌, inl, inr, ℕ, ◌+◌, ◌-◌, ◌≤◌, Bool, true, false, List, [], ◌∷◌, ◌++◌, length, take, drop, get_or, ◌<◌, length-drop, arith, None, Some, Ok, Err, refl, sym, ap, ap₂, ◌∙◌, subst, append-nil, append_assoc, IsUtf8}
+use Rattle.std.proofs.lemmas.List.{take_rest, get_or-drop}
 use Rattle.json_grammar.specs.Given.{piece}
-use Rattle.json_grammar.specs.Grammar.{ws}
+use Rattle.json_grammar.specs.Grammar.{IsWhitespace, ws}
 use Rattle.json_grammar.specs.Tree.{Tree}
 use Rattle.json_io.specs.Errors.{no_memory}
 use Rattle.json_text.specs.Faults.{ValueFaultFrom}
@@ -17,6 +17,7 @@ use Rattle.json_files.specs.Parts.{Part, whole_part, value_part}
 use Rattle.json_files.specs.Running.{PrintsTree, PrintingStops, ReportsError, ReportingFails, Handles, StopsRunning}
 use Rattle.json_files.specs.Streams.{ReadsAt, StreamHas, ends, stops, fails, more, ValuePlace, ValueHas, ValuesHave, OutcomeIsNoText, TextFault}
 use Rattle.json_files.specs.Writing.{WritingFails}
+use Rattle.json_files.proofs.FirstLines.{ws_at}
 use Rattle.json_files.proofs.Handled.{stops_none, handles_line, handles_error, Handles-as, StopsRunning-as}
 use Rattle.json_files.proofs.TextWriting.{muted_nil}
 
@@ -73,8 +74,8 @@ module _ (task : Task) (name b : List ℕ) where
   values_more i n j os qs left (tree, outcome, reads, has, is) whole ps k =
       subst (StreamHas task name b whole 0 0) (sym (append_assoc os qs ps)) (left whole (qs ++ ps) (subst (λ xs. StreamHas task name b whole i n (xs ++ ps)) (sym is) (more j tree outcome ps reads has k)))
 
-  pub values_fail : (i n : ℕ) (os qs : List PartOutcome) → ValuesLeft task name b i n os → ValueHas task (record { name = name; text = b; offset = i; number = n }) None qs → StreamHas task name b true 0 0 (os ++ qs)
-  values_fail i n os qs left (error, report, fault, is_report, is) = left true qs (subst (StreamHas task name b true i n) (sym is) (fails error report fault is_report))
+  pub values_fail : (i n : ℕ) → ¬ (ws (drop i b)) → (os qs : List PartOutcome) → ValuesLeft task name b i n os → ValueHas task (record { name = name; text = b; offset = i; number = n }) None qs → StreamHas task name b true 0 0 (os ++ qs)
+  values_fail i n some os qs left (error, report, fault, is_report, is) = left true qs (subst (StreamHas task name b true i n) (sym is) (fails error report some fault is_report))
 
   pub values_stop : (i n : ℕ) (os qs : List PartOutcome) → ValuesLeft task name b i n os → StreamHas task name b false i n qs → StreamHas task name b false 0 0 (os ++ qs)
   values_stop i n os qs left h = left false qs h
@@ -105,3 +106,13 @@ pub space_left : (b x : List ℕ) (i k : ℕ) → x ≡ b → length b ≤ k →
 space_left b x i k is low high space =
     let whole : k ≡ length b = omega (arith, low, high, ap length is) in
     subst ws (ap₂ (λ n y. take (n - i) (drop i y)) whole is ∙ take_rest b i) space
+
+-- something else is left
+pub more_left : (b x : List ℕ) (i k : ℕ) → x ≡ b → i ≤ k → k < length b → (k < length x → ¬ (IsWhitespace (get_or x k 0))) → ¬ (ws (drop i b))
+more_left b x i k is order low stop space =
+    let within : k < length x = omega (arith, low, ap length is) in
+    let at : i + (k - i) ≡ k = omega (arith, order) in
+    let in_rest : k - i < length (drop i b) = omega (arith, low, order, length-drop i b) in
+    let here : IsWhitespace (get_or (drop i b) (k - i) 0) = ws_at (drop i b) (k - i) space in_rest in
+    let there : get_or (drop i b) (k - i) 0 ≡ get_or x k 0 = get_or-drop i b (k - i) 0 ∙ ap (λ n. get_or b n 0) at ∙ ap (λ y. get_or y k 0) (sym is) in
+    stop within (subst IsWhitespace there here)

@@ -76,7 +76,7 @@ tree_small task part tree (Refused (Input e) report) h = absurd h
 stream_small : (task : Task) (name b : List ℕ) (whole : Bool) (i n : ℕ) (os : List PartOutcome) → StreamHas task name b whole i n os → greatest_status os < 5
 stream_small task name b whole i n os (ends space) = lit< tt
 stream_small task name b whole i n os (stops first) = lit< tt
-stream_small task name b whole i n os (fails e report fault is) = max_small (status_of e.code e.place) 0 (value_fault_small i b e.code e.place fault) (lit< tt)
+stream_small task name b whole i n os (fails e report some fault is) = max_small (status_of e.code e.place) 0 (value_fault_small i b e.code e.place fault) (lit< tt)
 stream_small task name b whole i n os (more j tree o later reads outcome rest) =
     max_small (outcome_status o) (greatest_status later) (tree_small task (value_part name b n) tree o outcome) (stream_small task name b whole j (n + 1) later rest)
 

@@ -2,6 +2,7 @@ pub mod Changes
 pub mod PointedEdits
 pub mod Parts
 pub mod Excerpts
+pub mod Sentences
 pub mod Reports
 pub mod Writing
 pub mod Outcomes

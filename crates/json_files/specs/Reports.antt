@@ -1,5 +1,5 @@
 -- The report of the error of a document.
-use Rattle.std.specs.Prelude.{◌≡◌, ℕ, ◌+◌, cond, nat_le, List, [], ◌++◌, length, None, Some, codes, decimal}
+use Rattle.std.specs.Prelude.{◌≡◌, ℕ, ◌+◌, true, cond, nat_le, List, [], ◌++◌, length, None, Some, codes, decimal}
 use Rattle.std.specs.declared.option.Option.{Option}
 use Rattle.json_io.specs.declared.error.Error.{Error}
 use Rattle.json_io.specs.declared.error.Place.{Place}
@@ -15,6 +15,7 @@ use Rattle.json_files.specs.declared.part.Scope.TheVariants.{Document, Line, Val
 use Rattle.json_files.specs.declared.report.Position.{Position}
 use Rattle.json_files.specs.Excerpts.{IsExcerpt}
 use Rattle.json_files.specs.Parts.{Part}
+use Rattle.json_files.specs.Sentences.{is_word, document_sentence, HintFits, hint_line}
 
 -- ---- the first line
 
@@ -24,8 +25,7 @@ location name None = name
 location name (Some p) = name ++ codes ":" ++ decimal p.line ++ codes ":" ++ decimal p.column
 
 -- the name of the document, the line and the column, a sentence, and the name of the code
-pub record IsHeadline (name : List ℕ) (position : Option Position) (code_name line : List ℕ) : Type 0 where
-  pub sentence : List ℕ
+pub record IsHeadline (name : List ℕ) (position : Option Position) (sentence code_name line : List ℕ) : Type 0 where
   pub whole : line ≡ location name position ++ codes ": " ++ sentence ++ codes " (" ++ code_name ++ codes ")\n"
 
 -- the line and the column of a place itself
@@ -73,9 +73,13 @@ IsExcerptAt bytes (Some offset) excerpt = IsExcerpt bytes offset excerpt
 
 -- the first line, the excerpt, and a hint or nothing
 pub record IsReport (part : Part) (error : DocumentError) (report : List ℕ) : Type 0 where
+  -- the word for a part of the change
+  pub part_name : List ℕ
+  pub part_name_is_word : is_word part_name ≡ true
   pub line : List ℕ
-  pub headline : IsHeadline part.name (position_of part.before part.bytes (report_offset part.bytes (error_place part.scope error))) (document_error_name error) line
+  pub headline : IsHeadline part.name (position_of part.before part.bytes (report_offset part.bytes (error_place part.scope error))) (document_sentence part.scope part_name error) (document_error_name error) line
   pub excerpt : List ℕ
   pub excerpt_is : IsExcerptAt part.bytes (report_offset part.bytes (error_place part.scope error)) excerpt
-  pub hint : List ℕ
-  pub whole : report ≡ line ++ excerpt ++ hint
+  pub hint : Option (List ℕ)
+  pub hint_fits : HintFits error hint
+  pub whole : report ≡ line ++ excerpt ++ hint_line hint

@@ -35,7 +35,7 @@ ValueFails b i code place = ValueFaultFrom false 254 i b code place
 pub data StreamHas (task : Task) (name b : List ℕ) (whole : Bool) : ℕ → ℕ → List PartOutcome → Type 0 where
   ends : {i n : ℕ} → ws (drop i b) → StreamHas task name b whole i n []
   stops : {i n : ℕ} → whole ≡ false → StreamHas task name b whole i n []
-  fails : {i n : ℕ} (e : Error) (report : List ℕ) → ValueFaultFrom false 254 i b e.code e.place → IsReport (whole_part name b) (Input e) report → StreamHas task name b whole i n (Refused (Input e) report ∷ [])
+  fails : {i n : ℕ} (e : Error) (report : List ℕ) → ¬ (ws (drop i b)) → ValueFaultFrom false 254 i b e.code e.place → IsReport (whole_part name b) (Input e) report → StreamHas task name b whole i n (Refused (Input e) report ∷ [])
   more : {i n : ℕ} (j : ℕ) (tree : Tree) (outcome : PartOutcome) (later : List PartOutcome) → ReadsAt b i tree j → TreeOutcome task (value_part name b n) tree outcome → StreamHas task name b whole j (n + 1) later → StreamHas task name b whole i n (outcome ∷ later)
 
 -- where a value is read: the name and the text of the document, the offset, and how many values come before it

@@ -15,10 +15,11 @@ use std::alloc::Global;
 /// assert!(rt; matches!(value, Value::Bool(true)));
 /// ```
 pub trait Change {
-    ghost use Rattle.std.specs.Prelude.{◌≡◌, Result, Ok, OnOk, IfErr};
+    ghost use Rattle.std.specs.Prelude.{◌≡◌, true, Result, Ok, OnOk, IfErr};
     ghost use Rattle.json_grammar.specs.Tree.{Tree};
     ghost use Rattle.json_value.specs.Denotes.{tree_of};
     ghost use Rattle.json_files.specs.Changes.{ChangeFails};
+    ghost use Rattle.json_files.specs.Sentences.{is_word};
     ghost use Rattle.json_files.specs.declared.change_error.ChangeError.{ChangeError};
 
     /// What becomes of a tree: the changed tree, or why the change does not apply to it.
@@ -30,8 +31,9 @@ pub trait Change {
         ensures ok { OnOk result (changed self.now (tree_of value.old) ≡ Ok (tree_of value.new)) }
         ensures err { IfErr result (ChangeFails (changed self.now (tree_of value.old))) };
 
-    /// Returns the word for a part of the change in reports, as `edit`.
-    fn part_name(&self) -> &'static str;
+    /// Returns the word for a part of the change in reports, as `edit`: lower case letters alone.
+    fn part_name(&self) -> &'static str
+        ensures word { is_word result.now ≡ true };
 }
 
 /// The change that leaves each value as it is.

@@ -1,6 +1,7 @@
 // Why a change does not apply.
 ghost use Rattle.std.specs.Prelude.{◌≡◌};
 ghost use Rattle.json_files.specs.Reports.{change_name};
+ghost use Rattle.json_files.specs.Sentences.{change_sentence};
 
 /// The kind of a [`ChangeError`].
 ///
@@ -37,7 +38,9 @@ impl ChangeCode {
     }
 
     /// Returns a sentence about the error.
-    pub(crate) fn sentence(self) -> &'static str {
+    pub(crate) fn sentence(self) -> &'static str
+        ensures { result.now ≡ change_sentence self }
+    {
         match self {
             ChangeCode::NoMemory => "memory ran out",
             ChangeCode::NotFound => "a key or an index is not there",

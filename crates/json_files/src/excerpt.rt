@@ -1,7 +1,7 @@
 // The line of the input that an error is at, with a caret under its column.
-ghost use Rattle.std.specs.Prelude.{◌≡◌, ◌≤◌, ◌==◌, ◌+◌, ◌&&◌, ◌++◌, List, ℕ, [], length, map, codes, nat_le, nat_lt, OnOk};
+ghost use Rattle.std.specs.Prelude.{◌≡◌, ◌≤◌, ◌==◌, ◌+◌, ◌++◌, List, ℕ, [], length, map, codes, OnOk};
 ghost use Rattle.std.specs.List.{after_last, before_first, flat_map};
-ghost use Rattle.json_files.specs.Excerpts.{IsExcerpt, IsFront, IsBack, excerpt_byte, space_under};
+ghost use Rattle.json_files.specs.Excerpts.{IsExcerpt, IsFront, IsBack, excerpt_byte, is_continuation as continues, space_under};
 ghost use Rattle.json_io.specs.Errors.{OnlyNoMemory};
 
 use json_text::Result;
@@ -14,7 +14,7 @@ const HALF: usize = 38;
 
 // Returns whether a byte of a character is not its first one.
 fn is_continuation(byte: u8) -> bool
-    ensures { result ≡ (nat_le 128 byte && nat_lt byte 192) }
+    ensures { result ≡ continues byte }
 {
     byte >= 128 && byte < 192
 }

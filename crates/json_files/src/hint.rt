@@ -1,4 +1,6 @@
 // Hints at the usual causes of errors.
+ghost use Rattle.std.specs.Prelude.{◌≡◌, true, IfSome, option_map};
+ghost use Rattle.json_files.specs.Sentences.{is_hint, HintFits};
 
 use crate::document_error::DocumentError;
 use crate::part::{Part, Scope};
@@ -17,7 +19,9 @@ fn follows_comma(bytes: &[u8], offset: usize) -> bool {
 }
 
 // Returns a hint at what the bytes begin with.
-fn hint_at_start(bytes: &[u8]) -> Option<&'static str> {
+fn hint_at_start(bytes: &[u8]) -> Option<&'static str>
+    ensures { IfSome result (λ h. is_hint h.now ≡ true) }
+{
     match bytes {
         [0xef, 0xbb, 0xbf, ..] => {
             Some("the input begins with a byte order mark, which JSON does not allow")
@@ -30,7 +34,9 @@ fn hint_at_start(bytes: &[u8]) -> Option<&'static str> {
 }
 
 // Returns a hint at another value after the value.
-fn hint_at_value(scope: Scope) -> &'static str {
+fn hint_at_value(scope: Scope) -> &'static str
+    ensures { is_hint result.now ≡ true }
+{
     match scope {
         Scope::Document =>
             "`--lines` reads a document from each line, `--stream` one after another",
@@ -39,7 +45,9 @@ fn hint_at_value(scope: Scope) -> &'static str {
 }
 
 // Returns a hint at the byte where the error is, outside of strings.
-fn hint_at_byte(code: ErrorCode, byte: u8) -> Option<&'static str> {
+fn hint_at_byte(code: ErrorCode, byte: u8) -> Option<&'static str>
+    ensures { IfSome result (λ h. is_hint h.now ≡ true) }
+{
     match (code, byte) {
         (ErrorCode::InvalidNumber, b'0'..=b'9') => Some("a number has no leading zeros"),
         (ErrorCode::InvalidNumber | ErrorCode::InvalidJsonValue, b'N' | b'I') => {
@@ -62,7 +70,9 @@ fn hint_at_byte(code: ErrorCode, byte: u8) -> Option<&'static str> {
 }
 
 // Returns a hint at an error at an offset of the bytes.
-fn hint_at(part: Part<'_>, code: ErrorCode, offset: usize) -> Option<&'static str> {
+fn hint_at(part: Part<'_>, code: ErrorCode, offset: usize) -> Option<&'static str>
+    ensures { IfSome result (λ h. is_hint h.now ≡ true) }
+{
     let byte = *part.bytes.get(offset)?;
     if let Some(hint) = hint_at_byte(code, byte) {
         return Some(hint);
@@ -80,7 +90,9 @@ fn hint_at(part: Part<'_>, code: ErrorCode, offset: usize) -> Option<&'static st
 }
 
 // Returns a hint at the usual cause of an error of an input.
-fn hint_of_input(part: Part<'_>, error: &Error) -> Option<&'static str> {
+fn hint_of_input(part: Part<'_>, error: &Error) -> Option<&'static str>
+    ensures { IfSome result (λ h. is_hint h.now ≡ true) }
+{
     let offset = error.offset()?;
     if offset <= 1 {
         let hint = hint_at_start(part.bytes);
@@ -92,7 +104,9 @@ fn hint_of_input(part: Part<'_>, error: &Error) -> Option<&'static str> {
 }
 
 /// Returns a hint at the usual cause of the error, if there is one.
-pub(crate) fn hint_of(part: Part<'_>, error: &DocumentError) -> Option<&'static str> {
+pub(crate) fn hint_of(part: Part<'_>, error: &DocumentError) -> Option<&'static str>
+    ensures { HintFits error.now (option_map (λ s. s.now) result) }
+{
     match error {
         DocumentError::Input(error) => hint_of_input(part, error),
         DocumentError::Change(_) => None,

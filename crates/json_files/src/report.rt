@@ -1,8 +1,9 @@
 // The reports of errors.
-ghost use Rattle.std.specs.Prelude.{◌≡◌, ◌≤◌, ◌+◌, ◌++◌, List, ℕ, Option, None, length, codes, decimal, IfOk, OnOk, IfSome};
+ghost use Rattle.std.specs.Prelude.{◌≡◌, ◌≤◌, ◌+◌, ◌++◌, List, ℕ, true, Option, None, length, codes, decimal, IfOk, OnOk, IfSome, option_map};
 ghost use Rattle.json_files.specs.Excerpts.{IsExcerpt};
 ghost use Rattle.json_files.specs.Parts.{part_view, whole_part as spec_whole_part, HasFewLines};
 ghost use Rattle.json_files.specs.Reports.{IsReport, IsHeadline, IsExcerptAt, location, place_position, error_place, document_error_name, change_name, report_offset, position_of};
+ghost use Rattle.json_files.specs.Sentences.{input_sentence, is_word, document_sentence, counted, value_number as number_of, hint_line};
 ghost use Rattle.json_io.specs.Errors.{name_of, OnlyNoMemory};
 
 use crate::change_error::ChangeError;
@@ -22,7 +23,9 @@ pub(crate) struct Position {
 }
 
 // Returns the sentence of a code.
-fn sentence_of(code: ErrorCode) -> &'static str {
+fn sentence_of(code: ErrorCode) -> &'static str
+    ensures { result.now ≡ input_sentence code }
+{
     match code {
         ErrorCode::NoMemory => "memory ran out",
         ErrorCode::Io => "a read or a write failed",
@@ -87,7 +90,8 @@ fn headline(
     sentence: &[u8],
     code: &[u8],
 ) -> Result<Vec<u8>>
-    ensures ok { IfOk result (λ line. IsHeadline name.now position code.now line.items) }
+    ensures ok { IfOk result (λ line. IsHeadline name.now position sentence.now code.now
+        line.items) }
     ensures only { OnlyNoMemory result }
 {
     let mut text = name.as_bytes().to_vec(alloc)?;
@@ -117,7 +121,8 @@ fn input_headline(
     position: Option<Position>,
     code: ErrorCode,
 ) -> Result<Vec<u8>>
-    ensures ok { IfOk result (λ line. IsHeadline name.now position (name_of code) line.items) }
+    ensures ok { IfOk result (λ line. IsHeadline name.now position (input_sentence code)
+        (name_of code) line.items) }
     ensures only { OnlyNoMemory result }
 {
     let line = name_line(code);
@@ -131,15 +136,41 @@ fn input_headline(
     )
 }
 
-// Appends a word, a number and `: `.
-fn push_count(text: &mut Vec<u8>, word: &str, n: usize) -> Result<()>
+// Appends a word, a number and `: `, if there is a number.
+fn push_counted(text: &mut Vec<u8>, word: &str, number: Option<usize>) -> Result<()>
+    ensures ok { OnOk result (text.new.items ≡ text.old.items ++ counted word.now number) }
     ensures only { OnlyNoMemory result }
 {
-    text.extend_from_slice(word.as_bytes())?;
-    text.extend_from_slice(b" ")?;
-    push_number(text, n)?;
-    text.extend_from_slice(b": ")?;
-    Ok(())
+    match number {
+        Some(number) => {
+            text.extend_from_slice(word.as_bytes())?;
+            text.extend_from_slice(b" ")?;
+            push_number(text, number)?;
+            text.extend_from_slice(b": ")?;
+            Ok(())
+        }
+        None => Ok(()),
+    }
+}
+
+// Returns the number of the value of a stream.
+fn value_number(scope: Scope) -> Option<usize>
+    ensures { result ≡ number_of scope }
+{
+    match scope {
+        Scope::Value(number) => Some(number),
+        _ => None,
+    }
+}
+
+// Returns the number of the part of the change that does not apply.
+fn part_number(error: &ChangeError) -> Option<usize>
+    ensures { result ≡ error.now.number }
+{
+    match error.number {
+        Some(number) => Some(number as usize),
+        None => None,
+    }
 }
 
 // Returns the sentence about a change: which value of the document, which part of the change, and
@@ -150,15 +181,13 @@ fn change_sentence(
     part_name: &str,
     error: &ChangeError,
 ) -> Result<Vec<u8>>
+    ensures ok { IfOk result (λ text. text.items
+        ≡ document_sentence scope part_name.now (DocumentError.Change error.now)) }
     ensures only { OnlyNoMemory result }
 {
     let mut text = Vec::new(alloc);
-    if let Scope::Value(number) = scope {
-        push_count(&mut text, "value", number)?;
-    }
-    if let Some(number) = error.number {
-        push_count(&mut text, part_name, number as usize)?;
-    }
+    push_counted(&mut text, "value", value_number(scope))?;
+    push_counted(&mut text, part_name, part_number(error))?;
     text.extend_from_slice(error.code.sentence().as_bytes())?;
     Ok(text)
 }
@@ -224,15 +253,19 @@ fn push_excerpt_at(text: &mut Vec<u8>, bytes: &[u8], offset: Option<usize>) -> R
 
 // Appends a hint, if there is one.
 fn push_hint(text: &mut Vec<u8>, hint: Option<&str>) -> Result<()>
-    ensures ok { OnOk result ((line : List ℕ) × (text.new.items ≡ text.old.items ++ line)) }
+    ensures ok { OnOk result (text.new.items
+        ≡ text.old.items ++ hint_line (option_map (λ s. s.now) hint.entry)) }
     ensures only { OnlyNoMemory result }
 {
-    if let Some(hint) = hint {
-        text.extend_from_slice(b"hint: ")?;
-        text.extend_from_slice(hint.as_bytes())?;
-        text.extend_from_slice(b"\n")?;
+    match hint {
+        Some(hint) => {
+            text.extend_from_slice(b"hint: ")?;
+            text.extend_from_slice(hint.as_bytes())?;
+            text.extend_from_slice(b"\n")?;
+            Ok(())
+        }
+        None => Ok(()),
     }
-    Ok(())
 }
 
 // Returns the first line of the report of a document.
@@ -244,6 +277,7 @@ fn document_headline(
     part_name: &str,
 ) -> Result<Vec<u8>>
     ensures ok { IfOk result (λ line. IsHeadline (part_view part.entry).name position
+        (document_sentence (part_view part.entry).scope part_name.now error.now)
         (document_error_name error.now) line.items) }
     ensures only { OnlyNoMemory result }
 {
@@ -266,6 +300,7 @@ pub(crate) fn document_report(
     part_name: &str,
 ) -> Result<Vec<u8>>
     requires few { HasFewLines (part_view part) }
+    requires word { is_word part_name.now ≡ true }
     ensures ok { IfOk result (λ report. IsReport (part_view part.entry) error.now report.items) }
     ensures only { OnlyNoMemory result }
 {
@@ -292,7 +327,7 @@ pub(crate) fn document_report(
 /// ```
 pub fn error_report(alloc: Global, name: &str, error: &Error) -> Result<Vec<u8>>
     ensures ok { IfOk result (λ line. IsHeadline name.now (place_position error.now.place)
-        (name_of error.now.code) line.items) }
+        (input_sentence error.now.code) (name_of error.now.code) line.items) }
     ensures only { OnlyNoMemory result }
 {
     let position = match error.place {
@@ -312,7 +347,8 @@ pub fn error_report(alloc: Global, name: &str, error: &Error) -> Result<Vec<u8>>
 /// assert_eq!(rt; report.as_slice(), b"a.json: there is no such file (Io)\n".as_slice());
 /// ```
 pub fn file_report(alloc: Global, name: &str, reason: &str) -> Result<Vec<u8>>
-    ensures ok { IfOk result (λ line. IsHeadline name.now None (codes "Io") line.items) }
+    ensures ok { IfOk result (λ line. IsHeadline name.now None reason.now (codes "Io")
+        line.items) }
     ensures only { OnlyNoMemory result }
 {
     headline(alloc, name, None, reason.as_bytes(), b"Io")

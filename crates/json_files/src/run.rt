@@ -45,6 +45,7 @@ impl Tally {
     ghost use Rattle.std.specs.Str.{IsCharBoundary};
     ghost use Rattle.json_files.specs.Parts.{part_view, line_parts, lines_of, whole_part as spec_whole_part};
     ghost use Rattle.json_files.specs.Running.{ReportsError, ReportingFails};
+    ghost use Rattle.json_files.specs.Sentences.{is_word};
 
     // Reports an error, unless a report failed.
     fn put_report<E: Sink>(&mut self, errs: &mut E, error: &DocumentError, text: &[u8])
@@ -71,6 +72,7 @@ impl Tally {
         errs: &mut E,
     ) -> Result<()>
         requires few { HasFewLines (part_view part) }
+        requires word { is_word part_name.now ≡ true }
         ensures ok { OnOk result (ReportsError (part_view part.entry) error.now self.old self.new
             (E.state errs.old) (E.state errs.new)) }
         ensures err { IfErr result (ReportingFails self.old self.new

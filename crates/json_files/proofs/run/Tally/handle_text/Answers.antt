@@ -1,7 +1,7 @@
 use Rattle.std.proofs.Common.{arith}
 use Rattle.json_files.specs.Outcomes.{task_of}
 use Rattle.json_files.proofs.Handled.{Handles-none, Handles-then, Handles-as, StopsRunning-then}
-use Rattle.json_files.proofs.HandledStreams.{values_none, values_more, values_fail, values_stop, values_all, space_left}
+use Rattle.json_files.proofs.HandledStreams.{values_none, values_more, values_fail, values_stop, values_all, space_left, more_left}
 use Rattle.json_files.proofs.run.Tally.handle_text.Goals as goal
 
 pub values-init : goal.values-init
@@ -27,7 +27,8 @@ values-preserved g c =
 pub returns-in-Ok-None-clause-ok : goal.returns-in-Ok-None-clause-ok
 returns-in-Ok-None-clause-ok g c =
     Handles-then _ _ _ _ _ _ _ _ _ _ _ _ c.values.invariant.handled (rw c.in-Ok-None.field-0-is at c.in-Ok-None.ensures.ok)
-    (values_fail (task_of g.C.Change.changed c.args.job.now) c.args.start.name.now c.args.start.text.now c.values.offset c.values.number)
+    (values_fail (task_of g.C.Change.changed c.args.job.now) c.args.start.name.now c.args.start.text.now c.values.offset c.values.number
+    (more_left c.args.start.text.now _ c.values.offset c.ws_run.result c.as_bytes.ensures.value c.ws_run.ensures.ends.order c.values-test.true c.ws_run.ensures.ends.stop))
 
 pub returns-in-Err-clause-err : goal.returns-in-Err-clause-err
 returns-in-Err-clause-err g c =
