@@ -80,13 +80,14 @@
 #![tactic(auto)]
 
 pub mod patch;
+pub mod tokens;
 
 pub use json_access::{JsonContainerTrait, JsonValueMutTrait, JsonValueTrait};
 pub use json_containers::{ArrayCalls, Entry, IntoIter, ObjectCalls, OccupiedEntry, VacantEntry};
 pub use json_data::{
-    Deserialize, DeserializeFrom, FromKey, IgnoredAny, Lent, Members, TextTokens, Token, TokenKind,
-    TokenOf, Tokens, ValueTokens, find_members, from_reader, from_slice, from_slice_unchecked,
-    from_slice_with, from_str, from_value, leave_after, read_members, refusal,
+    Deserialize, DeserializeFrom, FromKey, IgnoredAny, Lent, Members, TextTokens, Tokens,
+    ValueTokens, find_members, from_reader, from_slice, from_slice_unchecked, from_slice_with,
+    from_str, from_value, read_members, refusal,
 };
 pub use json_derive as derive;
 pub use json_doc::{Doc, DocView, DocumentRoom, JsonType, read_document, read_document_with};
