@@ -1,52 +1,36 @@
 // The calls of arrays.
-use crate::looks::{gave, gave_none, is_null, is_number};
+use crate::looks::{
+    Call, Item, Row, assert_none, gave, is_next, is_null, is_number, made, wrong_row,
+};
 use crate::writing::put;
 use json_containers::{ArrayCalls, IntoIter};
-use json_fixtures::{array_in, becomes, first_wrong, is_made, is_shown, value_of, was_shown};
+use json_fixtures::{array_in, first_wrong, is_made, or_null, value_of, was_shown};
 use json_number::JsonNumberTrait;
 use json_text::Result;
 use json_value::{Array, Value};
 use std::alloc::Global;
 
-fn make_in(value: &mut Value, alloc: Global, change: fn(&mut Array, Global) -> bool) -> bool
-    requires { IsAlwaysCallable change }
-{
-    match array_in(value) {
-        Some(array) => change(array, alloc),
-        None => false,
-    }
-}
-
-// Whether the change is done, and the array of the text then has this compact text.
-fn changes_to(alloc: Global, json: &str, change: fn(&mut Array, Global) -> bool, then: &str) -> bool
-    requires { IsAlwaysCallable change }
-{
-    match value_of(alloc, json) {
-        Ok(mut value) => make_in(&mut value, alloc, change) && is_shown(alloc, &value, then),
-        Err(_) => false,
-    }
-}
-
-fn has_room(alloc: Global, capacity: usize) -> bool {
-    match Array::with_capacity(alloc, capacity) {
-        Ok(array) => array.is_empty() && array.capacity() >= capacity,
-        Err(_) => false,
-    }
-}
-
-fn reserves(array: &mut Array, alloc: Global) -> bool {
-    let done = array.reserve(alloc, 10).is_ok();
-    done && array.len() == 3 && array.capacity() >= 13
-}
-
-fn grows(array: &mut Array, alloc: Global) -> bool {
-    array
-        .resize(alloc, 3, &Value::from_static_str("world"))
-        .is_ok()
-}
-
-fn shrinks(array: &mut Array, alloc: Global) -> bool {
-    array.resize(alloc, 2, &Value::new_u64(0)).is_ok()
+// A call of an array, with its arguments and what is expected of its result.
+#[derive(Clone, Copy)]
+enum Change {
+    Reserve,
+    Resize(usize, Item),
+    Double,
+    DropOneAndFour,
+    AddOrDrop,
+    Truncate(usize),
+    Clear,
+    SplitOff(usize),
+    Drain(usize, usize),
+    SwapRemove(usize, &'static str),
+    Remove(usize, &'static str),
+    Pop(&'static str),
+    Push(Item, Item),
+    Append,
+    Extend,
+    Repeat(usize, usize),
+    Insert,
+    SetFirst,
 }
 
 fn doubles(array: &mut Array, alloc: Global) -> bool {
@@ -87,33 +71,24 @@ fn adds_or_drops(array: &mut Array, alloc: Global) -> bool {
         .is_ok()
 }
 
-fn wrong_length(alloc: Global) -> Option<&'static str> {
-    let worlds = "[\"hello\",\"world\",\"world\"]";
-    first_wrong(&[
-        ("room for four", has_room(alloc, 4)),
-        ("room for none", has_room(alloc, 0)),
-        (
-            "room for ten more",
-            changes_to(alloc, "[1,2,3]", reserves, "[1,2,3]"),
-        ),
-        ("longer", changes_to(alloc, "[\"hello\"]", grows, worlds)),
-        (
-            "shorter",
-            changes_to(alloc, worlds, shrinks, "[\"hello\",\"world\"]"),
-        ),
-        (
-            "longer by a closure",
-            changes_to(alloc, "[]", doubles, "[2,4,8,16]"),
-        ),
-        (
-            "some are kept",
-            changes_to(alloc, "[1,2,3,4,5]", drops_one_and_four, "[2,3,5]"),
-        ),
-        (
-            "some are changed and kept",
-            changes_to(alloc, "[1,2,3,4]", adds_or_drops, "[2,3,4]"),
-        ),
-    ])
+// Makes a call that changes how many elements there are.
+fn resizes(array: &mut Array, alloc: Global, change: Change) -> bool {
+    match change {
+        Change::Reserve => {
+            let done = array.reserve(alloc, 10).is_ok();
+            done && array.len() == 3 && array.capacity() >= 13
+        }
+        Change::Resize(len, item) => array.resize(alloc, len, &made(item)).is_ok(),
+        Change::Double => doubles(array, alloc),
+        Change::DropOneAndFour => drops_one_and_four(array, alloc),
+        Change::AddOrDrop => adds_or_drops(array, alloc),
+        Change::Truncate(len) => array.truncate(alloc, len).is_ok(),
+        Change::Clear => {
+            array.clear();
+            array.is_empty()
+        }
+        _ => removes(array, alloc, change),
+    }
 }
 
 // Whether these two elements were taken out.
@@ -124,100 +99,32 @@ fn are_two_and_three(alloc: Global, taken: Result<Array>) -> bool {
     }
 }
 
-fn splits(array: &mut Array, alloc: Global) -> bool {
-    array.len() >= 1 && are_two_and_three(alloc, array.split_off(alloc, 1))
-}
-
-fn drains(array: &mut Array, alloc: Global) -> bool {
-    array.len() >= 3 && are_two_and_three(alloc, array.drain(alloc, 1, 3))
-}
-
-fn truncates_to_two(array: &mut Array, alloc: Global) -> bool {
-    array.truncate(alloc, 2).is_ok()
-}
-
-fn truncates_to_eight(array: &mut Array, alloc: Global) -> bool {
-    array.truncate(alloc, 8).is_ok()
-}
-
-// Take the second element out; answer whether it has the compact text that is wanted.
-fn swaps(array: &mut Array, alloc: Global) -> bool {
-    array.len() >= 2 && is_made(alloc, array.swap_remove(alloc, 1), "\"bar\"")
-}
-
-fn removes(array: &mut Array, alloc: Global) -> bool {
-    array.len() >= 2 && is_made(alloc, array.remove(alloc, 1), "1")
-}
-
-fn pops_none(array: &mut Array, alloc: Global) -> bool {
-    gave_none(array.pop(alloc))
-}
-
-fn pops(array: &mut Array, alloc: Global) -> bool {
-    gave(alloc, array.pop(alloc), "\"hi\"")
-}
-
-fn clears(array: &mut Array, _alloc: Global) -> bool {
-    array.clear();
-    array.is_empty()
-}
-
-fn wrong_removal(alloc: Global) -> Option<&'static str> {
-    let words = "[\"foo\",\"bar\",\"baz\",\"qux\"]";
-    first_wrong(&[
-        (
-            "the end is split off",
-            changes_to(alloc, "[1,2,3]", splits, "[1]"),
-        ),
-        (
-            "a range is drained",
-            changes_to(alloc, "[1,2,3]", drains, "[1]"),
-        ),
-        (
-            "the end is dropped",
-            changes_to(alloc, "[1,2,3,true,\"hi\"]", truncates_to_two, "[1,2]"),
-        ),
-        (
-            "no end is dropped",
-            changes_to(alloc, "[1,2,3]", truncates_to_eight, "[1,2,3]"),
-        ),
-        (
-            "an element makes room for the last",
-            changes_to(alloc, words, swaps, "[\"foo\",\"qux\",\"baz\"]"),
-        ),
-        (
-            "an element is removed",
-            changes_to(alloc, "[0,1,2]", removes, "[0,2]"),
-        ),
-        ("no last element", changes_to(alloc, "[]", pops_none, "[]")),
-        (
-            "the last element is taken out",
-            changes_to(alloc, "[1,2,3,\"hi\"]", pops, "[1,2,3]"),
-        ),
-        ("all are dropped", changes_to(alloc, "[1,2]", clears, "[]")),
-    ])
-}
-
-fn pushes(array: &mut Array, alloc: Global) -> bool {
-    let first = array.push(alloc, Value::new_u64(3)).is_ok();
-    let second = array.push(alloc, Value::from_static_str("hi")).is_ok();
-    first && second
+// Makes a call that takes elements out.
+fn removes(array: &mut Array, alloc: Global, change: Change) -> bool {
+    match change {
+        Change::SplitOff(at) => {
+            array.len() >= at && are_two_and_three(alloc, array.split_off(alloc, at))
+        }
+        Change::Drain(from, to) => {
+            from <= to
+                && array.len() >= to
+                && are_two_and_three(alloc, array.drain(alloc, from, to))
+        }
+        Change::SwapRemove(index, json) => {
+            array.len() > index && is_made(alloc, array.swap_remove(alloc, index), json)
+        }
+        Change::Remove(index, json) => {
+            array.len() > index && is_made(alloc, array.remove(alloc, index), json)
+        }
+        Change::Pop(json) => gave(alloc, array.pop(alloc), json),
+        _ => adds(array, alloc, change),
+    }
 }
 
 fn appends_from(array: &mut Array, alloc: Global, more: &mut Value) -> bool {
     match array_in(more) {
-        Some(other) => {
-            let done = array.append(alloc, other).is_ok();
-            done && other.is_empty()
-        }
+        Some(other) => array.append(alloc, other).is_ok() && other.is_empty(),
         None => false,
-    }
-}
-
-fn appends(array: &mut Array, alloc: Global) -> bool {
-    match value_of(alloc, "[1,\"arr1\"]") {
-        Ok(mut more) => appends_from(array, alloc, &mut more),
-        Err(_) => false,
     }
 }
 
@@ -226,17 +133,9 @@ fn extends(array: &mut Array, alloc: Global) -> bool {
     array.extend(alloc, &more).is_ok()
 }
 
-fn repeats_from_two(array: &mut Array, alloc: Global) -> bool {
-    array.len() >= 5 && array.extend_from_within(alloc, 2, 5).is_ok()
-}
-
 fn inserts(array: &mut Array, alloc: Global, index: usize, text: &'static str) -> bool {
     let value = Value::from_static_str(text);
     array.len() >= index && array.insert(alloc, index, value).is_ok()
-}
-
-fn inserts_twice(array: &mut Array, alloc: Global) -> bool {
-    inserts(array, alloc, 1, "inserted1") && inserts(array, alloc, 4, "inserted2")
 }
 
 // Puts 9 at the first of the elements, if there is one.
@@ -250,9 +149,145 @@ fn put_first(items: &mut [Value]) -> bool {
     }
 }
 
-fn sets_first(array: &mut Array, alloc: Global) -> bool {
-    match array.as_mut_slice(alloc) {
-        Ok(items) => put_first(items),
+// Makes a call that puts elements in.
+fn adds(array: &mut Array, alloc: Global, change: Change) -> bool {
+    match change {
+        Change::Push(first, second) => {
+            let pushed = array.push(alloc, made(first)).is_ok();
+            array.push(alloc, made(second)).is_ok() && pushed
+        }
+        Change::Append => {
+            let mut more = or_null(value_of(alloc, "[1,\"arr1\"]"));
+            appends_from(array, alloc, &mut more)
+        }
+        Change::Extend => extends(array, alloc),
+        Change::Repeat(from, to) => {
+            from <= to && array.len() >= to && array.extend_from_within(alloc, from, to).is_ok()
+        }
+        Change::Insert => {
+            inserts(array, alloc, 1, "inserted1") && inserts(array, alloc, 4, "inserted2")
+        }
+        Change::SetFirst => match array.as_mut_slice(alloc) {
+            Ok(items) => put_first(items),
+            Err(_) => false,
+        },
+        _ => false,
+    }
+}
+
+impl Call for Change {
+    fn is_right(self, value: &mut Value, alloc: Global) -> bool {
+        match array_in(value) {
+            Some(array) => resizes(array, alloc, self),
+            None => false,
+        }
+    }
+}
+
+const WORLD: Item = Item::Text("world");
+
+const ROWS: &[Row<Change>] = &[
+    ("room for ten more", "[1,2,3]", Change::Reserve, "[1,2,3]"),
+    (
+        "longer",
+        "[\"hello\"]",
+        Change::Resize(3, WORLD),
+        "[\"hello\",\"world\",\"world\"]",
+    ),
+    (
+        "shorter",
+        "[\"hello\",\"world\",\"world\"]",
+        Change::Resize(2, Item::Number(0)),
+        "[\"hello\",\"world\"]",
+    ),
+    ("longer by a closure", "[]", Change::Double, "[2,4,8,16]"),
+    (
+        "some are kept",
+        "[1,2,3,4,5]",
+        Change::DropOneAndFour,
+        "[2,3,5]",
+    ),
+    (
+        "some are changed and kept",
+        "[1,2,3,4]",
+        Change::AddOrDrop,
+        "[2,3,4]",
+    ),
+    (
+        "the end is split off",
+        "[1,2,3]",
+        Change::SplitOff(1),
+        "[1]",
+    ),
+    ("a range is drained", "[1,2,3]", Change::Drain(1, 3), "[1]"),
+    (
+        "the end is dropped",
+        "[1,2,3,true,\"hi\"]",
+        Change::Truncate(2),
+        "[1,2]",
+    ),
+    (
+        "no end is dropped",
+        "[1,2,3]",
+        Change::Truncate(8),
+        "[1,2,3]",
+    ),
+    (
+        "an element makes room for the last",
+        "[\"foo\",\"bar\",\"baz\",\"qux\"]",
+        Change::SwapRemove(1, "\"bar\""),
+        "[\"foo\",\"qux\",\"baz\"]",
+    ),
+    (
+        "an element is removed",
+        "[0,1,2]",
+        Change::Remove(1, "1"),
+        "[0,2]",
+    ),
+    ("no last element", "[]", Change::Pop(""), "[]"),
+    (
+        "the last element is taken out",
+        "[1,2,3,\"hi\"]",
+        Change::Pop("\"hi\""),
+        "[1,2,3]",
+    ),
+    ("all are dropped", "[1,2]", Change::Clear, "[]"),
+    (
+        "elements are pushed",
+        "[1,2]",
+        Change::Push(Item::Number(3), Item::Text("hi")),
+        "[1,2,3,\"hi\"]",
+    ),
+    (
+        "another array is appended",
+        "[2,\"arr2\"]",
+        Change::Append,
+        "[2,\"arr2\",1,\"arr1\"]",
+    ),
+    (
+        "copies are appended",
+        "[1,2,3]",
+        Change::Extend,
+        "[1,2,3,4,5,6]",
+    ),
+    (
+        "copies of a range are appended",
+        "[0,1,2,3,4]",
+        Change::Repeat(2, 5),
+        "[0,1,2,3,4,2,3,4]",
+    ),
+    (
+        "elements are inserted",
+        "[1,2,3]",
+        Change::Insert,
+        "[1,\"inserted1\",2,3,\"inserted2\"]",
+    ),
+    ("an element is set", "[1,2]", Change::SetFirst, "[9,2]"),
+];
+
+fn has_room(alloc: Global, capacity: usize) -> bool {
+    match Array::with_capacity(alloc, capacity) {
+        Ok(array) => array.is_empty() && array.capacity() >= capacity,
         Err(_) => false,
     }
 }
@@ -268,11 +303,11 @@ fn shows_second(items: &[Value]) -> bool {
 }
 
 fn gives_three(items: &mut IntoIter, alloc: Global) -> bool {
-    let first = gave(alloc, Ok(items.next()), "1");
-    let last = gave(alloc, Ok(items.next_back()), "3");
+    let first = is_next(alloc, items.next(), "1");
+    let last = is_next(alloc, items.next_back(), "3");
     let shown = shows_second(items.as_slice());
     let left = items.len() == 1 && items.as_mut_slice().len() == 3;
-    let second = gave(alloc, Ok(items.next()), "2");
+    let second = is_next(alloc, items.next(), "2");
     first && last && shown && left && second && items.next().is_none()
 }
 
@@ -284,9 +319,10 @@ fn gives_from_both_ends(array: Array, alloc: Global) -> bool {
 }
 
 // Whether the elements of the array that a value is are given; null is left in its place.
-fn takes_and_gives(value: &mut Value, alloc: Global) -> bool {
+fn takes_and_gives(alloc: Global) -> bool {
+    let mut value = or_null(value_of(alloc, "[1,2,3]"));
     match value.take().into_array() {
-        Some(array) => gives_from_both_ends(array, alloc),
+        Some(array) => gives_from_both_ends(array, alloc) && is_null(&value),
         None => false,
     }
 }
@@ -298,46 +334,17 @@ fn gives_nothing(alloc: Global) -> bool {
     }
 }
 
-fn wrong_addition(alloc: Global) -> Option<&'static str> {
-    let appended = "[2,\"arr2\",1,\"arr1\"]";
-    let repeated = "[0,1,2,3,4,2,3,4]";
-    let inserted = "[1,\"inserted1\",2,3,\"inserted2\"]";
+fn wrong(alloc: Global) -> Option<&'static str> {
     first_wrong(&[
-        (
-            "elements are pushed",
-            changes_to(alloc, "[1,2]", pushes, "[1,2,3,\"hi\"]"),
-        ),
-        (
-            "another array is appended",
-            changes_to(alloc, "[2,\"arr2\"]", appends, appended),
-        ),
-        (
-            "copies are appended",
-            changes_to(alloc, "[1,2,3]", extends, "[1,2,3,4,5,6]"),
-        ),
-        (
-            "copies of a range are appended",
-            changes_to(alloc, "[0,1,2,3,4]", repeats_from_two, repeated),
-        ),
-        (
-            "elements are inserted",
-            changes_to(alloc, "[1,2,3]", inserts_twice, inserted),
-        ),
-        (
-            "elements are given from both ends",
-            becomes(alloc, "[1,2,3]", takes_and_gives, "null"),
-        ),
+        ("room for four", has_room(alloc, 4)),
+        ("room for none", has_room(alloc, 0)),
+        ("elements are given from both ends", takes_and_gives(alloc)),
         ("no elements are given", gives_nothing(alloc)),
-        (
-            "an element is set",
-            changes_to(alloc, "[1,2]", sets_first, "[9,2]"),
-        ),
     ])
 }
 
 #[test]
 fn arrays_are_changed(rt: HostRuntime) {
-    assert_eq!(rt; wrong_length(rt.alloc()), None);
-    assert_eq!(rt; wrong_removal(rt.alloc()), None);
-    assert_eq!(rt; wrong_addition(rt.alloc()), None);
+    assert_none(&rt, wrong_row(rt.alloc(), ROWS));
+    assert_none(&rt, wrong(rt.alloc()));
 }

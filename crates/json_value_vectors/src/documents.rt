@@ -1,14 +1,17 @@
 // Documents, kinds, and numbers by their literals.
-use crate::looks::is_spelled;
-use json_doc::{Doc, JsonType};
-use json_fixtures::{first_wrong, is_document};
+use crate::looks::{assert_none, is_spelled};
+use json_doc::JsonType;
+use json_fixtures::{first_wrong, read};
 use json_number::RawNumber;
 use json_text::{ErrorCode, Result};
 use std::alloc::Global;
-use std::rc::Rc;
 
-fn has_one_cell(doc: &Rc<Doc>, _alloc: Global) -> bool {
-    doc.cells().len() == 1
+// Whether the document of a text has one cell.
+fn has_one_cell(alloc: Global, json: &str) -> bool {
+    match read(alloc, json) {
+        Ok(doc) => doc.cells().len() == 1,
+        Err(_) => false,
+    }
 }
 
 // Whether a literal was made, and it and its copy have these characters.
@@ -19,22 +22,19 @@ fn is_copied(alloc: Global, made: Result<RawNumber>, literal: &str) -> bool {
     }
 }
 
-// Why no literal was made, if so.
-fn refusal(made: Result<RawNumber>) -> Option<ErrorCode> {
+// Whether no literal was made, for this reason.
+fn is_refused(made: Result<RawNumber>, code: ErrorCode) -> bool {
     match made {
-        Ok(_) => None,
-        Err(error) => Some(error.code),
+        Ok(_) => false,
+        Err(error) => error.code == code,
     }
 }
 
 fn wrong(alloc: Global) -> Option<&'static str> {
     let literal = RawNumber::new(alloc, "1e5");
-    let refused = refusal(RawNumber::new(alloc, "01"));
+    let refused = RawNumber::new(alloc, "01");
     first_wrong(&[
-        (
-            "one cell for an empty array",
-            is_document(alloc, "[]", has_one_cell),
-        ),
+        ("one cell for an empty array", has_one_cell(alloc, "[]")),
         (
             "the kind of number five",
             JsonType::from_u8(5) == Some(JsonType::Array),
@@ -43,12 +43,12 @@ fn wrong(alloc: Global) -> Option<&'static str> {
         ("a literal is copied", is_copied(alloc, literal, "1e5")),
         (
             "no number begins with a zero and a digit",
-            refused == Some(ErrorCode::InvalidNumber),
+            is_refused(refused, ErrorCode::InvalidNumber),
         ),
     ])
 }
 
 #[test]
 fn documents_and_literals(rt: HostRuntime) {
-    assert_eq!(rt; wrong(rt.alloc()), None);
+    assert_none(&rt, wrong(rt.alloc()));
 }

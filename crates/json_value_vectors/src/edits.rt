@@ -1,15 +1,12 @@
 // First writes of packed containers, copies, and edits.
+use crate::looks::{Call, Row, assert_none, wrong_row};
 use crate::standing::element_stands;
 use crate::writing::set;
 use json_doc::Doc;
-use json_fixtures::{
-    becomes, copied, first_wrong, is_document, is_made, key, list_in, or_null, pairs_in, said,
-    value_of, whole,
-};
+use json_fixtures::{copied, is_made, key, list_in, or_null, pairs_in, read, said, whole};
 use json_text::{ErrorCode, Result};
 use json_value::{Edit, Pair, Path, PointerNode, Text, Value};
 use std::alloc::Global;
-use std::rc::Rc;
 
 fn is_at(value: &Value, cell: u32) -> bool {
     match value.place() {
@@ -127,10 +124,6 @@ fn push_in_document(value: &mut Value, alloc: Global, doc: &Doc) -> bool {
     element_stands(value, 1, doc, 3) && copy_stays && pushed
 }
 
-fn stays_beside_push(doc: &Rc<Doc>, alloc: Global) -> bool {
-    push_in_document(&mut or_null(whole(alloc, doc)), alloc, doc)
-}
-
 // Whether an edit of one step can be applied twice, and no third time.
 fn applies_twice(value: &mut Value, alloc: Global, edit: &Edit) -> bool {
     let first = value.apply(alloc, edit).is_ok();
@@ -146,17 +139,6 @@ fn remove_twice(value: &mut Value, alloc: Global) -> bool {
             applies_twice(value, alloc, &Edit::Remove { path, step })
         }
         Err(_) => false,
-    }
-}
-
-fn push_at_the_root(value: &mut Value, alloc: Global) -> bool {
-    push(value, alloc, Ok(Path::new(alloc)), 2).is_none()
-}
-
-fn refusal_of_object(alloc: Global) -> Option<ErrorCode> {
-    match value_of(alloc, "{}") {
-        Ok(mut object) => push(&mut object, alloc, Ok(Path::new(alloc)), 2),
-        Err(_) => None,
     }
 }
 
@@ -182,54 +164,106 @@ fn insert_null(value: &mut Value, alloc: Global) -> bool {
     value.apply(alloc, &edit).is_ok()
 }
 
-fn wrong(alloc: Global) -> Option<&'static str> {
-    let (list, shorter) = ("[[1],[\"x\"],1.5]", "[[1],[\"x\"]]");
-    let (members, first_null) = ("{\"a\":[true],\"b\":null}", "{\"a\":null,\"b\":null}");
-    let (lists, pushed) = ("[[1],[\"x\"],2]", "[[1,3],[\"x\"],2]");
-    let (two, none) = ("{\"a\":[1,2.5]}", "{\"a\":[]}");
-    let refused = refusal_of_object(alloc) == Some(ErrorCode::TypeUnmatched);
-    first_wrong(&[
-        (
-            "first write of an array",
-            becomes(alloc, list, write_list, shorter),
-        ),
-        (
-            "a clone from before a first write stays a place",
-            becomes(alloc, list, clone_and_write, list),
-        ),
-        (
-            "first write of an object",
-            becomes(alloc, members, write_pairs, first_null),
-        ),
-        (
-            "a clone keeps its elements",
-            becomes(alloc, lists, push_beside_clone, pushed),
-        ),
-        (
-            "an element beside a push stays a place",
-            is_document(alloc, lists, stays_beside_push),
-        ),
-        (
-            "an edit is applied",
-            becomes(alloc, two, remove_twice, none),
-        ),
-        (
-            "elements are appended at the root",
-            becomes(alloc, "[1]", push_at_the_root, "[1,2]"),
-        ),
-        ("nothing is appended to an object", refused),
-        (
-            "a place is set",
-            becomes(alloc, "{\"k\":1}", set_to_object, "{\"k\":{}}"),
-        ),
-        (
-            "a member is inserted",
-            becomes(alloc, "{\"k\":1}", insert_null, "{\"k\":1,\"z\":null}"),
-        ),
-    ])
+// A first write, or an edit, and what is there then.
+#[derive(Clone, Copy)]
+enum Change {
+    WriteList,
+    CloneAndWrite,
+    WritePairs,
+    PushBesideClone,
+    RemoveTwice,
+    PushAtRoot(Option<ErrorCode>),
+    SetToObject,
+    InsertNull,
+}
+
+impl Call for Change {
+    fn is_right(self, value: &mut Value, alloc: Global) -> bool {
+        match self {
+            Change::WriteList => write_list(value, alloc),
+            Change::CloneAndWrite => clone_and_write(value, alloc),
+            Change::WritePairs => write_pairs(value, alloc),
+            Change::PushBesideClone => push_beside_clone(value, alloc),
+            Change::RemoveTwice => remove_twice(value, alloc),
+            Change::PushAtRoot(refused) => push(value, alloc, Ok(Path::new(alloc)), 2) == refused,
+            Change::SetToObject => set_to_object(value, alloc),
+            Change::InsertNull => insert_null(value, alloc),
+        }
+    }
+}
+
+const LISTS: &str = "[[1],[\"x\"],2]";
+
+const ROWS: &[Row<Change>] = &[
+    (
+        "first write of an array",
+        "[[1],[\"x\"],1.5]",
+        Change::WriteList,
+        "[[1],[\"x\"]]",
+    ),
+    (
+        "a clone from before a first write stays a place",
+        "[[1],[\"x\"],1.5]",
+        Change::CloneAndWrite,
+        "[[1],[\"x\"],1.5]",
+    ),
+    (
+        "first write of an object",
+        "{\"a\":[true],\"b\":null}",
+        Change::WritePairs,
+        "{\"a\":null,\"b\":null}",
+    ),
+    (
+        "a clone keeps its elements",
+        LISTS,
+        Change::PushBesideClone,
+        "[[1,3],[\"x\"],2]",
+    ),
+    (
+        "an edit is applied",
+        "{\"a\":[1,2.5]}",
+        Change::RemoveTwice,
+        "{\"a\":[]}",
+    ),
+    (
+        "elements are appended at the root",
+        "[1]",
+        Change::PushAtRoot(None),
+        "[1,2]",
+    ),
+    (
+        "nothing is appended to an object",
+        "{}",
+        Change::PushAtRoot(Some(ErrorCode::TypeUnmatched)),
+        "{}",
+    ),
+    (
+        "a place is set",
+        "{\"k\":1}",
+        Change::SetToObject,
+        "{\"k\":{}}",
+    ),
+    (
+        "a member is inserted",
+        "{\"k\":1}",
+        Change::InsertNull,
+        "{\"k\":1,\"z\":null}",
+    ),
+];
+
+// Whether an element beside a push stays a place.
+fn stays_beside_push(alloc: Global) -> bool {
+    match read(alloc, LISTS) {
+        Ok(doc) => push_in_document(&mut or_null(whole(alloc, &doc)), alloc, &doc),
+        Err(_) => false,
+    }
 }
 
 #[test]
 fn values_are_written_and_edited(rt: HostRuntime) {
-    assert_eq!(rt; wrong(rt.alloc()), None);
+    assert_none(&rt, wrong_row(rt.alloc(), ROWS));
+    assert!(rt;
+        stays_beside_push(rt.alloc()),
+        "an element beside a push stays a place"
+    );
 }

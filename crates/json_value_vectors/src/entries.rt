@@ -1,9 +1,8 @@
 // The entries of objects.
-use crate::looks::{is_number, was_number};
-use crate::objects::changes_to;
+use crate::looks::{Call, Row, assert_none, is_number, was_number, wrong_row};
 use crate::writing::put;
 use json_containers::{Entry, ObjectCalls, OccupiedEntry};
-use json_fixtures::first_wrong;
+use json_fixtures::object_in;
 use json_text::Result;
 use json_value::{Object, Value};
 use std::alloc::Global;
@@ -75,10 +74,6 @@ fn modifies_by(found: Result<Entry<'_>>) -> bool {
     }
 }
 
-fn modifies(object: &mut Object, alloc: Global) -> bool {
-    modifies_by(object.entry(alloc, "a"))
-}
-
 // Sets the value there, twice.
 fn sets_by(entry: &mut OccupiedEntry<'_>) -> bool {
     let named = entry.key() == "a" && is_number(entry.get().view(), 0);
@@ -136,38 +131,77 @@ fn inserts_missing(object: &mut Object, alloc: Global) -> bool {
     }
 }
 
-fn wrong(alloc: Global) -> Option<&'static str> {
-    let made = "{\"a\":4,\"b\":1,\"c\":null}";
-    let twice = "{\"a\":0,\"a\":1}";
-    first_wrong(&[
-        (
-            "a value is inserted or kept",
-            changes_to(alloc, "{}", inserts_or_keeps, "{\"hello\":1}"),
-        ),
-        (
-            "values are made where they are missing",
-            changes_to(alloc, "{}", makes_where_missing, made),
-        ),
-        (
-            "a value is modified",
-            changes_to(alloc, "{\"a\":0}", modifies, "{\"a\":2}"),
-        ),
-        (
-            "the first of equal keys is set",
-            changes_to(alloc, twice, sets_there, "{\"a\":4,\"a\":1}"),
-        ),
-        (
-            "all members of a key are removed",
-            changes_to(alloc, twice, removes_there, "{}"),
-        ),
-        (
-            "a missing key is inserted",
-            changes_to(alloc, "{\"a\":0}", inserts_missing, "{\"a\":0,\"b\":5}"),
-        ),
-    ])
+// What is done with entries of an object.
+#[derive(Clone, Copy)]
+enum Change {
+    InsertOrKeep,
+    MakeMissing,
+    Modify,
+    Set,
+    Remove,
+    InsertMissing,
 }
+
+fn changes(object: &mut Object, alloc: Global, change: Change) -> bool {
+    match change {
+        Change::InsertOrKeep => inserts_or_keeps(object, alloc),
+        Change::MakeMissing => makes_where_missing(object, alloc),
+        Change::Modify => modifies_by(object.entry(alloc, "a")),
+        Change::Set => sets_there(object, alloc),
+        Change::Remove => removes_there(object, alloc),
+        Change::InsertMissing => inserts_missing(object, alloc),
+    }
+}
+
+impl Call for Change {
+    fn is_right(self, value: &mut Value, alloc: Global) -> bool {
+        match object_in(value) {
+            Some(object) => changes(object, alloc, self),
+            None => false,
+        }
+    }
+}
+
+const ROWS: &[Row<Change>] = &[
+    (
+        "a value is inserted or kept",
+        "{}",
+        Change::InsertOrKeep,
+        "{\"hello\":1}",
+    ),
+    (
+        "values are made where they are missing",
+        "{}",
+        Change::MakeMissing,
+        "{\"a\":4,\"b\":1,\"c\":null}",
+    ),
+    (
+        "a value is modified",
+        "{\"a\":0}",
+        Change::Modify,
+        "{\"a\":2}",
+    ),
+    (
+        "the first of equal keys is set",
+        "{\"a\":0,\"a\":1}",
+        Change::Set,
+        "{\"a\":4,\"a\":1}",
+    ),
+    (
+        "all members of a key are removed",
+        "{\"a\":0,\"a\":1}",
+        Change::Remove,
+        "{}",
+    ),
+    (
+        "a missing key is inserted",
+        "{\"a\":0}",
+        Change::InsertMissing,
+        "{\"a\":0,\"b\":5}",
+    ),
+];
 
 #[test]
 fn entries_are_changed(rt: HostRuntime) {
-    assert_eq!(rt; wrong(rt.alloc()), None);
+    assert_none(&rt, wrong_row(rt.alloc(), ROWS));
 }

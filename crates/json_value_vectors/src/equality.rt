@@ -1,6 +1,6 @@
 // Values that are the same, places of documents and values of their own.
-use crate::looks::is_null;
-use json_fixtures::{first_wrong, is_so, is_value, or_null, value_of};
+use crate::looks::{Call, Item, Look, MadeRow, assert_none, is_null, wrong_look, wrong_made};
+use json_fixtures::{or_null, value_of};
 use json_text::Result;
 use json_value::{Array, Value};
 use std::alloc::Global;
@@ -9,37 +9,6 @@ use std::alloc::Global;
 fn are_compared(value: &Value, other: &Value, same: bool) -> bool {
     let (one, back) = (*value == *other, *other == *value);
     one == same && back == same && !is_null(value) && !is_null(other)
-}
-
-// The same of the values of two texts.
-fn compares(alloc: Global, first: &str, second: &str, same: bool) -> bool {
-    let value = or_null(value_of(alloc, first));
-    let other = or_null(value_of(alloc, second));
-    are_compared(&value, &other, same)
-}
-
-fn are_same(alloc: Global, first: &str, second: &str) -> bool {
-    compares(alloc, first, second, true)
-}
-
-fn differ(alloc: Global, first: &str, second: &str) -> bool {
-    compares(alloc, first, second, false)
-}
-
-fn is_true(value: &Value, _alloc: Global) -> bool {
-    value.eq_bool(true) && !value.eq_bool(false)
-}
-
-fn is_x(value: &Value, _alloc: Global) -> bool {
-    value.eq_str("x") && !value.eq_str("y")
-}
-
-fn is_twelve(value: &Value, _alloc: Global) -> bool {
-    value.eq_i64(12) && value.eq_u64(12)
-}
-
-fn is_not_one(value: &Value, _alloc: Global) -> bool {
-    !value.eq_i64(1) && !value.eq_u64(1)
 }
 
 // Whether a value was made, and is the same as this one.
@@ -68,64 +37,98 @@ fn is_by_hand(value: &Value, alloc: Global) -> bool {
     is_array(value, alloc, &items)
 }
 
-fn wrong_members(alloc: Global) -> Option<&'static str> {
-    first_wrong(&[
-        (
-            "members in another order",
-            are_same(alloc, "{\"a\":1,\"b\":2}", "{\"b\":2,\"a\":1}"),
-        ),
-        (
-            "a key twice for two keys",
-            differ(alloc, "{\"a\":1,\"a\":1}", "{\"a\":1,\"b\":2}"),
-        ),
-        ("a number is its literal", differ(alloc, "1", "1.0")),
-        (
-            "the second value of a key",
-            are_same(alloc, "{\"a\":true,\"a\":null}", "{\"a\":true,\"a\":2}"),
-        ),
-        (
-            "the first value of a key",
-            differ(alloc, "{\"a\":true,\"a\":null}", "{\"a\":null,\"a\":true}"),
-        ),
-        (
-            "arrays in members in another order",
-            are_same(alloc, "{\"a\":true,\"b\":[1]}", "{\"b\":[1],\"a\":true}"),
-        ),
-        (
-            "an element in a member",
-            differ(alloc, "{\"a\":true,\"b\":[1]}", "{\"b\":[1.0],\"a\":true}"),
-        ),
-        (
-            "another key",
-            differ(alloc, "{\"a\":true,\"b\":1}", "{\"a\":true,\"c\":1}"),
-        ),
-        (
-            "fewer members of a key",
-            differ(alloc, "{\"a\":true,\"a\":1}", "{\"a\":true}"),
-        ),
-    ])
+// What a value is compared with.
+#[derive(Clone, Copy)]
+enum Compare {
+    Same(&'static str),
+    Other(&'static str),
+    True,
+    X,
+    Twelve,
+    NotOne,
+    Three,
+    ByHand,
 }
 
-fn wrong_values(alloc: Global) -> Option<&'static str> {
-    let text = Value::from_static_str("x");
-    first_wrong(&[
-        ("a boolean", is_so(alloc, Value::new_bool(true), is_true)),
-        ("a text", is_so(alloc, text, is_x)),
-        ("an integer", is_so(alloc, Value::new_u64(12), is_twelve)),
-        (
-            "an integer below zero",
-            is_so(alloc, Value::new_i64(-1), is_not_one),
-        ),
-        ("elements", is_value(alloc, "[1,2,3]", has_three)),
-        (
-            "a place and a value of its own",
-            is_value(alloc, "[true,\"x\",[]]", is_by_hand),
-        ),
-    ])
+// Whether a value is the same as that of a text, or not, as is expected.
+fn compares(value: &Value, alloc: Global, other: &str, same: bool) -> bool {
+    are_compared(value, &or_null(value_of(alloc, other)), same)
 }
+
+impl Call for Compare {
+    fn is_right(self, value: &mut Value, alloc: Global) -> bool {
+        match self {
+            Compare::Same(other) => compares(value, alloc, other, true),
+            Compare::Other(other) => compares(value, alloc, other, false),
+            Compare::True => value.eq_bool(true) && !value.eq_bool(false),
+            Compare::X => value.eq_str("x") && !value.eq_str("y"),
+            Compare::Twelve => value.eq_i64(12) && value.eq_u64(12),
+            Compare::NotOne => !value.eq_i64(1) && !value.eq_u64(1),
+            Compare::Three => has_three(value, alloc),
+            Compare::ByHand => is_by_hand(value, alloc),
+        }
+    }
+}
+
+const ROWS: &[Look<Compare>] = &[
+    (
+        "members in another order",
+        "{\"a\":1,\"b\":2}",
+        Compare::Same("{\"b\":2,\"a\":1}"),
+    ),
+    (
+        "a key twice for two keys",
+        "{\"a\":1,\"a\":1}",
+        Compare::Other("{\"a\":1,\"b\":2}"),
+    ),
+    ("a number is its literal", "1", Compare::Other("1.0")),
+    (
+        "the second value of a key",
+        "{\"a\":true,\"a\":null}",
+        Compare::Same("{\"a\":true,\"a\":2}"),
+    ),
+    (
+        "the first value of a key",
+        "{\"a\":true,\"a\":null}",
+        Compare::Other("{\"a\":null,\"a\":true}"),
+    ),
+    (
+        "arrays in members in another order",
+        "{\"a\":true,\"b\":[1]}",
+        Compare::Same("{\"b\":[1],\"a\":true}"),
+    ),
+    (
+        "an element in a member",
+        "{\"a\":true,\"b\":[1]}",
+        Compare::Other("{\"b\":[1.0],\"a\":true}"),
+    ),
+    (
+        "another key",
+        "{\"a\":true,\"b\":1}",
+        Compare::Other("{\"a\":true,\"c\":1}"),
+    ),
+    (
+        "fewer members of a key",
+        "{\"a\":true,\"a\":1}",
+        Compare::Other("{\"a\":true}"),
+    ),
+    ("elements", "[1,2,3]", Compare::Three),
+    (
+        "a place and a value of its own",
+        "[true,\"x\",[]]",
+        Compare::ByHand,
+    ),
+];
+
+const OWN: &[MadeRow<Compare>] = &[
+    ("a boolean", Item::Boolean(true), Compare::True),
+    ("a text", Item::Text("x"), Compare::X),
+    ("an integer", Item::Number(12), Compare::Twelve),
+    ("an integer below zero", Item::Negative(-1), Compare::NotOne),
+];
 
 #[test]
 fn values_are_compared(rt: HostRuntime) {
-    assert_eq!(rt; wrong_members(rt.alloc()), None);
-    assert_eq!(rt; wrong_values(rt.alloc()), None);
+    assert_none(&rt, wrong_look(rt.alloc(), ROWS));
+    assert_none(&rt, wrong_made(rt.alloc(), OWN));
 }

@@ -1,7 +1,8 @@
 // Places of values, lent.
+use crate::looks::{Call, Look, Row, assert_none, wrong_look, wrong_row};
 use crate::writing::{is_nowhere, set, set_text, write_at, write_step, write_text};
 use json_doc::JsonType;
-use json_fixtures::{becomes, first_wrong, key, value_of};
+use json_fixtures::key;
 use json_text::{ErrorCode, Result};
 use json_value::{Index, Places, PointerNode, Value, put, update};
 use std::alloc::Global;
@@ -63,66 +64,11 @@ fn insert_one(value: &mut Value, alloc: Global) -> bool {
         && lends_number(value.insert(alloc, "k", Value::new_u64(1)), 1)
 }
 
-// Lends the place of the key `z`; returns whether null is there.
-fn lend_null(value: &mut Value, alloc: Global) -> bool {
-    matches!("z".index_or_insert(alloc, value), Ok(Value::Null))
-}
-
-// Writes at the place of the key `z`.
-fn write_key(value: &mut Value, alloc: Global) -> bool {
-    write_text(key("z").index_or_insert(alloc, value), "x")
-}
-
-fn wrong_place(alloc: Global) -> Option<&'static str> {
-    let lists = "{\"a\":[\"k\",\"l\"],\"b\":[\"m\"]}";
-    let written = "{\"a\":[\"k\",1],\"b\":[\"m\"]}";
-    let (two, both) = ("{\"k\":1,\"l\":1}", "{\"k\":2,\"l\":1}");
-    first_wrong(&[
-        (
-            "a write changes its place and no other",
-            becomes(alloc, lists, write_second, written),
-        ),
-        (
-            "the only member is written",
-            becomes(alloc, "{\"k\":1}", write_only, "{\"k\":2}"),
-        ),
-        ("a member is written", becomes(alloc, two, write_only, both)),
-        (
-            "what is put in is lent",
-            becomes(alloc, "{}", put_together, "{\"a\":[\"l\"]}"),
-        ),
-        (
-            "a number is appended",
-            becomes(alloc, "[1]", append_two, "[1,2]"),
-        ),
-        (
-            "a number is inserted",
-            becomes(alloc, "{}", insert_one, "{\"k\":1}"),
-        ),
-        (
-            "a key that null lacks is appended",
-            becomes(alloc, "null", lend_null, "{\"z\":null}"),
-        ),
-        (
-            "the place of a key is written",
-            becomes(alloc, "{\"z\":null}", write_key, "{\"z\":\"x\"}"),
-        ),
-    ])
-}
-
-// Why no place is lent, if so.
-fn refusal(lent: Result<&mut Value>) -> Option<ErrorCode> {
+// Whether no place is lent, for this reason.
+fn is_refused(lent: Result<&mut Value>, code: ErrorCode) -> bool {
     match lent {
-        Ok(_) => None,
-        Err(error) => Some(error.code),
-    }
-}
-
-// Why no place of the value of a text is lent for a step, if so.
-fn refusal_of<I: Index>(alloc: Global, json: &str, step: I) -> Option<ErrorCode> {
-    match value_of(alloc, json) {
-        Ok(mut value) => refusal(step.index_or_insert(alloc, &mut value)),
-        Err(_) => None,
+        Ok(_) => false,
+        Err(error) => error.code == code,
     }
 }
 
@@ -143,52 +89,140 @@ fn write_second_place(value: &mut Value, alloc: Global) -> bool {
     written && write_place(value, alloc, 2) == Some(ErrorCode::NotFound)
 }
 
-// Puts "x" at the first element of the member `a`.
-fn put_first(value: &mut Value, alloc: Global) -> bool {
-    put(value, alloc, &element(0), Value::from_static_str("x")).is_ok()
-}
-
 // Changes the second element of the member `a` to "y".
 fn update_second(value: &mut Value, alloc: Global) -> bool {
     update(value, alloc, &element(1), |place| set_text(place, "y")).is_ok()
 }
 
-fn wrong_path(alloc: Global) -> Option<&'static str> {
-    let behind = refusal_of(alloc, "[1]", 1_usize);
-    let of_scalar = refusal_of(alloc, "1", "k");
-    let of_object = refusal_of(alloc, "{}", 0_usize);
-    let (two, one) = ("{\"a\":[1,2]}", "{\"a\":[1,null]}");
-    let texts = "{\"a\":[\"k\",\"l\"]}";
-    first_wrong(&[
-        (
-            "no element after the last",
-            behind == Some(ErrorCode::NotFound),
-        ),
-        (
-            "no member of a number",
-            of_scalar == Some(ErrorCode::TypeUnmatched),
-        ),
-        (
-            "no element of an object",
-            of_object == Some(ErrorCode::TypeUnmatched),
-        ),
-        (
-            "the place of a path is written",
-            becomes(alloc, two, write_second_place, one),
-        ),
-        (
-            "a value is put along a path",
-            becomes(alloc, texts, put_first, "{\"a\":[\"x\",\"l\"]}"),
-        ),
-        (
-            "a value is updated along a path",
-            becomes(alloc, texts, update_second, "{\"a\":[\"k\",\"y\"]}"),
-        ),
-    ])
+// A call that lends a place in a value.
+#[derive(Clone, Copy)]
+enum Lend {
+    WriteSecond,
+    WriteOnly,
+    PutTogether,
+    AppendTwo,
+    InsertOne,
+    LendNull,
+    WriteKey,
+    WriteSecondPlace,
+    PutFirst,
+    UpdateSecond,
 }
+
+impl Call for Lend {
+    fn is_right(self, value: &mut Value, alloc: Global) -> bool {
+        match self {
+            Lend::WriteSecond => write_second(value, alloc),
+            Lend::WriteOnly => write_only(value, alloc),
+            Lend::PutTogether => put_together(value, alloc),
+            Lend::AppendTwo => append_two(value, alloc),
+            Lend::InsertOne => insert_one(value, alloc),
+            Lend::LendNull => matches!("z".index_or_insert(alloc, value), Ok(Value::Null)),
+            Lend::WriteKey => write_text(key("z").index_or_insert(alloc, value), "x"),
+            Lend::WriteSecondPlace => write_second_place(value, alloc),
+            Lend::PutFirst => {
+                put(value, alloc, &element(0), Value::from_static_str("x")).is_ok()
+            }
+            Lend::UpdateSecond => update_second(value, alloc),
+        }
+    }
+}
+
+const ROWS: &[Row<Lend>] = &[
+    (
+        "a write changes its place and no other",
+        "{\"a\":[\"k\",\"l\"],\"b\":[\"m\"]}",
+        Lend::WriteSecond,
+        "{\"a\":[\"k\",1],\"b\":[\"m\"]}",
+    ),
+    (
+        "the only member is written",
+        "{\"k\":1}",
+        Lend::WriteOnly,
+        "{\"k\":2}",
+    ),
+    (
+        "a member is written",
+        "{\"k\":1,\"l\":1}",
+        Lend::WriteOnly,
+        "{\"k\":2,\"l\":1}",
+    ),
+    (
+        "what is put in is lent",
+        "{}",
+        Lend::PutTogether,
+        "{\"a\":[\"l\"]}",
+    ),
+    ("a number is appended", "[1]", Lend::AppendTwo, "[1,2]"),
+    ("a number is inserted", "{}", Lend::InsertOne, "{\"k\":1}"),
+    (
+        "a key that null lacks is appended",
+        "null",
+        Lend::LendNull,
+        "{\"z\":null}",
+    ),
+    (
+        "the place of a key is written",
+        "{\"z\":null}",
+        Lend::WriteKey,
+        "{\"z\":\"x\"}",
+    ),
+    (
+        "the place of a path is written",
+        "{\"a\":[1,2]}",
+        Lend::WriteSecondPlace,
+        "{\"a\":[1,null]}",
+    ),
+    (
+        "a value is put along a path",
+        "{\"a\":[\"k\",\"l\"]}",
+        Lend::PutFirst,
+        "{\"a\":[\"x\",\"l\"]}",
+    ),
+    (
+        "a value is updated along a path",
+        "{\"a\":[\"k\",\"l\"]}",
+        Lend::UpdateSecond,
+        "{\"a\":[\"k\",\"y\"]}",
+    ),
+];
+
+// A step that leads to no place, and why.
+#[derive(Clone, Copy)]
+enum Refused {
+    Index(usize, ErrorCode),
+    Key(&'static str, ErrorCode),
+}
+
+impl Call for Refused {
+    fn is_right(self, value: &mut Value, alloc: Global) -> bool {
+        match self {
+            Refused::Index(step, code) => is_refused(step.index_or_insert(alloc, value), code),
+            Refused::Key(step, code) => is_refused(step.index_or_insert(alloc, value), code),
+        }
+    }
+}
+
+const NOWHERE: &[Look<Refused>] = &[
+    (
+        "no element after the last",
+        "[1]",
+        Refused::Index(1, ErrorCode::NotFound),
+    ),
+    (
+        "no member of a number",
+        "1",
+        Refused::Key("k", ErrorCode::TypeUnmatched),
+    ),
+    (
+        "no element of an object",
+        "{}",
+        Refused::Index(0, ErrorCode::TypeUnmatched),
+    ),
+];
 
 #[test]
 fn places_are_lent(rt: HostRuntime) {
-    assert_eq!(rt; wrong_place(rt.alloc()), None);
-    assert_eq!(rt; wrong_path(rt.alloc()), None);
+    assert_none(&rt, wrong_row(rt.alloc(), ROWS));
+    assert_none(&rt, wrong_look(rt.alloc(), NOWHERE));
 }

@@ -1,63 +1,41 @@
 // Values that are made from what is none yet, taken apart, and copied.
-use crate::looks::is_null;
+use crate::looks::{Call, Item, Look, Row, assert_none, is_null, made, wrong_look, wrong_row};
 use json_doc::JsonType;
 use json_fixtures::{
-    becomes, copied, first_wrong, is_done, is_made, is_value, list_in, or_null, pairs_in, said,
-    value_of, was_shown,
+    copied, first_wrong, is_made, list_in, or_null, pairs_in, said, value_of, was_shown,
 };
 use json_number::{Number, RawNumber};
 use json_text::Result;
 use json_value::{Array, Literal, Object, Pair, Text, Value, ValueRef};
 use std::alloc::Global;
 
+// A call that makes a value.
+#[derive(Clone, Copy)]
+enum Making {
+    Default,
+    Item(Item),
+    Small(u8),
+    Unit,
+    Absent,
+    Present,
+    Literal(&'static str),
+    Text(&'static str),
+    Copy(&'static str),
+    Character(char),
+    Slice,
+    List,
+    ArrayWithRoom(usize),
+    ObjectWithRoom(usize),
+    Pairs,
+}
+
 fn literal(alloc: Global, text: &str) -> Result<Value> {
     Ok(Value::from_raw_number(RawNumber::new(alloc, text)?))
-}
-
-fn wrong_value(alloc: Global) -> Option<&'static str> {
-    let some = Some(Value::new_bool(false));
-    let seven = Value::from_number(Number::from(7_u8));
-    first_wrong(&[
-        ("a new value", was_shown(alloc, Value::new(), "null")),
-        ("null", was_shown(alloc, Value::new_null(), "null")),
-        ("of nothing", was_shown(alloc, Value::from_unit(), "null")),
-        (
-            "of none",
-            was_shown(alloc, Value::from_option(None), "null"),
-        ),
-        (
-            "of some",
-            was_shown(alloc, Value::from_option(some), "false"),
-        ),
-        ("true", was_shown(alloc, Value::new_bool(true), "true")),
-        ("an integer", was_shown(alloc, Value::new_u64(12), "12")),
-        ("one below zero", was_shown(alloc, Value::new_i64(-7), "-7")),
-        ("a number", was_shown(alloc, seven, "7")),
-        ("a literal", is_made(alloc, literal(alloc, "1e5"), "1e5")),
-        (
-            "a text",
-            was_shown(alloc, Value::from_static_str("x"), "\"x\""),
-        ),
-        ("an array", was_shown(alloc, Value::new_array(), "[]")),
-        ("an object", was_shown(alloc, Value::new_object(), "{}")),
-    ])
-}
-
-// Whether a string of these characters was made.
-fn is_text(made: Result<Value>, text: &str) -> bool {
-    match made {
-        Ok(value) => value.view().get_type() == JsonType::String && said(&value) == Some(text),
-        Err(_) => false,
-    }
 }
 
 // The list `[1]`.
 fn list_of_one(alloc: Global) -> Result<Vec<Value>> {
     Ok(vec![in alloc; Value::new_u64(1)]?)
-}
-
-fn array_of_slice(alloc: Global) -> Result<Value> {
-    Value::from_slice_of(alloc, &[Value::new_u64(1)])
 }
 
 fn array_of_list(alloc: Global) -> Result<Value> {
@@ -75,6 +53,93 @@ fn object_of_pairs(alloc: Global) -> Result<Value> {
     Value::from_pairs(alloc, vec![in alloc; first, second, third]?)
 }
 
+// Makes a value for which no memory is asked.
+fn make_scalar(make: Making) -> Value {
+    match make {
+        Making::Item(item) => made(item),
+        Making::Small(number) => Value::from_number(Number::from(number)),
+        Making::Unit => Value::from_unit(),
+        Making::Absent => Value::from_option(None),
+        Making::Present => Value::from_option(Some(Value::new_bool(false))),
+        _ => Value::new(),
+    }
+}
+
+fn make(alloc: Global, make: Making) -> Result<Value> {
+    match make {
+        Making::Literal(text) => literal(alloc, text),
+        Making::Text(text) => Value::from_str(alloc, text),
+        Making::Copy(text) => Value::copy_str(alloc, text),
+        Making::Character(character) => Value::from_char(alloc, character),
+        Making::Slice => Value::from_slice_of(alloc, &[Value::new_u64(1)]),
+        Making::List => array_of_list(alloc),
+        Making::ArrayWithRoom(room) => Value::new_array_with(alloc, room),
+        Making::ObjectWithRoom(room) => Value::new_object_with(alloc, room),
+        Making::Pairs => object_of_pairs(alloc),
+        _ => Ok(make_scalar(make)),
+    }
+}
+
+// What a row shows, how its value is made, and the compact text of the value.
+const VALUES: &[(&str, Making, &str)] = &[
+    ("a new value", Making::Default, "null"),
+    ("null", Making::Item(Item::Null), "null"),
+    ("of nothing", Making::Unit, "null"),
+    ("of none", Making::Absent, "null"),
+    ("of some", Making::Present, "false"),
+    ("true", Making::Item(Item::Boolean(true)), "true"),
+    ("an integer", Making::Item(Item::Number(12)), "12"),
+    ("one below zero", Making::Item(Item::Negative(-7)), "-7"),
+    ("a number", Making::Small(7), "7"),
+    ("a literal", Making::Literal("1e5"), "1e5"),
+    ("a text", Making::Item(Item::Text("x")), "\"x\""),
+    ("an array", Making::Item(Item::Array), "[]"),
+    ("an object", Making::Item(Item::Object), "{}"),
+    ("of a slice", Making::Slice, "[1]"),
+    ("of a list", Making::List, "[1]"),
+    ("an array with room", Making::ArrayWithRoom(2), "[]"),
+    ("an object with room", Making::ObjectWithRoom(2), "{}"),
+    (
+        "a later value of a key replaces the first",
+        Making::Pairs,
+        "{\"a\":3,\"b\":2}",
+    ),
+];
+
+fn wrong_value(alloc: Global) -> Option<&'static str> {
+    for (shown, call, json) in VALUES {
+        if !is_made(alloc, make(alloc, *call), json) {
+            return Some(*shown);
+        }
+    }
+    None
+}
+
+// Whether a string of these characters was made.
+fn is_text(made: Result<Value>, text: &str) -> bool {
+    match made {
+        Ok(value) => value.view().get_type() == JsonType::String && said(&value) == Some(text),
+        Err(_) => false,
+    }
+}
+
+// What a row shows, how its string is made, and the characters of the string.
+const TEXTS: &[(&str, Making, &str)] = &[
+    ("a text as it is", Making::Text("null"), "null"),
+    ("a copied text", Making::Copy("x"), "x"),
+    ("a wide character", Making::Character('😁'), "😁"),
+    ("a character", Making::Character('é'), "é"),
+];
+
+fn wrong_text(alloc: Global) -> Option<&'static str> {
+    for (shown, call, text) in TEXTS {
+        if !is_text(make(alloc, *call), text) {
+            return Some(*shown);
+        }
+    }
+    None
+}
+
 fn default_values_are_null() -> bool {
     Value::default() == Value::new()
 }
@@ -87,37 +152,44 @@ fn default_objects_are_empty() -> bool {
     Object::default() == Object::new()
 }
 
-fn wrong_content(alloc: Global) -> Option<&'static str> {
+fn wrong_default() -> Option<&'static str> {
     first_wrong(&[
-        (
-            "a text as it is",
-            is_text(Value::from_str(alloc, "null"), "null"),
-        ),
-        ("a copied text", is_text(Value::copy_str(alloc, "x"), "x")),
-        (
-            "a wide character",
-            is_text(Value::from_char(alloc, '😁'), "😁"),
-        ),
-        ("a character", is_text(Value::from_char(alloc, 'é'), "é")),
-        ("of a slice", is_made(alloc, array_of_slice(alloc), "[1]")),
-        ("of a list", is_made(alloc, array_of_list(alloc), "[1]")),
-        (
-            "an array with room",
-            is_made(alloc, Value::new_array_with(alloc, 2), "[]"),
-        ),
-        (
-            "an object with room",
-            is_made(alloc, Value::new_object_with(alloc, 2), "{}"),
-        ),
-        (
-            "a later value of a key replaces the first",
-            is_made(alloc, object_of_pairs(alloc), "{\"a\":3,\"b\":2}"),
-        ),
         ("default values are null", default_values_are_null()),
         ("default arrays are empty", default_arrays_are_empty()),
         ("default objects are empty", default_objects_are_empty()),
     ])
 }
+
+// The kind of a value, and how many elements or members it has.
+fn parts(value: &Value) -> (JsonType, usize) {
+    match value.as_ref() {
+        ValueRef::Null => (JsonType::Null, 0),
+        ValueRef::Bool(_) => (JsonType::Boolean, 0),
+        ValueRef::Number(_) | ValueRef::RawNumber(_) => (JsonType::Number, 0),
+        ValueRef::String(_) => (JsonType::String, 0),
+        ValueRef::Array(array) => (JsonType::Array, array.view().len()),
+        ValueRef::Object(object) => (JsonType::Object, object.view().len()),
+    }
+}
+
+// The kind of a value, and how many elements or members it is expected to have.
+#[derive(Clone, Copy)]
+struct Size(JsonType, usize);
+
+impl Call for Size {
+    fn is_right(self, value: &mut Value, _alloc: Global) -> bool {
+        parts(value) == (self.0, self.1)
+    }
+}
+
+const SIZES: &[Look<Size>] = &[
+    ("parts of null", "null", Size(JsonType::Null, 0)),
+    ("of true", "true", Size(JsonType::Boolean, 0)),
+    ("of a number", "1", Size(JsonType::Number, 0)),
+    ("of a text", "\"x\"", Size(JsonType::String, 0)),
+    ("of an array", "[1,[]]", Size(JsonType::Array, 2)),
+    ("of an object", "{\"k\":1}", Size(JsonType::Object, 1)),
+];
 
 // How many elements there are in an array, and whether there is none.
 fn elements(array: Option<Array>) -> Option<(usize, bool)> {
@@ -135,27 +207,7 @@ fn members(object: Option<Object>) -> Option<usize> {
     }
 }
 
-// The kind of a value, and how many elements or members it has.
-fn parts(value: &Value) -> (JsonType, usize) {
-    match value.as_ref() {
-        ValueRef::Null => (JsonType::Null, 0),
-        ValueRef::Bool(_) => (JsonType::Boolean, 0),
-        ValueRef::Number(_) | ValueRef::RawNumber(_) => (JsonType::Number, 0),
-        ValueRef::String(_) => (JsonType::String, 0),
-        ValueRef::Array(array) => (JsonType::Array, array.view().len()),
-        ValueRef::Object(object) => (JsonType::Object, object.view().len()),
-    }
-}
-
-// Whether the value of a text is of this kind, with so many elements or members.
-fn has_parts(alloc: Global, json: &str, kind: JsonType, len: usize) -> bool {
-    match value_of(alloc, json) {
-        Ok(value) => parts(&value) == (kind, len),
-        Err(_) => false,
-    }
-}
-
-fn wrong_parts(alloc: Global) -> Option<&'static str> {
+fn wrong_content(alloc: Global) -> Option<&'static str> {
     let list = elements(or_null(value_of(alloc, "[1]")).into_array());
     let pairs = members(or_null(value_of(alloc, "{\"k\":1}")).into_object());
     first_wrong(&[
@@ -169,18 +221,6 @@ fn wrong_parts(alloc: Global) -> Option<&'static str> {
             "no array of an object",
             elements(Value::new_object().into_array()).is_none(),
         ),
-        ("parts of null", has_parts(alloc, "null", JsonType::Null, 0)),
-        ("of true", has_parts(alloc, "true", JsonType::Boolean, 0)),
-        ("of a number", has_parts(alloc, "1", JsonType::Number, 0)),
-        ("of a text", has_parts(alloc, "\"x\"", JsonType::String, 0)),
-        (
-            "of an array",
-            has_parts(alloc, "[1,[]]", JsonType::Array, 2),
-        ),
-        (
-            "of an object",
-            has_parts(alloc, "{\"k\":1}", JsonType::Object, 1),
-        ),
     ])
 }
 
@@ -191,13 +231,9 @@ fn two_texts(alloc: Global) -> Result<Value> {
     Value::from_slice_of(alloc, &[lent, owned])
 }
 
-fn says(value: &Value, text: &str) -> bool {
-    said(value) == Some(text)
-}
-
 fn are_both_said(list: &[Value]) -> bool {
     match list {
-        [first, second] => says(first, "x") && says(second, "y"),
+        [first, second] => said(first) == Some("x") && said(second) == Some("y"),
         _ => false,
     }
 }
@@ -211,9 +247,10 @@ fn holds_both(copy: &mut Value, alloc: Global) -> bool {
 }
 
 // Whether null is left, and both texts are in the copy of what is taken out.
-fn take_and_copy(value: &mut Value, alloc: Global) -> bool {
-    let copy = copied(alloc, &value.take());
-    is_done(alloc, copy, holds_both) && is_null(value)
+fn take_and_copy(alloc: Global) -> bool {
+    let mut value = or_null(two_texts(alloc));
+    let mut copy = or_null(copied(alloc, &value.take()));
+    holds_both(&mut copy, alloc) && is_null(&value)
 }
 
 // Whether a literal was copied, and spells this number.
@@ -313,36 +350,53 @@ fn copy_object(value: &mut Value, alloc: Global) -> bool {
     before && opens_members(value, alloc) && object_copy(value, alloc, true)
 }
 
+// What is done with a value, and whether its copies are right.
+#[derive(Clone, Copy)]
+enum Copies {
+    Literal,
+    Array,
+    Object,
+}
+
+impl Call for Copies {
+    fn is_right(self, value: &mut Value, alloc: Global) -> bool {
+        match self {
+            Copies::Literal => literal_is_copied(value, alloc),
+            Copies::Array => copy_array(value, alloc),
+            Copies::Object => copy_object(value, alloc),
+        }
+    }
+}
+
+const ROWS: &[Row<Copies>] = &[
+    ("a literal is copied", "-1.50e3", Copies::Literal, "-1.50e3"),
+    ("an array is copied", "[1]", Copies::Array, "[1]"),
+    (
+        "an object is copied",
+        "{\"k\":1}",
+        Copies::Object,
+        "{\"k\":1}",
+    ),
+];
+
 fn wrong_copy(alloc: Global) -> Option<&'static str> {
     first_wrong(&[
-        (
-            "a list is taken and copied",
-            is_done(alloc, two_texts(alloc), take_and_copy),
-        ),
-        (
-            "a literal is copied",
-            is_value(alloc, "-1.50e3", literal_is_copied),
-        ),
+        ("a list is taken and copied", take_and_copy(alloc)),
         ("a text is copied", copied_text_is_copied(alloc)),
-        (
-            "an array is copied",
-            becomes(alloc, "[1]", copy_array, "[1]"),
-        ),
-        (
-            "an object is copied",
-            becomes(alloc, "{\"k\":1}", copy_object, "{\"k\":1}"),
-        ),
     ])
 }
 
 #[test]
 fn values_are_made(rt: HostRuntime) {
-    assert_eq!(rt; wrong_value(rt.alloc()), None);
-    assert_eq!(rt; wrong_content(rt.alloc()), None);
+    assert_none(&rt, wrong_value(rt.alloc()));
+    assert_none(&rt, wrong_text(rt.alloc()));
+    assert_none(&rt, wrong_default());
 }
 
 #[test]
 fn values_are_taken_apart_and_copied(rt: HostRuntime) {
-    assert_eq!(rt; wrong_parts(rt.alloc()), None);
-    assert_eq!(rt; wrong_copy(rt.alloc()), None);
+    assert_none(&rt, wrong_look(rt.alloc(), SIZES));
+    assert_none(&rt, wrong_content(rt.alloc()));
+    assert_none(&rt, wrong_copy(rt.alloc()));
+    assert_none(&rt, wrong_row(rt.alloc(), ROWS));
 }

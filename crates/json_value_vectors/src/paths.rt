@@ -1,8 +1,8 @@
 // What steps and paths lead to.
-use crate::looks::{elements, sees_text};
+use crate::looks::{Call, Look, assert_none, elements, sees_text, wrong_look};
 use crate::writing::write_at;
 use json_doc::JsonType;
-use json_fixtures::{first_wrong, is_done, is_made, is_value, key, value_of};
+use json_fixtures::{first_wrong, is_made, key};
 use json_value::{Index, Path, PointerNode, Value, View};
 use std::alloc::Global;
 
@@ -34,10 +34,6 @@ fn is_list(seen: Option<View<'_>>) -> bool {
     }
 }
 
-fn has_children(value: &Value, _alloc: Global) -> bool {
-    is_list(value.get("a"))
-}
-
 fn is_called(member: Option<(&str, View<'_>)>, name: &str) -> bool {
     match member {
         Some((key, _)) => key == name,
@@ -46,7 +42,7 @@ fn is_called(member: Option<(&str, View<'_>)>, name: &str) -> bool {
 }
 
 // Whether there are two members, and the key of both is `a`.
-fn has_two_called(value: &Value, _alloc: Global) -> bool {
+fn has_two_called(value: &Value) -> bool {
     match value.view().as_object() {
         Some(object) => {
             let mut members = object.iter();
@@ -74,13 +70,9 @@ fn leads_to_place(value: &Value, alloc: Global) -> bool {
     made && is_literal(value.pointer(path.steps()), "1.5")
 }
 
-fn leads_to_text(value: &Value, _alloc: Global) -> bool {
+fn leads_to_text(value: &Value) -> bool {
     let path = [key("x"), key("y"), PointerNode::Index(1)];
     sees_text(value.pointer(&path), "zz") && sees_text(value.view().pointer(&path), "zz")
-}
-
-fn leads_nowhere(value: &Value, _alloc: Global) -> bool {
-    value.pointer(&[key("a"), key("b")]).is_none()
 }
 
 // Whether a value is seen, and the compact text of its copy is this one.
@@ -91,18 +83,6 @@ fn is_copied(alloc: Global, seen: Option<View<'_>>, json: &str) -> bool {
     }
 }
 
-fn whole_is_copied(value: &Value, alloc: Global) -> bool {
-    is_copied(alloc, value.pointer(&[]), NESTED)
-}
-
-fn is_null_there(value: &Value, _alloc: Global) -> bool {
-    value.at("a").at("b").get_type() == JsonType::Null
-}
-
-fn is_text_there(value: &Value, _alloc: Global) -> bool {
-    value.at("x").at("y").at(1_usize).text() == Some("zz")
-}
-
 // Writes 1 at the first element of the first member of the first member, and copies the member.
 fn is_written_and_copied(value: &mut Value, alloc: Global) -> bool {
     let first = [key("x"), key("y"), PointerNode::Index(0)];
@@ -110,8 +90,49 @@ fn is_written_and_copied(value: &mut Value, alloc: Global) -> bool {
     written && is_copied(alloc, value.pointer(&[key("x")]), "{\"y\":[1,\"zz\"]}")
 }
 
-fn wrong(alloc: Global) -> Option<&'static str> {
-    let nested = value_of(alloc, NESTED);
+// Where steps lead, and what is there.
+#[derive(Clone, Copy)]
+enum Lead {
+    Children,
+    TwoCalled,
+    Place,
+    Text,
+    Nowhere,
+    Whole,
+    Null,
+    TextByKeys,
+    Written,
+}
+
+impl Call for Lead {
+    fn is_right(self, value: &mut Value, alloc: Global) -> bool {
+        match self {
+            Lead::Children => is_list(value.get("a")),
+            Lead::TwoCalled => has_two_called(value),
+            Lead::Place => leads_to_place(value, alloc),
+            Lead::Text => leads_to_text(value),
+            Lead::Nowhere => value.pointer(&[key("a"), key("b")]).is_none(),
+            Lead::Whole => is_copied(alloc, value.pointer(&[]), NESTED),
+            Lead::Null => value.at("a").at("b").get_type() == JsonType::Null,
+            Lead::TextByKeys => value.at("x").at("y").at(1_usize).text() == Some("zz"),
+            Lead::Written => is_written_and_copied(value, alloc),
+        }
+    }
+}
+
+const ROWS: &[Look<Lead>] = &[
+    ("steps lead to children", MEMBERS, Lead::Children),
+    ("members are gone through", MEMBERS, Lead::TwoCalled),
+    ("a path leads to a place", MEMBERS, Lead::Place),
+    ("a path leads to a text", NESTED, Lead::Text),
+    ("a path leads nowhere", NESTED, Lead::Nowhere),
+    ("no step leads to the whole", NESTED, Lead::Whole),
+    ("steps to nowhere are null", NESTED, Lead::Null),
+    ("steps lead to a text", NESTED, Lead::TextByKeys),
+    ("a written value is copied", NESTED, Lead::Written),
+];
+
+fn wrong_step() -> Option<&'static str> {
     first_wrong(&[
         ("a step of a text", is_step(&"a", Some("a"), None)),
         ("a step of a number", is_step(&7_usize, None, Some(7))),
@@ -120,46 +141,11 @@ fn wrong(alloc: Global) -> Option<&'static str> {
             "a node of an index",
             is_step(&PointerNode::Index(7), None, Some(7)),
         ),
-        (
-            "steps lead to children",
-            is_value(alloc, MEMBERS, has_children),
-        ),
-        (
-            "members are gone through",
-            is_value(alloc, MEMBERS, has_two_called),
-        ),
-        (
-            "a path leads to a place",
-            is_value(alloc, MEMBERS, leads_to_place),
-        ),
-        (
-            "a path leads to a text",
-            is_value(alloc, NESTED, leads_to_text),
-        ),
-        (
-            "a path leads nowhere",
-            is_value(alloc, NESTED, leads_nowhere),
-        ),
-        (
-            "no step leads to the whole",
-            is_value(alloc, NESTED, whole_is_copied),
-        ),
-        (
-            "steps to nowhere are null",
-            is_value(alloc, NESTED, is_null_there),
-        ),
-        (
-            "steps lead to a text",
-            is_value(alloc, NESTED, is_text_there),
-        ),
-        (
-            "a written value is copied",
-            is_done(alloc, nested, is_written_and_copied),
-        ),
     ])
 }
 
 #[test]
 fn steps_and_paths_lead_to_places(rt: HostRuntime) {
-    assert_eq!(rt; wrong(rt.alloc()), None);
+    assert_none(&rt, wrong_look(rt.alloc(), ROWS));
+    assert_none(&rt, wrong_step());
 }

@@ -1,12 +1,11 @@
 // Places that are lent through the trait, to be changed.
+use crate::looks::{Call, Look, Row, assert_none, wrong_look, wrong_row};
 use crate::writing::{is_nowhere, write_number};
 use json_access::JsonValueMutTrait;
-use json_fixtures::{becomes, first_wrong, key, value_of};
+use json_fixtures::key;
 use json_text::Result;
 use json_value::{Array, Index, Object, PointerNode, Value};
 use std::alloc::Global;
-
-const NESTED: &str = "{\"x\":{\"y\":[\"z\",\"zz\"]}}";
 
 // Whether an array has so many elements, once it is written.
 fn is_long(array: &mut Array, alloc: Global, len: Option<usize>) -> bool {
@@ -52,19 +51,6 @@ fn lends_array<V: JsonValueMutTrait>(value: &mut V, alloc: Global, len: Option<u
 fn lends_object<V: JsonValueMutTrait>(value: &mut V, alloc: Global, len: Option<usize>) -> bool {
     match value.as_object_mut(alloc) {
         Ok(lent) => has_members(lent, alloc, len),
-        Err(_) => false,
-    }
-}
-
-// Both.
-fn lends(value: &mut Value, alloc: Global, len: Option<usize>, count: Option<usize>) -> bool {
-    lends_array(value, alloc, len) && lends_object(value, alloc, count)
-}
-
-// The same of the value of a text.
-fn text_lends(alloc: Global, json: &str, len: Option<usize>, count: Option<usize>) -> bool {
-    match value_of(alloc, json) {
-        Ok(mut value) => lends(&mut value, alloc, len, count),
         Err(_) => false,
     }
 }
@@ -123,56 +109,64 @@ fn append_by<V: JsonValueMutTrait>(value: &mut V, alloc: Global) -> bool {
     }
 }
 
-fn append_true(value: &mut Value, alloc: Global) -> bool {
-    append_by(value, alloc)
-}
-
 // Appends true, and writes 2 over it.
 fn append_two(value: &mut Value, alloc: Global) -> bool {
     let appended = append_by(value, alloc);
     appended && write_child(value, alloc, 0_usize)
 }
 
-fn wrong(alloc: Global) -> Option<&'static str> {
-    let written = "{\"x\":{\"y\":[1,\"zz\"]}}";
-    first_wrong(&[
-        (
-            "an empty array is lent",
-            text_lends(alloc, "[]", Some(0), None),
-        ),
-        ("an array is lent", text_lends(alloc, "[1]", Some(1), None)),
-        (
-            "an empty object is lent",
-            text_lends(alloc, "{}", None, Some(0)),
-        ),
-        (
-            "an object is lent",
-            text_lends(alloc, "{\"k\":1}", None, Some(1)),
-        ),
-        (
-            "of a number nothing is lent",
-            text_lends(alloc, "1", None, None),
-        ),
-        (
-            "an element of a path is written",
-            becomes(alloc, NESTED, write_first, written),
-        ),
-        (
-            "a child is written",
-            becomes(alloc, "{\"k\":1}", write_member, "{\"k\":2}"),
-        ),
-        (
-            "an element is appended",
-            becomes(alloc, "[]", append_true, "[true]"),
-        ),
-        (
-            "what is appended is written",
-            becomes(alloc, "[]", append_two, "[2]"),
-        ),
-    ])
+// What is lent of a value, and what is written there.
+#[derive(Clone, Copy)]
+enum Lend {
+    // An array of so many elements, or none, and an object of so many members, or none.
+    Both(Option<usize>, Option<usize>),
+    WriteFirst,
+    WriteMember,
+    AppendTrue,
+    AppendTwo,
 }
+
+impl Call for Lend {
+    fn is_right(self, value: &mut Value, alloc: Global) -> bool {
+        match self {
+            Lend::Both(len, count) => {
+                lends_array(value, alloc, len) && lends_object(value, alloc, count)
+            }
+            Lend::WriteFirst => write_first(value, alloc),
+            Lend::WriteMember => write_member(value, alloc),
+            Lend::AppendTrue => append_by(value, alloc),
+            Lend::AppendTwo => append_two(value, alloc),
+        }
+    }
+}
+
+const LENT: &[Look<Lend>] = &[
+    ("an empty array is lent", "[]", Lend::Both(Some(0), None)),
+    ("an array is lent", "[1]", Lend::Both(Some(1), None)),
+    ("an empty object is lent", "{}", Lend::Both(None, Some(0))),
+    ("an object is lent", "{\"k\":1}", Lend::Both(None, Some(1))),
+    ("of a number nothing is lent", "1", Lend::Both(None, None)),
+];
+
+const WRITTEN: &[Row<Lend>] = &[
+    (
+        "an element of a path is written",
+        "{\"x\":{\"y\":[\"z\",\"zz\"]}}",
+        Lend::WriteFirst,
+        "{\"x\":{\"y\":[1,\"zz\"]}}",
+    ),
+    (
+        "a child is written",
+        "{\"k\":1}",
+        Lend::WriteMember,
+        "{\"k\":2}",
+    ),
+    ("an element is appended", "[]", Lend::AppendTrue, "[true]"),
+    ("what is appended is written", "[]", Lend::AppendTwo, "[2]"),
+];
 
 #[test]
 fn places_are_lent_through_the_trait(rt: HostRuntime) {
-    assert_eq!(rt; wrong(rt.alloc()), None);
+    assert_none(&rt, wrong_look(rt.alloc(), LENT));
+    assert_none(&rt, wrong_row(rt.alloc(), WRITTEN));
 }

@@ -1,8 +1,7 @@
 // The compact texts of values and of views.
+use crate::looks::{Call, Look, Open, assert_none, wrong_document, wrong_look};
 use json_doc::Doc;
-use json_fixtures::{
-    first_wrong, is_document, is_done, is_made_so, is_value, or_null, pairs_in, value_of, whole,
-};
+use json_fixtures::{first_wrong, or_null, pairs_in, whole};
 use json_number::{Number, RawNumber};
 use json_print::{BufferedWriter, OneLine, Serializer};
 use json_text::{Result, VecSink, flush_all};
@@ -74,36 +73,46 @@ fn prints_sorted(alloc: Global, view: View<'_>, json: &[u8]) -> bool {
     }
 }
 
-fn document_prints_sorted(doc: &Rc<Doc>, alloc: Global) -> bool {
-    let then = b"{\"a\":5,\"b\":3,\"b\":4,\"c\":[{\"a\":2,\"b\":1}]}";
-    prints_sorted(alloc, View::packed(doc.view()), then)
+// What is printed of a document.
+#[derive(Clone, Copy)]
+enum Print {
+    Text,
+    Sorted(&'static str),
 }
 
-fn value_prints_sorted(value: &Value, alloc: Global) -> bool {
-    let then = b"[null,{\"a\":true,\"a\":{},\"b\":[]},\"x\"]";
-    prints_sorted(alloc, value.view(), then)
+impl Open for Print {
+    fn is_right(self, doc: &Rc<Doc>, alloc: Global) -> bool {
+        match self {
+            Print::Text => document_prints(doc, alloc),
+            Print::Sorted(json) => {
+                prints_sorted(alloc, View::packed(doc.view()), json.as_bytes())
+            }
+        }
+    }
 }
+
+const DOCUMENTS: &[Look<Print>] = &[
+    ("values of a document are printed", TEXT, Print::Text),
+    (
+        "objects of a document are printed in the order of their keys",
+        "{\"c\":[{\"b\":1,\"a\":2}],\"b\":3,\"b\":4,\"a\":5}",
+        Print::Sorted("{\"a\":5,\"b\":3,\"b\":4,\"c\":[{\"a\":2,\"b\":1}]}"),
+    ),
+];
 
 fn wrong_text(alloc: Global) -> Option<&'static str> {
-    let json = "{\"c\":[{\"b\":1,\"a\":2}],\"b\":3,\"b\":4,\"a\":5}";
-    let by_hand = b"[null,{\"a\":true,\"b\":[],\"a\":{}},\"x\"]";
+    let by_hand = or_null(made(alloc));
+    let written = b"[null,{\"a\":true,\"b\":[],\"a\":{}},\"x\"]";
+    let sorted = b"[null,{\"a\":true,\"a\":{},\"b\":[]},\"x\"]";
     let spelled = b"[18446744073709551615,-7,1,-0]";
     first_wrong(&[
         (
-            "values of a document are printed",
-            is_document(alloc, TEXT, document_prints),
-        ),
-        (
             "values made by hand are printed",
-            made_prints(alloc, made(alloc), by_hand),
-        ),
-        (
-            "objects of a document are printed in the order of their keys",
-            is_document(alloc, json, document_prints_sorted),
+            prints(alloc, by_hand.view(), written),
         ),
         (
             "objects made by hand are printed in the order of their keys",
-            is_made_so(alloc, made(alloc), value_prints_sorted),
+            prints_sorted(alloc, by_hand.view(), sorted),
         ),
         (
             "numbers are printed",
@@ -172,10 +181,6 @@ fn all_are_displayed(value: &mut Value, alloc: Global) -> bool {
     is_container_displayed(alloc, value, NESTED) && whole && inner
 }
 
-fn list_is_displayed(value: &Value, alloc: Global) -> bool {
-    is_displayed(alloc, value, "[1]")
-}
-
 fn error_is_displayed(alloc: Global) -> bool {
     match RawNumber::new(alloc, "01") {
         Ok(_) => false,
@@ -183,17 +188,33 @@ fn error_is_displayed(alloc: Global) -> bool {
     }
 }
 
+// What is displayed of a value.
+#[derive(Clone, Copy)]
+enum Display {
+    All,
+    List,
+}
+
+impl Call for Display {
+    fn is_right(self, value: &mut Value, alloc: Global) -> bool {
+        match self {
+            Display::All => all_are_displayed(value, alloc),
+            Display::List => is_displayed(alloc, value, "[1]"),
+        }
+    }
+}
+
+const DISPLAYED: &[Look<Display>] = &[
+    (
+        "a value, its object and an array in it are displayed",
+        NESTED,
+        Display::All,
+    ),
+    ("an array is displayed", "[1]", Display::List),
+];
+
 fn wrong_display(alloc: Global) -> Option<&'static str> {
-    let nested = value_of(alloc, NESTED);
     first_wrong(&[
-        (
-            "a value, its object and an array in it are displayed",
-            is_done(alloc, nested, all_are_displayed),
-        ),
-        (
-            "an array is displayed",
-            is_value(alloc, "[1]", list_is_displayed),
-        ),
         (
             "a number is displayed",
             is_text(Number::from(7_u8).to_string(alloc), "7"),
@@ -204,6 +225,8 @@ fn wrong_display(alloc: Global) -> Option<&'static str> {
 
 #[test]
 fn values_are_printed_and_displayed(rt: HostRuntime) {
-    assert_eq!(rt; wrong_text(rt.alloc()), None);
-    assert_eq!(rt; wrong_display(rt.alloc()), None);
+    assert_none(&rt, wrong_document(rt.alloc(), DOCUMENTS));
+    assert_none(&rt, wrong_text(rt.alloc()));
+    assert_none(&rt, wrong_look(rt.alloc(), DISPLAYED));
+    assert_none(&rt, wrong_display(rt.alloc()));
 }

@@ -1,7 +1,8 @@
 // What is read through the traits.
+use crate::looks::{Call, Item, MadeRow, assert_none, wrong_made};
 use json_access::{JsonContainerTrait, JsonValueTrait};
 use json_doc::JsonType;
-use json_fixtures::{first_wrong, is_so, or_null, value_of};
+use json_fixtures::{first_wrong, or_null, value_of};
 use json_number::{JsonNumberTrait, Number, RawNumber};
 use json_text::{Error, ErrorCode, Place, Result};
 use json_value::{Array, Object, Value, View};
@@ -43,23 +44,6 @@ fn are_of_kind(alloc: Global, json: &str, kind: JsonType) -> bool {
     seen_are_of_kind(&or_null(answer), kind) && answered
 }
 
-fn wrong_kind(alloc: Global) -> Option<&'static str> {
-    let none: Option<View<'_>> = None;
-    first_wrong(&[
-        ("null", are_of_kind(alloc, "null", JsonType::Null)),
-        ("a boolean", are_of_kind(alloc, "true", JsonType::Boolean)),
-        ("an integer", are_of_kind(alloc, "12", JsonType::Number)),
-        ("a literal", are_of_kind(alloc, "1.5", JsonType::Number)),
-        ("a text", are_of_kind(alloc, "\"a\"", JsonType::String)),
-        ("an array", are_of_kind(alloc, "[1]", JsonType::Array)),
-        (
-            "an object",
-            are_of_kind(alloc, "{\"k\":1}", JsonType::Object),
-        ),
-        ("a missing view is null", is_kind(&none, JsonType::Null)),
-    ])
-}
-
 fn is_missing<V: JsonContainerTrait>(value: &V) -> bool {
     value.is_null() && value.as_array().is_none() && value.as_object().is_none()
 }
@@ -96,18 +80,6 @@ fn are_boolean(value: &Value, boolean: bool) -> bool {
     own && seen && is_boolean(&Some(value), boolean)
 }
 
-fn are_true(value: &Value, _alloc: Global) -> bool {
-    are_boolean(value, true)
-}
-
-fn are_false(value: &Value, _alloc: Global) -> bool {
-    are_boolean(value, false)
-}
-
-fn is_no_boolean(value: &Value, _alloc: Global) -> bool {
-    !value.is_true() && !value.is_false()
-}
-
 // Whether this text, this boolean and this number are read of it, each or none.
 fn is_scalar<V: JsonValueTrait>(
     value: &V,
@@ -137,64 +109,79 @@ fn are_scalar(
     own && seen && lent && found && answered
 }
 
-fn are_text(value: &Value, _alloc: Global) -> bool {
-    are_scalar(value, Some("a"), None, None)
-}
-
-fn are_truth(value: &Value, _alloc: Global) -> bool {
-    are_scalar(value, None, Some(true), None)
-}
-
-fn are_seven(value: &Value, _alloc: Global) -> bool {
-    are_scalar(value, None, None, Some(Number::from(7_u8)))
-}
-
 // Whether what was found is the number 7.
 fn found_seven(found: Option<Value>) -> bool {
     is_scalar(&found, None, None, Some(Number::from(7_u8)))
 }
 
-fn is_greatest(value: &Value, _alloc: Global) -> bool {
+fn is_greatest(value: &Value) -> bool {
     let found = Some(value);
     let fits = found.is_u64() && !found.is_i64();
     fits && found.as_u64() == Some(GREATEST) && found.as_i64().is_none()
 }
 
-fn is_below_zero(value: &Value, _alloc: Global) -> bool {
-    value.as_u64().is_none() && value.as_i64() == Some(-7)
+// What is read of a value.
+#[derive(Clone, Copy)]
+enum Read {
+    Boolean(bool),
+    NoBoolean,
+    Scalar(Option<&'static str>, Option<bool>, Option<u8>),
+    Greatest,
+    Integer(Option<i64>),
 }
 
-fn is_no_integer(value: &Value, _alloc: Global) -> bool {
-    value.as_u64().is_none() && value.as_i64().is_none()
+fn number_of(number: Option<u8>) -> Option<Number> {
+    match number {
+        Some(number) => Some(Number::from(number)),
+        None => None,
+    }
 }
 
-fn wrong_scalar(alloc: Global) -> Option<&'static str> {
-    let text = Value::from_static_str("a");
-    let greatest = Value::new_u64(GREATEST);
-    first_wrong(&[
-        ("a missing value is null", none_is_null(alloc, None)),
-        ("a refused value is null", refused_is_null(alloc, refused())),
-        ("true", is_so(alloc, Value::new_bool(true), are_true)),
-        ("false", is_so(alloc, Value::new_bool(false), are_false)),
-        (
-            "null is no boolean",
-            is_so(alloc, Value::new_null(), is_no_boolean),
-        ),
-        ("a text", is_so(alloc, text, are_text)),
-        ("a truth", is_so(alloc, Value::new_bool(true), are_truth)),
-        ("a number", is_so(alloc, Value::new_u64(7), are_seven)),
-        ("a found number", found_seven(Some(Value::new_u64(7)))),
-        ("the greatest integer", is_so(alloc, greatest, is_greatest)),
-        (
-            "an integer below zero",
-            is_so(alloc, Value::new_i64(-7), is_below_zero),
-        ),
-        (
-            "null is no integer",
-            is_so(alloc, Value::new_null(), is_no_integer),
-        ),
-    ])
+impl Call for Read {
+    fn is_right(self, value: &mut Value, _alloc: Global) -> bool {
+        match self {
+            Read::Boolean(boolean) => are_boolean(value, boolean),
+            Read::NoBoolean => !value.is_true() && !value.is_false(),
+            Read::Scalar(text, boolean, number) => {
+                are_scalar(value, text, boolean, number_of(number))
+            }
+            Read::Greatest => is_greatest(value),
+            Read::Integer(number) => value.as_u64().is_none() && value.as_i64() == number,
+        }
+    }
 }
+
+const SCALARS: &[MadeRow<Read>] = &[
+    ("true", Item::Boolean(true), Read::Boolean(true)),
+    ("false", Item::Boolean(false), Read::Boolean(false)),
+    ("null is no boolean", Item::Null, Read::NoBoolean),
+    (
+        "a text",
+        Item::Text("a"),
+        Read::Scalar(Some("a"), None, None),
+    ),
+    (
+        "a truth",
+        Item::Boolean(true),
+        Read::Scalar(None, Some(true), None),
+    ),
+    (
+        "a number",
+        Item::Number(7),
+        Read::Scalar(None, None, Some(7)),
+    ),
+    (
+        "the greatest integer",
+        Item::Number(GREATEST),
+        Read::Greatest,
+    ),
+    (
+        "an integer below zero",
+        Item::Negative(-7),
+        Read::Integer(Some(-7)),
+    ),
+    ("null is no integer", Item::Null, Read::Integer(None)),
+];
 
 // Whether there is a literal, and it is this one.
 fn is_literal(made: Result<Option<RawNumber>>, literal: &str) -> bool {
@@ -256,22 +243,62 @@ fn has_size(alloc: Global, json: &str, len: Option<usize>, count: Option<usize>)
     seen_are_sized(&or_null(answer), len, count) && answered
 }
 
-fn wrong_literal(alloc: Global) -> Option<&'static str> {
+// What the value of a text is read as.
+#[derive(Clone, Copy)]
+enum Text {
+    Kind(JsonType),
+    Literal,
+    Size(Option<usize>, Option<usize>),
+}
+
+fn is_read(alloc: Global, json: &str, text: Text) -> bool {
+    match text {
+        Text::Kind(kind) => are_of_kind(alloc, json, kind),
+        Text::Literal => are_spelled(alloc, json),
+        Text::Size(len, count) => has_size(alloc, json, len, count),
+    }
+}
+
+const ROWS: &[(&str, &str, Text)] = &[
+    ("null", "null", Text::Kind(JsonType::Null)),
+    ("a boolean", "true", Text::Kind(JsonType::Boolean)),
+    ("an integer", "12", Text::Kind(JsonType::Number)),
+    ("a literal", "1.5", Text::Kind(JsonType::Number)),
+    ("a text", "\"a\"", Text::Kind(JsonType::String)),
+    ("an array", "[1]", Text::Kind(JsonType::Array)),
+    ("an object", "{\"k\":1}", Text::Kind(JsonType::Object)),
+    ("12", "12", Text::Literal),
+    ("-7", "-7", Text::Literal),
+    ("the greatest", "18446744073709551615", Text::Literal),
+    ("1.50e3", "1.50e3", Text::Literal),
+    ("-0", "-0", Text::Literal),
+    ("elements", "[1,2]", Text::Size(Some(2), None)),
+    ("members", "{\"k\":1}", Text::Size(None, Some(1))),
+    ("null has neither", "null", Text::Size(None, None)),
+];
+
+fn wrong_text(alloc: Global) -> Option<&'static str> {
+    for (shown, json, text) in ROWS {
+        if !is_read(alloc, json, *text) {
+            return Some(*shown);
+        }
+    }
+    None
+}
+
+fn wrong_missing(alloc: Global) -> Option<&'static str> {
+    let none: Option<View<'_>> = None;
     first_wrong(&[
-        ("12", are_spelled(alloc, "12")),
-        ("-7", are_spelled(alloc, "-7")),
-        ("the greatest", are_spelled(alloc, "18446744073709551615")),
-        ("1.50e3", are_spelled(alloc, "1.50e3")),
-        ("-0", are_spelled(alloc, "-0")),
-        ("elements", has_size(alloc, "[1,2]", Some(2), None)),
-        ("members", has_size(alloc, "{\"k\":1}", None, Some(1))),
-        ("null has neither", has_size(alloc, "null", None, None)),
+        ("a missing view is null", is_kind(&none, JsonType::Null)),
+        ("a missing value is null", none_is_null(alloc, None)),
+        ("a refused value is null", refused_is_null(alloc, refused())),
+        ("a found number", found_seven(Some(Value::new_u64(7)))),
     ])
 }
 
 #[test]
 fn values_are_read(rt: HostRuntime) {
-    assert_eq!(rt; wrong_kind(rt.alloc()), None);
-    assert_eq!(rt; wrong_scalar(rt.alloc()), None);
-    assert_eq!(rt; wrong_literal(rt.alloc()), None);
+    assert_none(&rt, wrong_text(rt.alloc()));
+    assert_none(&rt, wrong_made(rt.alloc(), SCALARS));
+    assert_none(&rt, wrong_missing(rt.alloc()));
 }

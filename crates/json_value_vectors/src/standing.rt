@@ -1,8 +1,8 @@
 // Places beside one that is written stay the same places.
+use crate::looks::{Open, assert_none, wrong_document};
 use crate::writing::{write_at, write_step};
 use json_doc::{Doc, JsonType};
-use json_fixtures::{first_wrong, is_document, is_shown, or_null, read, whole};
-use json_text::Result;
+use json_fixtures::{is_shown, or_null, whole};
 use json_value::{Array, Index, PointerNode, Value, View, put};
 use std::alloc::Global;
 use std::rc::Rc;
@@ -57,115 +57,34 @@ fn is_packed(doc: &Doc, cells: usize, texts: &str) -> bool {
     doc.cells().len() == cells && doc.root() == 0 && doc.text() == texts
 }
 
-fn list_is_packed(doc: &Rc<Doc>, _alloc: Global) -> bool {
-    is_packed(doc, 6, "x")
+// A write, or a look, at the value of a document.
+#[derive(Clone, Copy)]
+enum Write {
+    ReachFirst,
+    PutFirst,
+    StepToFirst,
+    AppendNull,
+    InsertNull,
+    LendKey,
 }
 
-fn members_are_packed(doc: &Rc<Doc>, _alloc: Global) -> bool {
-    is_packed(doc, 7, "abx")
-}
-
-// Whether a change of the value of a document is done, and the child and the compact text are then
-// these.
-fn document_leaves(
-    alloc: Global,
-    doc: &Rc<Doc>,
-    change: fn(&mut Value, Global) -> bool,
-    child: Child,
-    then: &str,
-) -> bool
-    requires { IsAlwaysCallable change }
-{
-    match whole(alloc, doc) {
-        Ok(mut value) => {
-            let done = change(&mut value, alloc);
-            done && stands_at(&value, child, doc) && is_shown(alloc, &value, then)
+fn is_written(value: &mut Value, alloc: Global, write: Write) -> bool {
+    match write {
+        Write::ReachFirst => write_at(value, alloc, &[PointerNode::Index(0)], 1),
+        Write::PutFirst => {
+            put(value, alloc, &[PointerNode::Index(0)], Value::new_null()).is_ok()
         }
-        Err(_) => false,
+        Write::StepToFirst => write_step(value, alloc, 0_usize, 1),
+        Write::AppendNull => {
+            value.view().get_type() == JsonType::Array
+                && value.append_value(alloc, Value::new_null()).is_ok()
+        }
+        Write::InsertNull => {
+            value.view().get_type() == JsonType::Object
+                && value.insert(alloc, "a", Value::new_null()).is_ok()
+        }
+        Write::LendKey => matches!("c".index_or_insert(alloc, value), Ok(Value::Null)),
     }
-}
-
-// The same of the document of a text.
-fn leaves(
-    alloc: Global,
-    json: &str,
-    change: fn(&mut Value, Global) -> bool,
-    child: Child,
-    then: &str,
-) -> bool
-    requires { IsAlwaysCallable change }
-{
-    match read(alloc, json) {
-        Ok(doc) => document_leaves(alloc, &doc, change, child, then),
-        Err(_) => false,
-    }
-}
-
-fn reach_first(value: &mut Value, alloc: Global) -> bool {
-    write_at(value, alloc, &[PointerNode::Index(0)], 1)
-}
-
-fn put_first(value: &mut Value, alloc: Global) -> bool {
-    put(value, alloc, &[PointerNode::Index(0)], Value::new_null()).is_ok()
-}
-
-fn step_to_first(value: &mut Value, alloc: Global) -> bool {
-    write_step(value, alloc, 0_usize, 1)
-}
-
-// Appends null to an array; answers whether it is one.
-fn append_null(value: &mut Value, alloc: Global) -> bool {
-    value.view().get_type() == JsonType::Array
-        && value.append_value(alloc, Value::new_null()).is_ok()
-}
-
-// Puts null at the key `a` of an object; answers whether it is one.
-fn insert_null(value: &mut Value, alloc: Global) -> bool {
-    value.view().get_type() == JsonType::Object
-        && value.insert(alloc, "a", Value::new_null()).is_ok()
-}
-
-fn lend_key(value: &mut Value, alloc: Global) -> bool {
-    matches!("c".index_or_insert(alloc, value), Ok(Value::Null))
-}
-
-fn wrong_beside(alloc: Global) -> Option<&'static str> {
-    let (first, second) = (Child::Element(0, 1), Child::Element(1, 3));
-    let member = Child::Member("b", 5);
-    let one = "[1,[\"x\"],2]";
-    let appended = "[[1],[\"x\"],2,null]";
-    let inserted = "{\"a\":null,\"b\":[\"x\"]}";
-    let lent = "{\"a\":[1],\"b\":[\"x\"],\"c\":null}";
-    first_wrong(&[
-        (
-            "an element beside a place that is reached",
-            leaves(alloc, LIST, reach_first, second, one),
-        ),
-        (
-            "an element beside one that is put",
-            leaves(alloc, LIST, put_first, second, "[null,[\"x\"],2]"),
-        ),
-        (
-            "an element beside a step that is written",
-            leaves(alloc, LIST, step_to_first, second, one),
-        ),
-        (
-            "the first element before one that is appended",
-            leaves(alloc, LIST, append_null, first, appended),
-        ),
-        (
-            "the second element before one that is appended",
-            leaves(alloc, LIST, append_null, second, appended),
-        ),
-        (
-            "a member beside one that is inserted",
-            leaves(alloc, MEMBERS, insert_null, member, inserted),
-        ),
-        (
-            "a member before a key that lacked",
-            leaves(alloc, MEMBERS, lend_key, member, lent),
-        ),
-    ])
 }
 
 fn second_place(array: &Array) -> Option<(&Doc, u32)> {
@@ -191,29 +110,84 @@ fn lends_and_keeps(value: &mut Value, alloc: Global, doc: &Doc) -> bool {
     lent && element_stands(value, 1, doc, 3)
 }
 
-fn list_lends_and_keeps(doc: &Rc<Doc>, alloc: Global) -> bool {
-    lends_and_keeps(&mut or_null(whole(alloc, doc)), alloc, doc)
+// What is there of a document: so many cells with these texts; a child and a compact text after a
+// write; or an element of the array that is lent.
+#[derive(Clone, Copy)]
+enum Look {
+    Cells(usize, &'static str),
+    After(Write, Child, &'static str),
+    Lent,
 }
 
-fn wrong_place(alloc: Global) -> Option<&'static str> {
-    first_wrong(&[
-        (
-            "the cells of a list",
-            is_document(alloc, LIST, list_is_packed),
-        ),
-        (
-            "the cells of an object",
-            is_document(alloc, MEMBERS, members_are_packed),
-        ),
-        (
-            "an element of an array that is lent",
-            is_document(alloc, LIST, list_lends_and_keeps),
-        ),
-    ])
+fn is_left(alloc: Global, doc: &Rc<Doc>, write: Write, child: Child, then: &str) -> bool {
+    let mut value = or_null(whole(alloc, doc));
+    is_written(&mut value, alloc, write)
+        && stands_at(&value, child, doc)
+        && is_shown(alloc, &value, then)
 }
+
+impl Open for Look {
+    fn is_right(self, doc: &Rc<Doc>, alloc: Global) -> bool {
+        match self {
+            Look::Cells(cells, texts) => is_packed(doc, cells, texts),
+            Look::After(write, child, then) => is_left(alloc, doc, write, child, then),
+            Look::Lent => lends_and_keeps(&mut or_null(whole(alloc, doc)), alloc, doc),
+        }
+    }
+}
+
+const FIRST: Child = Child::Element(0, 1);
+
+const SECOND: Child = Child::Element(1, 3);
+
+const MEMBER: Child = Child::Member("b", 5);
+
+const ROWS: &[(&str, &str, Look)] = &[
+    (
+        "an element beside a place that is reached",
+        LIST,
+        Look::After(Write::ReachFirst, SECOND, "[1,[\"x\"],2]"),
+    ),
+    (
+        "an element beside one that is put",
+        LIST,
+        Look::After(Write::PutFirst, SECOND, "[null,[\"x\"],2]"),
+    ),
+    (
+        "an element beside a step that is written",
+        LIST,
+        Look::After(Write::StepToFirst, SECOND, "[1,[\"x\"],2]"),
+    ),
+    (
+        "the first element before one that is appended",
+        LIST,
+        Look::After(Write::AppendNull, FIRST, "[[1],[\"x\"],2,null]"),
+    ),
+    (
+        "the second element before one that is appended",
+        LIST,
+        Look::After(Write::AppendNull, SECOND, "[[1],[\"x\"],2,null]"),
+    ),
+    (
+        "a member beside one that is inserted",
+        MEMBERS,
+        Look::After(Write::InsertNull, MEMBER, "{\"a\":null,\"b\":[\"x\"]}"),
+    ),
+    (
+        "a member before a key that lacked",
+        MEMBERS,
+        Look::After(
+            Write::LendKey,
+            MEMBER,
+            "{\"a\":[1],\"b\":[\"x\"],\"c\":null}",
+        ),
+    ),
+    ("the cells of a list", LIST, Look::Cells(6, "x")),
+    ("the cells of an object", MEMBERS, Look::Cells(7, "abx")),
+    ("an element of an array that is lent", LIST, Look::Lent),
+];
 
 #[test]
 fn what_is_beside_a_write_stays_a_place(rt: HostRuntime) {
-    assert_eq!(rt; wrong_beside(rt.alloc()), None);
-    assert_eq!(rt; wrong_place(rt.alloc()), None);
+    assert_none(&rt, wrong_document(rt.alloc(), ROWS));
 }

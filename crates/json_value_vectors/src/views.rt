@@ -1,7 +1,9 @@
 // What views show.
-use crate::looks::{elements, sees, sees_text};
+use crate::looks::{
+    Call, Look, Open, assert_none, elements, sees, sees_text, wrong_document, wrong_look,
+};
 use json_doc::{Doc, JsonType};
-use json_fixtures::{first_wrong, is_document, is_shown, is_value, or_null, whole};
+use json_fixtures::{is_shown, or_null, whole};
 use json_value::{ObjectView, Pair, Text, Value, View};
 use std::alloc::Global;
 use std::rc::Rc;
@@ -40,15 +42,11 @@ fn are_both(object: ObjectView<'_>) -> bool {
     counted && literal && has_seven_and_line(object.get("a"))
 }
 
-fn has_both(doc: &Rc<Doc>, _alloc: Global) -> bool {
+fn has_both(doc: &Doc) -> bool {
     match View::packed(doc.view()).as_object() {
         Some(object) => are_both(object),
         None => false,
     }
-}
-
-fn has_two(value: &Value, _alloc: Global) -> bool {
-    elements(value.view().as_array()) == Some((2, false))
 }
 
 // Whether a member has this key, and is true.
@@ -60,7 +58,7 @@ fn is_true(member: Option<(&str, View<'_>)>, name: &str) -> bool {
 }
 
 // Whether a value is an object of one member, which is true.
-fn has_one(value: &Value, _alloc: Global) -> bool {
+fn has_one(value: &Value) -> bool {
     match value.view().as_object() {
         Some(object) => {
             let one = object.iter().len() == 1 && object.pair(1).is_none();
@@ -100,10 +98,6 @@ fn part_is_shared(value: &Value, alloc: Global, doc: &Rc<Doc>) -> bool {
     before == 2 && after == 3 && are_one(shared.place(), part.place())
 }
 
-fn parts_are_shared(doc: &Rc<Doc>, alloc: Global) -> bool {
-    part_is_shared(&or_null(whole(alloc, doc)), alloc, doc)
-}
-
 // Whether the copy of the first element is no place, has this compact text, and holds no document.
 fn part_is_copied(doc: &Rc<Doc>, alloc: Global) -> bool {
     let copy = or_null(View::packed(doc.view()).at(0_usize).to_value(alloc));
@@ -111,29 +105,66 @@ fn part_is_copied(doc: &Rc<Doc>, alloc: Global) -> bool {
     is_shown(alloc, &copy, "[2.50,\"x\"]") && alone
 }
 
-fn wrong(alloc: Global) -> Option<&'static str> {
-    let members = "{\"a\":[7,\"\\n\"],\"b\":-2.50e3}";
-    let nested = "[0.5,{\"k\":[\"x\",2.50]}]";
-    first_wrong(&[
-        ("members are seen", is_document(alloc, members, has_both)),
-        ("elements are counted", is_value(alloc, "[1,null]", has_two)),
-        (
-            "members are counted",
-            is_value(alloc, "{\"k\":true}", has_one),
-        ),
-        ("a member is written and seen", member_is_written()),
-        (
-            "a packed part of a value is shared",
-            is_document(alloc, nested, parts_are_shared),
-        ),
-        (
-            "a part of a document alone is copied",
-            is_document(alloc, "[[2.50,\"x\"]]", part_is_copied),
-        ),
-    ])
+// What is seen of a value.
+#[derive(Clone, Copy)]
+enum See {
+    Two,
+    One,
 }
+
+impl Call for See {
+    fn is_right(self, value: &mut Value, _alloc: Global) -> bool {
+        match self {
+            See::Two => elements(value.view().as_array()) == Some((2, false)),
+            See::One => has_one(value),
+        }
+    }
+}
+
+const ROWS: &[Look<See>] = &[
+    ("elements are counted", "[1,null]", See::Two),
+    ("members are counted", "{\"k\":true}", See::One),
+];
+
+// What is seen of a document.
+#[derive(Clone, Copy)]
+enum Packed {
+    Both,
+    Shared,
+    Copied,
+}
+
+impl Open for Packed {
+    fn is_right(self, doc: &Rc<Doc>, alloc: Global) -> bool {
+        match self {
+            Packed::Both => has_both(doc),
+            Packed::Shared => part_is_shared(&or_null(whole(alloc, doc)), alloc, doc),
+            Packed::Copied => part_is_copied(doc, alloc),
+        }
+    }
+}
+
+const DOCUMENTS: &[Look<Packed>] = &[
+    (
+        "members are seen",
+        "{\"a\":[7,\"\\n\"],\"b\":-2.50e3}",
+        Packed::Both,
+    ),
+    (
+        "a packed part of a value is shared",
+        "[0.5,{\"k\":[\"x\",2.50]}]",
+        Packed::Shared,
+    ),
+    (
+        "a part of a document alone is copied",
+        "[[2.50,\"x\"]]",
+        Packed::Copied,
+    ),
+];
 
 #[test]
 fn views_show(rt: HostRuntime) {
-    assert_eq!(rt; wrong(rt.alloc()), None);
+    assert_none(&rt, wrong_look(rt.alloc(), ROWS));
+    assert_none(&rt, wrong_document(rt.alloc(), DOCUMENTS));
+    assert!(rt; member_is_written(), "a member is written and seen");
 }
