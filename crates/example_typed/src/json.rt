@@ -9,7 +9,9 @@ use mezdruk_json::derive::{
     Builder, DeserializeFrom, ErrorCode, Events, Field, KeyRoom, Lent, Result, Serialize, Tokens,
     find_struct, give_fields, read_struct, refusal, required,
 };
-use mezdruk_json::explain::{Explain, ExplainMembers, Piece, Refusal, explain_members};
+use mezdruk_json::explain::{
+    Explain, ExplainMembers, Piece, Refusal, explain_key, explain_members,
+};
 use std::alloc::Global;
 
 // What was read of the members of `Server` so far.
@@ -184,14 +186,14 @@ impl<S: Lent> ExplainMembers<S> for ServerSeen {
         }
     }
 
-    fn missing(&self, alloc: Global) -> Result<Option<Refusal>> {
+    fn missing(&self) -> Option<&str> {
         if !self.host {
-            return Ok(Some(Refusal::lacks(alloc, "host")?));
+            return Some("host");
         }
         if !self.port {
-            return Ok(Some(Refusal::lacks(alloc, "port")?));
+            return Some("port");
         }
-        Ok(None)
+        None
     }
 }
 
@@ -356,21 +358,18 @@ impl<S: Lent> ExplainMembers<S> for SiteSeen {
                 self.servers = true;
                 <Vec<Server> as Explain<S>>::explain(alloc, tokens)
             }
-            _ => {
-                tokens.skip()?;
-                Ok(Some(Refusal::key(alloc, ErrorCode::TypeUnmatched)))
-            }
+            _ => explain_key(alloc, tokens, ErrorCode::TypeUnmatched),
         }
     }
 
-    fn missing(&self, alloc: Global) -> Result<Option<Refusal>> {
+    fn missing(&self) -> Option<&str> {
         if !self.name {
-            return Ok(Some(Refusal::lacks(alloc, "name")?));
+            return Some("name");
         }
         if !self.servers {
-            return Ok(Some(Refusal::lacks(alloc, "servers")?));
+            return Some("servers");
         }
-        Ok(None)
+        None
     }
 }
 
