@@ -67,13 +67,15 @@ fn a_source_that_fails_at_each_call(rt: HostRuntime) {
 // The call of the sink that fails, the status, the output, and the errors.
 type Write = (u64, u8, &'static str, &'static str);
 
-const WRITES: [Write; 6] = [
-    (0, 5, "", WRITE_AFTER_ERROR),
-    (1, 5, "1", WRITE_AFTER_ERROR),
-    (2, 5, "1\n", WRITE_AFTER_ERROR),
-    (3, 5, "1\n3", WRITE_AFTER_ERROR),
-    (4, 5, "1\n3\n", WRITE_AFTER_ERROR),
-    (5, 1, "1\n3\n", ERROR_ALONE),
+const WRITES: [Write; 8] = [
+    (0, 5, "", "Io while writing\n"),
+    (1, 5, "", WRITE_AFTER_ERROR),
+    (2, 5, "1", WRITE_AFTER_ERROR),
+    (3, 5, "1\n", WRITE_AFTER_ERROR),
+    (4, 5, "1\n3", WRITE_AFTER_ERROR),
+    (5, 5, "1\n3\n", WRITE_AFTER_ERROR),
+    (6, 5, "1\n3\n", WRITE_AFTER_ERROR),
+    (7, 1, "1\n3\n", ERROR_ALONE),
 ];
 
 // Whether a run comes to what it has to, where this call of the sink fails.
@@ -86,7 +88,8 @@ fn fails_at_write(alloc: Global, call: u64, expected: u8, output: &str, errors: 
     status == expected && written && errs.as_slice() == errors.as_bytes()
 }
 
-// The 4 bytes are taken by 4 calls, and the next is the flush.
+// The first call is the flush before the first read. The 4 bytes are taken by 4 calls, and the next
+// two are the flush before the read of the end, and the last one.
 #[test]
 fn a_sink_that_fails_at_each_call(rt: HostRuntime) {
     for (call, status, output, errors) in WRITES {
