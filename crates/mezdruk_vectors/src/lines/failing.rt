@@ -67,15 +67,16 @@ fn a_source_that_fails_at_each_call(rt: HostRuntime) {
 // The call of the sink that fails, the status, the output, and the errors.
 type Write = (u64, u8, &'static str, &'static str);
 
-const WRITES: [Write; 8] = [
+const WRITES: [Write; 9] = [
     (0, 5, "", "Io while writing\n"),
     (1, 5, "", WRITE_AFTER_ERROR),
     (2, 5, "1", WRITE_AFTER_ERROR),
     (3, 5, "1\n", WRITE_AFTER_ERROR),
-    (4, 5, "1\n3", WRITE_AFTER_ERROR),
-    (5, 5, "1\n3\n", WRITE_AFTER_ERROR),
+    (4, 5, "1\n", WRITE_AFTER_ERROR),
+    (5, 5, "1\n3", WRITE_AFTER_ERROR),
     (6, 5, "1\n3\n", WRITE_AFTER_ERROR),
-    (7, 1, "1\n3\n", ERROR_ALONE),
+    (7, 5, "1\n3\n", WRITE_AFTER_ERROR),
+    (8, 1, "1\n3\n", ERROR_ALONE),
 ];
 
 // Whether a run comes to what it has to, where this call of the sink fails.
@@ -88,8 +89,9 @@ fn fails_at_write(alloc: Global, call: u64, expected: u8, output: &str, errors: 
     status == expected && written && errs.as_slice() == errors.as_bytes()
 }
 
-// The first call is the flush before the first read. The 4 bytes are taken by 4 calls, and the next
-// two are the flush before the read of the end, and the last one.
+// The first call is the flush before the first read. Calls 1 to 3 send the first row, a byte a call
+// and a flush, before the read that finds the end. Calls 4 to 6 send the second row before the end is
+// read again, and the last call is the flush at the end.
 #[test]
 fn a_sink_that_fails_at_each_call(rt: HostRuntime) {
     for (call, status, output, errors) in WRITES {
