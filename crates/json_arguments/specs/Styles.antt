@@ -1,5 +1,5 @@
 -- The layout of texts and the rules of input that the options ask for.
-use Rattle.std.specs.Prelude.{ℕ, min, List, [], ◌∷◌, replicate, Option, Some, None, unwrap_or}
+use Rattle.std.specs.Prelude.{ℕ, Bool, false, not, ◌&&◌, min, List, [], ◌∷◌, replicate, Option, Some, None, is_some, unwrap_or}
 use Rattle.json_grammar.specs.Rules.{Rules}
 use Rattle.json_text.specs.Ruled.{usual_rules}
 use Rattle.json_arguments.specs.declared.verb.Verb.{Verb}
@@ -25,6 +25,11 @@ usual_layout _ = Compact
 
 abbrev pub command_layout : Settings → Verb → Layout
 command_layout s v = unwrap_or s.layout (usual_layout v)
+
+-- an edit in place keeps the layout of the file, if no option asks for a layout
+abbrev pub keeps_layout : Settings → Verb → Bool
+keeps_layout s Fmt = false
+keeps_layout s _ = s.in_place && not (is_some s.layout)
 
 -- the rules: the levels that are asked for, 1,024 at most, or the usual number
 abbrev pub command_rules : Settings → Rules

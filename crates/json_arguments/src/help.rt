@@ -101,7 +101,8 @@ Applies a JSON array of edits in turn: [\"set\", path, value],
 
 Layouts: -c, --compact; --pretty; --indent=N; --tabs; beside one -S, --sort-keys
 Input:   --unique-keys, --depth=N, --lines, --stream
-Output:  -i, --in-place writes each FILE in place
+Output:  -i, --in-place writes each FILE in place, in the layout that it has
+         if no option asks for one
 
   mezdruk edit '[[\"set\", [\"version\"], \"1.3.0\"]]' package.json
 `mezdruk --help` says more of each option.
@@ -118,7 +119,8 @@ adds a member, and `push` an element.
 Value:   --string, before VALUE, takes it as a string: --string Ada
 Layouts: -c, --compact; --pretty; --indent=N; --tabs; beside one -S, --sort-keys
 Input:   --unique-keys, --depth=N, --lines, --stream
-Output:  -i, --in-place writes each FILE in place
+Output:  -i, --in-place writes each FILE in place, in the layout that it has
+         if no option asks for one
 
   mezdruk set -i /version --string 1.3.0 package.json
 `mezdruk --help` says more of each option.
@@ -135,7 +137,8 @@ object where PATH leads, or appends such a member. PATH is a JSON Pointer, as
 Value:   --string, before VALUE, takes it as a string: --string Ada
 Layouts: -c, --compact; --pretty; --indent=N; --tabs; beside one -S, --sort-keys
 Input:   --unique-keys, --depth=N, --lines, --stream
-Output:  -i, --in-place writes each FILE in place
+Output:  -i, --in-place writes each FILE in place, in the layout that it has
+         if no option asks for one
 
   mezdruk insert '' '\"license\"' --string MIT package.json
 `mezdruk --help` says more of each option.
@@ -151,7 +154,8 @@ Appends VALUE, a JSON text, to the array where PATH leads: a JSON Pointer, as
 Value:   --string, before VALUE, takes it as a string: --string Ada
 Layouts: -c, --compact; --pretty; --indent=N; --tabs; beside one -S, --sort-keys
 Input:   --unique-keys, --depth=N, --lines, --stream
-Output:  -i, --in-place writes each FILE in place
+Output:  -i, --in-place writes each FILE in place, in the layout that it has
+         if no option asks for one
 
   mezdruk push /tags --string new package.json
 `mezdruk --help` says more of each option.
@@ -167,7 +171,8 @@ array of steps; STEP is a JSON string or an index from 0.
 
 Layouts: -c, --compact; --pretty; --indent=N; --tabs; beside one -S, --sort-keys
 Input:   --unique-keys, --depth=N, --lines, --stream
-Output:  -i, --in-place writes each FILE in place
+Output:  -i, --in-place writes each FILE in place, in the layout that it has
+         if no option asks for one
 
   mezdruk remove /tags 0 package.json
 `mezdruk --help` says more of each option.
@@ -182,7 +187,8 @@ Applies a JSON Patch (RFC 6902), all operations or none.
 
 Layouts: -c, --compact; --pretty; --indent=N; --tabs; beside one -S, --sort-keys
 Input:   --unique-keys, --depth=N, --lines, --stream
-Output:  -i, --in-place writes each FILE in place
+Output:  -i, --in-place writes each FILE in place, in the layout that it has
+         if no option asks for one
 
   mezdruk patch '[{\"op\": \"remove\", \"path\": \"/tags/0\"}]' package.json
 `mezdruk --help` says more of each option.
@@ -198,7 +204,8 @@ keys, and null takes one out.
 
 Layouts: -c, --compact; --pretty; --indent=N; --tabs; beside one -S, --sort-keys
 Input:   --unique-keys, --depth=N, --lines, --stream
-Output:  -i, --in-place writes each FILE in place
+Output:  -i, --in-place writes each FILE in place, in the layout that it has
+         if no option asks for one
 
   mezdruk merge '{\"private\": true}' package.json
 `mezdruk --help` says more of each option.

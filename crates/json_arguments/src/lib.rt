@@ -22,6 +22,7 @@
 mod arguments;
 mod edits;
 mod help;
+mod kept_layout;
 mod line;
 mod operand;
 mod problem;

@@ -1,4 +1,5 @@
 pub mod FirstLines
+pub mod FoundLayouts
 pub mod CutLines
 pub mod ReadBytes
 pub mod TextWriting
@@ -7,3 +8,4 @@ pub mod SmallStatuses
 pub mod Handled
 pub mod ValueStreams
 pub mod HandledStreams
+pub mod EditedTexts

@@ -12,3 +12,5 @@ pub mod Running
 pub mod EditLists
 pub mod PatchOutcomes
 pub mod Patches
+pub mod FoundLayouts
+pub mod EditedTexts

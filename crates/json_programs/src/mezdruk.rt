@@ -46,7 +46,9 @@ Options, in any order, each at most once:
   --lines                  each line of the input is a document
   --stream                 documents follow one another; not with --unique-keys
                            and not with --depth=N
-  -i, --in-place           write each FILE in place; not of check and get
+  -i, --in-place           write each FILE in place, not of check and get; an
+                           edit keeps the layout of the file if no option asks
+                           for one
   --edits=FILE, --patch=FILE, --merge=FILE
                            take EDITS or PATCH from a file, for edit, patch and
                            merge; before operands and files

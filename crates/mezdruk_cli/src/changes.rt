@@ -26,7 +26,7 @@ struct Task<'a> {
 
 impl<'a> Task<'a> {
     // Makes a change of each document, where it leads in them, and returns the status.
-    fn run<C: Change + Drop>(
+    fn run<C: Change + Copy + Drop>(
         self,
         rt: &HostRuntime,
         console: &mut Console,
@@ -41,11 +41,11 @@ impl<'a> Task<'a> {
             Some(FormAsked::Lines) => InputForm::Lines,
             Some(FormAsked::Stream) => InputForm::Stream,
         };
-        let in_place = self.settings.in_place;
         let work = Work {
             job,
             target,
-            in_place,
+            in_place: self.settings.in_place,
+            keeps_layout: self.settings.keeps_layout(self.verb),
         };
         run_files(rt, console, self.files, &work)
     }

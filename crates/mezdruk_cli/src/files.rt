@@ -63,6 +63,16 @@ fn open_file(rt: &HostRuntime, file: &str) -> Result<File, ReadFault> {
     File::open(rt, file).map_err(|error| ReadFault::Refused(reason_of(&error)))
 }
 
+/// Returns why a file cannot be written in place: it is there, and no regular file. To read one of
+/// another kind could take for ever.
+pub fn refuse_irregular(rt: &HostRuntime, file: &str) -> Option<ReadFault> {
+    match fs::metadata(rt, file) {
+        Ok(metadata) if metadata.is_dir() => Some(ReadFault::Refused("it is a folder")),
+        Ok(metadata) if !metadata.is_file() => Some(ReadFault::Refused("it is no regular file")),
+        _ => None,
+    }
+}
+
 /// Reads the bytes of a file, or those of standard input for `-`.
 pub fn read_bytes(
     rt: &HostRuntime,

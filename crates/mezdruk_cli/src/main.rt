@@ -3,7 +3,7 @@
 //! what is here opens files, reads them, and writes them in place. Where the first argument names
 //! another program, `mezdruk_programs` runs that one on the arguments after it.
 //!
-//!     mezdruk set -i '["version"]' '"1.3.0"' package.json
+//!     mezdruk set -i /version --string 1.3.0 package.json
 #![tactic(auto)]
 
 mod changes;

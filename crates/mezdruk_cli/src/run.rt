@@ -1,17 +1,18 @@
 // What a command does with each file.
 
 use crate::changes::{carry_out, report_arguments};
-use crate::files::{read_document, reason_of, report_file, report_unread};
+use crate::files::{read_document, reason_of, refuse_irregular, report_file, report_unread};
 use crate::in_place::replace_content;
 use crate::missing::{Target, hint_of_target};
 use crate::outlet::Outlet;
 use json_arguments::{help_asked, read_arguments};
 use json_command::{Console, Status, report_text, write_text};
-use json_files::{Change, Document, InputForm, Job, print_documents};
+use json_files::{Change, Document, EditedText, InputForm, Job, edit_document, print_documents};
 use json_programs::ABOUT_MEZDRUK;
 use json_text::{StdSink, VecSink, Words};
 use mezdruk_programs::run_named;
 use std::cell::Cell;
+use std::slice;
 
 // Runs a command of the tool, and returns the status.
 fn run_command(rt: &HostRuntime, console: &mut Console, words: &Words) -> u8 {
@@ -85,6 +86,8 @@ pub struct Work<'a, C> {
     pub target: Target<'a>,
     /// Whether the file is written in place.
     pub in_place: bool,
+    /// Whether it is written in the layout that it has.
+    pub keeps_layout: bool,
 }
 
 impl<'a, C> Work<'a, C> {
@@ -122,27 +125,41 @@ fn print_document<C: Change>(
     status
 }
 
+// Returns the text of the changed document, and the status.
+fn edited_text<C: Change + Copy>(
+    rt: &HostRuntime,
+    console: &mut Console,
+    document: &Document,
+    work: &Work<'_, C>,
+) -> EditedText {
+    let errs = &mut console.errs;
+    if work.keeps_layout {
+        return edit_document(rt.alloc(), document, &work.job, errs);
+    }
+    let mut sink = VecSink::new(rt.alloc());
+    let documents = slice::from_ref(document);
+    let status = print_documents(rt.alloc(), documents, &work.job, &mut sink, errs);
+    let text = sink.into_vec();
+    EditedText { status, text }
+}
+
 // Writes the changed document to its file, if its text is another one, and returns the status.
-fn write_in_place<C: Change>(
+fn write_in_place<C: Change + Copy>(
     rt: &HostRuntime,
     console: &mut Console,
     document: Document,
     work: &Work<'_, C>,
 ) -> u8 {
-    let mut sink = VecSink::new(rt.alloc());
-    let documents = [document];
-    let errs = &mut console.errs;
-    let status = print_documents(rt.alloc(), &documents, &work.job, &mut sink, errs);
-    let [document] = documents;
+    let EditedText { status, text } = edited_text(rt, console, &document, work);
     work.add_hint(rt, console, &document, status);
     let same = document
         .bytes
         .as_ref()
-        .is_some_and(|bytes| bytes.as_slice() == sink.as_slice());
+        .is_some_and(|bytes| bytes.as_slice() == text.as_slice());
     if status != Status::Success.number() || same {
         return status;
     }
-    match replace_content(rt, document.name.as_str(), sink.as_slice()) {
+    match replace_content(rt, document.name.as_str(), text.as_slice()) {
         Ok(()) => status,
         Err(error) => {
             let (name, reason) = (document.name.as_str(), reason_of(&error));
@@ -152,12 +169,17 @@ fn write_in_place<C: Change>(
 }
 
 // Does what is asked for with one file, and returns the status.
-fn run_file<C: Change>(
+fn run_file<C: Change + Copy>(
     rt: &HostRuntime,
     console: &mut Console,
     file: &str,
     work: &Work<'_, C>,
 ) -> u8 {
+    if work.in_place {
+        if let Some(fault) = refuse_irregular(rt, file) {
+            return report_unread(rt, console, file, fault);
+        }
+    }
     match read_document(rt, console, file) {
         Ok(document) if work.in_place => write_in_place(rt, console, document, work),
         Ok(document) => print_document(rt, console, document, work),
@@ -167,7 +189,7 @@ fn run_file<C: Change>(
 
 /// Does what is asked for with each file, or with standard input if there is none, and returns the
 /// greatest status. It ends if standard output fails or memory runs out.
-pub fn run_files<C: Change>(
+pub fn run_files<C: Change + Copy>(
     rt: &HostRuntime,
     console: &mut Console,
     files: &[&str],

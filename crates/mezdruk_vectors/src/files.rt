@@ -1,6 +1,7 @@
 // Documents in memory that are printed, changed and reported, lines, and sinks that fail.
 mod changes;
 mod documents;
+mod edited;
 mod failing;
 mod lines;
 mod pointers;
