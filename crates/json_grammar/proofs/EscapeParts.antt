@@ -120,7 +120,7 @@ module _ (lossy : Bool) where
       go (spelling k i) e = spelled k e
       go (lone_surrogate k j a) e = first _ e
 
-  -- none goes on with another byte behind a backslash
+  -- none goes on with another byte after a backslash
   pub no_escape : (x : ℕ) (n : List ℕ) → ((c : ℕ) → ShortEscape x c → ⊥) → x ≢ 117 → Atom lossy (92 ∷ x ∷ n) → ⊥
   no_escape x n m u h = go h refl
     where
@@ -177,7 +177,7 @@ module _ (lossy : Bool) where
       go (inl (e, inr t)) = t.1 low
       go (inr t) = high_low a.u t.1 low
 
-  -- strictly behind the escape of a high surrogate that of a low one comes
+  -- in the strict mode the escape of a low surrogate follows that of a high one
   pub low_comes : (p q r s u : ℕ) (n : List ℕ) → lossy ≡ false → hex4 p q r s ≡ Some u → IsHighSurrogate u → Atom lossy (92 ∷ 117 ∷ p ∷ q ∷ r ∷ s ∷ n) → LowEscape n
   low_comes p q r s u n f k g h = go a.after
     where

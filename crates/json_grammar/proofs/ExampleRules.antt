@@ -23,7 +23,7 @@ use Rattle.json_grammar.proofs.RepeatedInput.{before_bracket}
 use Rattle.json_grammar.proofs.RulesFault.{one_fault_with, text_no_fault_with}
 use Rattle.json_grammar.proofs.RulesReader.{name_refused}
 
--- what is told of a fault, and what the laws say of each
+-- a reported fault, and what the laws say of each
 refused_by : (r : Rules) (b : List ℕ) (code : FaultCode) (k : ℕ)
     → fault_with false r b code k
     → IsRefusedBy r b code k

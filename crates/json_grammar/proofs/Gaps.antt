@@ -1,4 +1,4 @@
--- Behind a gap a reader has the same tokens.
+-- After a gap a reader has the same tokens.
 use Rattle.std.proofs.Common.{Bool, ◌≡◌, ℕ, ◌≤◌, List, [], ◌∷◌, ◌++◌, take, drop, ◌⊎◌, inl, inr, refl, sym, ap, ◌∙◌, subst, arith, append_assoc}
 use Rattle.std.proofs.lemmas.List.Folds.{drop_split}
 use Rattle.json_grammar.specs.declared.Kind.{Kind}
@@ -41,7 +41,7 @@ comma_not_done object e = cc
 value_not_done : at_value ≡ done → ⊥
 value_not_done e = cc
 
--- at some place behind a mark
+-- at some place after a mark
 abbrev pub Behind : Bool → List ℕ → List Token → Type 0
 Behind lossy p ts = (c : List Kind) × (w : Spot) × reading lossy p c w ts × (w ≡ done → ⊥)
 
@@ -71,7 +71,7 @@ module _ (lossy : Bool) where
   behind_colon done c v r s (inr h) = absurd (no_end c 58 (inr refl) h)
 
   module _ (b : List ℕ) (i j : ℕ) (c : List Kind) (w : Spot) (ts : List Token) (g : PrefixAt lossy b i c w ts) (l : i ≤ j) (u v : List ℕ) (hu : ws u) where
-    -- the byte behind whitespace may come there
+    -- the byte after whitespace may follow
     mark_allowed : (x : ℕ) → (x ≡ 44) ⊎ (x ≡ 58) → piece b i j ≡ u ++ x ∷ v → viable_prefix lossy (take j b) → Allows w c x
     mark_allowed x m e (t, rest, h) =
         let whole : drop i b ≡ u ++ x ∷ (v ++ drop j b) = drop_split b i j l ∙ ap (λ y. y ++ drop j b) e ∙ append_assoc u (x ∷ v) (drop j b) in
@@ -82,7 +82,7 @@ module _ (lossy : Bool) where
     there : (x : ℕ) → piece b i j ≡ u ++ x ∷ v → (take i b ++ u) ++ x ∷ v ≡ take j b
     there x e = append_assoc (take i b) u (x ∷ v) ∙ ap (λ y. take i b ++ y) (sym e) ∙ sym (take_on b i j l)
 
--- behind a gap: at the same place, whitespace aside, or behind a mark
+-- after a gap: at the same place, whitespace aside, or after a mark
 pub data Across (lossy : Bool) (b : List ℕ) (i j : ℕ) (c : List Kind) (w : Spot) (ts : List Token) : Type 0 where
   spaced : ws (piece b i j) → Across lossy b i j c w ts
   marked : Behind lossy (take j b) ts → Across lossy b i j c w ts

@@ -99,7 +99,7 @@ pub four : (p q r s : ℕ) → is_digit p 16 ≡ true → is_digit q 16 ≡ true
 unfolding hex4
 four p q r s a b c d = (digit_value p * 4096 + digit_value q * 256 + digit_value r * 16 + digit_value s, rw (a, b, c, d) refl)
 
--- which numbers are surrogates is told by the first two digits
+-- the first two digits decide which numbers are surrogates
 pub is_low : (p q r s u : ℕ) → Hex p q r s u → IsD p → IsCToF q → IsLowSurrogate u
 is_low p q r s u h d c =
     let v = d_value p d in let w = valued q h.q_hex in let i = hex_small r h.r_hex in let j = hex_small s h.s_hex in let e = h.sum in

@@ -1,4 +1,4 @@
--- A step of a reader: from where it stands past one token, or to a fault.
+-- A step of a reader: past one token, or to a fault.
 use Rattle.std.proofs.Common.{Bool, true, false, ◌≡◌, ◌≢◌, ℕ, zero, suc, ◌+◌, ◌<◌, ◌≤◌, List, [], ◌∷◌, ◌++◌, length, ◌⊎◌, inl, inr, refl, sym, ap, ◌∙◌, subst, arith, append_assoc, append-nil, length-append, IsUtf8}
 use Rattle.std.proofs.lemmas.Bool.{cases_lt, cases_eq}
 use Rattle.json_grammar.specs.declared.Kind.{Kind}
@@ -34,7 +34,7 @@ module _ (lossy : Bool) (limit : ℕ) where
   abbrev pub Outcome : List ℕ → Type 0
   Outcome b = ((t : Tree) × is_text lossy t b × (depth t ≤ limit)) ⊎ ((code : FaultCode) × (k : ℕ) × faulty lossy limit b code k)
 
-  -- what a reader of b has come to
+  -- what a reader of b has reached
   pub record At (b : List ℕ) : Type 0 where
     pub p : List ℕ
     pub r : List ℕ
@@ -123,7 +123,7 @@ module _ (lossy : Bool) (limit : ℕ) where
       go : (a z : List ℕ) × (b ≡ a ++ z) × Spaced lossy t a × ws z → reading lossy b [] done (tokens t)
       go (a, z, e, ha, hz) = subst (λ o. reading lossy o [] done (tokens t)) (sym e) (value_place lossy t a z ha hz)
 
-  -- where whitespace was passed and a byte comes
+  -- where whitespace was passed and a byte follows
   pub record Here (b : List ℕ) (c : List Kind) (w : Spot) : Type 0 where
     pub p : List ℕ
     pub ts : List Token

@@ -1,4 +1,4 @@
--- Each name that is whole before the byte that a token needs was told before that token.
+-- Each name that is whole before the byte that a token needs was returned before that token.
 use Rattle.std.proofs.Common.{Bool, ◌≡◌, ◌≢◌, ℕ, ◌-◌, ◌≤◌, List, [], ◌∷◌, ◌++◌, length, take, drop, ◌⊎◌, inl, inr, refl, sym, ap, ◌∙◌, subst, arith, append_assoc, append-nil, length-take, length-drop}
 use Rattle.std.proofs.lemmas.List.Folds.{drop_split}
 use Rattle.json_grammar.specs.declared.Kind.{Kind}
@@ -96,10 +96,10 @@ zero_number : (r : List ℕ) → IsLeadingZero r → number (r ++ [])
 zero_number r (inl e) = subst number (sym (append-nil r ∙ e)) (number_by_state (48 ∷ []) refl)
 zero_number r (inr e) = subst number (sym (append-nil r ∙ e)) (number_by_state (45 ∷ 48 ∷ []) refl)
 
--- ---- behind the gap
+-- ---- after the gap
 
 module _ (lossy : Bool) (b : List ℕ) (i j k : ℕ) (c : List Kind) (w : Spot) (ts : List Token) (g : PrefixAt lossy b i c w ts) (l : i ≤ j) (m : j ≤ k) (within : k ≤ length b) (v : viable_prefix lossy (take k b)) where
-  -- the place behind the gap allows the byte there
+  -- the place after the gap allows the byte there
   abbrev Allowing : ℕ → Type 0
   Allowing x = (c' : List Kind) × (w' : Spot) × reading lossy (take j b) c' w' ts × Allows w' c' x
 
@@ -177,7 +177,7 @@ names_before lossy zero b i k c w ts g within v n = by n.begun
         let f = split (piece b n.at k) (zero_some (piece b n.at k) z) in
         whole f.0 f.1 [] f.2 (inr (inl (subst (λ y. number (y ++ [])) f.2 (zero_number (piece b n.at k) z))))
 
--- ---- a name behind the gap
+-- ---- a name after the gap
 
 no_text_name : (ts : List Token) (s : List ℕ) → ts ++ text_token s ∷ [] ≡ ts ++ key_token s ∷ [] → ⊥
 no_text_name ts s e = let f : text_token s ∷ [] ≡ key_token s ∷ [] = append_cancel_left ts (text_token s ∷ []) (key_token s ∷ []) e in absurd (cc)

@@ -10,7 +10,7 @@ use Rattle.json_grammar.specs.Place.{reading, start, open_one, read_value, read_
 use Rattle.json_grammar.proofs.NumberRuns.{number_ends}
 use Rattle.json_grammar.proofs.NumberScan.{number_by_state, ended_whole}
 
--- whether some bytes are a number can be told
+-- whether some bytes are a number is decidable
 pub number_had : (l : List ℕ) → ∥ number l ∥₁ → number l
 number_had l h = told (is_whole_number (number_run at_start l)) refl
   where

@@ -1,4 +1,4 @@
--- The names of the open containers behind some tokens, and which names repeat.
+-- The names of the open containers after some tokens, and which names repeat.
 use Rattle.std.proofs.Common.{◌≡◌, ℕ, List, [], ◌∷◌, ◌++◌, ◌⊎◌, inl, inr, refl, sym, ap, ◌∙◌, subst, append_assoc, append-nil}
 use Rattle.std.specs.List.{Contains}
 use Rattle.std.proofs.lemmas.List.Elements.{Contains-append_left, Contains-push, Contains-push_cases}
@@ -36,7 +36,7 @@ mutual
   keys_pairs (pair_and s t ps) ks a =
       keys_append ((ks ++ s ∷ []) ∷ a) (tokens t) (pairs_tokens ps) ∙ ap (λ o. keys_from o (pairs_tokens ps)) (keys_tree t ((ks ++ s ∷ []) ∷ a)) ∙ keys_pairs ps (ks ++ s ∷ []) a ∙ ap (λ o. o ∷ a) (append_assoc ks (s ∷ []) (names ps))
 
--- behind an object's beginning and some members, the open names are theirs
+-- after an object's beginning and some members, the open names are theirs
 pub keys_inside : (ts : List Token) (ps : Pairs)
     → open_keys (ts ++ begin object ∷ pairs_tokens ps) ≡ names ps
 keys_inside ts ps = ap innermost_keys (keys_append [] ts (begin object ∷ pairs_tokens ps) ∙ keys_pairs ps [] (keys_from [] ts))

@@ -1,4 +1,5 @@
--- A name that repeats in an input: it stands in a viable prefix, and before the longest one ends; and whether there is one.
+-- A name that repeats in an input: it is in a viable prefix, and before the longest one ends; and
+-- whether there is one.
 use Rattle.std.proofs.Common.{Bool, ◌≡◌, ℕ, ◌<◌, ◌≤◌, List, [], ◌∷◌, ◌++◌, length, take, drop, ◌⊎◌, inl, inr, sym, ap, ◌∙◌, subst, arith, append_assoc, append-nil, length-append, IsUtf8}
 use Rattle.std.proofs.lemmas.Bool.{cases_lt}
 use Rattle.std.proofs.lemmas.List.{take-append-drop, take-append-le}
@@ -34,7 +35,7 @@ pub opens_grow : (a p e : List ℕ) → p ≡ a ++ e → opens a ≤ opens p
 opens_grow a p e f = let g = opens_least a e in let h : opens p ≡ opens (a ++ e) = ap opens f in omega arith
 
 module _ (lossy : Bool) where
-  -- a name of an input, cut at p: it is one of p, or goes on behind p
+  -- a name of an input, cut at p: it is one of p, or goes on after p
   pub data Reaches (p z : List ℕ) (k : ℕ) (r : NameAt lossy (p ++ z) k) : Type 0 where
     ends_in : NameAt lossy p k → Reaches p z k r
     goes_past : (y : ℕ) (e : List ℕ)
@@ -60,7 +61,8 @@ module _ (lossy : Bool) where
   pub name_opens : {p : List ℕ} {k : ℕ} (r : NameAt lossy p k) → opens (r.q ++ r.v) ≡ opens r.q
   name_opens r = opens_reading lossy (name_place r) ∙ peak_key lossy 0 r.s r.at ∙ sym (opens_reading lossy r.at)
 
-  -- a name whose quotation mark stands no further than a bracket that opens a level is whole before the bracket
+  -- a name whose quotation mark is no further than a bracket that opens a level is whole before the
+  -- bracket
   pub before_bracket : (b p : List ℕ) (x : ℕ) (rest : List ℕ) (j : ℕ)
       → b ≡ p ++ x ∷ rest
       → opens p < opens (p ++ x ∷ [])
@@ -123,7 +125,7 @@ module _ (lossy : Bool) where
       → repeated lossy p j
   in_longest b p x rest j e n h = in_longest_by (viable_prefix lossy) (shorter_viable lossy) named_prefix b p x rest j e n h
 
-  -- a name that repeats stands in a viable prefix
+  -- a name that repeats is in a viable prefix
   pub repeated_viable : (b : List ℕ) (k : ℕ)
       → repeated lossy b k
       → (p : List ℕ) × (rest : List ℕ) × (b ≡ p ++ rest) × viable_prefix lossy p × repeated lossy p k

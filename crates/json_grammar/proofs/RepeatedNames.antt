@@ -34,9 +34,10 @@ scalar_never (list ts) x h = x
 scalar_never (pairs ps) x h = x
 
 module _ (lossy : Bool) where
-  -- ---- a name that repeats, and where it stands
+  -- ---- a name that repeats, and where it is
 
-  -- in p stands, behind q, where a name may come, the string v of a name that the innermost object has already
+  -- after q in p, where a name may follow, is the string v of a name that the innermost object has
+  -- already
   pub record NameAt (p : List ℕ) (k : ℕ) : Type 0 where
     pub q : List ℕ
     pub v : List ℕ
@@ -52,7 +53,7 @@ module _ (lossy : Bool) where
     pub is_name : Contains (open_keys ts) s
     pub offset : length q ≡ k
 
-  -- behind an object's beginning, whole members and a comma a name may come
+  -- after an object's beginning, whole members and a comma a name may follow
   listed_steps : (o m : List ℕ) (c : List Kind) (w : Spot) (ts : List Token) (ps : Pairs) (s : List ℕ)
       → reading lossy o c w ts
       → TakesValue w
@@ -72,7 +73,7 @@ module _ (lossy : Bool) where
       (append_assoc ts (begin object ∷ []) (pairs_tokens (pair_and u t ps)))
       (steps_reading lossy d))
 
-  -- the same name, with other bytes behind it
+  -- the same name, with other bytes after it
   abbrev pub name_in : {p : List ℕ} {k : ℕ} (p' : List ℕ) (r : NameAt p k) (rest : List ℕ)
       → p' ≡ r.q ++ (r.v ++ rest)
       → NameAt p' k
@@ -112,7 +113,7 @@ module _ (lossy : Bool) where
         offset = r.offset;
       }
 
-  -- what stands behind an object's beginning, where a name may come
+  -- what follows an object's beginning, where a name may follow
   abbrev Listing : List ℕ → List Token → Type 0
   Listing inner new = (new ≡ []) ⊎ ((ps : Pairs) × (new ≡ pairs_tokens ps) × (members lossy ps then byte 44 then ws) inner)
 
@@ -204,7 +205,7 @@ module _ (lossy : Bool) where
       by (longer (x ∷ g) i j) = absurd (n (none_behind g f (sym (tail j))))
       by (shorter x g i j) = (x ∷ g, i)
 
-  -- within a string nothing stands at a place
+  -- no prefix within a string is at a place
   pub inside_string : (q v s d f : List ℕ) (c' : List Kind) (w' : Spot) (ts' : List Token)
       → before_string lossy q
       → string lossy s v
@@ -222,7 +223,7 @@ module _ (lossy : Bool) where
       go : (g : List ℕ) × (c ≡ d ++ g) → ⊥
       go (g, j) = string_inner lossy (q ++ (34 ∷ (c ++ []))) [] it d g c' w' ts' (append-nil c ∙ j) (subst (λ o. reading lossy (q ++ o ∷ d) c' w' ts') (sym (head (sym i ∙ e))) r)
 
-  -- a name of a longer input is one of the prefix, or stands behind it
+  -- a name of a longer input is one of the prefix, or follows it
   pub data Split (p z : List ℕ) (k : ℕ) (r : NameAt (p ++ z) k) : Type 0 where
     in_prefix : NameAt p k → Split p z k r
     in_rest : (e : List ℕ) → r.q ≡ p ++ e → z ≡ e ++ (r.v ++ r.rest) → Split p z k r
@@ -257,7 +258,7 @@ module _ (lossy : Bool) where
 
   -- ---- tokens
 
-  -- behind more bytes of one input more tokens were told
+  -- after more bytes of one input more tokens were returned
   pub reading_more : {c c' : List Kind} {w w' : Spot} {ts ts' : List Token} (a z : List ℕ)
       → reading lossy a c w ts
       → LastEnds w ts z
@@ -318,7 +319,7 @@ module _ (lossy : Bool) where
       by (array ∷ c) t h = absurd (no_array w t.inner t.new n t.in_it)
       by (object ∷ c) t h = at_repeated (q ++ v) (length q) (record { q = q; v = v; rest = []; s = s; c = c; w = w; ts = ts; bytes = ap (λ o. q ++ o) (sym (append-nil v)); at = h; takes = n; is_string = i; is_name = j; offset = refl })
 
-  -- a name that repeats behind one more name is that name, or repeats before it
+  -- a name that repeats after one more name is that name, or repeats before it
   pub data Here (q v : List ℕ) (k : ℕ) (ts : List Token) (s : List ℕ) (r : NameAt (q ++ v) k) : Type 0 where
     before_it : NameAt q k → Here q v k ts s r
     that_one : k ≡ length q → Contains (open_keys ts) s → r.v ≡ v → Here q v k ts s r

@@ -56,7 +56,7 @@ module _ (lossy : Bool) where
   stays V W r b recursion_limit_exceeded k h n = (h, λ u j l. n u j)
   stays V W r b code k h n = (h, n)
 
-  -- the names that repeat and the brackets that open too many levels are never told at once
+  -- the names that repeat and the brackets that open too many levels are never reported at once
   apart : (V : List ℕ → Type 0) (r : Rules) (b : List ℕ) (i j : ℕ)
       → r.unique ≡ true
       → first_repeated lossy b i

@@ -117,7 +117,7 @@ module _ (lossy : Bool) where
 
   -- ---- a fault for the limit of levels
 
-  -- a name that is whole before k was told
+  -- a name that is whole before k was returned
   told_name : (b p z : List ℕ) (i k j : ℕ) (c : List Kind) (w : Spot) (ts : List Token)
       → reading lossy (take i b) c w ts
       → NamesTold lossy b i k
@@ -180,7 +180,7 @@ module _ (lossy : Bool) where
   fault_stands r b i c w ts eof_while_parsing k g f told h = (h, λ u j m. f u (told_name b b [] i k j c w ts g (told u) (sym (append-nil b)) (let e = h.0 in omega arith) m))
   fault_stands r b i c w ts code k g f told h = (h, row_stands r b i c w ts code k g f told h)
 
-  -- ---- each name was told
+  -- ---- each name was returned
 
   pub names_told : (b : List ℕ) (i j k : ℕ) (c c' : List Kind) (w w' : Spot) (ts : List Token)
       → PrefixAt lossy b i c w ts
@@ -194,7 +194,7 @@ module _ (lossy : Bool) where
       name : reading lossy (take n b) cn colon (us ++ key_token s ∷ [])
       name = subst (λ y. reading lossy y cn colon (us ++ key_token s ∷ [])) (sym (take_on b j' n jn)) (read_key s hn tn (piece b j' n, [], sym (append-nil _), sn, tt))
 
-      -- it was told from the first i bytes already
+      -- it was returned from the first i bytes already
       same : i ≤ n → n ≤ j → ts ≡ us ++ key_token s ∷ []
       same l m =
           let a = reading_more lossy (take i b) (piece b i n) g.at (ends_front w ts (piece b i n) (drop n b) (subst (LastEnds w ts) (drop_piece b i n l) g.ends)) (subst (λ y. reading lossy y cn colon (us ++ key_token s ∷ [])) (take_on b i n l) name) in
@@ -226,7 +226,7 @@ module _ (lossy : Bool) where
   word_value m (inr (inl e)) = (boolean true, e)
   word_value m (inr (inr e)) = (boolean false, e)
 
-  -- behind a whole value no name ends
+  -- after a whole value no name ends
   value_no_name : {q : List ℕ} {c c' : List Kind} {w : Spot} {ts ts' : List Token} (v : List ℕ) (t : Tree)
       → reading lossy q c w ts
       → TakesValue w

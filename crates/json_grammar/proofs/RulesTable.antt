@@ -1,4 +1,5 @@
--- Where neither a level too many nor a repeated name is told, the table of the other faults holds as it stands.
+-- Where neither a level too many nor a repeated name is reported, the table of the other faults
+-- holds unchanged.
 use Rattle.std.proofs.Common.{Bool, ◌≡◌, ℕ, ◌≤◌, List, [], ◌∷◌, ◌++◌, length, ◌⊎◌, inl, inr, refl, sym, ap, ◌∙◌, subst, arith, append_assoc, append-nil, IsUtf8}
 use Rattle.json_grammar.specs.Tree.{Tree}
 use Rattle.json_grammar.specs.Grammar.{is_text}
@@ -27,7 +28,8 @@ module _ (lossy : Bool) where
       → ⊥
   not_viable b p x l v = l.no_longer (shorter_viable lossy (p ++ x ∷ []) l.rest (subst (viable_prefix lossy) (l.bytes ∙ sym (append_assoc p (x ∷ []) l.rest)) v))
 
-  -- how low the longest prefix is, and that no name repeats, where neither a level too many nor a repeated name is told
+  -- how low the longest prefix is, and that no name repeats, where neither a level too many nor a
+  -- repeated name is reported
   data Low (r : Rules) (b : List ℕ) : Type 0 where
     fitting : (t : Tree) → is_text lossy t b → Low r b
     ended : viable_prefix lossy b → opens b ≤ r.limit → no_repeat lossy r b → Low r b

@@ -27,7 +27,7 @@ pub accepts_back : (s : TokenState) (ts us : List Token) → Accepts s (ts ++ us
 accepts_back s [] us a = a
 accepts_back s (x ∷ ts) us a = accepts_back (after_token s x) ts us a.1
 
--- nothing comes after a whole value
+-- nothing follows a whole value
 pub none_after : (x : Token) → MayCome (state_in []) x → ⊥
 none_after null_token m = m
 none_after (boolean_token b) m = m
@@ -43,7 +43,8 @@ nothing_after (x ∷ ts) a = absurd (none_after x a.0)
 
 -- ---- the containers that are open
 
--- nothing comes next where no container is open, and nowhere else: so it is in each state but the first
+-- nothing may follow where no container is open, and nowhere else: so it is in each state but the
+-- first
 abbrev pub Agrees : TokenState → Type 0
 Agrees s = s.expected ≡ nothing ↔ s.opened ≡ []
 
@@ -198,7 +199,7 @@ place_accepts (read_key {c = c} {w = w} {ts = ts} s h n q) =
     accepts_append initial_state ts (key_token s ∷ []) (place_accepts h) (after_place w c (after_tokens initial_state ts) (place_state h) NameMayCome (name_there w c n), tt)
 place_accepts (read_colon h q) = place_accepts h
 
--- nothing comes next after a whole value alone
+-- nothing may follow after a whole value alone
 pub whole_place : (w : Spot) (c : List Kind) → expected_at w c ≡ nothing → (w ≡ done) × (c ≡ [])
 whole_place done [] e = (refl, refl)
 whole_place done (array ∷ c) e = absurd (cc)

@@ -19,7 +19,8 @@ IsScalar (text s) = Unit {0}
 IsScalar (list ts) = ⊥
 IsScalar (pairs ps) = ⊥
 
--- the prefix stands in the open containers, the innermost first, at the spot, behind the tokens: as `reading`, by one token or some whitespace at a time
+-- the open containers after the prefix, the innermost first, its state and its tokens: as
+-- `reading`, but by one token or some whitespace at a time
 pub data TokenSteps (lossy : Bool) : List ℕ → List Kind → Spot → List Token → Type 0 where
   at_start : TokenSteps lossy [] [] at_value []
   by_space : {p : List ℕ} {c : List Kind} {w : Spot} {ts : List Token} (z : List ℕ)
@@ -65,7 +66,7 @@ module _ (lossy : Bool) where
   steps_reading (by_key s v h n i) = read_key s (steps_reading h) n (v, [], sym (append-nil v), i, tt)
   steps_reading (by_colon h) = read_colon (steps_reading h) (58 ∷ [], [], refl, refl, tt)
 
-  -- behind p and u, and then a, is behind p and both
+  -- after p and u, and then a, is after p and both
   past : (p u a b : List ℕ) (c : List Kind) (w : Spot) (ts : List Token)
       → b ≡ u ++ a
       → TokenSteps lossy ((p ++ u) ++ a) c w ts
@@ -174,7 +175,7 @@ module _ (lossy : Bool) where
     more_members_steps (pair_and s t us) p z c ts h (x, q, e, hx, i) =
         past p (44 ∷ []) q z (object ∷ c) done _ (e ∙ ap (λ o. o ++ q) hx) (members_by s t us (value_steps t) (more_members_steps us) (p ++ 44 ∷ []) q c key ts (by_comma object h) takes_key i)
 
-  -- members behind an object's beginning, at least one
+  -- members after an object's beginning, at least one
   pub some_members_steps : (s : List ℕ) (t : Tree) (us : Pairs) (p b : List ℕ) (c : List Kind) (w : Spot) (ts : List Token)
       → TokenSteps lossy p (object ∷ c) w ts
       → TakesKey w

@@ -1,5 +1,6 @@
--- Examples: texts with their trees, and inputs that are no text with their faults.
--- An input within `codes` is written as it stands in a file, but that a backslash stands before each quote and each backslash of it.
+-- Examples: texts with their trees, and inputs that are no text with their faults. An input within
+-- `codes` is written as it is in a file, but that a backslash precedes each quote and each
+-- backslash of it.
 use Rattle.std.specs.Prelude.{◌≡◌, ℕ, zero, suc, ◌≤◌, List, [], ◌∷◌, ◌++◌, replicate, true, false, codes}
 use Rattle.json_grammar.specs.declared.Kind.TheVariants.{Array as array, Object as object}
 use Rattle.json_grammar.specs.Tree.{Tree, null, boolean, num, text, list, pairs, no_trees, tree_and, no_pairs, list_trees, list_pairs, depth, num_token, begin, end, key_token, tokens}
@@ -33,11 +34,11 @@ NumbersText =
     IsTextOf (list (list_trees (num (codes "-0") ∷ num (codes "1.0") ∷ num (codes "1e400") ∷ num (codes "12345678901234567890123") ∷ num (codes "18446744073709551615") ∷ [])))
     (codes "[-0,1.0,1e400,12345678901234567890123,18446744073709551615]")
 
--- escapes stand for U+1F604, `A`, `/` and U+0000 (section 7)
+-- escapes represent U+1F604, `A`, `/` and U+0000 (section 7)
 abbrev pub EscapesText : Type 0
 EscapesText = IsTextOf (text (0xf0 ∷ 0x9f ∷ 0x98 ∷ 0x84 ∷ 0x41 ∷ 0x2f ∷ 0 ∷ [])) (codes "\"\\ud83d\\ude04\\u0041\\/\\u0000\"")
 
--- a name may stand twice, and both members are kept (section 4)
+-- two members may have one name, and both are kept (section 4)
 abbrev pub RepeatedNamesText : Type 0
 RepeatedNamesText = IsTextOf (pairs (list_pairs ((codes "a", num (codes "1")) ∷ (codes "a", null) ∷ []))) (codes "{\"a\":1,\"a\":null}")
 
@@ -59,7 +60,7 @@ in_brackets (suc n) b = 91 ∷ (in_brackets n b ++ 93 ∷ [])
 abbrev pub DeepText : Type 0
 DeepText = IsTextOf (in_arrays 253 (list no_trees)) (in_brackets 253 (codes "[]"))
 
--- in the lossy mode an escape of a surrogate that stands alone is U+FFFD (section 8.2)
+-- in the lossy mode an escape of a lone surrogate is U+FFFD (section 8.2)
 abbrev pub LossyText : Type 0
 LossyText = is_text true (text (0xef ∷ 0xbf ∷ 0xbd ∷ codes "abc")) (codes "\"\\ud800abc\"")
 
@@ -77,15 +78,15 @@ LiteralRefused = IsRefused (codes "nulx") invalid_literal 3
 abbrev pub LeadingZeroRefused : Type 0
 LeadingZeroRefused = IsRefused (codes "[01]") invalid_number 2
 
--- a colon stands behind a name (section 4)
+-- a colon follows a name (section 4)
 abbrev pub ColonRefused : Type 0
 ColonRefused = IsRefused (codes "{\"a\" 1}") expected_colon 5
 
--- a comma stands between two elements (section 5)
+-- a comma separates two elements (section 5)
 abbrev pub ElementEndRefused : Type 0
 ElementEndRefused = IsRefused (codes "[1x") expected_array_comma_or_end 2
 
--- a comma stands between two members (section 4)
+-- a comma separates two members (section 4)
 abbrev pub MemberEndRefused : Type 0
 MemberEndRefused = IsRefused (codes "{\"a\":1 \"b\"") expected_object_comma_or_end 7
 
@@ -93,15 +94,15 @@ MemberEndRefused = IsRefused (codes "{\"a\":1 \"b\"") expected_object_comma_or_e
 abbrev pub NameRefused : Type 0
 NameRefused = IsRefused (codes "{1}") expect_object_key_or_end 1
 
--- a member stands behind a comma of an object (section 4)
+-- a member follows a comma of an object (section 4)
 abbrev pub TrailingCommaRefused : Type 0
 TrailingCommaRefused = IsRefused (codes "{\"a\":1,}") trailing_comma 7
 
--- an element stands behind a comma of an array (section 5)
+-- an element follows a comma of an array (section 5)
 abbrev pub ElementRefused : Type 0
 ElementRefused = IsRefused (codes "[1,]") invalid_json_value 3
 
--- no byte order mark stands before a text (section 8.1)
+-- no byte order mark precedes a text (section 8.1)
 abbrev pub ByteOrderMarkRefused : Type 0
 ByteOrderMarkRefused = IsRefused (0xef ∷ 0xbb ∷ 0xbf ∷ codes "1") invalid_json_value 0
 
@@ -113,11 +114,11 @@ ControlCharacterRefused = IsRefused (34 ∷ 10 ∷ 34 ∷ []) control_character 
 abbrev pub EscapeRefused : Type 0
 EscapeRefused = IsRefused (codes "\"\\x\"") invalid_escape 2
 
--- a high surrogate and a low one stand together (section 8.2)
+-- a high surrogate is followed by a low one (section 8.2)
 abbrev pub SurrogateRefused : Type 0
 SurrogateRefused = IsRefused (codes "\"\\ud800abc\"") invalid_surrogate 7 × IsRefused (codes "\"\\udc00\"") invalid_surrogate 4
 
--- whitespace alone stands behind a text's value (section 2)
+-- whitespace alone follows a text's value (section 2)
 abbrev pub TrailingCharactersRefused : Type 0
 TrailingCharactersRefused = IsRefused (codes "{} x") trailing_characters 3
 
@@ -125,7 +126,7 @@ TrailingCharactersRefused = IsRefused (codes "{} x") trailing_characters 3
 abbrev pub TooDeepRefused : Type 0
 TooDeepRefused = IsRefused (replicate 300 91) recursion_limit_exceeded 254
 
--- ---- what is counted and told of a tree
+-- ---- what is counted and returned of a tree
 
 -- the tree of `{"a":[1,{}]}`
 abbrev pub small_tree : Tree

@@ -1,6 +1,8 @@
--- Which fault an input has that is no text of so many levels at most, and at which offset: at the first byte with which no text goes on, at its end,
--- or at the bracket that opens a level too many. Throughout p is what stands before that byte, a viable prefix, and x is the byte itself.
--- The input is to be UTF-8. Whoever tells a fault says so beside it, since the beginning of other bytes may have a fault too.
+-- Which fault an input has that is no text of at most that many levels, and at which offset: at the
+-- first byte with which no text goes on, at its end, or at the bracket that opens a level too many.
+-- Throughout p is what precedes that byte, a viable prefix, and x is the byte itself. The input is
+-- to be UTF-8. Whoever reports a fault says so beside it, since a prefix of other bytes may have a
+-- fault too.
 use Rattle.std.specs.Prelude.{◌≡◌, ◌≢◌, ◌⊎◌, ℕ, suc, pred, max, ◌<◌, ◌≤◌, List, [], ◌∷◌, ◌++◌, length, take, drop, Bool, true, false, cond, ◌==◌, ◌||◌, Some}
 use Rattle.json_grammar.specs.declared.Kind.{Kind}
 use Rattle.json_grammar.specs.declared.Kind.TheVariants.{Array as array, Object as object}
@@ -13,19 +15,19 @@ use Rattle.json_grammar.specs.Lexeme.{TreeEnds}
 
 -- ---- how many brackets are open at once, strings aside
 
--- a byte stands outside strings, within one, or behind a backslash there
+-- a byte is outside strings, within one, or after a backslash there
 pub data Mode : Type 0 where
   outside : Mode
   inside : Mode
   escaped : Mode
 
--- where the next byte stands: a quotation mark begins and ends a string, but not behind a backslash
+-- the mode of the next byte: a quotation mark begins and ends a string, but not after a backslash
 abbrev pub mode_after : Mode → ℕ → Mode
 mode_after outside x = cond (x == 34) inside outside
 mode_after inside x = cond (x == 34) outside (cond (x == 92) escaped inside)
 mode_after escaped x = inside
 
--- how many brackets are open behind a byte, where d are open before it
+-- how many brackets are open after a byte, where d are open before it
 abbrev pub depth_after : Mode → ℕ → ℕ → ℕ
 depth_after outside d x = cond ((x == 91) || (x == 123)) (suc d) (cond ((x == 93) || (x == 125)) (pred d) d)
 depth_after inside d x = d
@@ -68,32 +70,33 @@ pub data FaultCode : Type 0 where
   invalid_literal : FaultCode
   -- a number breaks off, or has a leading zero
   invalid_number : FaultCode
-  -- no colon stands behind a name
+  -- no colon follows a name
   expected_colon : FaultCode
-  -- neither a comma nor `]` stands behind an element
+  -- neither a comma nor `]` follows an element
   expected_array_comma_or_end : FaultCode
-  -- neither a comma nor `}` stands behind a member
+  -- neither a comma nor `}` follows a member
   expected_object_comma_or_end : FaultCode
-  -- neither a name nor `}` stands behind `{`, or no name behind a comma of an object
+  -- neither a name nor `}` follows `{`, or no name after a comma of an object
   expect_object_key_or_end : FaultCode
-  -- `}` stands behind a comma of an object
+  -- `}` follows a comma of an object
   trailing_comma : FaultCode
-  -- no value begins where one must, or neither a value nor `]` stands behind `[`
+  -- no value begins where one must, or neither a value nor `]` follows `[`
   invalid_json_value : FaultCode
-  -- a control character, below U+0020, stands unescaped in a string
+  -- a string has an unescaped control character, one below U+0020
   control_character : FaultCode
-  -- no escape goes on so behind a backslash
+  -- no escape goes on so after a backslash
   invalid_escape : FaultCode
   -- an escape is that of a surrogate outside a pair
   invalid_surrogate : FaultCode
-  -- more than whitespace stands behind a whole text
+  -- more than whitespace follows a whole text
   trailing_characters : FaultCode
   -- a bracket opens more levels than are allowed
   recursion_limit_exceeded : FaultCode
-  -- a name repeats an earlier name of its object, which is told only by a reader that was asked for unique names
+  -- a name repeats an earlier name of its object, which is reported only by a reader that was asked
+  -- for unique names
   duplicate_key : FaultCode
 
--- p is the longest prefix of b that is viable, in whichever sense, and x is the byte behind it
+-- p is the longest prefix of b that is viable, in whichever sense, and x is the byte after it
 pub record longest (viable : List ℕ → Type 0) (b p : List ℕ) (x : ℕ) : Type 0 where
   pub rest : List ℕ
   pub bytes : b ≡ p ++ x ∷ rest
@@ -107,11 +110,11 @@ too_deep viable limit b k =
     × (limit < opens (p ++ x ∷ []))
 
 module _ (lossy : Bool) where
-  -- a value may begin behind q
+  -- a value may begin after q
   abbrev pub before_value : List ℕ → Type 0
   before_value q = (c : List Kind) × (w : Spot) × place lossy q c w × TakesValue w
 
-  -- a value or a key may begin behind q
+  -- a value or a key may begin after q
   abbrev pub before_string : List ℕ → Type 0
   before_string q = (c : List Kind) × (w : Spot) × place lossy q c w × (TakesValue w ⊎ TakesKey w)
 
@@ -145,7 +148,8 @@ module _ (lossy : Bool) where
     pub at : before_value q
     pub zero : (r ≡ 48 ∷ []) ⊎ (r ≡ 45 ∷ 48 ∷ [])
 
-  -- p ends within a string, behind whole characters c and in e, which begins an atom and is not the whole of it
+  -- p ends within a string, after whole characters c and in e, which begins an atom and is not the
+  -- whole of it
   pub record in_string (p e : List ℕ) : Type 0 where
     pub q : List ℕ
     pub c : List ℕ
@@ -157,11 +161,11 @@ module _ (lossy : Bool) where
     pub goes_on : Atom lossy (e ++ rest)
     pub unfinished : rest ≢ []
 
-  -- a number breaks off before x, or its leading zero stands before the digit x
+  -- a number breaks off before x, or its leading zero precedes the digit x
   abbrev pub is_bad_number : List ℕ → ℕ → Type 0
   is_bad_number p x = in_number p ⊎ (ends_in_zero p × IsDigit x)
 
-  -- the code that is told of p and x, row by row; no two rows have the same p and x
+  -- the code that is reported for p and x, row by row; no two rows have the same p and x
   abbrev pub row : FaultCode → List ℕ → ℕ → Type 0
   row eof_while_parsing p x = ⊥
   row invalid_literal p x = in_word p
@@ -185,11 +189,12 @@ module _ (lossy : Bool) where
   fault_by viable whole limit b eof_while_parsing k = (k ≡ length b) × viable b × (opens b ≤ limit) × ¬ whole
   fault_by viable whole limit b code k = (p : List ℕ) × (x : ℕ) × longest viable b p x × (length p ≡ k) × (opens p ≤ limit) × row code p x
 
-  -- b is no text of so many levels at most, and has this fault at the offset k
+  -- b is no text of at most that many levels, and has this fault at the offset k
   abbrev pub fault : ℕ → List ℕ → FaultCode → ℕ → Type 0
   fault limit b code k = fault_by (viable_prefix lossy) ((t : Tree) × is_text lossy t b) limit b code k
 
-  -- the same with less said, which comes to the same: no text goes on so, but it is not said that some text begins with p
+  -- the same with less said, which is equivalent: no text goes on so, but it is not said that some
+  -- text begins with p
   abbrev pub faulty : ℕ → List ℕ → FaultCode → ℕ → Type 0
   faulty limit b recursion_limit_exceeded k =
       (p : List ℕ) × (x : ℕ) × (rest : List ℕ) × (c : List Kind) × (w : Spot) × (b ≡ p ++ x ∷ rest) × (length p ≡ k) × place lossy (p ++ x ∷ []) c w
@@ -217,7 +222,8 @@ module _ (lossy : Bool) where
     pub ends : TreeEnds t (drop k b)
     pub no_digit : (x : ℕ) (m : List ℕ) → drop k b ≡ x ∷ m → IsDigit x → (t ≡ num (48 ∷ [])) ⊎ (t ≡ num (45 ∷ 48 ∷ [])) → ⊥
 
-  -- b reads as no value of so many levels at most, and has this fault at the offset k; nothing is wrong behind a value
+  -- b reads as no value of at most that many levels, and has this fault at the offset k; nothing is
+  -- wrong after a value
   abbrev pub value_fault : ℕ → List ℕ → FaultCode → ℕ → Type 0
   value_fault limit b trailing_characters k = ⊥
   value_fault limit b code k = fault_by viable_value ((t : Tree) × (k : ℕ) × reads b t k) limit b code k

@@ -43,7 +43,7 @@ OpensIsDepth =
 
 -- ---- prefixes
 
--- what stands at a place is a viable prefix: some text begins with it
+-- what is at a place is a viable prefix: some text begins with it
 abbrev pub PlaceIsViable : Type 0
 PlaceIsViable = (lossy : Bool) (p : List ℕ) (c : List Kind) (w : Spot) (ts : List Token) → reading lossy p c w ts → viable_prefix lossy p
 
@@ -51,7 +51,7 @@ PlaceIsViable = (lossy : Bool) (p : List ℕ) (c : List Kind) (w : Spot) (ts : L
 abbrev pub TokenIsViable : Type 0
 TokenIsViable = (lossy : Bool) (p : List ℕ) → in_word lossy p ⊎ (in_number lossy p ⊎ ((e : List ℕ) × in_string lossy p e)) → viable_prefix lossy p
 
--- a prefix stands at one place at most, behind one row of tokens
+-- a prefix is at one place at most, and has one row of tokens
 abbrev pub OnePlace : Type 0
 OnePlace =
     (lossy : Bool) (p : List ℕ) (c c' : List Kind) (w w' : Spot) (ts ts' : List Token)

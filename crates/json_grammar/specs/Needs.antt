@@ -1,6 +1,6 @@
 -- Which token of a text needs the byte at an offset. A reader that hands out tokens one after
--- another is to refuse a byte at the token that needs it, and not before: then between what was taken
--- and that byte stand a gap and the beginning of one token, and nothing else.
+-- another is to refuse a byte at the token that needs it, and not before: then only a gap and the
+-- beginning of one token are between what was taken and that byte.
 use Rattle.std.specs.Prelude.{◌≡◌, ◌≢◌, ◌⊎◌, ℕ, ◌≤◌, List, [], ◌∷◌, ◌++◌, length, take, Bool}
 use Rattle.json_grammar.specs.declared.Kind.{Kind}
 use Rattle.json_grammar.specs.declared.Spot.{Spot}
@@ -10,7 +10,7 @@ use Rattle.json_grammar.specs.Fault.{is_word}
 use Rattle.json_grammar.specs.Place.{TakesKey, reading, viable_prefix}
 use Rattle.json_grammar.specs.Given.{piece, PrefixAt}
 
--- whitespace, with at most one comma or colon before, in or behind it (RFC 8259, section 2)
+-- whitespace, with at most one comma or colon before, in or after it (RFC 8259, section 2)
 pub record IsGap (g : List ℕ) : Type 0 where
   pub before : List ℕ
   pub mark : List ℕ
@@ -32,20 +32,20 @@ pub record BeginsToken (lossy : Bool) (r : List ℕ) : Type 0 where
 abbrev pub IsLeadingZero : List ℕ → Type 0
 IsLeadingZero r = (r ≡ 48 ∷ []) ⊎ (r ≡ 45 ∷ 48 ∷ [])
 
--- what may stand of a token before the byte that it needs: nothing, or its beginning; or a leading
--- zero, where `zero` says that a digit may be refused behind one
+-- what a token may have before the byte that it needs: nothing, or its beginning; or a leading
+-- zero, where `zero` says that a digit may be refused after one
 abbrev pub IsBegun : Bool → Type 0 → List ℕ → Type 0
 IsBegun lossy zero r = (r ≡ []) ⊎ (BeginsToken lossy r ⊎ (zero × IsLeadingZero r))
 
--- behind the first i bytes of b comes the token that needs the byte at k:
--- a gap stands up to some offset, and from there up to k what is begun of the token
+-- the next token after the first i bytes of b needs the byte at k: a gap extends up to some offset,
+-- and from there up to k the beginning of the token
 pub record NeedsByte (lossy : Bool) (zero : Type 0) (b : List ℕ) (i k : ℕ) : Type 0 where
   pub at : ℕ
   pub order : (i ≤ at) × (at ≤ k)
   pub gap : IsGap (piece b i at)
   pub begun : IsBegun lossy zero (piece b at k)
 
--- a gap has no token: behind one, in what begins some text, stand the tokens that stand before it
+-- a gap has no token: in a prefix of some text the tokens after one are those before it
 abbrev pub GapHasNoToken : Type 0
 GapHasNoToken =
     (lossy : Bool) (b : List ℕ) (i j : ℕ) (c : List Kind) (w : Spot) (ts : List Token)
@@ -55,7 +55,7 @@ GapHasNoToken =
     → viable_prefix lossy (take j b)
     → (c' : List Kind) × (w' : Spot) × reading lossy (take j b) c' w' ts
 
--- where a name is the next token behind a gap, the tokens before it are all that stand before its opening
+-- where a name is the next token after a gap, the tokens before it are all that precede its opening
 -- quotation mark
 abbrev pub NameBehindGap : Type 0
 NameBehindGap =

@@ -12,7 +12,8 @@ use Rattle.json_grammar.specs.Fault.{opens, FaultCode, eof_while_parsing, traili
 
 -- ---- with which bytes no text goes on
 
--- where neither a byte that the spot allows nor the end of a whole text comes, whitespace aside, no text begins so
+-- where neither a byte that the state allows nor the end of a whole text follows, whitespace aside,
+-- no text begins so
 abbrev pub StuckAtPlace : Type 0
 StuckAtPlace =
     (lossy : Bool) (b : List ℕ) (i j : ℕ) (c : List Kind) (w : Spot) (ts : List Token)
@@ -80,7 +81,8 @@ GivenReads =
     → ((x : ℕ) (m : List ℕ) → drop (k + 1) b ≡ x ∷ m → IsDigit x → ¬ ((ts ≡ num_token (48 ∷ []) ∷ []) ⊎ (ts ≡ num_token (45 ∷ 48 ∷ []) ∷ [])))
     → (t : Tree) × reads lossy b t (k + 1) × (ts ≡ tokens t)
 
--- a fault of an input is its fault as a value, but for the end of the input and for what stands behind a whole value
+-- a fault of an input is its fault as a value, but for the end of the input and for what follows a
+-- whole value
 abbrev pub FaultyIsValueFault : Type 0
 FaultyIsValueFault =
     (lossy : Bool) (limit : ℕ) (b : List ℕ) (code : FaultCode) (k : ℕ)

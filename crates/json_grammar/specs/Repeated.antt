@@ -48,12 +48,12 @@ abbrev pub outer_keys : List Keys → List Keys
 outer_keys [] = []
 outer_keys (ks ∷ outer) = outer
 
--- behind one more name of the innermost
+-- after one more name of the innermost
 abbrev pub with_key : List Keys → List ℕ → List Keys
 with_key [] s = []
 with_key (ks ∷ outer) s = (ks ++ s ∷ []) ∷ outer
 
--- behind one more token
+-- after one more token
 abbrev pub keys_past : List Keys → Token → List Keys
 keys_past all null_token = all
 keys_past all (boolean_token b) = all
@@ -63,12 +63,12 @@ keys_past all (begin k) = [] ∷ all
 keys_past all (end k) = outer_keys all
 keys_past all (key_token s) = with_key all s
 
--- behind one token after another
+-- after one token after another
 abbrev pub keys_from : List Keys → List Token → List Keys
 keys_from all [] = all
 keys_from all (x ∷ ts) = keys_from (keys_past all x) ts
 
--- behind these tokens, those of the innermost
+-- after these tokens, those of the innermost
 abbrev pub open_keys : List Token → Keys
 open_keys ts = innermost_keys (keys_from [] ts)
 
@@ -82,7 +82,7 @@ RepeatsAt all (begin k) = ⊥
 RepeatsAt all (end k) = ⊥
 RepeatsAt all (key_token s) = Contains (innermost_keys all) s
 
--- one of the tokens is such a name, where these names stand before them
+-- one of the tokens is such a name, where these names precede them
 abbrev pub TokensRepeatFrom : List Keys → List Token → Type 0
 TokensRepeatFrom all [] = ⊥
 TokensRepeatFrom all (x ∷ ts) = RepeatsAt all x ⊎ TokensRepeatFrom (keys_past all x) ts
@@ -94,15 +94,15 @@ TokensRepeat ts = TokensRepeatFrom [] ts
 -- ---- in bytes
 
 module _ (lossy : Bool) where
-  -- p begins with an object's beginning, and a name whose opening quotation mark stands at the offset k
+  -- p begins with an object's beginning, and a name whose opening quotation mark is at the offset k
   -- repeats an earlier name of that object
   pub record repeated (p : List ℕ) (k : ℕ) : Type 0 where
-    -- what stands before the object
+    -- what precedes the object
     pub before : List ℕ
-    -- behind its `{`: some members, a comma behind the last one, and whitespace
+    -- after its `{`: some members, a comma after the last one, and whitespace
     pub inside : List ℕ
     pub earlier : Pairs
-    -- the name as it is written, what it spells, and what stands behind it
+    -- the name as it is written, what it spells, and what follows it
     pub written : List ℕ
     pub name : List ℕ
     pub rest : List ℕ

@@ -25,11 +25,10 @@ module _ (lossy : Bool) where
   abbrev pub no_repeat : Rules → List ℕ → Type 0
   no_repeat rules b = rules.unique ≡ true → (j : ℕ) → ¬ (repeated lossy b j)
 
-  -- the fault of b at the offset k by the rules, where `viable` says which prefixes are viable, and `whole`
-  -- that b lacks nothing.
-  -- Of a bracket that opens a level too many and a name that repeats the one is told that comes first, and
-  -- either before all else.
-  -- A name that repeats in b repeats in its longest viable prefix, so `repeated lossy b` speaks of that.
+  -- the fault of b at the offset k by the rules, where `viable` says which prefixes are viable, and
+  -- `whole` that b lacks nothing. Of a bracket that opens a level too many and a name that repeats,
+  -- the first one is reported, and either before all else. A name that repeats in b repeats in its
+  -- longest viable prefix, so `repeated lossy b` speaks of that.
   abbrev pub fault_with_by : (List ℕ → Type 0) → Type 0 → Rules → List ℕ → FaultCode → ℕ → Type 0
   fault_with_by viable whole rules b duplicate_key k =
       (rules.unique ≡ true) × first_repeated lossy b k × (opens (take k b) ≤ rules.limit)
@@ -43,8 +42,8 @@ module _ (lossy : Bool) where
   fault_with rules b code k =
       fault_with_by (viable_prefix lossy) ((t : Tree) × is_text lossy t b) rules b code k
 
-  -- b reads as no value that fits the rules, and has this fault at the offset k; nothing is wrong behind a
-  -- value
+  -- b reads as no value that fits the rules, and has this fault at the offset k; nothing is wrong
+  -- after a value
   abbrev pub value_fault_with : Rules → List ℕ → FaultCode → ℕ → Type 0
   value_fault_with rules b trailing_characters k = ⊥
   value_fault_with rules b code k =

@@ -1,13 +1,12 @@
--- Examples of inputs that are refused by rules, and of one that is not.
--- An input within `codes` is written as it stands in a file, but that a backslash stands before each quote
--- and each backslash of it.
+-- Examples of inputs that are refused by rules, and of one that is not. An input within `codes` is
+-- written as it is in a file, but that a backslash precedes each quote and each backslash of it.
 use Rattle.std.specs.Prelude.{◌≡◌, ℕ, List, [], ◌∷◌, true, false, codes}
 use Rattle.json_grammar.specs.Tree.{Tree, num, pairs, list_pairs}
 use Rattle.json_grammar.specs.Grammar.{is_text}
 use Rattle.json_grammar.specs.Fault.{FaultCode, eof_while_parsing, recursion_limit_exceeded, duplicate_key}
 use Rattle.json_grammar.specs.Rules.{Rules, fits, fault_with}
 
--- at most so many levels, and the names of each object differ
+-- at most that many levels, and the names of each object differ
 abbrev pub differing : ℕ → Rules
 differing limit = record { limit = limit; unique = true }
 
@@ -23,8 +22,8 @@ pub record IsTextBy (rules : Rules) (t : Tree) (b : List ℕ) : Type 0 where
   pub is_fit : fits t rules
   pub no_fault : (code : FaultCode) (k : ℕ) → ¬ (fault_with false rules b code k)
 
--- names are compared by what they spell, and the second one is told at its opening quotation mark, whatever
--- stands behind it
+-- names are compared by what they spell, and the second one is reported at its opening quotation
+-- mark, whatever follows it
 abbrev pub RepeatedNameRefused : Type 0
 RepeatedNameRefused =
     IsRefusedBy (differing 254) (codes "{\"a\":1,\"b\":2,\"\\u0061\":3}") duplicate_key 13
@@ -34,7 +33,7 @@ RepeatedNameRefused =
 abbrev pub BrokenNameRefused : Type 0
 BrokenNameRefused = IsRefusedBy (differing 254) (codes "{\"a\":1,\"a") eof_while_parsing 9
 
--- of a level too many and a repeated name the one is told that comes first
+-- of a level too many and a repeated name the first one is reported
 abbrev pub FirstRefused : Type 0
 FirstRefused =
     IsRefusedBy (differing 1) (codes "[{\"a\":1,\"a\":2}]") recursion_limit_exceeded 1

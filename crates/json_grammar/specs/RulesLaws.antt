@@ -65,7 +65,8 @@ FaultWithLimit =
     → fault_with lossy (record { limit = limit; unique = false }) b code k
     ↔ fault lossy limit b code k
 
--- where neither a level too many nor a repeated name is told, the table of the other faults holds as it stands
+-- where neither a level too many nor a repeated name is reported, the table of the other faults
+-- holds unchanged
 abbrev pub FaultTable : Type 0
 FaultTable =
     (lossy : Bool) (rules : Rules) (b : List ℕ)

@@ -23,20 +23,20 @@ OneTokenMore =
     (ts : List Token) (x : Token)
     → TokensRepeat (ts ++ x ∷ []) ↔ (TokensRepeat ts ⊎ RepeatsAt (keys_from [] ts) x)
 
--- behind an object's beginning and whole members the open names are theirs
+-- after an object's beginning and whole members the open names are theirs
 abbrev pub OpenKeysInside : Type 0
 OpenKeysInside =
     (ts : List Token) (ps : Pairs) → open_keys (ts ++ begin object ∷ pairs_tokens ps) ≡ names ps
 
--- so of an object that stands open with some whole members and one more name: that name is the last token,
--- and those are the names before it
+-- an open object with some whole members and one more name: that name is the last token, and those
+-- are the names before it
 abbrev pub KeyInside : Type 0
 KeyInside =
     (ts us : List Token) (ps : Pairs) (s k : List ℕ)
     → ts ++ key_token s ∷ [] ≡ us ++ begin object ∷ (pairs_tokens ps ++ key_token k ∷ [])
     → (s ≡ k) × (open_keys ts ≡ names ps)
 
--- what stands at a place repeats a name exactly where its tokens do
+-- what is at a place repeats a name exactly where its tokens do
 abbrev pub PlaceRepeats : Type 0
 PlaceRepeats =
     (lossy : Bool) (p : List ℕ) (c : List Kind) (w : Spot) (ts : List Token)
@@ -72,8 +72,8 @@ KeyRefused =
     → Contains (open_keys ts) s
     → fault_with lossy rules b duplicate_key j
 
--- a fault for the limit of levels is the one for the rules, where no name told so far repeats and each name
--- that is whole before the fault was told
+-- a fault for the limit of levels is the one for the rules, where no name returned so far repeats
+-- and each name that is whole before the fault was returned
 abbrev pub FaultStands : Type 0
 FaultStands =
     (lossy : Bool) (rules : Rules) (b : List ℕ) (i : ℕ)
@@ -84,8 +84,8 @@ FaultStands =
     → fault lossy rules.limit b code k
     → fault_with lossy rules b code k
 
--- each name that is whole before k was told where no more was passed since than whitespace, a comma or a
--- colon, up to j, and no name ends behind that
+-- each name that is whole before k was returned if no more was passed since than whitespace, a
+-- comma or a colon, up to j, and no name ends after that
 abbrev pub NamesAreTold : Type 0
 NamesAreTold =
     (lossy : Bool) (b : List ℕ) (i j k : ℕ) (c c' : List Kind) (w w' : Spot) (ts : List Token)

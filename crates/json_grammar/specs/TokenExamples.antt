@@ -1,4 +1,4 @@
--- Examples of the tokens that may come next.
+-- Examples of the tokens that may follow.
 use Rattle.std.specs.Prelude.{◌≡◌, List, [], ◌∷◌, codes}
 use Rattle.json_grammar.specs.declared.Kind.TheVariants.{Array as array, Object as object}
 use Rattle.json_grammar.specs.Tree.{Token, null_token, num_token, begin, end, key_token}
@@ -20,19 +20,19 @@ WithinObject =
     Becomes (begin object ∷ key_token (codes "a") ∷ begin array ∷ num_token (codes "1") ∷ end array ∷ [])
     (record { opened = object ∷ []; expected = name_or_end })
 
--- after `{"a"` a value comes, and no end
+-- after `{"a"` a value may follow, and no end
 abbrev pub AfterName : Type 0
 AfterName =
     Becomes (begin object ∷ key_token (codes "a") ∷ []) (record { opened = object ∷ []; expected = a_value })
     × ¬ (Accepts initial_state (begin object ∷ key_token (codes "a") ∷ end object ∷ []))
 
--- after `[]` nothing comes
+-- after `[]` nothing may follow
 abbrev pub AfterWhole : Type 0
 AfterWhole =
     Becomes (begin array ∷ end array ∷ []) (record { opened = []; expected = nothing })
     × ((x : Token) → ¬ (Accepts initial_state (begin array ∷ end array ∷ x ∷ [])))
 
--- no name comes in an array, no element in an object, and no bracket closes another
+-- no name may follow in an array, no element in an object, and no bracket closes another
 abbrev pub Misplaced : Type 0
 Misplaced =
     ¬ (Accepts initial_state (begin array ∷ key_token (codes "a") ∷ []))

@@ -1,4 +1,5 @@
--- Which tokens may come next of the tokens of a value, by the containers that are open (RFC 8259, sections 2, 4 and 5). A comma and a colon are no tokens.
+-- Which tokens may follow those of a value so far, by the containers that are open (RFC 8259,
+-- sections 2, 4 and 5). A comma and a colon are no tokens.
 use Rattle.std.specs.Prelude.{◌≡◌, List, [], ◌∷◌, ◌++◌}
 use Rattle.json_grammar.specs.declared.Kind.{Kind}
 use Rattle.json_grammar.specs.declared.Kind.TheVariants.{Array as array, Object as object}
@@ -7,7 +8,8 @@ use Rattle.json_grammar.specs.declared.Spot.TheVariants.{Value as at_value, Firs
 use Rattle.json_grammar.specs.Tree.{Tree, Token, null_token, boolean_token, num_token, text_token, begin, end, key_token, tokens}
 use Rattle.json_grammar.specs.Place.{outside}
 
--- what comes next: a value and nothing else, an element of an array or its end, a name of an object or its end, or nothing
+-- what follows: a value and nothing else, an element of an array or its end, a name of an object or
+-- its end, or nothing
 pub data Expected : Type 0 where
   a_value : Expected
   element_or_end : Expected
@@ -17,7 +19,7 @@ pub data Expected : Type 0 where
 pub record TokenState : Type 0 where
   -- the open containers, the innermost first
   pub opened : List Kind
-  -- what comes next in the innermost of them
+  -- what follows in the innermost of them
   pub expected : Expected
 
 -- ---- the state after each token
@@ -26,7 +28,8 @@ pub record TokenState : Type 0 where
 abbrev pub initial_state : TokenState
 initial_state = record { opened = []; expected = a_value }
 
--- what comes next in the open containers after a value, or after the bracket that opens the innermost of them
+-- what follows in the open containers after a value, or after the bracket that opens the innermost
+-- of them
 abbrev pub expected_in : List Kind → Expected
 expected_in [] = nothing
 expected_in (array ∷ c) = element_or_end
@@ -55,21 +58,21 @@ after_tokens s (x ∷ ts) = after_tokens (after_token s x) ts
 
 -- ---- the tokens that are accepted
 
--- a value may come next, whole or by the bracket that opens it
+-- a value may follow, whole or by the bracket that opens it
 abbrev pub ValueMayCome : Expected → Type 0
 ValueMayCome a_value = Unit {0}
 ValueMayCome element_or_end = Unit {0}
 ValueMayCome name_or_end = ⊥
 ValueMayCome nothing = ⊥
 
--- a name of a member may come next
+-- a name of a member may follow
 abbrev pub NameMayCome : Expected → Type 0
 NameMayCome a_value = ⊥
 NameMayCome element_or_end = ⊥
 NameMayCome name_or_end = Unit {0}
 NameMayCome nothing = ⊥
 
--- the end of a container of the kind may come next
+-- the end of a container of the kind may follow
 abbrev pub EndMayCome : Expected → Kind → Type 0
 EndMayCome a_value k = ⊥
 EndMayCome element_or_end array = Unit {0}
@@ -78,7 +81,7 @@ EndMayCome name_or_end array = ⊥
 EndMayCome name_or_end object = Unit {0}
 EndMayCome nothing k = ⊥
 
--- the token may come next
+-- the token may follow
 abbrev pub MayCome : TokenState → Token → Type 0
 MayCome s null_token = ValueMayCome s.expected
 MayCome s (boolean_token b) = ValueMayCome s.expected
@@ -88,7 +91,7 @@ MayCome s (begin k) = ValueMayCome s.expected
 MayCome s (end k) = EndMayCome s.expected k
 MayCome s (key_token n) = NameMayCome s.expected
 
--- each of the tokens may come after those before it
+-- each of the tokens may follow those before it
 abbrev pub Accepts : TokenState → List Token → Type 0
 Accepts s [] = Unit {0}
 Accepts s (x ∷ ts) = MayCome s x × Accepts (after_token s x) ts
@@ -99,13 +102,14 @@ Accepts s (x ∷ ts) = MayCome s x × Accepts (after_token s x) ts
 abbrev pub BeginsTree : List Token → Type 0
 BeginsTree ts = (t : Tree) × (more : List Token) × (tokens t ≡ ts ++ more)
 
--- what comes next in the open containers where a value may begin in a text: in an array it may be the end instead
+-- what follows in the open containers where a value may begin in a text: in an array it may be the
+-- end instead
 abbrev pub expected_before_value : List Kind → Expected
 expected_before_value [] = a_value
 expected_before_value (array ∷ c) = element_or_end
 expected_before_value (object ∷ c) = a_value
 
--- what comes next of tokens in the open containers, at a spot of a text
+-- which tokens may follow in the open containers, in a state of a text
 abbrev pub expected_at : Spot → List Kind → Expected
 expected_at at_value c = expected_before_value c
 expected_at first c = element_or_end

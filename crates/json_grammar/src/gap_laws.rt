@@ -6,7 +6,7 @@ pub fn gap_has_no_token()
     ensures { GapHasNoToken }
 {}
 
-/// Where a name is the next token after a gap, the tokens before it are all that come before its
+/// Where a name is the next token after a gap, the tokens before it are all that precede its
 /// opening quotation mark.
 pub fn name_behind_gap()
     ensures { NameBehindGap }

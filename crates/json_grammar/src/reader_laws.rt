@@ -1,7 +1,7 @@
 // Laws for the proofs of a reader, over the definitions alone.
 ghost use Rattle.json_grammar.specs.ReaderLaws.{StuckAtPlace, StuckInWord, StuckInNumber, StuckInString, FaultyIsFault, GivenReads, FaultyIsValueFault, ValueBreaksOff};
 
-/// Where no byte comes that may come, no text begins so.
+/// Where no allowed byte follows, no text begins so.
 pub fn stuck_at_place()
     ensures { StuckAtPlace }
 {}

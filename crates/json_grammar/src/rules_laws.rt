@@ -41,8 +41,8 @@ pub fn fault_with_limit()
     ensures { FaultWithLimit }
 {}
 
-/// Where neither a level too many nor a repeated name is reported, the other faults come as without
-/// rules.
+/// Where neither a level too many nor a repeated name is reported, the other faults are those
+/// without rules.
 pub fn fault_table()
     ensures { FaultTable }
 {}

@@ -12,7 +12,7 @@ pub fn one_token_more()
     ensures { OneTokenMore }
 {}
 
-/// Behind the beginning of an object and whole members the open names are theirs.
+/// After the beginning of an object and whole members the open names are theirs.
 pub fn open_keys_inside()
     ensures { OpenKeysInside }
 {}
@@ -49,7 +49,7 @@ pub fn no_name_within()
     ensures { NoNameWithin }
 {}
 
-/// Behind whole members of an object and one more name, that name is the last token, and theirs are
+/// After whole members of an object and one more name, that name is the last token, and theirs are
 /// the names before it.
 pub fn key_inside()
     ensures { KeyInside }

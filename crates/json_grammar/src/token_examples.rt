@@ -1,4 +1,4 @@
-// Examples of the tokens that may come next.
+// Examples of the tokens that may follow.
 ghost use Rattle.json_grammar.specs.TokenExamples.{WithinArray, WithinObject, AfterName, AfterWhole, Misplaced};
 
 /// After the tokens of `{"a":[1` the array may go on or end.
@@ -11,17 +11,17 @@ pub fn within_object()
     ensures { WithinObject }
 {}
 
-/// After the tokens of `{"a"` a value comes, and no end.
+/// After the tokens of `{"a"` a value may follow, and no end.
 pub fn after_name()
     ensures { AfterName }
 {}
 
-/// After the tokens of `[]` nothing comes.
+/// After the tokens of `[]` nothing may follow.
 pub fn after_whole()
     ensures { AfterWhole }
 {}
 
-/// No name comes in an array, no element in an object, and no bracket closes another.
+/// No name may follow in an array, no element in an object, and no bracket closes another.
 pub fn misplaced()
     ensures { Misplaced }
 {}

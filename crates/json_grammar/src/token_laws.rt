@@ -1,4 +1,4 @@
-// Laws of the tokens that may come next, over the definitions alone.
+// Laws of the tokens that may follow, over the definitions alone.
 ghost use Rattle.json_grammar.specs.TokenLaws.{AcceptedBegins, MayComeGoesOn, WholeIsTree, TreeIsValue, PlaceIsState};
 
 /// The tokens that are accepted are those with which some tree's tokens begin.
@@ -6,18 +6,18 @@ pub fn accepted_begins()
     ensures { AcceptedBegins }
 {}
 
-/// After tokens with which some tree's begin, a token may come next exactly where some tree's begin
+/// After tokens with which some tree's begin, a token may follow exactly where some tree's begin
 /// with it too.
 pub fn may_come_goes_on()
     ensures { MayComeGoesOn }
 {}
 
-/// Nothing comes next exactly where the tokens are those of a whole tree.
+/// Nothing may follow exactly where the tokens are those of a whole tree.
 pub fn whole_is_tree()
     ensures { WholeIsTree }
 {}
 
-/// The tokens of a tree are accepted where a value may come, and lead to where a value leads.
+/// The tokens of a tree are accepted where a value may follow, and lead to where a value leads.
 pub fn tree_is_value()
     ensures { TreeIsValue }
 {}
