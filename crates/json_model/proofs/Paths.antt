@@ -1,4 +1,4 @@
--- What a change at a path makes of the trees that stand there and elsewhere.
+-- What a change at a path makes of the trees there and elsewhere.
 use Rattle.std.proofs.Common.{◌≡◌, ◌≢◌, ℕ, zero, suc, List, [], ◌∷◌, ◌++◌, Bool, true, false, cond, Option, Some, None, slice_get, Result, Ok, Err, refl, sym, ap, ◌∙◌, subst, bytes_eq}
 use Rattle.std.specs.Option.{option_and_then}
 use Rattle.json_grammar.specs.Tree.{Tree, list, pairs, Trees, no_trees, tree_and, trees_list, Pairs, no_pairs, pair_and}

@@ -18,7 +18,7 @@ RowsRepeated =
     let members = (codes "7", null) ∷ (codes "7", num (codes "0")) ∷ [] in
     tree_of_datum (rows_datum (list_rows rows)) ≡ Some (pairs (list_pairs members))
 
--- a list is no key, and a row with such a key has no tree, however deep it stands
+-- a list is no key, and a row with such a key has no tree, however deeply nested
 abbrev pub KeyWithoutText : Type 0
 KeyWithoutText =
     let key = list_datum (list_data (integer_datum (pos 32) ∷ integer_datum (pos 64) ∷ [])) in
