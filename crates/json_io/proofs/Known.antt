@@ -1,4 +1,4 @@
--- Told bytes.
+-- Known bytes.
 use Rattle.std.proofs.Common.{◌≡◌, ℕ, List, [], ◌++◌, ◌∙◌, sym, ap, refl, append_assoc, append-nil, Option, Some, None}
 use Rattle.json_io.specs.Known.{append_known, prepend_known, Appends, Consumes, Keeps}
 
@@ -19,7 +19,7 @@ Appends-trans a b c p q g h = h ∙ ap (λ x. append_known x q) g ∙ known-appe
 pub Appends-kept : (a b c : Option (List ℕ)) (p : List ℕ) → Appends a b p → Keeps b c → Appends a c p
 Appends-kept a b c p g h = h ∙ g
 
--- the front of what was held behind went over
+-- a prefix of what was held went over
 pub append_known-moved : (a b : Option (List ℕ)) (front rest all : List ℕ) → Appends a b front → all ≡ front ++ rest → Keeps (append_known a all) (append_known b rest)
 append_known-moved a b front rest all p e = ap (λ x. append_known x rest) p ∙ known-append a front rest ∙ ap (append_known a) (sym e)
 

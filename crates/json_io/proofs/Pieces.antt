@@ -22,7 +22,7 @@ piece_cons b i j h l =
 pub piece_single : (b : List ℕ) (i x : ℕ) → i < length b → get_or b i 0 ≡ x → slice_range b i (i + 1) ≡ x ∷ []
 piece_single b i x l e = piece_cons b i (i + 1) (omega arith) l ∙ ap₂ (λ y z. y ∷ z) e (piece_none b (i + 1))
 
--- what is left from i on is a piece and what is left behind it
+-- what is left from i on is a piece and what is left after it
 pub drop_piece : (b : List ℕ) (i j : ℕ) → i ≤ j → drop i b ≡ slice_range b i j ++ drop j b
 drop_piece b i j h =
     let f : i + (j - i) ≡ j = omega arith in
@@ -86,13 +86,13 @@ four_on o p q r s c d e f p1 p2 p3 p4 = rw (p4, p3, p2, p1) (simp append_assoc)
 pub two_pieces : (o p q b : List ℕ) (i j k : ℕ) → i ≤ j → j ≤ k → p ≡ o ++ slice_range b i j → q ≡ p ++ slice_range b j k → q ≡ o ++ slice_range b i k
 two_pieces o p q b i j k l m f g = g ∙ ap (λ x. x ++ slice_range b j k) f ∙ append_assoc o (slice_range b i j) (slice_range b j k) ∙ ap (λ x. o ++ x) (sym (piece_append b i j k l m))
 
--- an appended piece, cut behind so many bytes of it
+-- an appended piece, cut after n bytes of it
 pub cut_behind : (o p r b : List ℕ) (i j n : ℕ) → i + n ≤ j → p ≡ o ++ slice_range b i j → r ≡ take (length o + n) p → r ≡ o ++ slice_range b i (i + n)
 cut_behind o p r b i j n l f h =
     h ∙ ap (take (length o + n)) f ∙ take-append-add o (slice_range b i j) n
     ∙ ap (λ x. o ++ x) (take-take n (j - i) (drop i b) (omega arith) ∙ ap (λ x. take x (drop i b)) (omega arith))
 
--- a front appended, cut behind so many bytes of it, and appended up to the end from there
+-- a prefix appended, cut after n bytes of it, and appended up to the end from there
 pub overlapped : (o p r s b : List ℕ) (w n : ℕ) → n ≤ w → n ≤ length b → p ≡ o ++ take w b → r ≡ take (length o + n) p → s ≡ r ++ slice_range b n (length b) → s ≡ o ++ b
 overlapped o p r s b w n l m f h k = appended_rest o r s b n m (h ∙ ap (take (length o + n)) f ∙ take-append-add o (take w b) n ∙ ap (λ x. o ++ x) (take-take n w b l)) k
 

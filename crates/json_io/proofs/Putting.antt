@@ -72,7 +72,7 @@ Puts-then a b c p q u (Err e) g h =
       later = record { faults = omega (arith, g.later.faults, h.later.faults); lacks = omega (arith, g.later.lacks, h.later.lacks); same_loan = h.later.same_loan ∙ g.later.same_loan };
     }
 
--- a write that failed behind others
+-- a write that failed after others
 pub Puts-refused : (old mid new : SinkState) (at : ℕ) (piece rest : List ℕ) (failure : SinkError) (e : Error) → HasPut old mid (take at piece) → Writes mid new rest (Err failure)
     → (failure ≡ Failed → e ≡ writing_failed) → (failure ≡ sink_error.NoMemory → e ≡ no_memory) → Puts old new piece (Err e)
 Puts-refused old mid new at piece rest Failed e h w f n =

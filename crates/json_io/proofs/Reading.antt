@@ -22,7 +22,7 @@ Gives-trans a b c p q g h =
       no_fault = h.no_fault ∙ g.no_fault;
     }
 
--- one read more, behind the first bytes of a vector
+-- one read more, after the first bytes of a vector
 pub Gives-more : (a b c : SourceState) (filled n : ℕ) (items items' : List ℕ) → Gives a b (take filled items) → take filled items' ≡ take filled items → Gives b c (take n (drop filled items'))
     → Gives a c (take (filled + n) items')
 Gives-more a b c filled n items items' g front h =

@@ -1,11 +1,11 @@
--- What contracts see of a source and a sink in memory that fail when they are told to.
+-- What contracts see of a source and a sink in memory that fail on request.
 use Rattle.std.specs.Prelude.{ℕ, List, ◌++◌, drop}
 use Rattle.json_io.specs.Outside.{counted}
 use Rattle.json_io.specs.declared.sink.SinkError.{SinkError}
 use Rattle.json_io.specs.declared.sink.SinkError.TheVariants.{Failed, NoMemory}
 
 pub record FakeSourceView : Type 0 where
-  -- the bytes still to come
+  -- the bytes left
   pub left : List ℕ
   -- how many bytes a call gives at most
   pub most : ℕ
@@ -17,11 +17,11 @@ pub record FakeSourceView : Type 0 where
   pub given : ℕ
   pub faults : ℕ
 
--- behind a call that gave n bytes
+-- after a call that gave n bytes
 abbrev pub gave : ℕ → FakeSourceView → FakeSourceView
 gave n s = record s { left = drop n s.left; calls = counted 1 s.calls; given = counted n s.given }
 
--- behind a call that failed
+-- after a call that failed
 abbrev pub gave_nothing : FakeSourceView → FakeSourceView
 gave_nothing s = record s { calls = counted 1 s.calls; faults = counted 1 s.faults }
 
@@ -38,11 +38,11 @@ pub record FakeSinkView : Type 0 where
   pub faults : ℕ
   pub lacks : ℕ
 
--- behind a call that took these bytes
+-- after a call that took these bytes
 abbrev pub sink_after_taking : List ℕ → FakeSinkView → FakeSinkView
 sink_after_taking bytes s = record s { gained = s.gained ++ bytes; calls = counted 1 s.calls }
 
--- behind a call that took nothing
+-- after a call that took nothing
 abbrev pub refused : SinkError → FakeSinkView → FakeSinkView
 refused Failed s = record s { calls = counted 1 s.calls; faults = counted 1 s.faults }
 refused NoMemory s = record s { calls = counted 1 s.calls; lacks = counted 1 s.lacks }

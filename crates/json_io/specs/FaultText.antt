@@ -5,7 +5,7 @@ use Rattle.json_io.specs.Errors.{name_of}
 use Rattle.json_io.specs.declared.error.Place.{Place}
 use Rattle.json_io.specs.declared.error.Place.TheVariants as place
 
--- the text of a place, behind a name
+-- the text of a place, after a name
 abbrev pub place_text : Place → List ℕ
 place_text place.None = []
 place_text (place.At offset line column) = codes " at offset " ++ decimal offset ++ codes ", line " ++ decimal line ++ codes " column " ++ decimal column

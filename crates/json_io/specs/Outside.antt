@@ -9,22 +9,22 @@ use Rattle.json_io.specs.declared.sink.SinkError.TheVariants as sink_error
 
 -- ---- counts
 
--- the count n later: at the last value of u64 it stands still
+-- the count n later: at the last value of u64 it stays
 abbrev pub counted : ℕ → ℕ → ℕ
 counted n before = max before (min (before + n) (2 ^ 64 - 1))
 
--- the count rose by at least n, or stands at the last value of u64
+-- the count rose by at least n, or is at the last value of u64
 abbrev pub RoseBy : ℕ → ℕ → ℕ → Type 0
 RoseBy n before now = counted n before ≤ now
 
--- the count rose, or stands at the last value of u64
+-- the count rose, or is at the last value of u64
 abbrev pub Rose : ℕ → ℕ → Type 0
 Rose before now = RoseBy 1 before now
 
 -- ---- a source
 
 pub record SourceState : Type 0 where
-  -- the bytes still to come, where they are told
+  -- the bytes left, where they are known
   pub left : Option (List ℕ)
   -- how many bytes it gave
   pub given : ℕ
@@ -44,15 +44,15 @@ pub record Reads (old new : SourceState) (buf : List ℕ) (result : Result ℕ F
 
 -- ---- a sink
 
--- what is told of a borrowed sink
+-- what is known of a borrowed sink
 pub record Loan : Type 0 where
   -- of the borrow: it tells its lender from other sinks
   pub name : GName
-  -- the bytes that the lender had taken when the loan began, where they are told and kept in mind
+  -- the bytes that the lender had taken when the loan began, where they are known and kept in mind
   pub began : Option (List ℕ)
 
 pub record SinkState : Type 0 where
-  -- the bytes taken, where they are told
+  -- the bytes taken, where they are known
   pub gained : Option (List ℕ)
   -- how many calls failed
   pub faults : ℕ

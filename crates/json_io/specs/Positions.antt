@@ -8,7 +8,8 @@ use Rattle.json_io.specs.declared.error.Place.TheVariants as place
 abbrev pub line_at : List ℕ → ℕ → ℕ
 line_at b k = 1 + count_by (λ x. x == 10) (take k b)
 
--- 1 and the number of bytes before the offset that stand behind the last 0A, or of all where there is none
+-- 1 and the number of bytes before the offset that follow the last 0A, or of all where there is
+-- none
 abbrev pub column_at : List ℕ → ℕ → ℕ
 column_at b k = 1 + length (after_last (λ x. x == 10) (take k b))
 

@@ -201,8 +201,8 @@ fn extended_long(mut out: Vec<u8>, bytes: &[u8]) -> Vec<u8>
     out
 }
 
-/// The vector. Until it is put back, one without room takes its place. It is held by value, since
-/// the pointer of one held by a reference is read again at each byte.
+/// Moves the vector out and leaves an empty one without room, until the caller puts it back. Held
+/// by value, its pointer is not read again at each byte.
 #[inline(always)]
 pub fn taken(out: &mut Vec<u8>) -> Vec<u8>
     ensures { result ≡ out.old }

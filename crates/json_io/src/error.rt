@@ -34,11 +34,11 @@ pub enum ErrorCode {
     ExpectedArrayCommaOrEnd = 9,
     /// A member is not followed by a comma or the object's end (section 4).
     ExpectedObjectCommaOrEnd = 10,
-    /// A name or the object's end must come (section 4).
+    /// A name or the object's end must follow (section 4).
     ExpectObjectKeyOrEnd = 11,
     /// The object ends after a comma (section 4).
     TrailingComma = 12,
-    /// A value must come (section 3).
+    /// A value must follow (section 3).
     InvalidJsonValue = 13,
     /// A string has a byte below 20 (hexadecimal) (section 7).
     ControlCharacter = 14,
@@ -95,7 +95,7 @@ pub enum Category {
     Memory,
 }
 
-/// Where a refusal comes from.
+/// Where an error is.
 ///
 /// ```
 /// use json_io::{Place, place_of};
@@ -150,7 +150,7 @@ pub struct Error {
 pub type Result<T> = std::result::Result<T, Error>;
 
 impl ErrorCode {
-    /// The number of the code, 1 to 25.
+    /// Returns the number of the code, 1 to 25.
     pub fn number(self) -> u8
         ensures { result ≡ number_of self }
     {
@@ -203,28 +203,28 @@ impl ErrorCode {
 }
 
 impl Error {
-    /// The code.
+    /// Returns the code.
     pub fn error_code(&self) -> ErrorCode
         ensures { result ≡ self.now.code }
     {
         self.code
     }
 
-    /// The kind of refusal that the code is.
+    /// Returns the category of the code.
     pub fn classify(&self) -> Category
         ensures { result ≡ category_of self.now.code }
     {
         self.code.row().1
     }
 
-    /// Whether the refusal is one of syntax.
+    /// Returns whether the code's category is syntax.
     pub fn is_syntax(&self) -> bool
         ensures { IsTrue result ↔ (category_of self.now.code ≡ Category.Syntax) }
     {
         matches!(self.classify(), Category::Syntax)
     }
 
-    /// The offset in bytes, where the place is one in the input.
+    /// Returns the offset in bytes if the place is one in the input.
     pub fn offset(&self) -> Option<usize>
         ensures { result ≡ offset_of self.now.place }
     {
@@ -234,7 +234,7 @@ impl Error {
         }
     }
 
-    /// The line, counted from 1, where the place is one in the input.
+    /// Returns the line, counted from 1, if the place is one in the input.
     pub fn line(&self) -> Option<usize>
         ensures { result ≡ line_of self.now.place }
     {
@@ -244,7 +244,7 @@ impl Error {
         }
     }
 
-    /// The column in bytes, counted from 1, where the place is one in the input.
+    /// Returns the column in bytes, counted from 1, if the place is one in the input.
     pub fn column(&self) -> Option<usize>
         ensures { result ≡ column_of self.now.place }
     {

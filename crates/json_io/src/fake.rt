@@ -59,8 +59,8 @@ impl<'a> Model for FakeSource<'a> {
 }
 
 impl<'a> FakeSource<'a> {
-    /// A source of these bytes, at most `most` a call. Calls are counted from 0; one beyond the
-    /// last `u64` has that number.
+    /// Creates a source of these bytes that gives at most `most` a call. Calls are counted from 0;
+    /// one beyond the last `u64` has that number.
     pub fn new(bytes: &'a [u8], most: usize, fail: &'a [u64]) -> FakeSource<'a>
         requires { 1 ≤ most }
         ensures { result ≡ record {
@@ -148,8 +148,8 @@ impl<'a> Model for FakeSink<'a> {
 }
 
 impl<'a> FakeSink<'a> {
-    /// A sink that takes at most `most` bytes a call. Writes and flushes are counted together, from
-    /// 0; a call beyond the last `u64` has that number.
+    /// Creates a sink that takes at most `most` bytes a call. Writes and flushes are counted
+    /// together, from 0; a call beyond the last `u64` has that number.
     pub fn new(alloc: Global, most: usize, fail: &'a [u64]) -> FakeSink<'a>
         requires { 1 ≤ most }
         ensures { result ≡ record {
@@ -171,7 +171,7 @@ impl<'a> FakeSink<'a> {
         }
     }
 
-    /// The bytes gained.
+    /// Returns the bytes gained.
     pub fn as_slice(&self) -> &[u8]
         ensures { result.now ≡ self.now.gained }
     {

@@ -1,5 +1,5 @@
-//! What bytes come from and go to: sources and sinks, with contracts that name each byte. Also the
-//! errors of the library, places in an input, the test for UTF-8, and the words of a command line.
+//! Sources and sinks of bytes, with contracts that name each byte. Also the errors of the library,
+//! places in an input, the test for UTF-8, and the words of a command line.
 //!
 //! ```
 //! use json_io::{SliceSource, VecSink, check_utf8, put_all, read_all};

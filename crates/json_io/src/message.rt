@@ -41,7 +41,7 @@ impl FaultText {
         }
     }
 
-    /// The bytes of the text.
+    /// Returns the bytes of the text.
     pub fn as_bytes(&self) -> &[u8]
         ensures text { result.now ≡ self.now }
         ensures short { length result.now ≤ 128 }
@@ -89,7 +89,7 @@ impl fmt::Display for Error {
 
 impl std::error::Error for Error {}
 
-/// The name of the code, its place where it has one, and one byte 0A. Takes no memory.
+/// Returns the name of the code, its place if it has one, and one byte 0A. Takes no memory.
 pub fn fault_text(error: &Error) -> FaultText
     ensures { result ≡ text_of error.now }
 {

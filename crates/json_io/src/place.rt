@@ -21,8 +21,8 @@ fn last_line_len(bytes: &[u8]) -> usize
     bytes.len() - start
 }
 
-/// The place of an offset: its line is 1 plus the number of bytes 0A before it, and its column 1
-/// plus the number of bytes between the last of these, or the beginning, and it.
+/// Returns the place of an offset: its line is 1 plus the number of bytes 0A before it, and its
+/// column 1 plus the number of bytes between the last of these, or the beginning, and it.
 #[cold]
 #[inline(never)]
 #[tactic(auto, unfolding(crate::specs::Positions::place_at))]

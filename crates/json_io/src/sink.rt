@@ -83,7 +83,7 @@ pub struct VecSink {
 }
 
 impl VecSink {
-    /// A sink that has gained nothing.
+    /// Creates a sink that has gained nothing.
     pub fn new(alloc: Global) -> VecSink
         ensures { ⟦<VecSink as Sink>⟧.state result
             ≡ record { gained = Some []; faults = 0; lacks = 0; unflushed = false; loan = None } }
@@ -94,14 +94,14 @@ impl VecSink {
         }
     }
 
-    /// The bytes gained.
+    /// Returns the bytes gained.
     pub fn as_slice(&self) -> &[u8]
         ensures { (⟦<VecSink as Sink>⟧.state self.now).gained ≡ Some result.now }
     {
         &self.bytes
     }
 
-    /// The bytes gained.
+    /// Returns the bytes gained, as a vector.
     pub fn into_vec(self) -> Vec<u8>
         ensures { (⟦<VecSink as Sink>⟧.state self).gained ≡ Some result.items }
     {
@@ -180,7 +180,7 @@ pub struct StdSink<W: Write> {
 impl<W: Write> StdSink<W> {
     ghost use Rattle.json_io.specs.Sinks.{writer_of};
 
-    /// A sink into the writer.
+    /// Creates a sink that writes to the writer.
     pub fn new(writer: W) -> StdSink<W>
         ensures state { ⟦<StdSink<W> as Sink>⟧.state result
             ≡ record { gained = None; faults = 0; lacks = 0; unflushed = false; loan = None } }

@@ -1,4 +1,4 @@
-// Where bytes come from.
+// Sources of bytes.
 ghost use Rattle.std.specs.Prelude.{◌≡◌, Some, None};
 ghost use Rattle.std.specs.Io.{ReadsAtMost};
 ghost use Rattle.std.specs.Io.KnownBytes.{ReadConsumes};
@@ -16,7 +16,7 @@ use std::io::Read;
 #[derive(Clone, Copy, Debug, PartialEq, Eq)]
 pub struct Failed;
 
-/// Where bytes come from. A read may give fewer than there is room for; `read_all` takes them all.
+/// A source of bytes. A read may give fewer than there is room for; `read_all` takes them all.
 ///
 /// ```
 /// use json_io::{SliceSource, Source};
@@ -28,8 +28,7 @@ pub struct Failed;
 /// assert_eq!(rt; source.read(&mut buf), Ok(0));
 /// ```
 pub trait Source {
-    /// The bytes still to come, where they are known, how many were given, and how many calls
-    /// failed.
+    /// The bytes left, where they are known, how many were given, and how many calls failed.
     ghost state: { Self → SourceState };
 
     /// Fills a prefix of the buffer, and returns its number of bytes: 0, for a buffer with room, is
@@ -56,7 +55,7 @@ pub struct SliceSource<'a> {
 }
 
 impl<'a> SliceSource<'a> {
-    /// A source of these bytes.
+    /// Creates a source of these bytes.
     pub fn new(bytes: &'a [u8]) -> SliceSource<'a>
         ensures { ⟦<SliceSource<'a> as Source>⟧.state result
             ≡ record { left = Some bytes.now; given = 0; faults = 0 } }
@@ -106,7 +105,7 @@ pub struct StdSource<R: Read> {
 impl<R: Read> StdSource<R> {
     ghost use Rattle.json_io.specs.Sources.{reader_of};
 
-    /// A source of what the reader gives.
+    /// Creates a source of what the reader gives.
     pub fn new(reader: R) -> StdSource<R>
         ensures state { ⟦<StdSource<R> as Source>⟧.state result
             ≡ record { left = None; given = 0; faults = 0 } }

@@ -7,17 +7,17 @@ ghost use Rattle.json_io.specs.Transfer.{Gives, ReadsWithin, ReadingCause, Piece
 use crate::{Error, ErrorCode, Failed, Place, Result, Sink, SinkError, Source};
 use std::alloc::Global;
 
-// So many bytes are asked for at a time.
+// Reads ask for at most this many bytes at a time.
 const PIECE: usize = 65536;
 
-// Room for so many bytes is there from the first read on, so that what was read is seldom moved.
+// There is room for this many bytes from the first read on, so that what was read is seldom moved.
 const FIRST_ROOM: usize = 1048576;
 
-/// All bytes up to the end of the source, which are at most `limit`. Takes at most `limit + 1`
-/// bytes.
+/// Reads all bytes up to the end of the source, at most `limit`. Takes at most `limit + 1` bytes
+/// from it.
 ///
-/// `TooLarge` comes where the source has more, `Io` at `Reading` where a read failed, and
-/// `NoMemory` where there is no room.
+/// Fails with `TooLarge` if the source has more, with `Io` at `Reading` if a read failed, and with
+/// `NoMemory` if memory runs out.
 pub fn read_all<S: Source>(alloc: Global, source: &mut S, limit: usize) -> Result<Vec<u8>>
     requires { limit < usize.MAX }
 
@@ -116,10 +116,10 @@ fn sink_refusal(error: SinkError) -> Error
     }
 }
 
-/// Puts the whole piece into the sink. An empty piece makes no call.
+/// Writes the whole piece to the sink. An empty piece makes no call.
 ///
-/// `Io` at `Writing` comes where the sink failed, and `NoMemory` where it found none; a prefix of
-/// the piece was gained then.
+/// Fails with `Io` at `Writing` if the sink failed, and with `NoMemory` if the sink found no
+/// memory; the sink has then gained a prefix of the piece.
 #[inline(always)]
 pub fn put_all<K: Sink>(sink: &mut K, piece: &[u8]) -> Result<()>
     ensures { Puts (K.state sink.old) (K.state sink.new) piece.now result }
@@ -150,7 +150,8 @@ fn put_rest<K: Sink>(sink: &mut K, piece: &[u8]) -> Result<()>
     Ok(())
 }
 
-/// Sends on what waits in the sink. `Io` at `Writing` and `NoMemory` come as for [`put_all`].
+/// Flushes what waits in the sink. Fails with `Io` at `Writing` and with `NoMemory` as [`put_all`]
+/// does.
 pub fn flush_all<K: Sink>(sink: &mut K) -> Result<()>
     ensures { FlushesAll (K.state sink.old) (K.state sink.new) result }
 {

@@ -4,9 +4,10 @@ ghost use Rattle.json_io.specs.Utf8.{Utf8Cause};
 
 use crate::{Error, ErrorCode, Result, place_of};
 
-/// The same bytes as a text.
+/// Returns the same bytes as a string.
 ///
-/// `InvalidUTF8` comes exactly where they are no UTF-8, at the end of their longest prefix that is.
+/// Fails with `InvalidUTF8` exactly if they are no UTF-8, at the end of their longest prefix that
+/// is.
 pub fn check_utf8(bytes: &[u8]) -> Result<&str>
     ensures same { IfOk result (λ text. text.now ≡ bytes.now) }
     ensures valid { IfOk result (λ _. IsUtf8 bytes.now) }

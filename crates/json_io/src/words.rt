@@ -28,7 +28,7 @@ impl Model for Words {
 }
 
 impl Words {
-    /// No words.
+    /// Creates a list of no words.
     pub fn new(alloc: Global) -> Words
         ensures { result ≡ [] }
     {
@@ -49,14 +49,14 @@ impl Words {
         Ok(())
     }
 
-    /// How many words there are.
+    /// Returns the number of words.
     pub fn len(&self) -> usize
         ensures { result ≡ length self.now }
     {
         self.words.len()
     }
 
-    /// The word number `i`, from 0.
+    /// Returns the word number `i`, counted from 0.
     pub fn word(&self, i: usize) -> &str
         requires { i < length self.now }
         ensures { slice_get self.now i ≡ Some result.now }
