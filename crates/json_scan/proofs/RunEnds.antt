@@ -21,7 +21,7 @@ ends_within class b i j n c l m h d s = record {
   stop = λ _. d.stop s;
 }
 
--- the run ends behind a piece of it
+-- the run ends after a piece of it
 pub ends_behind : (class : ℕ → Type 0) (b : List ℕ) (i j e : ℕ) → i ≤ j → Each class b i j → EndsAt class b j e → EndsAt class b i e
 ends_behind class b i j e l h d = record {
   order = omega (arith, d.order);

@@ -57,7 +57,8 @@ fn ws_end_by_blocks(bytes: &[u8], from: usize) -> usize
     ws_end_of_few(bytes, at)
 }
 
-/// The first place from `from` on whose byte is no whitespace (RFC 8259, section 2), or the length.
+/// Returns the first offset from `from` on whose byte is no whitespace (RFC 8259, section 2), or
+/// the length.
 #[inline(never)]
 pub fn ws_run(bytes: &[u8], from: usize) -> usize
     requires { from ≤ length bytes.now }
@@ -215,7 +216,7 @@ fn digits_end(bytes: &[u8], from: usize) -> usize
     digits_end_by_blocks(bytes, from + BLOCK)
 }
 
-/// The first place from `from` on whose byte is no digit 0 to 9, or the length.
+/// Returns the first offset from `from` on whose byte is no digit 0 to 9, or the length.
 #[inline(always)]
 pub fn digit_run(bytes: &[u8], from: usize) -> usize
     requires { from ≤ length bytes.now }

@@ -24,7 +24,7 @@ use Rattle.json_text.proofs.Stands.{space_before}
 cons_not_nil : (x : ℕ) (m : List ℕ) → x ∷ m ≡ [] → ⊥
 cons_not_nil x m e = cc
 
--- where a number that ends in a zero was read, a zero stands last
+-- where a number that ends in a zero was read, the last byte is a zero
 zero_last : (lossy : Bool) (b : List ℕ) (k : ℕ) (z : List ℕ) (ts : List Token) → PrefixAt lossy b (k + 1) [] done ts → ¬ (IsWhitespace (get_or b k 0)) → ts ≡ num_token (z ++ 48 ∷ []) ∷ [] → get_or b k 0 ≡ 48
 zero_last lossy b k z ts g n o =
     let fits : k + 1 ≤ length b = g.fits in
@@ -44,7 +44,7 @@ zero_last lossy b k z ts g n o =
         let m : length (u ++ z) ≡ k = omega (arith, ap length whole, length-append (u ++ z) (48 ∷ [])) in
         e ∙ ap (λ y. get_or y k 0) whole ∙ ap (λ i. get_or ((u ++ z) ++ 48 ∷ []) i 0) (sym m) ∙ get_or-append_seam (u ++ z) 48 [] 0
 
--- what is whole behind a token is a value, which was read up to there
+-- what is whole after a token is a value, which was read up to there
 read_up_to : (lossy : Bool) (limit : ℕ) (b : List ℕ) (k : ℕ) (ts : List Token) → Stood lossy limit b (k + 1) [] done ts → ¬ (IsWhitespace (get_or b k 0)) → (t : Tree) × reads lossy b t (k + 1) × (ts ≡ tokens t) × (depth t ≤ limit)
 read_up_to lossy limit b k ts s n = go (cases_lt s.base (k + 1))
   where
@@ -77,7 +77,7 @@ value_read s l last w ts g =
     let whole = subst (λ c. Stood s.lossy s.limit b (k + 1) c done ts) (nil_from_length s.open_kinds w.1) (subst (λ v. Stood s.lossy s.limit b (k + 1) s.open_kinds v ts) w.0 (subst (λ j. Stood s.lossy s.limit b j s.open_kinds s.spot ts) e g)) in
     subst (λ j. (t : Tree) × reads s.lossy b t j × (ts ≡ tokens t) × (depth t ≤ s.limit)) (sym e) (read_up_to s.lossy s.limit b k ts whole (λ x. last.0 (subst IsWhitespace here x)))
 
--- behind the last token of a value the value was read
+-- after the last token of a value the value was read
 pub event_reads : (old new : ParserState) (e : Event) → IsTight old e new → (e ≡ event.End → ⊥) → new.start ≤ old.index → IsWhole new → HasRead new
 event_reads old new event.Null t n l w = value_read new (let f = t.forward in omega arith) t.last w
 event_reads old new (event.Bool v) t n l w = value_read new (let f = t.forward in omega arith) t.last w

@@ -23,7 +23,7 @@ pub end_is_event : (k : Kind) → end_event k ≢ event.End
 end_is_event array e = cc
 end_is_event object e = cc
 
--- from i, where the bracket stands at j, behind whitespace and a comma or a colon
+-- from i, where the bracket is at j, after whitespace and a comma or a colon
 module _ (lossy : Bool) (limit : ℕ) (k : Kind) (b t : List ℕ) (i j : ℕ) (c : List Kind) (w v : Spot) (same : b ≡ t) (given : (ts : List Token) × Stood lossy limit t i c w ts)
     (ready : (ts : List Token) → Stood lossy limit b i c w ts → Stood lossy limit b j c v ts) (c' : List Kind) (w' : Spot) where
   at_bracket : (ts : List Token) → Stood lossy limit t i c w ts → Stood lossy limit t j c v ts

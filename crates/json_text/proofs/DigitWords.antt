@@ -1,4 +1,4 @@
--- Digits that stand in a word of eight bytes, the first the highest.
+-- Digits in a word of eight bytes, the first the highest.
 use Rattle.std.proofs.Common.{◌≡◌, ℕ, zero, suc, ◌+◌, ◌-◌, ◌*◌, ◌/◌, ◌%◌, ◌^◌, ◌<◌, ◌≤◌, List, length, get_or, true, Fits, w8, refl, sym, ap, subst, arith}
 use Rattle.std.proofs.Math.Nat.{div-le_self}
 use Rattle.std.specs.Str.{all_ascii_digits}

@@ -1,4 +1,4 @@
--- Before the token that needs a refused byte stand the tokens that were told.
+-- The tokens before the one that needs the byte of an error are those that were returned.
 use Rattle.std.proofs.Common.{◌≡◌, ℕ, ◌≤◌, List, [], ◌∷◌, ◌++◌, length, take, sym, ap, ◌∙◌, subst, arith, append_assoc, length-append, take_all, Bool}
 use Rattle.std.proofs.Math.Seq.{take-append_seam}
 use Rattle.json_grammar.specs.declared.Kind.{Kind}
@@ -28,7 +28,7 @@ use Rattle.json_io.proofs.Pieces.{piece_append}
 front : (b p r : List ℕ) (k : ℕ) → b ≡ p ++ r → length p ≡ k → p ≡ take k b
 front b p r k e l = sym (ap (take k) e ∙ ap (λ n. take n (p ++ r)) (sym l) ∙ take-append_seam p r)
 
--- what stands before a refused byte begins some text
+-- what precedes a refused byte begins some text
 told_viable : {lossy : Bool} {limit k : ℕ} {b : List ℕ} {code : FaultCode} → Told lossy (viable_prefix lossy) ((t : Tree) × is_text lossy t b) limit b k code → viable_prefix lossy (take k b)
 told_viable {lossy = lossy} {k = k} {b = b} (deep (p, x, r, e, l, v, o, m)) = subst (viable_prefix lossy) (front b p (x ∷ r) k e l) (shorter_viable lossy p (x ∷ []) v)
 told_viable {lossy = lossy} {k = k} {b = b} (short (e, v, o, m)) = subst (viable_prefix lossy) (sym (ap (λ n. take n b) e ∙ take_all (length b) b (omega arith))) v
@@ -66,7 +66,7 @@ due_behind_tokens old e ts due h =
     (subst IsGap (sym (piece_append b h.base i n.at h.order o.0)) (gap_behind (piece b h.base i) (piece b i n.at) h.space n.gap))
     (shorter_viable old.lossy (take n.at b) (piece b n.at due.offset) (subst (viable_prefix old.lossy) (take_on b n.at due.offset o.1) v))
 
--- a reader that took a name stood behind the same tokens at its opening quotation mark
+-- a reader that took a name had the same tokens before its opening quotation mark
 pub name_told : (lossy : Bool) (limit limit' : ℕ) (b : List ℕ) (i j n : ℕ) (c c' : List Kind) (w w' : Spot) (ts : List Token) (s : List ℕ)
     → Stood lossy limit b i c w ts
     → i ≤ j

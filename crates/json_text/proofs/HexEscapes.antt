@@ -9,7 +9,7 @@ use Rattle.json_text.specs.declared.escape.Escape.TheVariants.{Backslash as back
 use Rattle.json_text.specs.Escapes.{escape_step, escape_run, first_step, one_len, EscapeTo, HexBehind, HighAt, LowAt}
 use Rattle.json_text.proofs.Escaping.{escape_on, Hex}
 
--- the escape has come from i up to j
+-- the escape was read from i up to j
 abbrev pub Leads : Bool → List ℕ → ℕ → ℕ → Escape → Type 0
 Leads lossy b i j s = escape_run lossy (Some backslash) (piece b i j) ≡ Some s
 
@@ -58,7 +58,7 @@ unit_to lossy b i u room letter h n =
     let at : UnitAt b i = record { room = room; letter = letter; first = h.first; no_d = no_d_first _ _ _ _ u h.value h.second h.third h.fourth n; second = h.second; third = h.third; fourth = h.fourth } in
     record { order = omega arith; within = room; leads = unit_leads lossy b i at }
 
--- an escape that is told by one test
+-- an escape that one test recognizes
 pub usual_to : (lossy : Bool) (b : List ℕ) (i u m : ℕ) → i + 5 ≤ length b → (u < 65536 → HexBehind b i u) → (get_or b i 0 ≡ 117 → m ≡ 53248) → (get_or b i 0 ≢ 117 → 0 < m → first_step (get_or b i 0) ≡ Some finished) → u < m
     → EscapeTo lossy b i (i + one_len (get_or b i 0))
 usual_to lossy b i u m room h long short l = elim (cases_eq (get_or b i 0) 117) [ inl e ↦ rw (eq-eqb (get_or b i 0) 117 e) (letter e) | inr n ↦ rw (ne_eqb (get_or b i 0) 117 n) (other n) ]

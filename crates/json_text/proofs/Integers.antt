@@ -58,7 +58,7 @@ few_more i j v x h l k =
     let p : 10 ^ (j + 1 - i) ≡ 10 ^ (j - i) * 10 = ap (λ k. 10 ^ k) s ∙ pow-suc 10 (j - i) in
     omega arith
 
--- so many digits are below a power
+-- digits are below a power of ten by their number
 pub few_of : (b : List ℕ) (i j v : ℕ) → i ≤ j → j ≤ length b → all_ascii_digits (piece b i j) ≡ true → v ≡ digits_value 10 (piece b i j) → v < 10 ^ (j - i)
 few_of b i j v h l d e = rw e (digits_value_short (numerals_by_value (λ ds. all_ascii_digits ds ≡ true) tells_all_ascii_digits) (piece b i j) (j - i) d (omega (arith, length-take (j - i) (drop i b))))
 

@@ -28,7 +28,7 @@ atom_runs true m (spelling h i) e = spelling_runs_lossy m h (i refl) e
 atom_runs true m (lone_surrogate {u = u} {p = p} {q = q} {r = r} {t = t} f h a) e =
     let g : 117 ∷ p ∷ q ∷ r ∷ t ∷ [] ≡ m = cc in subst (λ y. escape_run true (Some backslash) y ≡ Some finished) g (unit_runs p q r t u (hex_to p q r t u h))
 
--- ---- what stands before a state
+-- ---- what precedes a state
 
 abbrev pub LossyShape : Escape → List ℕ → Type 0
 LossyShape backslash m = m ≡ []
@@ -98,7 +98,7 @@ lossy_shape_of s m e = subst (λ o. Shaped o m) e (shapes (Some backslash) [] m 
 pub strict_atom : {c : ℕ} {e : List ℕ} → Spelling c e → Atom false e
 strict_atom h = spelling h (λ t. absurd (cc))
 
--- an escape that has come to its end is an atom
+-- an escape that was read to its end is an atom
 pub atom_of : (lossy : Bool) (m : List ℕ) → escape_run lossy (Some backslash) m ≡ Some finished → Atom lossy (92 ∷ m)
 atom_of true m e = lossy_shape_of finished m e
 atom_of false m e = strict_atom (shape_of finished m e).1

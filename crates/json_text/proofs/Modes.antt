@@ -1,4 +1,4 @@
--- Where nothing was read, either mode stands alike.
+-- Where nothing was read, the modes are alike.
 use Rattle.std.proofs.Common.{◌≡◌, ℕ, List, [], ◌∷◌, ◌++◌, take, Bool, refl, sym, subst}
 use Rattle.json_grammar.specs.declared.Kind.{Kind}
 use Rattle.json_grammar.specs.declared.Spot.{Spot}
@@ -24,7 +24,7 @@ one_more : (ts : List Token) (x : Token) → ts ++ x ∷ [] ≡ [] → ⊥
 one_more [] x e = cc
 one_more (y ∷ ts) x e = cc
 
--- whitespace alone stands before the first token
+-- whitespace alone precedes the first token
 before_first : {lossy : Bool} {p : List ℕ} {c : List Kind} {w : Spot} {ts : List Token} → reading lossy p c w ts → ts ≡ [] → ws p × (c ≡ []) × (w ≡ at_value)
 before_first (start h) e = (h, refl, refl)
 before_first (open_one {ts = ts} k h t q) e = absurd (one_more ts _ e)

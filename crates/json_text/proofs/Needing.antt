@@ -1,4 +1,4 @@
--- At each refusal, what stands between what was taken and the byte that is refused.
+-- At each error, what is between what was taken and the byte of the error.
 use Rattle.std.proofs.Common.{◌≡◌, ◌≢◌, ℕ, zero, suc, ◌+◌, ◌-◌, ◌<◌, ◌≤◌, List, [], ◌∷◌, ◌++◌, length, get_or, take, drop, ◌⊎◌, inl, inr, refl, sym, ap, ◌∙◌, subst, arith, append_assoc, append-nil, length-take, Bool}
 use Rattle.std.proofs.lemmas.List.{take-append-drop, append_cancel_left}
 use Rattle.json_grammar.specs.Grammar.{ws, IsDigit}
@@ -27,7 +27,7 @@ use Rattle.json_text.proofs.TokenFaults.{zero_after, begun, zero_read, ended_who
 pub gap_space : (g : List ℕ) → ws g → IsGap g
 gap_space g h = record { before = g; mark = []; behind = []; row = sym (append-nil g); space_before = h; is_mark = inl refl; space_behind = tt }
 
--- whitespace from i up to j, one byte there, and whitespace behind it up to k
+-- whitespace from i up to j, one byte there, and whitespace after it up to k
 gap_mark : (b : List ℕ) (i j k x : ℕ) → i ≤ j → j + 1 ≤ k → ws (piece b i j) → ByteAt b j x → ws (piece b (j + 1) k) → (x ≡ 44) ⊎ (x ≡ 58) → IsGap (piece b i k)
 gap_mark b i j k x h l s q r m =
     record {
@@ -132,7 +132,7 @@ needs_string lossy b at k c q st = by st.why
         let o = st.whole.order in let l = x.order in
         inside (92 ∷ piece b (st.to + 1) k) (omega arith) (escape_inside lossy b at st.to k st.escaped x.state q st.whole f x.order x.leads x.unfinished)
 
--- ---- the same told of what is left of a text
+-- ---- the same of what is left of a text
 
 pub needs_left : (lossy : Bool) (b : List ℕ) (start i k : ℕ) (c : ErrorCode) → NextNeeds lossy b i c k → NextNeeds lossy b (start + i - start) c k
 needs_left lossy b start i k c h = let e : start + i - start ≡ i = omega arith in subst (λ y. NextNeeds lossy b y c k) (sym e) h

@@ -38,11 +38,11 @@ mark_one x b i j k s t =
     let e : t.mark ≡ s.mark = space_one b i t.mark s.mark t.before s.before in
     space_one b (s.mark + 1) j k s.behind (subst (λ m. SpaceTo b (m + 1) k) e t.behind)
 
--- the mark does not stand where whitespace ends
+-- the mark is not where whitespace ends
 mark_there : (x : ℕ) (b : List ℕ) (i j k : ℕ) → SpaceTo b i j → MarkTo x b i k → ByteAt b j x
 mark_there x b i j k s t = subst (λ m. ByteAt b m x) (space_one b i t.mark j t.before s) t.stands
 
--- no container ends where only a value or a name may come
+-- no container ends where only a value or a name may follow
 no_end_at_value : {k : Kind} {w : Spot} → TakesEnd k w → w ≡ at_value → ⊥
 no_end_at_value end_first e = cc
 no_end_at_value end_key_or_end e = cc
@@ -62,7 +62,7 @@ no_comma_closes : (k : Kind) → closing k ≡ 44 → ⊥
 no_comma_closes array e = omega (arith, e)
 no_comma_closes object e = omega (arith, e)
 
--- where a container ends neither a colon nor a comma must stand
+-- where a container ends neither a colon nor a comma must follow
 pub ends_at_once : (b : List ℕ) (k : Kind) (at : ℕ) (w : Spot) → TakesEnd k w → ByteAt b at (closing k) → (w ≢ colon) × ¬ (ByteAt b at 44)
 ends_at_once b k at w t h = (λ e. no_end_at_colon t e, λ q. no_comma_closes k (sym h.1 ∙ q.1))
 
@@ -74,7 +74,7 @@ no_end_behind_comma k array w e t = no_end_at_value t e
 no_end_behind_comma k object w e t = no_end_at_key t e
 
 module _ (b : List ℕ) (i j k : ℕ) (c : List Kind) (w v : Spot) (s : SpaceTo b i j) where
-  -- ---- a name stands before
+  -- ---- after a name
 
   pub behind_colon : (at : ℕ) → w ≡ colon → ByteAt b j 58 → SpaceTo b (j + 1) at → NextAt b i c w k v → (at ≡ k) × (at_value ≡ v)
   behind_colon at e q t h =
@@ -84,7 +84,7 @@ module _ (b : List ℕ) (i j k : ℕ) (c : List Kind) (w v : Spot) (s : SpaceTo 
   pub no_colon_there : w ≡ colon → ¬ (ByteAt b j 58) → ¬ (NextAt b i c w k v)
   no_colon_there e q h = let n = subst (λ y. NextAt b i c y k v) e h in q (mark_there 58 b i j k s n.0)
 
-  -- ---- a value stands before
+  -- ---- after a value
 
   comma_next : (d : List Kind) (x : Kind) (v : Spot) → top d ≡ Some x → NextAt b i d done k v → MarkTo 44 b i k × (v ≡ after_comma x)
   comma_next [] x v e h = absurd h
@@ -105,7 +105,7 @@ module _ (b : List ℕ) (i j k : ℕ) (c : List Kind) (w v : Spot) (s : SpaceTo 
   pub nothing_behind : w ≡ done → top c ≡ None → ¬ (NextAt b i c w k v)
   nothing_behind e o h = nothing_open c o (subst (λ y. NextAt b i c y k v) e h)
 
-  -- ---- nothing must stand between
+  -- ---- nothing is needed between
 
   there : (y : Spot) → y ≢ colon → y ≢ done → NextAt b i c y k v → (j ≡ k) × (y ≡ v)
   there at_value n m h = (space_one b i j k s h.0, sym h.1)

@@ -1,4 +1,4 @@
--- Where a string stops at a fault, no whole string stands.
+-- Where a string stops at a fault, there is no whole string.
 use Rattle.std.proofs.Common.{◌≡◌, ◌≢◌, ℕ, ◌+◌, ◌<◌, List, [], ◌∷◌, ◌++◌, length, get_or, take, drop, Bool, ◌⊎◌, inl, inr, suc, None, refl, sym, ap, ◌∙◌, subst, arith, append_assoc, append-nil}
 use Rattle.std.proofs.lemmas.List.{take-append-drop, append_cancel_left, drop_all}
 use Rattle.json_grammar.specs.Grammar.{Atom, Atoms, no_atoms, atom_and}
@@ -31,7 +31,7 @@ module _ (lossy : Bool) where
   abbrev pub NoPart : List ℕ → List ℕ → Type 0
   NoPart e r = (x : ℕ) (m : List ℕ) → r ≡ x ∷ m → ((n : List ℕ) → ¬ (Atom lossy (e ++ x ∷ n))) × (e ≡ [] → x ≢ 34)
 
-  -- no whole part stands within one that is not whole
+  -- a part that is not whole has no whole part within it
   not_within : (e z v y : List ℕ) → Atom lossy (e ++ z) → z ≢ [] → Atom lossy v → e ≡ v ++ y → ⊥
   not_within e z v y h n k i =
       n (none_left y z (atom_same lossy (y ++ z) [] k h (sym (append_assoc v y z) ∙ ap (λ a. a ++ z) (sym i) ∙ sym (append-nil (e ++ z)))).1)
@@ -52,7 +52,7 @@ module _ (lossy : Bool) where
       go no_atoms f = at_quote e h o f
       go (atom_and {e = v} {b = b} k l) f = at_part v (b ++ 34 ∷ n) k (cut e r v (b ++ 34 ∷ n) (f ∙ append_assoc v b (34 ∷ n)))
 
-  -- the bytes of the string that would stand, from its opening quotation mark on
+  -- the bytes of the supposed string, from its opening quotation mark on
   both_rows : (b raw : List ℕ) (at k j : ℕ) (m e : List ℕ) → take k b ≡ take at b ++ (34 ∷ (m ++ e)) → Quoted lossy b at raw j → m ++ (e ++ drop k b) ≡ raw ++ 34 ∷ drop j b
   both_rows b raw at k j m e row q =
       let o = q.order in
@@ -67,7 +67,7 @@ module _ (lossy : Bool) where
       no_close e i.rest (drop k b) (drop j b) i.goes_on i.unfinished o
       (atoms_onward lossy (e ++ drop k b) (drop j b) i.atoms (chars_atoms lossy q.spells) (both_rows b raw at k j i.m e i.row q))
 
-  -- the input ends there, or a byte stands there that goes on no part
+  -- the input ends there, or the byte there goes on no part
   no_part_end : (b e : List ℕ) (k : ℕ) → k ≡ length b → NoPart e (drop k b)
   no_part_end b e k f x m g = absurd (empty x m (sym (drop_all k b (omega arith)) ∙ g))
 

@@ -118,7 +118,7 @@ shown_at (x ∷ rs) (suc i) k d f g l =
         let f : suc j - 1 ≡ j = omega arith in
         ap (λ o. later_or o x k) (h.1 (omega arith)) ∙ ap (λ n. Some (slice_index_or rs n d)) f ∙ sym (ap (λ n. Some (slice_index_or (x ∷ rs) n d)) e)
 
--- where a place behind the last U+FFFD comes from
+-- the origin of a place after the last U+FFFD
 pub origin_past : (runs : List IllFormed) (r : IllFormed) (k : ℕ) → last_shown runs k ≡ Some r → 3 ≤ k - r.shown → origin_by runs k ≡ r.end + (k - r.shown - 3)
 origin_past runs r k e h = ap (λ o. origin_behind o k) e ∙ above k (r.shown + 3) _ _ (omega arith) ∙ omega arith
 

@@ -1,4 +1,4 @@
--- Where an integer of few digits ends, and why none stands.
+-- Where an integer of few digits ends, and why there is none.
 use Rattle.std.proofs.Common.{◌≡◌, ◌⊎◌, inl, inr, ◌∙◌, ℕ, ◌+◌, ◌<◌, ◌≤◌, List, [], ◌∷◌, ◌++◌, length, get_or, true, refl, sym, ap, subst, arith}
 use Rattle.std.proofs.lemmas.Bool.{cases_lt, cases_eq, ne_eqb}
 use Rattle.std.specs.Str.{all_ascii_digits}
@@ -84,7 +84,7 @@ moved b c i j e f g n = subst (λ k. IsShortInteger b k e) (sym g) (subst (λ y.
 pub moved_value : (b c : List ℕ) (i j e most : ℕ) → b ≡ c → i ≡ j → digits_value 10 (piece c j e) ≤ most → digits_value 10 (piece b i e) ≤ most
 moved_value b c i j e most f g n = subst (λ k. digits_value 10 (piece b k e) ≤ most) (sym g) (subst (λ y. digits_value 10 (piece y j e) ≤ most) (sym f) n)
 
--- ---- why none stands
+-- ---- why there is none
 
 no_start : (s : NumberState) → HasInteger s → at_start ≡ s → ⊥
 no_start s (inl e) f = let g : at_start ≡ after_zero = f ∙ e in cc

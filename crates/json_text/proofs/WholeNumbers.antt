@@ -38,7 +38,7 @@ not_whole s (inr (inl e)) = rw e refl
 not_whole s (inr (inr (inl e))) = rw e refl
 not_whole s (inr (inr (inr e))) = rw e refl
 
--- no digit stands behind a leading zero
+-- no digit follows a leading zero
 pub zero_ends : (d : ℕ) → IsDigit d → number_step after_zero d ≡ no_number
 zero_ends d h = rw (ne_eqb d 46 (λ e. omega arith), ne_eqb d 101 (λ e. omega arith), ne_eqb d 69 (λ e. omega arith)) refl
 

@@ -1,4 +1,5 @@
--- What stands behind what a parser took, and how a sequence or a map that its caller reads ends there.
+-- What follows after what a parser took, and how a sequence or a map that its caller reads ends
+-- there.
 use Rattle.std.specs.Prelude.{◌≡◌, Bool, ℕ, ◌+◌, ◌<◌, ◌≤◌, List, [], length, get_or, cond, ◌==◌, Option, Some, None, slice_get}
 use Rattle.json_grammar.specs.declared.Kind.{Kind}
 use Rattle.json_grammar.specs.declared.Kind.TheVariants.{Array as array, Object as object}
@@ -12,7 +13,7 @@ use Rattle.json_text.specs.Parsing.{ParserState, HasGiven}
 use Rattle.json_io.specs.Positions.{place_at}
 use Rattle.json_scan.specs.Runs.{ByteAt}
 
--- at k stands the next byte that is no whitespace, or the text ends there
+-- the next byte that is no whitespace is at k, or the text ends there
 pub record ComesNext (s : ParserState) (k : ℕ) : Type 0 where
   pub order : s.index ≤ k
   pub within : k ≤ length s.text
@@ -23,7 +24,7 @@ pub record ComesNext (s : ParserState) (k : ℕ) : Type 0 where
 abbrev pub NothingLeft : ParserState → Type 0
 NothingLeft s = ComesNext s (length s.text)
 
--- it is refused that the next byte comes, at its place
+-- another byte follows, which is an error at its place
 pub record TrailsAt (s : ParserState) (e : Error) : Type 0 where
   pub at : ℕ
   pub next : ComesNext s at
@@ -40,20 +41,20 @@ pub record IsNewAt (text : List ℕ) (lossy : Bool) (limit i : ℕ) (s : ParserS
   pub fresh : HasGiven s []
   pub unfailed : s.failure ≡ None
 
--- the closing bracket comes next, and the new parser begins right behind it
+-- the closing bracket is next, and the new parser begins right after it
 pub record ReadsEnd (old : ParserState) (k : Kind) (new : ParserState) : Type 0 where
   pub at : ℕ
   pub next : ComesNext old at
   pub closes : ByteAt old.text at (closing k)
   pub behind : IsNewAt old.text old.lossy old.limit (at + 1) new
 
--- why a sequence or a map does not end with what comes next
+-- why a sequence or a map does not end with what follows
 abbrev pub no_end : Kind → Option ℕ → ErrorCode
 no_end k None = code.EofWhileParsing
 no_end array (Some x) = code.ExpectedArrayCommaOrEnd
 no_end object (Some x) = cond (x == 44) code.TrailingComma code.ExpectedObjectCommaOrEnd
 
--- another byte than the closing bracket comes next, or none, and is refused at its place
+-- another byte than the closing bracket is next, or none, and is refused at its place
 pub record LacksEnd (s : ParserState) (k : Kind) (e : Error) : Type 0 where
   pub at : ℕ
   pub next : ComesNext s at

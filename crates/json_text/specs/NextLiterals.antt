@@ -1,4 +1,4 @@
--- Which literals and integers below 0 come next after what a reader took.
+-- Which literals and integers below 0 are next after what a reader took.
 use Rattle.std.specs.Prelude.{◌≡◌, ℕ, ◌+◌, ◌<◌, ◌≤◌, List, length, true}
 use Rattle.std.specs.Str.{all_ascii_digits}
 use Rattle.std.specs.Str.Parse.{digits_value}
@@ -11,7 +11,7 @@ use Rattle.json_text.specs.Numbers.{NumberTo}
 use Rattle.json_text.specs.Parsing.{ParserState, input}
 use Rattle.json_scan.specs.Runs.{ByteAt}
 
--- the literal comes next as a value
+-- the literal is next as a value
 pub record LiteralNext (s : ParserState) (word : List ℕ) : Type 0 where
   pub at : ℕ
   pub spot : Spot
@@ -26,7 +26,7 @@ pub record IsShortNegative (b : List ℕ) (i j : ℕ) : Type 0 where
   pub digits : all_ascii_digits (piece b (i + 1) j) ≡ true
   pub few : j ≤ i + 20
 
--- such a number comes next as a value, is not `-0`, and its magnitude is at most `least`
+-- such a number is next as a value, is not `-0`, and its magnitude is at most `least`
 pub record NegativeNext (s : ParserState) (least : ℕ) : Type 0 where
   pub at : ℕ
   pub spot : Spot

@@ -1,4 +1,4 @@
--- Where the next value or name begins behind what a reader took, and what stands there.
+-- Where the next value or name begins after what a reader took, and what is there.
 use Rattle.std.specs.Prelude.{◌≡◌, ℕ, ◌+◌, ◌<◌, ◌≤◌, List, [], ◌∷◌, length, get_or, true, Some}
 use Rattle.std.specs.Str.{all_ascii_digits}
 use Rattle.std.specs.Str.Parse.{digits_value}
@@ -14,39 +14,40 @@ use Rattle.json_scan.specs.Runs.{ByteAt}
 use Rattle.json_text.specs.Spelled.{Quoted}
 use Rattle.json_text.specs.Stack.{top}
 
--- whitespace stands from i up to k, and none at k (RFC 8259, section 2)
+-- whitespace lies from i up to k, and none at k (RFC 8259, section 2)
 pub record SpaceTo (b : List ℕ) (i k : ℕ) : Type 0 where
   pub order : i ≤ k
   pub within : k ≤ length b
   pub space : ws (piece b i k)
   pub stop : k < length b → ¬ (IsWhitespace (get_or b k 0))
 
--- from i up to k stand whitespace, the byte x and whitespace
+-- from i up to k are whitespace, the byte x and whitespace
 pub record MarkTo (x : ℕ) (b : List ℕ) (i k : ℕ) : Type 0 where
   pub mark : ℕ
   pub before : SpaceTo b i mark
   pub stands : ByteAt b mark x
   pub behind : SpaceTo b (mark + 1) k
 
--- behind i, in the open containers c at the spot w, the next value or name begins at k, where v may come:
--- behind the colon of a name, behind the comma of a container, and else behind whitespace alone
+-- after i, in the open containers c in the state w, the next value or name begins at k, where v may
+-- follow: after the colon of a name, after the comma of a container, and else after whitespace
+-- alone
 abbrev pub NextAt : List ℕ → ℕ → List Kind → Spot → ℕ → Spot → Type 0
 NextAt b i c colon k v = MarkTo 58 b i k × (v ≡ at_value)
 NextAt b i (x ∷ c) done k v = MarkTo 44 b i k × (v ≡ after_comma x)
 NextAt b i [] done k v = ⊥
 NextAt b i c w k v = SpaceTo b i k × (v ≡ w)
 
--- so behind what a parser took
+-- so after what a parser took
 abbrev pub NextPart : ParserState → ℕ → Spot → Type 0
 NextPart s k v = NextAt (input s) (taken s) s.open_kinds s.spot k v
 
--- a number of at most 19 digits, and nothing else, stands from i up to j and goes no further
+-- a number of at most 19 digits, and nothing else, lies from i up to j and goes no further
 pub record IsShortInteger (b : List ℕ) (i j : ℕ) : Type 0 where
   pub number : NumberTo b i j
   pub digits : all_ascii_digits (piece b i j) ≡ true
   pub few : j ≤ i + 19
 
--- such a number comes next as a value, and is at most `most`
+-- such a number is next as a value, and is at most `most`
 pub record IntegerNext (s : ParserState) (most : ℕ) : Type 0 where
   pub at : ℕ
   pub spot : Spot
@@ -56,7 +57,7 @@ pub record IntegerNext (s : ParserState) (most : ℕ) : Type 0 where
   pub integer : IsShortInteger (input s) at to
   pub value : digits_value 10 (piece (input s) at to) ≤ most
 
--- a string comes next as a value, whole and with no fault in it
+-- a string is next as a value, whole and with no fault in it
 pub record TextNext (s : ParserState) : Type 0 where
   pub at : ℕ
   pub spot : Spot
@@ -66,7 +67,7 @@ pub record TextNext (s : ParserState) : Type 0 where
   pub to : ℕ
   pub string : Quoted s.lossy (input s) at raw to
 
--- a string comes next as the name of a member, whole and with no fault in it
+-- a string is next as the name of a member, whole and with no fault in it
 pub record NameNext (s : ParserState) : Type 0 where
   pub at : ℕ
   pub spot : Spot
@@ -76,7 +77,7 @@ pub record NameNext (s : ParserState) : Type 0 where
   pub to : ℕ
   pub string : Quoted s.lossy (input s) at raw to
 
--- the bracket that opens a container of the kind comes next as a value, and one more level fits
+-- the bracket that opens a container of the kind is next as a value, and one more level fits
 pub record BeginNext (s : ParserState) (k : Kind) : Type 0 where
   pub at : ℕ
   pub spot : Spot
@@ -85,7 +86,7 @@ pub record BeginNext (s : ParserState) (k : Kind) : Type 0 where
   pub stands : ByteAt (input s) at (bracket k)
   pub fits : length s.open_kinds < s.limit
 
--- the bracket that closes the innermost container comes next, which is of the kind and may end
+-- the bracket that closes the innermost container is next, which is of the kind and may end
 pub record EndNext (s : ParserState) (k : Kind) : Type 0 where
   pub at : ℕ
   pub space : SpaceTo (input s) (taken s) at

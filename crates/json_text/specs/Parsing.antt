@@ -17,8 +17,9 @@ use Rattle.json_text.specs.Due.{NextNeeds}
 use Rattle.json_io.specs.Positions.{place_at}
 use Rattle.json_text.specs.Standing.{Stood}
 
--- the whole text and where reading began in it; whether it is read in the lossy mode; the most levels of a tree; the place behind what was taken, counted from the
--- beginning of the text; the open containers, the innermost first; what may come next; and what was refused
+-- the whole text and where reading began in it; whether it is read in the lossy mode; the most
+-- levels of a tree; the place after what was taken, counted from the beginning of the text; the
+-- open containers, the innermost first; what may follow; and what was refused
 pub record ParserState : Type 0 where
   pub text : List ℕ
   pub start : ℕ
@@ -29,7 +30,7 @@ pub record ParserState : Type 0 where
   pub spot : Spot
   pub failure : Option Error
 
--- of a parser that took so many bytes of what it reads
+-- of a parser that took that many bytes of what it reads
 abbrev pub state_of : List ℕ → ℕ → Bool → ℕ → ℕ → List Kind → Spot → Option Error → ParserState
 state_of text start lossy limit at c w f = record { text = text; start = start; lossy = lossy; limit = limit; index = start + at; open_kinds = c; spot = w; failure = f }
 
@@ -61,8 +62,8 @@ abbrev pub Goes : ParserState → Event → ParserState → Type 0
 Goes old event.End new = (new ≡ old) × ((ts : List Token) → HasGiven old ts → (t : Tree) × is_text old.lossy t (input old) × (ts ≡ tokens t) × (depth t ≤ old.limit))
 Goes old e new = (ts : List Token) → HasGiven old ts → (x : Token) × Means e x × HasGiven new (ts ++ x ∷ [])
 
--- behind what was taken before stand a gap and then the event's token, byte for byte, and the parser
--- stands right behind that: neither whitespace nor a comma or a colon was taken behind it
+-- what was taken before is followed by a gap and then the event's token, byte for byte, and the
+-- parser is right after that: neither whitespace nor a comma or a colon was taken after it
 pub record TakesToken (old : ParserState) (e : Event) (new : ParserState) : Type 0 where
   pub forward : old.index < new.index
   pub room : old.index + raw_size e ≤ new.index
@@ -79,21 +80,21 @@ abbrev pub IsTight : ParserState → Event → ParserState → Type 0
 IsTight old event.End new = Unit {0}
 IsTight old e new = TakesToken old e new
 
--- what the event lends stands right before the parser's place: a number,
--- or what stands between the quotes of a string or a name, the last of them right before that place
+-- what the event borrows is right before the parser's place: a number, or what is between the
+-- quotes of a string or a name, the last of them right before that place
 abbrev pub IsLent : Event → ParserState → Type 0
 IsLent (event.Number l) s = l.now ≡ piece s.text (s.index - length l.now) s.index
 IsLent (event.Str v) s = v.raw.now ≡ piece s.text (s.index - 1 - length v.raw.now) (s.index - 1)
 IsLent (event.Key v) s = v.raw.now ≡ piece s.text (s.index - 1 - length v.raw.now) (s.index - 1)
 IsLent _ s = Unit {0}
 
--- the fault of the input, which is kept and comes again
+-- the fault of the input, which is kept and returned again
 pub record Refuses (old : ParserState) (e : Error) (new : ParserState) : Type 0 where
   pub kept : new ≡ record old { failure = Some e }
   pub fault : FaultFrom old.lossy old.limit old.start old.text e.code e.place
   pub again : IfSome old.failure (λ f. e ≡ f)
 
--- the fault is told at the event that needs the byte at its offset, and at no event before that
+-- the fault is reported at the event that needs the byte at its offset, and at no event before that
 pub record IsDue (old : ParserState) (e : Error) : Type 0 where
   pub offset : ℕ
   pub place : e.place ≡ place_at old.text (old.start + offset)
@@ -104,7 +105,8 @@ pub record IsDue (old : ParserState) (e : Error) : Type 0 where
 abbrev pub EventsBeginTexts : ParserState → Type 0
 EventsBeginTexts s = (ts : List Token) → HasGiven s ts → (t : Tree) (b : List ℕ) → is_text s.lossy t (take (taken s) (input s) ++ b) → LastEnds s.spot ts b → (m : List Token) × (tokens t ≡ ts ++ m)
 
--- one value was read, whatever follows it, and the parser stands right behind it: a number is the longest there, and no digit follows a leading zero
+-- one value was read, whatever follows it, and the parser is right after it: a number is the
+-- longest there, and no digit follows a leading zero
 abbrev pub HasRead : ParserState → Type 0
 HasRead s = (ts : List Token) → HasGiven s ts → (t : Tree) × reads s.lossy (input s) t (taken s) × (ts ≡ tokens t) × (depth t ≤ s.limit)
 
@@ -134,15 +136,15 @@ ReadsWhenWhole old new result = OnOk result (¬ (IsWhole old) → IsWhole new �
 abbrev pub ReadsNextEvent : {E : Type 0} → (old new : ParserState) → Result Event E → Type 0
 ReadsNextEvent old new result = IfOk result (λ e. (old.failure ≡ None) × (new.failure ≡ None) × Goes old e new)
 
--- the parser stands right behind the event's token
+-- the parser is right after the event's token
 abbrev pub StopsTight : {E : Type 0} → (old new : ParserState) → Result Event E → Type 0
 StopsTight old new result = IfOk result (λ e. IsTight old e new)
 
--- what an event lends stands right before the parser's place
+-- what an event borrows is right before the parser's place
 abbrev pub LendsBefore : {E : Type 0} → ParserState → Result Event E → Type 0
 LendsBefore s result = IfOk result (λ e. IsLent e s)
 
--- End comes behind a whole value only
+-- End is returned after a whole value only
 abbrev pub EndsWhole : {E : Type 0} → ParserState → Result Event E → Type 0
 EndsWhole s result = IfOk result (λ e. e ≡ event.End → IsWhole s)
 
@@ -150,7 +152,7 @@ EndsWhole s result = IfOk result (λ e. e ≡ event.End → IsWhole s)
 abbrev pub RefusesOnErr : {A : Type 0} → (old new : ParserState) → Result A Error → Type 0
 RefusesOnErr old new result = IfErr result (λ e. Refuses old e new)
 
--- a first error is told at the event that needs the byte
+-- a first error is reported at the event that needs the byte
 abbrev pub FailsWhenDue : {A : Type 0} → ParserState → Result A Error → Type 0
 FailsWhenDue s result = IfErr result (λ e. s.failure ≡ None → IsDue s e)
 

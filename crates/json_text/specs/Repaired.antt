@@ -1,4 +1,5 @@
--- What becomes of bytes that are not UTF-8 throughout, and where each place of the repaired text comes from.
+-- What becomes of bytes that are not UTF-8 throughout, and the origin of each place of the repaired
+-- text.
 use Rattle.std.specs.Prelude.{ℕ, ◌+◌, ◌-◌, ◌<◌, ◌≤◌, ◌^◌, List, [], ◌∷◌, length, cond, nat_lt, nat_le, Option, Some, None}
 use Rattle.std.specs.List.Sorted.{IsNonDecreasingBy}
 use Rattle.bstr.specs.Utf8.{Decoded, pieces}
@@ -11,12 +12,12 @@ abbrev pub shown_size : Option ℕ → ℕ → ℕ
 shown_size None n = 3
 shown_size (Some c) n = n
 
--- where the k-th of them comes from, counted from the beginning of the piece
+-- the origin of the k-th of them, counted from the beginning of the piece
 abbrev pub origin_within : Option ℕ → ℕ → ℕ
 origin_within None k = 0
 origin_within (Some c) k = k
 
--- where the offset k of the repaired text comes from
+-- the origin of the offset k of the repaired text
 abbrev pub origin_in : List Decoded → ℕ → ℕ
 origin_in [] k = 0
 origin_in (p ∷ ps) k =
@@ -42,7 +43,7 @@ abbrev pub last_shown : List IllFormed → ℕ → Option IllFormed
 last_shown [] k = None
 last_shown (r ∷ rs) k = later_or (last_shown rs k) r k
 
--- where k comes from, by that run
+-- the origin of k, by that run
 abbrev pub origin_behind : Option IllFormed → ℕ → ℕ
 origin_behind None k = k
 origin_behind (Some r) k = cond (nat_lt k (r.shown + 3)) r.from (r.end + (k - (r.shown + 3)))
@@ -50,11 +51,11 @@ origin_behind (Some r) k = cond (nat_lt k (r.shown + 3)) r.from (r.end + (k - (r
 abbrev pub origin_by : List IllFormed → ℕ → ℕ
 origin_by runs k = origin_behind (last_shown runs k) k
 
--- where the offset k of the repaired text comes from
+-- the origin of the offset k of the repaired text
 abbrev pub origin_of : RepairedText → ℕ → ℕ
 origin_of r k = origin_by r.runs k
 
--- the runs stand in their order, and each place comes from one of the input
+-- the runs are in their order, and each place has its origin in the input
 pub record IsRepaired (r : RepairedText) : Type 0 where
   pub sorted : IsNonDecreasingBy (λ (x : IllFormed). x.shown) r.runs
   pub within : (k : ℕ) → k ≤ length r.text → origin_of r k < 2 ^ 64

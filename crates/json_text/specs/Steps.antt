@@ -21,7 +21,7 @@ abbrev pub Advances : Bool → ℕ → List ℕ → ℕ → List Kind → Spot �
 Advances lossy limit b i c w event.End j c' w' = (j ≡ i) × (c' ≡ c) × (w' ≡ w) × ((ts : List Token) → Stood lossy limit b i c w ts → (t : Tree) × is_text lossy t b × (ts ≡ tokens t) × (depth t ≤ limit))
 Advances lossy limit b i c w e j c' w' = From lossy limit b i c w e j c' w'
 
--- behind i stand a gap and then the event's token, byte for byte, up to j
+-- a gap and then the event's token follow from i on, byte for byte, up to j
 abbrev pub StandsBehindGap : Bool → List ℕ → ℕ → Event → ℕ → Type 0
 StandsBehindGap lossy b i event.End j = Unit {0}
 StandsBehindGap lossy b i e j = (k : ℕ) × (i ≤ k) × IsGap (piece b i k) × Tight lossy b k e j

@@ -11,10 +11,10 @@ ghost use Rattle.json_text.specs.declared.integer.DigitsRead.TheVariants as Digi
 
 use json_scan::{BLOCK, byte_is, digit_is, digits_in_block};
 
-/// So many digits are always an integer of 64 bits.
+/// An integer of at most this many digits always fits 64 bits.
 const MOST_DIGITS: usize = 19;
 
-/// So many digits are read as one word.
+/// How many digits are read as one word.
 const WORD: usize = 8;
 
 /// A word of the digit 0.
@@ -40,7 +40,7 @@ pub(crate) struct Digits {
     pub end: usize,
 }
 
-/// Behind the most digits that are looked at.
+/// The offset after the most digits that are looked at.
 #[inline(always)]
 fn farthest(len: usize, from: usize) -> usize
     requires { from ≤ len }

@@ -34,8 +34,8 @@ pub use negatives::NegativeInteger;
 /// The most levels of a tree, where the caller chooses none (RFC 8259, section 9).
 const LEVELS: usize = 254;
 
-/// Hands out the events of a text one after another, up to a refusal, which comes again at each
-/// later call. Takes no memory.
+/// Returns the events of a text one after another, up to an error, which each later call returns
+/// again. Takes no memory.
 ///
 /// ```
 /// use json_text::{Event, Parser};
@@ -90,8 +90,8 @@ fn no_end(kind: Kind, byte: u8) -> ErrorCode
 }
 
 impl<'a> Parser<'a> {
-    /// Stands at the beginning, where a value must come. A value of at most 254 levels is read,
-    /// where `depth` chooses none: `[]` has 1.
+    /// Returns a parser at the beginning of the text, where a value must follow. It reads values of
+    /// at most 254 levels, unless `depth` sets another limit: `[]` has 1.
     pub fn new(text: &'a str) -> Parser<'a>
         ensures text { result.text ≡ text.now }
         ensures start { (result.start ≡ 0) × (result.index ≡ 0) }
@@ -112,9 +112,9 @@ impl<'a> Parser<'a> {
         }
     }
 
-    /// Returns a parser that begins at this offset of the text, in bytes, where a value must come,
-    /// with the limit of `new`. What is before the offset is not looked at. Errors have their
-    /// places in the whole text.
+    /// Returns a parser that begins at this offset of the text, in bytes, where a value must
+    /// follow, with the limit of `new`. What is before the offset is not looked at. Errors have
+    /// their places in the whole text.
     ///
     /// ```
     /// use json_text::{Event, Parser};
@@ -154,8 +154,8 @@ impl<'a> Parser<'a> {
         }
     }
 
-    /// The same parser for values of so many levels at most, which are at most 1,024. It has handed
-    /// out no event and refused nothing.
+    /// Returns the same parser for values of at most `depth` levels, which are at most 1,024. It
+    /// has returned no event and no error.
     pub fn depth(self, depth: u32) -> Parser<'a>
         requires most { depth ≤ 1024 }
         requires fresh { HasGiven self [] × (self.failure ≡ None) }
@@ -213,7 +213,7 @@ impl<'a> Parser<'a> {
         self.rest.len()
     }
 
-    /// Whether the value is whole.
+    /// Returns whether the value is whole.
     #[inline(always)]
     pub fn done(&self) -> bool
         ensures { IsTrue result ↔ ((self.now.spot ≡ Spot.Done) × (length self.now.open_kinds ≡ 0)) }
@@ -289,10 +289,10 @@ impl<'a> Parser<'a> {
     ///
     /// Fails with one of the codes from `EofWhileParsing` to `RecursionLimitExceeded`, at the
     /// offset after the longest prefix that some text begins with; with the last code, at the
-    /// bracket that opens a level too many. The error comes at the event that needs the byte at
-    /// that offset, at none before, and again at each later call. While the value is not whole, it
-    /// is the error of the value, whatever would follow it; once it is whole, the parser is right
-    /// after it.
+    /// bracket that opens a level too many. The error is returned for the event that needs the byte
+    /// at that offset, for none before, and again at each later call. While the value is not whole,
+    /// it is the error of the value, whatever would follow it; once it is whole, the parser is
+    /// right after it.
     #[inline(always)]
     pub fn next(&mut self) -> Result<Event<'a>>
         ensures same { SameInput self.old self.new }
@@ -312,8 +312,8 @@ impl<'a> Parser<'a> {
         self.next_by::<0>()
     }
 
-    /// The same as `next`, by a copy of its own for each use: a loop whose use no other caller
-    /// names has it in line, which `next` is only where one loop of the program calls it. Fails as
+    /// Returns what `next` does, by a copy of its own for each `USE`: a loop whose number no other
+    /// caller names has it in line, as `next` is only if one loop of the program calls it. Fails as
     /// `next` does.
     #[inline(always)]
     pub fn next_by<const USE: u8>(&mut self) -> Result<Event<'a>>
@@ -375,8 +375,8 @@ impl<'a> Parser<'a> {
         }
     }
 
-    /// Whether only whitespace is left. `TrailingCharacters` comes exactly at the next other byte
-    /// (RFC 8259, section 2). The parser does not move.
+    /// Checks that only whitespace is left. Fails with `TrailingCharacters` exactly at the next
+    /// other byte (RFC 8259, section 2). The parser does not move.
     pub fn end(&mut self) -> Result<()>
         ensures ok { OnOk result (NothingLeft self.old) }
         ensures err { IfErr result (TrailsAt self.old) }
@@ -409,10 +409,12 @@ impl<'a> Parser<'a> {
         Ok(())
     }
 
-    /// Takes whitespace and `]`, where the caller reads the elements of an array by one parser each
-    /// (RFC 8259, section 5). Where only whitespace is left `EofWhileParsing` comes, else
+    /// Takes whitespace and `]`, for a caller that reads the elements of an array by one parser
+    /// each (RFC 8259, section 5). After `]` it is a new parser of the same limit and mode.
+    ///
+    /// Fails with `EofWhileParsing` if only whitespace is left, else with
     /// `ExpectedArrayCommaOrEnd`, both at the next byte that is no whitespace; then the parser does
-    /// not move. Behind `]` it is a new parser of the same limit and mode.
+    /// not move.
     pub fn end_seq(&mut self) -> Result<()>
         requires { HasGiven self.old [] ⊎ IsWhole self.old }
         ensures ok { OnOk result (ReadsEnd self.old Kind.Array self.new) }
@@ -422,10 +424,12 @@ impl<'a> Parser<'a> {
         self.end_of(Kind::Array)
     }
 
-    /// Takes whitespace and `}`, where the caller reads the members of an object (RFC 8259, section
-    /// 4). Where only whitespace is left `EofWhileParsing` comes, at a comma `TrailingComma`, else
-    /// `ExpectedObjectCommaOrEnd`, each at the next byte that is no whitespace; then the parser
-    /// does not move. Behind `}` it is a new parser of the same limit and mode.
+    /// Takes whitespace and `}`, for a caller that reads the members of an object (RFC 8259,
+    /// section 4). After `}` it is a new parser of the same limit and mode.
+    ///
+    /// Fails with `EofWhileParsing` if only whitespace is left, with `TrailingComma` at a comma,
+    /// else with `ExpectedObjectCommaOrEnd`, each at the next byte that is no whitespace; then the
+    /// parser does not move.
     pub fn end_map(&mut self) -> Result<()>
         requires { HasGiven self.old [] ⊎ IsWhole self.old }
         ensures ok { OnOk result (ReadsEnd self.old Kind.Object self.new) }

@@ -92,16 +92,16 @@ fn last_shown(runs: &[IllFormed], offset: usize) -> Option<IllFormed>
 }
 
 impl Repaired {
-    /// The repaired text.
+    /// Returns the repaired text.
     pub fn as_str(&self) -> &str
         ensures { result.now ≡ self.now.text }
     {
         self.text.as_str()
     }
 
-    /// Where a place of the repaired text comes from, both in bytes: of bytes that were copied
-    /// their place in the input, of a place within a U+FFFD that replaced a run the beginning of
-    /// that run, and of the end the input's length.
+    /// Returns the offset in the input of an offset of the repaired text, both in bytes: for copied
+    /// bytes their own, within a U+FFFD that replaced a run the beginning of that run, and at the
+    /// end the input's length.
     pub fn origin(&self, offset: usize) -> usize
         requires { offset ≤ length self.now.text }
         ensures { result ≡ origin_of self.now offset }

@@ -6,7 +6,7 @@ ghost use Rattle.std.specs.Prelude.{◌≤◌};
 ///
 /// ```
 /// use json_text::Rules;
-/// let rules = Rules::new(16, true).ok_or("so many levels")?;
+/// let rules = Rules::new(16, true).ok_or("too many levels")?;
 /// assert_eq!(rt; (rules.depth(), rules.unique()), (16, true));
 /// assert!(rt; Rules::new(1_025, false).is_none());
 /// ```
@@ -21,8 +21,8 @@ impl Rules {
     ghost use Rattle.std.specs.Prelude.{◌≡◌, ◌<◌, MatchOption};
     ghost use Rattle.json_text.specs.Ruled.{rules_of, usual_rules};
 
-    /// So many levels at most, and names that have to differ or may repeat. `None` comes exactly
-    /// where the levels are more than 1,024.
+    /// Returns the rules of at most `depth` levels and names that have to differ if `unique`.
+    /// Returns `None` exactly if `depth` is more than 1,024.
     pub fn new(depth: u32, unique: bool) -> Option<Rules>
         ensures { MatchOption result (1024 < depth)
             (λ r. (depth ≤ 1024) × (rules_of r ≡ record { limit = depth; unique = unique })) }
@@ -33,7 +33,7 @@ impl Rules {
         Some(Rules { depth, unique })
     }
 
-    /// 254 levels at most, and names that may repeat.
+    /// Returns the rules of at most 254 levels and names that may repeat.
     pub fn usual() -> Rules
         ensures { rules_of result ≡ usual_rules }
     {
@@ -43,7 +43,7 @@ impl Rules {
         }
     }
 
-    /// The most levels: `[]` has 1.
+    /// Returns the most levels: `[]` has 1.
     pub fn depth(self) -> u32
         ensures depth { result ≡ (rules_of self).limit }
         ensures most { result ≤ 1024 }
@@ -51,7 +51,7 @@ impl Rules {
         self.depth
     }
 
-    /// Whether the names of each object have to differ.
+    /// Returns whether the names of each object have to differ.
     pub fn unique(self) -> bool
         ensures { result ≡ (rules_of self).unique }
     {

@@ -1,4 +1,4 @@
-// What may come at a place.
+// What may follow at a place.
 ghost use Rattle.std.specs.Prelude.{◌≡◌, ◌≢◌, ℕ, Bool, ◌+◌, ◌<◌, ◌≤◌, List, length, get_or, IfOk, IfErr, IsOkAnd, None};
 ghost use Rattle.json_grammar.specs.declared.Kind.{Kind};
 ghost use Rattle.json_grammar.specs.declared.Spot.{Spot};
@@ -31,7 +31,7 @@ pub(crate) struct Stand {
     pub spot: Spot,
 }
 
-/// Behind whitespace.
+/// Skips whitespace.
 #[inline(always)]
 fn settle(bytes: &[u8], from: usize, spot: Spot) -> Stand
     requires { from ≤ length bytes.now }
@@ -59,8 +59,8 @@ fn after_comma(kind: Kind) -> Spot
     }
 }
 
-/// Behind whitespace and, where one must come, a comma or a colon. Fails at a byte that is neither
-/// where one of them must come.
+/// Skips whitespace and, if one must follow, a comma or a colon. Fails at another byte if one of
+/// them must follow.
 #[inline(always)]
 pub fn ready(bytes: &[u8], index: usize, spot: Spot, kinds: &Kinds) -> Result<Stand, Fault>
     requires { index ≤ length bytes.now }
@@ -114,6 +114,7 @@ pub fn ready(bytes: &[u8], index: usize, spot: Spot, kinds: &Kinds) -> Result<St
     }
 }
 
+/// Returns the bracket that closes a container of the kind.
 #[inline(always)]
 pub fn closing(kind: Kind) -> u8
     ensures { result ≡ spec_closing kind }

@@ -25,12 +25,12 @@ pub(crate) fn is_whole(spot: Spot, kind: Option<Kind>) -> bool
     }
 }
 
-/// The next event of a text, for a loop that keeps the place in bytes, what may come there and the
-/// open containers itself. Where the caller knows what may come, no choice by it is left. Each use
-/// has a copy of its own.
+/// Reads one event at the cursor, for a loop that keeps the cursor and the open containers itself.
+/// `USE` numbers the call, so each has a copy of its own, and the compiler drops the branches that
+/// a known cursor excludes.
 ///
-/// `End` comes where the value is whole and only whitespace is left. A fault has one of the codes
-/// from `EofWhileParsing` to `RecursionLimitExceeded`, as `Parser::next` returns it, at its offset.
+/// Returns `End` if the value is whole and only whitespace is left. Fails with a code from
+/// `EofWhileParsing` to `RecursionLimitExceeded` at its offset, as `Parser::next` does.
 ///
 /// ```
 /// use json_grammar::Spot;

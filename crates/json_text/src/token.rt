@@ -86,7 +86,7 @@ pub(crate) fn string_at<'a>(text: &'a str, at: usize, lossy: bool) -> Result<Quo
     }
 }
 
-/// One more part of a text, the offset in bytes after it, and what may come there. The parser
+/// A part of a text that was read, the offset in bytes after it, and what may follow. The parser
 /// returns the event.
 ///
 /// ```
@@ -104,7 +104,7 @@ pub struct Read<'a> {
     pub spot: Spot,
 }
 
-/// Where a reader is in a text: the offset in bytes of what it reads next, and what may come there.
+/// Where a reader is in a text: the offset in bytes of what it reads next, and what may follow.
 ///
 /// ```
 /// use json_grammar::Spot;

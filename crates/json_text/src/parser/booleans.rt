@@ -1,4 +1,4 @@
-// `true` and `false` that are taken at once if they come next.
+// Takes `true` or `false` at once if it is next.
 ghost use Rattle.std.specs.Prelude.{◌≡◌, ◌+◌, ◌≤◌, ◌↔◌, Bool, None, true, false, length, IsTrue, IfSome};
 ghost use Rattle.json_grammar.specs.Grammar.{boolean_bytes};
 ghost use Rattle.json_text.specs.declared.event.Event.TheVariants as Event;
@@ -69,7 +69,7 @@ fn boolean_at(bytes: &[u8], from: usize) -> Option<bool>
 
 impl<'a> Parser<'a> {
     /// Takes the next event exactly if it is `true` or `false`, and returns which. If it returns
-    /// none, neither comes next and nothing is taken: `next` returns what comes.
+    /// none, neither is next and nothing is taken: `next` returns the next event.
     #[inline(always)]
     pub fn next_bool(&mut self) -> Option<bool>
         requires fresh { self.old.failure ≡ None }

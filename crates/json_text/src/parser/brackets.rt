@@ -1,4 +1,4 @@
-// Brackets that are taken at once where they come next.
+// Takes brackets at once if they are next.
 ghost use Rattle.std.specs.Prelude.{◌≡◌, ◌↔◌, Some, None, IsTrue, true, false};
 ghost use Rattle.json_grammar.specs.Place.{TakesEnd, bracket as spec_bracket};
 ghost use Rattle.json_text.specs.Parsing.{SameInput, IsWhole, Goes, IsTight, HasRead};
@@ -55,7 +55,7 @@ fn is_innermost(kinds: &Kinds, kind: Kind) -> bool
 impl<'a> Parser<'a> {
     /// Takes the next event if it is the bracket that opens a container of this kind, as a value
     /// and within the limit, and returns whether it is. Otherwise nothing is taken, and `next`
-    /// returns what comes.
+    /// returns the next event.
     ///
     /// ```
     /// use json_grammar::Kind;
@@ -95,8 +95,8 @@ impl<'a> Parser<'a> {
     }
 
     /// Takes the next event if it is the bracket that closes the innermost container, which has
-    /// this kind, and returns whether it is. Otherwise nothing is taken, and `next` returns what
-    /// comes.
+    /// this kind, and returns whether it is. Otherwise nothing is taken, and `next` returns the
+    /// next event.
     #[inline(always)]
     pub fn next_end(&mut self, kind: Kind) -> bool
         requires fresh { self.old.failure ≡ None }

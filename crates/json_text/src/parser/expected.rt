@@ -1,4 +1,4 @@
-// Parts that are taken at once where they come next.
+// Takes parts at once if they are next.
 ghost use Rattle.std.specs.Prelude.{◌≡◌, ◌≤◌, ◌↔◌, None, true, length, IsTrue, IfSome, OnSome};
 ghost use Rattle.std.specs.Str.{all_ascii_digits};
 ghost use Rattle.std.specs.Str.Parse.{digits_value};
@@ -56,7 +56,7 @@ fn takes_key(spot: Spot) -> bool
 impl<'a> Parser<'a> {
     /// Takes the next event if it is a number of at most 19 digits, without a sign, a fraction or
     /// an exponent, that is at most `most`, and returns it with its value. Returns `None` exactly
-    /// if no such number comes next; then nothing is taken, and `next` returns what comes.
+    /// if no such number is next; then nothing is taken, and `next` returns the next event.
     ///
     /// ```
     /// use json_text::{Event, Parser};
@@ -106,9 +106,9 @@ impl<'a> Parser<'a> {
         })
     }
 
-    /// Takes the next event if it is a string that is a value. Returns `None` if no string comes
-    /// next as a value, or one that is not valid; then nothing is taken, and `next` returns what
-    /// comes.
+    /// Takes the next event if it is a string that is a value. Returns `None` if no string is next
+    /// as a value, or one that is not valid; then nothing is taken, and `next` returns the next
+    /// event.
     #[inline(always)]
     pub fn next_text(&mut self) -> Option<Span<'a>>
         requires fresh { self.old.failure ≡ None }
@@ -139,8 +139,8 @@ impl<'a> Parser<'a> {
         Some(quote.span)
     }
 
-    /// Takes the next event if it is the name of a member. Returns `None` if no name comes next, or
-    /// one that is not valid; then nothing is taken, and `next` returns what comes.
+    /// Takes the next event if it is the name of a member. Returns `None` if no name is next, or
+    /// one that is not valid; then nothing is taken, and `next` returns the next event.
     #[inline(always)]
     pub fn next_key(&mut self) -> Option<Span<'a>>
         requires fresh { self.old.failure ≡ None }

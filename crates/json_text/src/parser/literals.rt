@@ -1,4 +1,4 @@
-// `null` that is taken at once if it comes next.
+// Takes `null` at once if it is next.
 ghost use Rattle.std.specs.Prelude.{◌≡◌, ◌+◌, ◌≤◌, ◌↔◌, None, true, false, length, IsTrue};
 ghost use Rattle.json_grammar.specs.Grammar.{null_bytes};
 ghost use Rattle.json_text.specs.declared.event.Event.TheVariants as Event;
@@ -27,8 +27,7 @@ pub(super) fn word_is(bytes: &[u8], from: usize, word: &[u8]) -> bool
 }
 
 impl<'a> Parser<'a> {
-    /// Takes the event of the literal exactly if it comes next as a value, and returns whether it
-    /// does.
+    /// Takes the event of the literal exactly if it is next as a value, and returns whether it is.
     #[inline(always)]
     fn next_literal(&mut self, word: &[u8], event: Event<'a>) -> bool
         requires fresh { self.old.failure ≡ None }
@@ -59,7 +58,7 @@ impl<'a> Parser<'a> {
     }
 
     /// Takes the next event exactly if it is `null`, and returns whether it is. Else nothing is
-    /// taken, and `next` returns what comes.
+    /// taken, and `next` returns the next event.
     ///
     /// ```
     /// use json_grammar::Kind;

@@ -1,4 +1,4 @@
-// Integers below 0 that are taken at once if they come next.
+// Takes integers below 0 at once if they are next.
 ghost use Rattle.std.specs.Prelude.{◌≡◌, ◌<◌, ◌≤◌, None, true, length, get_or, drop, IfSome, OnSome};
 ghost use Rattle.std.specs.Str.{all_ascii_digits};
 ghost use Rattle.std.specs.Str.Parse.{digits_value};
@@ -29,8 +29,8 @@ pub struct NegativeInteger<'a> {
 impl<'a> Parser<'a> {
     /// Takes the next event exactly if it is a number below 0 of a minus and at most 19 digits,
     /// without a fraction or an exponent, whose magnitude is at most `least`, and returns the
-    /// magnitude too. If it returns none, no such number comes next and nothing is taken: `next`
-    /// returns what comes. `-0` is no number below 0.
+    /// magnitude too. If it returns none, no such number is next and nothing is taken: `next`
+    /// returns the next event. `-0` is no number below 0.
     ///
     /// ```
     /// use json_text::{Event, Parser};

@@ -17,7 +17,7 @@ use Rattle.json_text.proofs.DueTokens.{fault_within}
 use Rattle.json_text.proofs.Going.{advances}
 use Rattle.json_text.proofs.steps.step.Goals as goal
 
--- a reader of the same bytes stands there too
+-- a reader of the same bytes is at the same place
 stood_of : (lossy : Bool) (limit : ℕ) (b t : List ℕ) (i j : ℕ) (c : List Kind) (w v : Spot) (ts : List Token) → b ≡ t → (Stood lossy limit b i c w ts → Stood lossy limit b j c v ts) → Stood lossy limit t i c w ts → Stood lossy limit t j c v ts
 stood_of lossy limit b t i j c w v ts e f h = subst (λ y. Stood lossy limit y j c v ts) e (f (subst (λ y. Stood lossy limit y i c w ts) (sym e) h))
 

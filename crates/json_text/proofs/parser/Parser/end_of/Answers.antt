@@ -13,7 +13,7 @@ closing_is_ascii : (k : Kind) → closing k < 128
 closing_is_ascii array = omega arith
 closing_is_ascii object = omega arith
 
--- what comes next is within the text
+-- what follows is within the text
 at_byte : (p s : ParserState) (b : List ℕ) (k : ℕ) → p ≡ s → b ≡ p.text → ComesNext s k → k ≢ length b → k < length b
 at_byte p s b k view same next apart = let whole : length b ≡ length s.text = ap length same ∙ ap (λ (q : ParserState). length q.text) view in let within = next.within in omega arith
 
