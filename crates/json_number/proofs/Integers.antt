@@ -122,7 +122,7 @@ spells (x ∷ b) n h e = by (cases_eq x 45)
 pub prints_its_literal : (l : List ℕ) (n : ℤ) → number l → integer_in l ≡ Some n → signed_decimal n ≡ l
 prints_its_literal l n h e = (spells l n h e).text
 
--- a longer literal stands for no integer
+-- a longer literal represents no integer
 pub long_is_none : (l : List ℕ) → number l → 20 < length l → integer_in l ≡ None
 long_is_none l h k = by (integer_in l) refl
   where
@@ -163,7 +163,7 @@ negative_reads n h =
     let w : suc n < 2 ^ 64 = omega arith in
     minus_is (decimal (suc n)) ∙ rw (digits_decimal own (suc n) w, digits_value-decimal own (suc n) w, lt-ltb 0 (suc n) (omega arith), le-leb (suc n) (2 ^ 63) (omega arith)) refl
 
--- ---- the integers that literals stand for
+-- ---- the integers that literals represent
 
 -- it lies in `u64`, or below 0 in `i64`
 abbrev Bounded : ℤ → Type 0
@@ -200,7 +200,7 @@ bounded (x ∷ b) n e = by (cases_eq x 45)
     by (inl i) = if_below (all_ascii_digits b) (sym (ap (λ y. integer_in (y ∷ b)) i ∙ minus_is b) ∙ e)
     by (inr i) = if_from (all_ascii_digits (x ∷ b)) (sym (plain_is x b i) ∙ e)
 
--- the decimal text of an integer that it stands for is a number
+-- the decimal text of an integer that it represents is a number
 pub integer_number : (n : ℤ) → integer_in (signed_decimal n) ≡ Some n → number (signed_decimal n)
 integer_number (pos n) e = decimal_number n (bounded _ _ e)
 integer_number (negsuc n) e = let k : suc n ≤ 2 ^ 63 = bounded _ _ e in negative_number n (omega arith)

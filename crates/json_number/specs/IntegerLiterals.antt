@@ -13,7 +13,7 @@ IsIntegerLiteral o (Negative n) = (o ≡ minus n) × (0 < n)
 IsIntegerLiteral o (NonNegative n) = o ≡ Some (pos n)
 IsIntegerLiteral o TooBig = (v : ℕ) × (2 ^ 128 ≤ v) × ((o ≡ Some (pos v)) ⊎ (o ≡ minus v))
 
--- behind a minus
+-- after a minus
 abbrev pub below_of : List ℕ → Option ℤ
 below_of d = if all_ascii_digits d then minus (digits_value 10 d) else None
 

@@ -1,4 +1,4 @@
--- The integer that a number's literal stands for by value. Bytes are written as numbers: 45 is `-`.
+-- The integer that a number's literal represents by value. Bytes are written as numbers: 45 is `-`.
 use Rattle.std.specs.Prelude.{ℕ, zero, suc, ◌^◌, ℤ, pos, negsuc, neg_ℤ, List, [], ◌∷◌, ◌&&◌, ◌==◌, nat_lt, nat_le, if◌then◌else◌, Some, None, Option}
 use Rattle.std.specs.Str.{all_ascii_digits}
 use Rattle.std.specs.Str.Parse.{digits_value}
@@ -11,8 +11,9 @@ below_zero n = if nat_lt 0 n && nat_le n (2 ^ 63) then Some (neg_ℤ (pos n)) el
 abbrev pub from_zero : ℕ → Option ℤ
 from_zero n = if nat_lt n (2 ^ 64) then Some (pos n) else None
 
--- The integer of a number's literal: there is none where digits are not all that it has behind its minus, that is, where it has a fraction or an exponent,
--- none for `-0`, and none where it lies neither in `i64` nor in `u64`.
+-- The integer of a number's literal: there is none where digits are not all that it has after its
+-- minus, that is, where it has a fraction or an exponent, none for `-0`, and none where it lies
+-- neither in `i64` nor in `u64`.
 unfoldable pub integer_in : List ℕ → Option ℤ
 integer_in [] = None
 integer_in (x ∷ b) =

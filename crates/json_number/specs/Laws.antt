@@ -12,11 +12,11 @@ use Rattle.json_number.specs.Floats.{if_finite, float_in, nearest_float, double_
 use Rattle.json_number.specs.declared.number.Number.{Number}
 use Rattle.json_number.specs.declared.raw_number.RawNumber.{RawNumber}
 
--- the decimal text of the integer that a literal stands for is the literal
+-- the decimal text of the integer that a literal represents is the literal
 abbrev pub PrintsItsLiteral : Type 0
 PrintsItsLiteral = (l : List ℕ) (n : ℤ) → number l → integer_in l ≡ Some n → signed_decimal n ≡ l
 
--- the text of a number is the literal of a number, which stands for the same integer
+-- the text of a number is the literal of a number, which represents the same integer
 abbrev pub ReadsBack : Type 0
 ReadsBack = (x : Number) → number (text_of_number x) × (integer_in (text_of_number x) ≡ Some (value_of x))
 

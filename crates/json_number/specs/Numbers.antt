@@ -1,4 +1,4 @@
--- What a number by value stands for.
+-- What a number by value represents.
 use Rattle.std.specs.Prelude.{ℕ, ℤ, List}
 use Rattle.std.specs.Fmt.{signed_decimal}
 use Rattle.json_number.specs.BySign.{integer_value}

@@ -7,7 +7,7 @@ ghost use Rattle.std.specs.Str.Parse.{digits_value};
 ghost use Rattle.json_number.specs.Integers.{whole_in};
 ghost use Rattle.json_number.specs.IntegerLiterals.{IsIntegerLiteral, below_of, plain_of};
 
-/// So many digits always write an integer of 64 bits.
+/// An integer of at most this many digits always fits 64 bits.
 const MOST_DIGITS: usize = 19;
 
 /// The integer of a literal, of any width.
@@ -93,7 +93,7 @@ fn plain_integer(digits: &str) -> IntegerLiteral
     }
 }
 
-/// Returns the integer of the same digits behind a minus.
+/// Returns the integer of the same digits after a minus.
 #[inline(always)]
 fn negated(integer: IntegerLiteral) -> IntegerLiteral
     ensures { (d : List ℕ) → IsIntegerLiteral (plain_of d) integer

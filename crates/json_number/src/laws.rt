@@ -60,8 +60,8 @@ pub fn integer_double()
     ensures { IntegerDouble }
 {}
 
-/// A double that is written and read again is itself, also -0: it comes back unless it is a NaN or
-/// an infinity. `NoMemory` comes where memory runs out.
+/// A double that is written and read again is itself, also -0: it is returned unless it is a NaN or
+/// an infinity. Fails with `NoMemory` if memory runs out.
 pub fn double_and_back(alloc: Global, x: f64) -> Result<Option<f64>>
     ensures same { IfOk result (λ o. o ≡ if_finite x) }
     ensures err { OnlyNoMemory result }
@@ -72,8 +72,8 @@ pub fn double_and_back(alloc: Global, x: f64) -> Result<Option<f64>>
     }
 }
 
-/// An `f32` that is written and read again is itself, as `double_and_back`. `NoMemory` comes where
-/// memory runs out.
+/// An `f32` that is written and read again is itself, as `double_and_back`. Fails with `NoMemory`
+/// if memory runs out.
 pub fn single_and_back(alloc: Global, x: f32) -> Result<Option<f32>>
     ensures same { IfOk result (λ o. o ≡ if_finite x) }
     ensures err { OnlyNoMemory result }

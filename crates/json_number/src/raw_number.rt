@@ -41,8 +41,8 @@ impl RawNumber {
     ghost use Rattle.json_number.specs.Literals.{raw_literal};
     ghost use Rattle.json_number.specs.Numbers.{value_of};
 
-    /// The number that the literal spells. Answers `InvalidNumber` where the text is no number,
-    /// else `NoMemory` where memory runs out.
+    /// Creates the number of a literal. Fails with `InvalidNumber` exactly if the text is no number
+    /// (RFC 8259, section 6), and with `NoMemory` if memory runs out.
     pub fn new(alloc: Global, literal: &str) -> Result<RawNumber>
         ensures ok { IfOk result (λ r. raw_literal r ≡ literal.now) }
         ensures number { OnOk result (number literal.now) }
@@ -58,8 +58,8 @@ impl RawNumber {
         RawNumber::from_literal(alloc, literal)
     }
 
-    /// Returns the number of a literal that is known to be one. `NoMemory` comes where memory runs
-    /// out.
+    /// Returns the number of a literal that is known to be one. Fails with `NoMemory` if memory
+    /// runs out.
     ///
     /// ```
     /// use json_number::RawNumber;
@@ -77,7 +77,7 @@ impl RawNumber {
     }
 
     /// Returns the number that the double is, as a literal whose nearest double it is, also -0:
-    /// `None` for a NaN and an infinity. `NoMemory` comes where memory runs out.
+    /// `None` for a NaN and an infinity. Fails with `NoMemory` if memory runs out.
     ///
     /// ```
     /// use json_number::RawNumber;
@@ -103,8 +103,8 @@ impl RawNumber {
         Ok(Some(RawNumber::from_literal(alloc, buffer.format_finite(double))?))
     }
 
-    /// Returns the number that the `f32` is, as a literal whose nearest `f32` it is, also -0: `None`
-    /// for a NaN and an infinity. `NoMemory` comes where memory runs out.
+    /// Returns the number that the `f32` is, as a literal whose nearest `f32` it is, also -0:
+    /// `None` for a NaN and an infinity. Fails with `NoMemory` if memory runs out.
     ///
     /// ```
     /// use json_number::RawNumber;
@@ -130,7 +130,7 @@ impl RawNumber {
         Ok(Some(RawNumber::from_literal(alloc, buffer.format_finite(single))?))
     }
 
-    /// The literal.
+    /// Returns the literal.
     pub fn as_str(&self) -> &str
         ensures text { result.now ≡ raw_literal self.now }
         ensures number { number (raw_literal self.now) }
@@ -138,7 +138,7 @@ impl RawNumber {
         self.literal.as_str()
     }
 
-    /// The literal, as a string of its own. Takes no memory.
+    /// Returns the literal as a string of its own. Takes no memory.
     pub fn into_string(self) -> String
         ensures text { string_bytes result ≡ raw_literal self }
         ensures number { number (string_bytes result) }
@@ -168,7 +168,7 @@ impl RawNumber {
         f32_of(self.as_str())
     }
 
-    /// Another number of the same literal. `NoMemory` comes where memory runs out.
+    /// Returns another number of the same literal. Fails with `NoMemory` if memory runs out.
     pub fn clone(&self, alloc: Global) -> Result<RawNumber>
         ensures ok { IfOk result (λ r. raw_literal r ≡ raw_literal self.now) }
         ensures err { OnlyNoMemory result }
@@ -181,7 +181,7 @@ impl Number {
     ghost use Rattle.json_number.specs.Literals.{raw_literal};
     ghost use Rattle.json_number.specs.Numbers.{text_of_number};
 
-    /// Returns the integer as its decimal literal. `NoMemory` comes where memory runs out.
+    /// Returns the integer as its decimal literal. Fails with `NoMemory` if memory runs out.
     ///
     /// ```
     /// use json_number::Number;
