@@ -67,7 +67,7 @@ follows_event e e' old new y x k r ts is same answer after held f b h =
     (follows_on old new y k (raw_size e') r ts answer after held f (subst (λ (z : Token). BeginsTree (ts ++ z ∷ [])) same b)
     (subst (λ (v : Event). old.full ≡ false → (visitor_state old).bytes + raw_size v ≤ (visitor_state old).text_room) is h))
 
--- a number, whose literal has room behind what was recorded
+-- a number, whose literal has room after what was recorded
 pub follows_number : (e : Event) (l : Bor (List ℕ)) (old new : DocumentVisitor) (x : Token) (ts : List Token) → e ≡ event.Number l → Means e x
     → (BeginsTree (ts ++ num_token l.now ∷ []) → HasRoomFor old (length l.now) → Follows new (ts ++ num_token l.now ∷ []))
     → BeginsTree (ts ++ x ∷ []) → HasRoomFor old (raw_size e) → Follows new (ts ++ x ∷ [])

@@ -55,7 +55,7 @@ first_out p q e fresh whole goes unfailed =
 
 -- ---- the end, and a fault
 
--- behind the tokens of a tree the parser is done
+-- after the tokens of a tree the parser is done
 tree_whole : (p : ParserState) (t : Tree) → HasGiven p (tokens t) → IsWhole p
 tree_whole p t h =
     let e = whole_place p.spot p.open_kinds (ap (λ (s : TokenState). s.expected) (sym (place_state h.given.at) ∙ after_tree initial_state t)) in
@@ -76,7 +76,7 @@ front_read old p q e v fresh whole goes same on first more (t, r, held) =
     let u = more (first (fresh_not_whole old fresh)) (tree_whole q t given) (tokens t) given in
     (u.0, subst (λ (m : Bool). reads m (input old) u.0 (taken q)) (on.lossy ∙ same.lossy) (subst (λ (y : List ℕ). reads q.lossy y u.0 (taken q)) (input_is p q on ∙ input_is old p same) u.1), subst (λ n. depth u.0 ≤ n) (on.limit ∙ same.limit) u.3, subst (λ (us : List Token). Holds v us) u.2 held)
 
--- behind it the parser is done
+-- after it the parser is done
 pub front_whole : (old p q : ParserState) (e : Event) (v : DocumentVisitor) → HasGiven old [] → (e ≡ event.End → IsWhole old) → Goes old e p → (t : Tree) × ReadsValue p e t q × Holds v (tokens t) → IsWhole q × (q.failure ≡ None)
 front_whole old p q e v fresh whole goes (t, r, held) = (tree_whole q t (front_given old p q e t fresh whole goes r), r.unfailed)
 

@@ -145,7 +145,7 @@ module _ (cells : List Cell) (bytes : List ℕ) (p n : ℕ) (ts : List Token) wh
 end_text : (bytes : List ℕ) (ts : List Token) (x : Token) → token_text x ≡ [] → bytes ≡ tokens_text ts → bytes ≡ tokens_text (ts ++ x ∷ [])
 end_text bytes ts x e h = h ∙ sym (append-nil (tokens_text ts)) ∙ ap (λ (s : List ℕ). tokens_text ts ++ s) (sym e) ∙ sym (more_text ts x)
 
--- a container whose cell becomes c: what that needs, and what is held behind
+-- a container whose cell becomes c: what that needs, and what is held afterwards
 pub record Ends (x : Token) (c : Cell) (cells : List Cell) (bytes : List ℕ) (p : ℕ) (ts : List Token) : Type 0 where
   pub is_open : p < length cells
   pub fits : outer_count cells p < length cells

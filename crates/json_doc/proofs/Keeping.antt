@@ -119,7 +119,7 @@ module _ {limit : ℕ} {p q : ParserState} {v : DocumentVisitor} {b : List ℕ} 
       let whole : q.text ≡ b = same.text ∙ k.reads in
       (t.forward, omega (arith, t.within, ap length whole))
 
-  -- its token ends where the parser stands
+  -- its token ends at the parser's place
   pub next_behind : length (event_bytes e) ≤ q.index
   next_behind =
       let t = tight_on p q e other tight in
@@ -171,7 +171,7 @@ fault_fails : (rules : Rules) (b : List ℕ) (c : ErrorCode) (at : Place) → Fa
 fault_fails rules b code.NoMemory place.None h = tt
 fault_fails rules b c at h = h
 
--- where the parser stands in the whole text
+-- the parser's place in the whole text
 stood_in : (p : ParserState) (limit : ℕ) (b : List ℕ) (ts : List Token) → p.text ≡ b → p.start ≡ 0 → p.limit ≡ limit → p.lossy ≡ false → HasGiven p ts → Stood false limit b p.index p.open_kinds p.spot ts
 stood_in p limit b ts reads start most strict h =
     let index : p.index - p.start ≡ p.index = omega arith in

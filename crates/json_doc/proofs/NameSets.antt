@@ -100,7 +100,7 @@ named t s = then_is (nat_cmp (front_of t) (front_of s)) (slice_cmp nat_cmp t s) 
 abbrev pub by_front : ℕ × CowStr Global → ℕ × CowStr Global → Ordering
 by_front x y = ordering_then (nat_cmp x.0 y.0) (slice_cmp nat_cmp (cow_str_bytes x.1) (cow_str_bytes y.1))
 
--- behind the insertion of a name
+-- after the insertion of a name
 pub set_updated : (m n : NameSet) (f : ℕ) (t : CowStr Global) → f ≡ front_of (cow_str_bytes t) → Updates by_front m n (f, t) true
     → (s : List ℕ) → set_has n s ≡ cond (bytes_eq (cow_str_bytes t) s) true (set_has m s)
 set_updated m n f t e h s =

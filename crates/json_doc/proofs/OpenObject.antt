@@ -1,4 +1,4 @@
--- The members of an object that stands open in a builder, gone through key by key.
+-- The members of an object that is open in a builder, gone through key by key.
 use Rattle.std.proofs.Common.{◌≡◌, ◌⊎◌, inl, inr, Bool, true, false, ℕ, ◌+◌, ◌-◌, ◌<◌, ◌≤◌, List, [], ◌∷◌, ◌++◌, length, refl, sym, ap, subst, ◌∙◌, arith, append_assoc, length-append}
 use Rattle.std.specs.Prelude.{◌≢◌, slice_get, slice_index_or}
 use Rattle.std.specs.List.{Contains}
@@ -21,7 +21,7 @@ use Rattle.json_doc.proofs.Spelling.{get_behind, stands_first, stands_rest, stan
 use Rattle.json_doc.proofs.Shaping.{node_behind, stands_within}
 
 module _ (cells : List Cell) (bytes : List ℕ) where
-  -- the first of some members: its key, and the others behind its value
+  -- the first of some members: its key, and the others after its value
   pub record OneMember (at end : ℕ) (ps : Pairs) : Type 0 where
     pub key : List ℕ
     pub rest : Pairs
@@ -79,9 +79,9 @@ none_there ks s e (i, l, f) = let none : length ks ≡ 0 = ap length e in absurd
 pub not_both : (b : Bool) → b ≡ true → b ≡ false → ⊥
 not_both b t f = let e : true ≡ false = sym t ∙ f in absurd (cc)
 
--- ---- the object that stands open where a key was recorded last
+-- ---- the object that is open where a key was recorded last
 
--- after a name comes a value
+-- a value follows a name
 after_name : (ts : List Token) (s : List ℕ) → (after_tokens initial_state (ts ++ key_token s ∷ [])).expected ≡ a_value
 after_name ts s = ap (λ (z : TokenState). z.expected) (after_append initial_state ts (key_token s ∷ []))
 

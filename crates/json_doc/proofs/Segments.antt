@@ -1,4 +1,4 @@
--- Rows of cells: one tree more at the end, and more bytes behind.
+-- Rows of cells: one tree more at the end, and more bytes after them.
 use Rattle.std.proofs.Common.{◌≡◌, ℕ, ℤ, Option, Some, None, ◌+◌, ◌*◌, ◌≤◌, List, [], ◌∷◌, ◌++◌, length, refl, sym, ap, subst, ◌∙◌, append_assoc, append-nil, arith, length-append}
 use Rattle.std.specs.Str.{IsUtf8}
 use Rattle.std.proofs.lemmas.Str.{IsUtf8-append}
@@ -75,7 +75,7 @@ mutual
   pair_row_some bytes at cs no_pairs e = omega arith
   pair_row_some bytes at cs (pair_and k t ps) (key, a, b, e, f, n, r) = omega (arith, ap length e, length-append a b, node_some bytes (at + 1) a t n, pair_row_some bytes ((at + 1) + length a) b ps r)
 
--- ---- more bytes behind
+-- ---- more bytes after them
 
 pub stands_more : {X : Type 0} (xs : List X) (at : ℕ) (ys more : List X) → SegmentAt xs at ys → SegmentAt (xs ++ more) at ys
 stands_more xs at ys more s = record {

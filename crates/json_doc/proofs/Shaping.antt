@@ -30,7 +30,7 @@ text_ends bytes at s (h, u, v) =
     subst (λ (n : ℕ). IsCharBoundary bytes n) (length-append h.before s ∙ ap (λ (n : ℕ). n + length s) h.place)
     (IsCharBoundary-at_seam bytes (h.before ++ s) h.after (h.row ∙ sym (append_assoc h.before s h.after)) v)
 
--- an integer by value is the one that its decimal text stands for
+-- an integer by value is the one that its decimal text represents
 abbrev pub Valued : Cell → Type 0
 Valued c = (n : ℤ) → value_of_cell c ≡ Some n → integer_in (signed_decimal n) ≡ Some n
 
@@ -40,12 +40,12 @@ no_value c e n h = absurd (cc)
 one_value : (c : Cell) (l : List ℕ) (n : ℤ) → integer_in l ≡ Some n → l ≡ signed_decimal n → value_of_cell c ≡ Some n → Valued c
 one_value c l n e t is m h = let same : n ≡ m = cc in subst (λ (z : ℤ). integer_in (signed_decimal z) ≡ Some z) same (ap integer_in (sym t) ∙ e)
 
--- what stands in a list is within it
+-- a part of a list is within it
 pub stands_within : {X : Type 0} (xs : List X) (at : ℕ) (ys : List X) → SegmentAt xs at ys → at + length ys ≤ length xs
 stands_within xs at ys s = omega (arith, ap length s.row, length-append s.before (ys ++ s.after), length-append ys s.after, s.place)
 
 module _ (cells : List Cell) (bytes : List ℕ) where
-  -- the place behind a tree
+  -- the place after a tree
   behind_cell : (at : ℕ) (c : Cell) (rest cs : List Cell) → cs ≡ c ∷ rest → SegmentAt cells at cs → place_behind cells at ≡ after_subtree at c
   behind_cell at c rest cs e s = ap (after_subtree at) (get_or_from_slice_get cells at c cell.Null (stands_first cells at c rest (subst (λ (x : List Cell). SegmentAt cells at x) e s)))
 
@@ -162,7 +162,7 @@ module _ (cells : List Cell) (bytes : List ℕ) (whole : IsUtf8 bytes) where
       let one : length cs ≡ 1 = ap length e in
       at_cell k at c (omega arith) (stands_first cells at c [] (subst (λ (x : List Cell). SegmentAt cells at x) e s)) h
 
-  -- a container's own cell, before all that stands below it
+  -- a container's own cell, before all that is below it
   headed : (at : ℕ) (cs rest : List Cell) (c : Cell) → cs ≡ c ∷ rest → SegmentAt cells at cs → CellInPlace cells bytes at c
       → ((k : ℕ) → at + 1 ≤ k → k < (at + 1) + length rest → At k) → (k : ℕ) → at ≤ k → k < at + length cs → At k
   headed at cs rest c e s h below k p q =

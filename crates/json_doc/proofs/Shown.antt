@@ -231,7 +231,7 @@ module _ (d : Doc) (at : ℕ) (c : Cell) (inside : at < length (doc_cells d)) (i
   pub all_keyed : (link len : ℕ) → c ≡ cell.Object link len → AllKeys (doc_cells d) (at + 2) len
   all_keyed link len e i l = (in_place_there _ e).keyed i l
 
-  -- where children stand
+  -- the places of children
 
   pub array_child : (link len i : ℕ) → c ≡ cell.Array link len → place_from (doc_cells d) 0 (at + 1) i ≡ child_of (doc_cells d) at i
   array_child link len i e = ap (λ (x : Cell). child_in (doc_cells d) at x i) (sym e ∙ is)

@@ -1,4 +1,4 @@
--- Where a token that begins a value stands in the tokens of a tree, those of a value stand.
+-- Where the tokens of a tree have a token that begins a value, they have those of a value.
 use Rattle.std.proofs.Common.{◌≡◌, ◌≢◌, ◌∙◌, ◌⊎◌, inl, inr, ◌+◌, ◌-◌, List, [], ◌∷◌, ◌++◌, length, take, refl, sym, ap, subst, append_assoc, append-nil, arith}
 use Rattle.std.proofs.lemmas.List.{nil_from_length}
 use Rattle.json_grammar.specs.declared.Kind.{Kind}
@@ -43,7 +43,7 @@ end_no : (k : Kind) (ts us : List Token) (x : Token) → TokenBeginsValue x → 
 end_no k [] us x b e = let i : x ≡ end k = cc in subst TokenBeginsValue i b
 end_no k (y ∷ ts) us x b e = let i : [] ≡ ts ++ x ∷ us = cc in nil_no ts us x i
 
--- a value with more behind it
+-- a value with more after it
 more : (x : Token) (r us rest : List Token) → us ≡ r ++ rest → Stands x r → Stands x us
 more x r us rest e (t, m, f) = (t, m ++ rest, ap (λ l. x ∷ l) e ∙ ap (λ l. l ++ rest) f ∙ append_assoc (tokens t) m rest)
 
@@ -81,7 +81,7 @@ outside_length : (c : List Kind) → length (outside c) ≡ length c - 1
 outside_length [] = refl
 outside_length (k ∷ c) = omega arith
 
--- so many are open behind a token
+-- how many are open after a token
 pub levels_step : (x : Token) (s : TokenState) → length (after_token s x).opened ≡ levels_behind x (length s.opened)
 levels_step null_token s = refl
 levels_step (boolean_token b) s = refl
@@ -97,7 +97,7 @@ after_whole t m us e a =
     let n = tree_alone t m (subst (Accepts initial_state) e a) in
     (n, ap (after_tokens initial_state) (e ∙ ap (λ l. tokens t ++ l) n ∙ append-nil (tokens t)) ∙ after_tree initial_state t)
 
--- the tokens us are accepted, and more has to come
+-- the tokens us are accepted, and more have to follow
 abbrev pub IsUnfinished : List Token → Type 0
 IsUnfinished us = Accepts initial_state us × ((after_tokens initial_state us).expected ≢ nothing)
 

@@ -29,7 +29,7 @@ pub places_more : (cells : List Cell) (keys m n at : ℕ) → m ≡ 1 + n → pl
 places_more cells keys zero n at e = absurd (omega arith)
 places_more cells keys (suc m) n at e = let same : m ≡ n = omega arith in ap (λ (k : ℕ). at ∷ places_from cells keys (place_behind cells at + keys) k) same
 
--- what is behind a cell stands further on
+-- what follows a cell is at a later place
 pub step_ahead : (cells : List Cell) (bytes : List ℕ) (at : ℕ) → CellsInPlace cells bytes → at < place_behind cells at
 step_ahead cells bytes at h =
     ⊎_elim (λ l. (h at l).ahead) (λ l. subst (λ (c : Cell). at < after_subtree at c) (sym (get_or_past cells at cell.Null l)) (let next : at < at + 1 = omega arith in next)) (cases_lt at (length cells))
@@ -70,7 +70,7 @@ module _ (cells : List Cell) (bytes : List ℕ) where
   unfolding from
   from_next at = sym (dropped (at + 1) 0 cells ∙ (let e : 0 + (at + 1) ≡ at + 1 = omega arith in ap (λ (k : ℕ). trees_from cells bytes k (drop (at + 1) cells)) e))
 
-  -- the tree where a cell stands
+  -- the tree at a cell
   pub tree_where : (at : ℕ) → at < length cells → tree_at_cell cells bytes at ≡ tree_of_cell cells bytes at (from (at + 1)) (get_or cells at cell.Null)
   unfolding from
   tree_where at h =
@@ -80,7 +80,7 @@ module _ (cells : List Cell) (bytes : List ℕ) where
       let here = dropped at 0 cells ∙ ap (λ (k : ℕ). trees_from cells bytes k (drop at cells)) same ∙ ap (trees_from cells bytes at) (drop_more cells at cell.Null h) ∙ opened at (get_or cells at cell.Null) (drop (at + 1) cells) in
       sym first ∙ ap (λ (ts : List Tree). get_or ts 0 null) here ∙ ap (λ (ts : List Tree). tree_of_cell cells bytes at ts (get_or cells at cell.Null)) (from_next at)
 
-  -- what stands further on
+  -- what is at a later place
   pub looked : (at k : ℕ) → at + 1 ≤ k → tree_behind (from (at + 1)) at k ≡ tree_at_cell cells bytes k
   unfolding from
   looked at k h =
@@ -104,7 +104,7 @@ module _ (cells : List Cell) (bytes : List ℕ) where
         let on = step_ahead cells bytes k h in
         ap₂ (λ (p : List ℕ × Tree) (ps : List (List ℕ × Tree)). p ∷ ps) (looked_pair at k l) (looked_pairs at keys (place_behind cells k + keys) n (omega arith))
 
-    -- a tree stands at a place and takes the cells up to an end
+    -- a tree is at a place and takes the cells up to an end
     record Stood (at : ℕ) (t : Tree) (end : ℕ) : Type 0 where
       is_tree : tree_at_cell cells bytes at ≡ t
       is_end : place_behind cells at ≡ end

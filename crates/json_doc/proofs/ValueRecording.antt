@@ -36,7 +36,8 @@ means_one event.BeginObject x y m n = m ∙ sym n
 means_one event.EndObject x y m n = m ∙ sym n
 means_one event.End x y m n = absurd m
 
--- the events before this one were recorded, from the first on, and so many containers of the value are open
+-- the events before this one were recorded, from the first on, and n containers of the value are
+-- open
 pub record Records (old p : ParserState) (first here : Event) (v : DocumentVisitor) (levels : ℕ) : Type 0 where
   pub same : SameInput old p
   pub order : old.index ≤ p.index
@@ -95,7 +96,7 @@ module _ {old p : ParserState} {first here : Event} {v : DocumentVisitor} {level
       let h : HasGiven p ((k.before ++ k.us) ++ k.token ∷ []) = subst (HasGiven p) (sym (append_assoc k.before k.us (k.token ∷ []))) k.given in
       event_number here k.token (take h.base (input p)) p.open_kinds p.spot (k.before ++ k.us) k.means h.given.at
 
-  -- behind its token
+  -- after its token
   abbrev state_here : TokenState
   state_here = after_tokens initial_state (k.us ++ k.token ∷ [])
 

@@ -8,7 +8,7 @@ use Rattle.json_doc.specs.Texts.{trees_count, pairs_count}
 use Rattle.json_doc.specs.declared.cell.Cell.{Cell}
 use Rattle.json_doc.specs.declared.cell.Cell.TheVariants as cell
 
--- where the container around the outermost one would stand
+-- where the container around the outermost one would be
 abbrev pub nowhere : ℕ
 nowhere = 4294967295
 

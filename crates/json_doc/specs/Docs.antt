@@ -18,7 +18,7 @@ doc_text d = string_bytes d.text
 abbrev pub doc_root : Doc → ℕ
 doc_root d = d.root
 
--- it stands for a tree
+-- it represents a tree
 abbrev pub IsDocOf : Doc → Tree → Type 0
 IsDocOf d t = StandsFor (doc_cells d) (doc_text d) (doc_root d) t
 

@@ -14,11 +14,11 @@ use Rattle.json_doc.specs.Docs.{doc_cells, doc_root, IsDocOf, doc_tree}
 use Rattle.json_doc.specs.declared.doc.Doc.{Doc}
 use Rattle.json_doc.specs.declared.document_visitor.DocumentVisitor.{DocumentVisitor}
 
--- a document stands for at most one tree
+-- a document represents at most one tree
 abbrev pub OneTreeOfDoc : Type 0
 OneTreeOfDoc = (d : Doc) (t u : Tree) → IsDocOf d t → IsDocOf d u → t ≡ u
 
--- the tree that a document stands for is the one at its root
+-- the tree that a document represents is the one at its root
 abbrev pub TreeAtRoot : Type 0
 TreeAtRoot = (d : Doc) (t : Tree) → IsDocOf d t → doc_tree d (doc_root d) ≡ t
 
@@ -30,7 +30,8 @@ TreesAreProper d = (at : ℕ) → at < length (doc_cells d) → IsProper (doc_tr
 abbrev pub ReadingBegins : Type 0
 ReadingBegins = (lossy : Bool) (p : List ℕ) (c : List Kind) (w : Spot) (ts : List Token) → reading lossy p c w ts → BeginsTree ts
 
--- a builder with the room that a text asks for records each event of the text: behind the bytes p, it brings a node at most, and m of the bytes r that follow
+-- a builder with the room that a text asks for records each event of the text: after the bytes p,
+-- it adds at most one node, and m of the bytes r that follow
 abbrev pub EventsFitRoom : Type 0
 EventsFitRoom =
     (lossy : Bool) (v : DocumentVisitor) (p r : List ℕ) (c : List Kind) (w : Spot) (ts more : List Token) (x : Token) (t : Tree) (m : ℕ)

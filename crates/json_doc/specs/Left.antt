@@ -37,7 +37,7 @@ doc_pair d at = (text_of_tree (doc_tree d (at - 1)), doc_tree d at)
 abbrev pub pair_seen : Bor (List ℕ) × DocView → List ℕ × Tree
 pair_seen p = (p.0.now, view_tree p.1)
 
--- where the value stands
+-- where the value is
 abbrev pub pair_place : Bor (List ℕ) × DocView → ℕ
 pair_place p = view_place p.1
 

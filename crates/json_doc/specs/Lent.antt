@@ -5,7 +5,7 @@ use Rattle.json_text.specs.declared.span.Span.{Span}
 use Rattle.json_text.specs.declared.event.Event.{Event}
 use Rattle.json_text.specs.declared.event.Event.TheVariants as event
 
--- what stands between the quotes stands in the bytes b from i on
+-- the bytes b have what is between the quotes from i on
 pub record IsLentBy (s : Span) (b : List ℕ) (i : ℕ) : Type 0 where
   pub within : i + length s.raw.now ≤ length b
   pub bytes : s.raw.now ≡ piece b i (i + length s.raw.now)
@@ -22,7 +22,7 @@ EventIsLentBy (event.Str s) b i = IsLentBy s b i
 EventIsLentBy (event.Key s) b i = IsLentBy s b i
 EventIsLentBy _ b i = Unit {0}
 
--- from where it stands in an input in which the event's token ends before j
+-- the offset at which it begins in an input in which the event's token ends before j
 abbrev pub from_of : Event → ℕ → ℕ
 from_of (event.Number l) j = j - length l.now
 from_of (event.Str s) j = j - 1 - length s.raw.now

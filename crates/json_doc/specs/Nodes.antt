@@ -1,4 +1,4 @@
--- What a node says of the place where it stands.
+-- What a node says of its place.
 use Rattle.std.specs.Prelude.{◌≡◌, ℕ, ◌<◌, length, slice_get, Some, None, ⊤}
 use Rattle.json_grammar.specs.Tree.{Tree, null, boolean, num, text, list, pairs, Trees, Pairs, trees_list, pairs_list}
 use Rattle.json_grammar.specs.Grammar.{number}
@@ -31,7 +31,7 @@ NodeIn (node.Array c) d = children_doc c ≡ d
 NodeIn (node.Object p) d = pairs_doc p ≡ d
 NodeIn _ d = ⊤
 
--- what it goes over stands where the children of a place do: elements, or the values of pairs
+-- it goes over the children of a place: elements, or the values of pairs
 abbrev pub NodeAt : DocNode → Doc → ℕ → Type 0
 NodeAt (node.Array c) d at = (i : ℕ) → i < length (children_left c) → slice_get (children_places c) i ≡ Some (child_place d at i)
 NodeAt (node.Object p) d at = (i : ℕ) → i < length (pairs_left p) → slice_get (places_of_pairs p) i ≡ Some (child_place d at i)

@@ -8,11 +8,11 @@ use Rattle.json_text.specs.Events.{Means}
 use Rattle.json_text.specs.Faults.{IsInValue}
 use Rattle.json_text.specs.Parsing.{ParserState, HasGiven, IsDue}
 
--- the token may come first
+-- the token may be the first one
 abbrev pub TokenBeginsValue : Token → Type 0
 TokenBeginsValue x = MayCome initial_state x
 
--- how many containers are open behind a token, where n were before it
+-- how many containers are open after a token, where n were before it
 abbrev pub levels_behind : Token → ℕ → ℕ
 levels_behind (begin k) n = n + 1
 levels_behind (end k) n = n - 1

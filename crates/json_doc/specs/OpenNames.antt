@@ -1,4 +1,5 @@
--- Which names a reader keeps of the containers that stand open, so as to refuse one that repeats (RFC 8259, section 4).
+-- Which names a reader keeps of the containers that are open, so as to refuse one that repeats (RFC
+-- 8259, section 4).
 use Rattle.std.specs.Prelude.{◌≡◌, ◌↔◌, ℕ, ◌≤◌, List, [], ◌∷◌, ◌++◌, length, get_or, take, drop, Bool, true, false, ◌||◌, IsTrue, bytes_eq}
 use Rattle.std.specs.List.{Contains, list_any}
 use Rattle.std.specs.Borrow.{Bor}
@@ -22,19 +23,19 @@ NameList = List (Bor (List ℕ))
 abbrev pub NameSet : Type 0
 NameSet = BTreeSet (ℕ × CowStr Global)
 
--- the number of a name's first eight bytes, behind which it stands in the set
+-- the number of a name's first eight bytes, with which it is in the set
 abbrev pub front_of : List ℕ → ℕ
 front_of s = from_be_bytes w64 (get_or s 0 0 ∷ get_or s 1 0 ∷ get_or s 2 0 ∷ get_or s 3 0 ∷ get_or s 4 0 ∷ get_or s 5 0 ∷ get_or s 6 0 ∷ get_or s 7 0 ∷ [])
 
--- whether a name stands in the row
+-- whether a name is in the row
 abbrev pub row_has : NameList → List ℕ → Bool
 row_has few s = list_any (λ y. bytes_eq y.now s) few
 
--- whether a name stands in the set
+-- whether a name is in the set
 abbrev pub set_has : NameSet → List ℕ → Bool
 set_has many s = contains_by (λ y. ordering_then (nat_cmp (front_of s) y.0) (slice_cmp nat_cmp s (cow_str_bytes y.1))) many
 
--- whether a name stands in the row or in the set
+-- whether a name is in the row or in the set
 abbrev pub names_have : NameList → NameSet → List ℕ → Bool
 names_have few many s = row_has few s || set_has many s
 
@@ -42,15 +43,15 @@ names_have few many s = row_has few s || set_has many s
 abbrev pub AreNames : NameList → NameSet → Keys → Type 0
 AreNames few many ks = (s : List ℕ) → IsTrue (names_have few many s) ↔ Contains ks s
 
--- the rows of the containers around the innermost stand one behind another
+-- the rows of the containers around the innermost are one after another
 pub data Around : NameList → List OuterKeys → List Keys → Type 0 where
   nothing : Around [] [] []
   around : {few : NameList} {outer : List OuterKeys} {all : List Keys} (row : NameList) (o : OuterKeys) (ks : Keys)
       → Around few outer all → o.start ≡ length few → AreNames row o.many (innermost_keys all)
       → Around (few ++ row) (outer ++ o ∷ []) (ks ∷ all)
 
--- the names so far of each open container, the innermost first: those of the innermost stand in the row from
--- the start on, and in the set
+-- the names so far of each open container, the innermost first: those of the innermost are in the
+-- row from the start on, and in the set
 pub record NamesStand (few : NameList) (start : ℕ) (many : NameSet) (outer : List OuterKeys) (all : List Keys) : Type 0 where
   pub within : start ≤ length few
   pub here : AreNames (drop start few) many (innermost_keys all)
@@ -62,7 +63,7 @@ HasNames o all = NamesStand o.few.items o.start o.many o.outer.items all
 abbrev pub HasSomeNames : OpenKeys → Type 0
 HasSomeNames o = (all : List Keys) × HasNames o all
 
--- whether the token is a name that its object had; if not, it is known behind the token which names there are
+-- whether the token is a name that its object had; if not, the names after the token are known
 abbrev pub TakesIn : Bool → OpenKeys → OpenKeys → Token → Type 0
 TakesIn had old new x = (all : List Keys) → HasNames old all → (IsTrue had ↔ RepeatsAt all x) × (had ≡ false → HasNames new (keys_past all x))
 

@@ -1,4 +1,4 @@
--- An object that stands open in a builder of documents, with a key recorded last.
+-- An object that is open in a builder of documents, with a key recorded last.
 use Rattle.std.specs.Prelude.{◌≡◌, ℕ, ◌+◌, List, Some, length, slice_get}
 use Rattle.json_grammar.specs.Tree.{Pairs}
 use Rattle.json_doc.specs.Segment.{SegmentAt, text_cell, pairs_row}
@@ -8,7 +8,7 @@ use Rattle.json_doc.specs.declared.cell.Cell.{Cell}
 abbrev pub NamesText : List Cell → List ℕ → ℕ → List ℕ → Type 0
 NamesText cells bytes at s = (c : Cell) × (slice_get cells at ≡ Some c) × text_cell bytes c s
 
--- these members stand from a place up to an end
+-- these members are from a place up to an end
 abbrev pub MembersStand : List Cell → List ℕ → ℕ → Pairs → ℕ → Type 0
 MembersStand cells bytes at ps end = (cs : List Cell) × SegmentAt cells at cs × pairs_row bytes at cs ps × (at + length cs ≡ end)
 

@@ -20,7 +20,8 @@ pub record AreInStep (most : ℕ) (p : ParserState) (v : DocumentVisitor) (b : L
   pub room : (visitor_state v).cell_room ≡ (length b + 1) / 2
   pub text_room : (visitor_state v).text_room ≡ length b
 
--- some tokens of the text b were read up to i, in the open containers c at the spot w, and the builder was given them
+-- some tokens of the text b were read up to i, where the containers c are open and the state is w,
+-- and the builder was given them
 pub record IsReading (limit : ℕ) (b : List ℕ) (i : ℕ) (c : List Kind) (w : Spot) (v : DocumentVisitor) : Type 0 where
   pub most : ℕ
   pub so_far : List Token

@@ -27,7 +27,8 @@ abbrev pub ReadingFailsWith : Rules → List ℕ → ErrorCode → Place → Typ
 ReadingFailsWith rules text code.NoMemory place.None = Unit {0}
 ReadingFailsWith rules text c p = FaultWithAt false rules text c p
 
--- memory ran out, or the event is a name that its object has already, told at its opening quotation mark
+-- memory ran out, or the event is a name that its object has already, reported at its opening
+-- quotation mark
 abbrev pub RefusesName : OpenKeys → Event → List ℕ → ℕ → Error → Type 0
 RefusesName o e text end error =
     (error ≡ no_memory)
@@ -49,7 +50,7 @@ abbrev pub EventIsNumber : Event → Type 0
 EventIsNumber (event.Number l) = number l.now
 EventIsNumber _ = Unit {0}
 
--- so many bytes more are within its room, while it was refused nothing
+-- n more bytes are within its room, and it has met no error
 abbrev pub HasRoomFor : DocumentVisitor → ℕ → Type 0
 HasRoomFor v m = (visitor_state v).full ≡ false → (visitor_state v).bytes + m ≤ (visitor_state v).text_room
 

@@ -18,10 +18,10 @@ view_place v = v.at
 abbrev pub view_tree : DocView → Tree
 view_tree v = doc_tree (view_doc v) (view_place v)
 
--- where the child i of the container at a place stands: an element, or the value of a pair
+-- the place of the child i of the container at a place: an element, or the value of a pair
 abbrev pub child_place : Doc → ℕ → ℕ → ℕ
 child_place d at i = child_of (doc_cells d) at i
 
--- where the key of the pair i of the object at a place stands
+-- the place of the key of the pair i of the object at a place
 abbrev pub key_place : Doc → ℕ → ℕ → ℕ
 key_place d at i = key_position (doc_cells d) at i

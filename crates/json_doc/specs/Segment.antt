@@ -1,4 +1,4 @@
--- Cells in a row that stand for a tree: a container's cell, and behind it all that stands below it.
+-- Consecutive cells that represent a tree: a container's cell, and after it all that is below it.
 use Rattle.std.specs.Prelude.{◌≡◌, ℕ, ℤ, Option, Some, None, ◌+◌, List, [], ◌∷◌, ◌++◌, length}
 use Rattle.std.specs.Str.{IsUtf8}
 use Rattle.std.specs.Fmt.{signed_decimal}
@@ -10,14 +10,14 @@ use Rattle.json_doc.specs.Texts.{trees_count, pairs_count}
 use Rattle.json_doc.specs.declared.cell.Cell.{Cell}
 use Rattle.json_doc.specs.declared.cell.Cell.TheVariants as cell
 
--- ys stand in xs from the place at on
+-- xs has ys from the place at on
 pub record SegmentAt {X : Type 0} (xs : List X) (at : ℕ) (ys : List X) : Type 0 where
   pub before : List X
   pub after : List X
   pub row : xs ≡ before ++ (ys ++ after)
   pub place : length before ≡ at
 
--- the bytes of a text stand from the place at on, with texts behind
+-- the bytes of a text are at the place at, and texts follow
 abbrev pub TextStands : List ℕ → ℕ → List ℕ → Type 0
 TextStands bytes at s = (h : SegmentAt bytes at s) × IsUtf8 s × IsUtf8 h.after
 
@@ -30,7 +30,7 @@ abbrev pub number_cell : Option ℤ → List ℕ → Cell → List ℕ → Type 
 number_cell (Some n) bytes c l = (c ≡ integer_cell n) × (l ≡ signed_decimal n)
 number_cell None bytes c l = (start : ℕ) × (c ≡ cell.Raw start (length l)) × TextStands bytes start l
 
--- the cells cs, from the place at on, stand for a tree; each literal is a number
+-- the cells cs, from the place at on, represent a tree; each literal is a number
 abbrev mutual
   pub node : List ℕ → ℕ → List Cell → Tree → Type 0
   node bytes at cs null = cs ≡ cell.Null ∷ []

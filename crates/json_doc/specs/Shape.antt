@@ -41,7 +41,9 @@ is_raw _ = false
 abbrev pub AllKeys : List Cell → ℕ → ℕ → Type 0
 AllKeys cells at n = (i : ℕ) → i < n → is_str (slice_index_or cells (place_from cells 1 at i - 1) cell.Null) ≡ true
 
--- the bytes of a cell are a text, what is behind a cell stands further on, children have cells, keys are strings, literals are numbers (RFC 8259, section 6) that are no integers by value, and an integer by value is the one that its decimal text stands for
+-- the bytes of a cell are a text, what follows a cell is at a later place, children have cells,
+-- keys are strings, literals are numbers (RFC 8259, section 6) that are no integers by value, and
+-- an integer by value is the one that its decimal text represents
 pub record CellInPlace (cells : List Cell) (bytes : List ℕ) (at : ℕ) (c : Cell) : Type 0 where
   pub begins : IsCharBoundary bytes (start_of c)
   pub ends : IsCharBoundary bytes (start_of c + span_of c)

@@ -1,4 +1,4 @@
--- When a packed document stands for a tree.
+-- When a packed document represents a tree.
 use Rattle.std.specs.Prelude.{◌≡◌, ℕ, ℤ, Option, None, ◌+◌, List, length, Some, slice_get, slice_range}
 use Rattle.std.specs.Fmt.{signed_decimal}
 use Rattle.json_grammar.specs.Tree.{Tree, null, boolean, num, text, list, pairs, Trees, no_trees, tree_and, Pairs, no_pairs, pair_and, tokens}
@@ -22,7 +22,8 @@ abbrev pub spells_number : Option ℤ → List Cell → List ℕ → ℕ → Lis
 spells_number (Some n) cells bytes at l = (slice_get cells at ≡ Some (integer_cell n)) × (l ≡ signed_decimal n)
 spells_number None cells bytes at l = spells_literal cells bytes at l
 
--- the cells from a place up to an end stand for a tree: a container's cell says how many members it has and where it ends, and they follow it
+-- the cells from a place up to an end represent a tree: a container's cell says how many members it
+-- has and where it ends, and they follow it
 abbrev mutual
   pub spells : List Cell → List ℕ → ℕ → Tree → ℕ → Type 0
   spells cells bytes at null end = (slice_get cells at ≡ Some cell.Null) × (end ≡ at + 1)
@@ -42,7 +43,7 @@ abbrev mutual
   spells_pairs cells bytes at no_pairs end = end ≡ at
   spells_pairs cells bytes at (pair_and k t ps) end = (mid : ℕ) × spells_text cells bytes at k × spells cells bytes (at + 1) t mid × spells_pairs cells bytes mid ps end
 
--- cells and bytes stand for a tree, from the first cell on, with nothing besides
+-- cells and bytes represent a tree, from the first cell on, with nothing besides
 pub record StandsFor (cells : List Cell) (bytes : List ℕ) (root : ℕ) (t : Tree) : Type 0 where
   pub first : root ≡ 0
   pub spelled : spells cells bytes root t (length cells)

@@ -20,11 +20,11 @@ abbrev pub after_event : Bool → ℕ → ℕ → VisitorState → VisitorState
 after_event true n m s = record s { nodes = s.nodes + n; bytes = s.bytes + m }
 after_event false n m s = record s { full = true }
 
--- the token may come behind what is held
+-- the token may follow what is held
 abbrev pub MayComeAfter : (List Token → Type 0) → Token → Type 0
 MayComeAfter holds x = (ts : List Token) × holds ts × BeginsTree (ts ++ x ∷ [])
 
--- what was held, and the token behind it
+-- what was held, and the token after it
 abbrev pub HoldsMore : (List Token → Type 0) → (List Token → Type 0) → Token → Type 0
 HoldsMore old new x = (ts : List Token) → old ts → BeginsTree (ts ++ x ∷ []) → new (ts ++ x ∷ [])
 

@@ -11,7 +11,7 @@ abbrev pub text_of_tree : Tree → List ℕ
 text_of_tree (text s) = s
 text_of_tree _ = []
 
--- the tree at the place k, out of those of all cells behind the place at
+-- the tree at the place k, out of those of all cells after the place at
 abbrev pub tree_behind : List Tree → ℕ → ℕ → Tree
 tree_behind ts at k = slice_index_or ts (k - (at + 1)) null
 
@@ -19,7 +19,7 @@ tree_behind ts at k = slice_index_or ts (k - (at + 1)) null
 abbrev pub pair_behind : List Tree → ℕ → ℕ → List ℕ × Tree
 pair_behind ts at k = (text_of_tree (tree_behind ts at (k - 1)), tree_behind ts at k)
 
--- what the cell c at a place stands for, over the trees of the cells behind it
+-- what the cell c at a place represents, over the trees of the cells after it
 abbrev pub tree_of_cell : List Cell → List ℕ → ℕ → List Tree → Cell → Tree
 tree_of_cell cells bytes at ts cell.Null = null
 tree_of_cell cells bytes at ts (cell.Bool b) = boolean b
@@ -30,7 +30,7 @@ tree_of_cell cells bytes at ts (cell.Str start len) = text (slice_range bytes st
 tree_of_cell cells bytes at ts (cell.Array link len) = list (list_trees (map (tree_behind ts at) (places_from cells 0 (at + 1) len)))
 tree_of_cell cells bytes at ts (cell.Object link len) = pairs (list_pairs (map (pair_behind ts at) (places_from cells 1 (at + 2) len)))
 
--- the trees of the cells cs, which stand from a place on
+-- the trees of the cells cs, which begin at a place
 unfoldable pub trees_from : List Cell → List ℕ → ℕ → List Cell → List Tree
 trees_from cells bytes at [] = []
 trees_from cells bytes at (c ∷ cs) = tree_of_cell cells bytes at (trees_from cells bytes (at + 1) cs) c ∷ trees_from cells bytes (at + 1) cs

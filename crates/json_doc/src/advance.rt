@@ -53,8 +53,8 @@ fn advance<'a, const USE: u8>(
     }
 }
 
-// The same, by a copy for each of what may come, and after a value for each kind of container, so
-// that each of them leaves out what cannot come there.
+// The same, by a copy for each of what may follow, and after a value for each kind of container, so
+// that each of them leaves out what cannot follow there.
 #[inline(always)]
 pub(crate) fn advance_by_spot<'a>(
     visitor: &mut DocumentVisitor,

@@ -21,7 +21,7 @@ pub struct DocChildren<'a> {
     doc: &'a Doc,
     next: usize,
     left: usize,
-    // How many keys stand before each child.
+    // The number of keys before each child.
     keys: usize,
     ghost short: { keys ≤ 1 },
     ghost inside: { AllBelow doc.now.cells.items keys next left },
@@ -51,7 +51,7 @@ impl<'a> DocChildren<'a> {
         }
     }
 
-    /// How many are still to come.
+    /// Returns how many are left.
     #[inline]
     pub fn len(&self) -> usize
         ensures { result ≡ length (children_left self.now) }

@@ -33,7 +33,7 @@ impl Doc {
     ghost use Rattle.json_doc.specs.Seen.{view_doc, view_place, view_tree};
     ghost use Rattle.json_doc.specs.Places.{AllBelow, place_behind, place_from};
 
-    /// The cells, one for each node and each key.
+    /// Returns the cells, one for each node and each key.
     #[inline]
     pub fn cells(&self) -> &[Cell]
         ensures { result.now ≡ doc_cells self.now }
@@ -49,7 +49,7 @@ impl Doc {
         self.text.as_str()
     }
 
-    /// The place of the root's cell.
+    /// Returns the place of the root's cell.
     #[inline]
     pub fn root(&self) -> u32
         ensures place { result ≡ doc_root self.now }
@@ -58,7 +58,7 @@ impl Doc {
         self.root
     }
 
-    /// The whole document.
+    /// Returns a view of the whole document.
     #[inline]
     pub fn view(&self) -> DocView<'_>
         ensures doc { view_doc result ≡ self.now }

@@ -60,9 +60,9 @@ impl DocumentVisitor {
     ghost use Rattle.json_doc.specs.OpenCells.{outer_place, outer_count};
     ghost use Rattle.json_doc.specs.declared.cell.Cell.TheVariants.{Null as null_cell};
 
-    /// Room for `(text_len + 1) / 2` nodes and keys and `text_len` bytes of text, as a JSON text of
-    /// so many bytes may need. `text_len` has to be at most 4,294,967,295. Fails with `NoMemory` if
-    /// memory runs out.
+    /// Creates a builder with room for `(text_len + 1) / 2` nodes and keys and `text_len` bytes of
+    /// text, as a JSON text of `text_len` bytes may need. `text_len` has to be at most
+    /// 4,294,967,295. Fails with `NoMemory` if memory runs out.
     pub fn new(alloc: Global, text_len: usize) -> Result<DocumentVisitor>
         requires { text_len < 2 ^ 32 }
         ensures room { IfOk result (λ v. ⟦<DocumentVisitor as JsonVisitor>⟧.state v
@@ -79,8 +79,8 @@ impl DocumentVisitor {
         DocumentVisitor::with_room(alloc, (text_len + 1) / 2, text_len)
     }
 
-    /// Room for so many nodes and keys and so many bytes of text, each at most 4,294,967,295.
-    /// Fails with `NoMemory` if memory runs out.
+    /// Creates a builder with room for `cells` nodes and keys and `text_len` bytes of text, each at
+    /// most 4,294,967,295. Fails with `NoMemory` if memory runs out.
     ///
     /// ```
     /// use json_doc::{DocumentVisitor, JsonVisitor};
@@ -308,8 +308,9 @@ impl DocumentVisitor {
         false
     }
 
-    /// Whether the key that was recorded last is an earlier key of its object too (RFC 8259,
-    /// section 4). The last event has to be a recorded key. Asks each key of the object once.
+    /// Returns whether the key that was recorded last is an earlier key of its object too (RFC
+    /// 8259, section 4). The last event has to be a recorded key. Compares each key of the object
+    /// once.
     ///
     /// ```
     /// use json_doc::{DocumentVisitor, JsonVisitor};

@@ -23,7 +23,7 @@ pub enum JsonType {
 impl JsonType {
     ghost use Rattle.json_doc.specs.Kinds.{type_number};
 
-    /// The kind with a number; none above 5.
+    /// Returns the kind with a number, or `None` for a number above 5.
     pub fn from_u8(value: u8) -> Option<JsonType>
         ensures some { IfSome result (λ t. type_number t ≡ value) }
         ensures none { IfNone result (5 < value) }

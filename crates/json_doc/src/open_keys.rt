@@ -1,4 +1,4 @@
-// The names so far of the objects that stand open in a text.
+// The names so far of the objects that are open in a text.
 ghost use Rattle.std.specs.Prelude.{◌≡◌, ◌<◌, ◌≤◌, List, ℕ, [], ◌∷◌, length, drop, get_or, false, IfOk, OnOk};
 ghost use Rattle.std.specs.Cow.{cow_str_bytes};
 ghost use Rattle.json_grammar.specs.Tree.{key_token};
@@ -63,13 +63,13 @@ pub struct OuterKeys<'a> {
 
 /// The names so far of each open container. The first names of an object are in a list and are
 /// compared one by one; all others are in an ordered set, so that a name of an object of n members
-/// takes no more than some log n comparisons. There the number of its first bytes comes before it,
-/// so that few comparisons look at the name itself, and it is lent by the text, unless it has
+/// takes no more than some log n comparisons. There the number of its first bytes precedes it, so
+/// that few comparisons look at the name itself, and it is borrowed from the text, unless it has
 /// escapes.
 #[derive(Drop)]
 pub struct OpenKeys<'a> {
     alloc: Global,
-    // names that stand in the text as they are, at most 16 of each open container, those of the
+    // names borrowed from the text as they are, at most 16 of each open container, those of the
     // innermost last
     few: Vec<&'a str>,
     // where those of the innermost begin
@@ -80,7 +80,7 @@ pub struct OpenKeys<'a> {
 }
 
 impl<'a> OpenKeys<'a> {
-    /// Nothing is open. Takes no memory.
+    /// Creates the names of no open container. Takes no memory.
     pub fn new(alloc: Global) -> OpenKeys<'a>
         ensures { HasNames result [] }
     {
@@ -93,7 +93,7 @@ impl<'a> OpenKeys<'a> {
         }
     }
 
-    /// A container begins. Fails with `NoMemory` if memory runs out.
+    /// Begins a container. Fails with `NoMemory` if memory runs out.
     pub fn begin(&mut self) -> Result<()>
         ensures ok { OnOk result ((all : List Keys) → HasNames self.old all
             → HasNames self.new ([] ∷ all)) }
@@ -106,7 +106,7 @@ impl<'a> OpenKeys<'a> {
         Ok(())
     }
 
-    /// The innermost container ends.
+    /// Ends the innermost container.
     pub fn end(&mut self)
         ensures { (all : List Keys) → HasNames self.old all → HasNames self.new (outer_keys all) }
     {

@@ -49,7 +49,7 @@ impl<'a> DocPairs<'a> {
         DocPairs { doc, next, left }
     }
 
-    /// How many are still to come.
+    /// Returns how many are left.
     #[inline]
     pub fn len(&self) -> usize
         ensures { result ≡ length (pairs_left self.now) }

@@ -213,13 +213,13 @@ pub(crate) fn read_by(
 /// Reads the document of a JSON text of at most 4,294,967,295 bytes by rules: it has no more levels
 /// than they allow, and where they ask for unique names no object has a name twice (RFC 8259,
 /// sections 9 and 4). Fails with the first error of the text by the rules, at its place: of a
-/// bracket that opens a level too many and a name that repeats, the one that comes first, and
-/// either before all other errors. Fails with `NoMemory` if memory runs out.
+/// bracket that opens a level too many and a name that repeats, the first one, and either before
+/// all other errors. Fails with `NoMemory` if memory runs out.
 ///
 /// ```
 /// use json_doc::read_document_with;
 /// use json_text::{ErrorCode, Rules};
-/// let rules = Rules::new(254, true).ok_or("so many levels")?;
+/// let rules = Rules::new(254, true).ok_or("too many levels")?;
 /// let refused = read_document_with(alloc, "{\"a\": 1, \"\\u0061\": 2}", rules).err().ok_or("it was read")?;
 /// assert_eq!(rt; (refused.code, refused.offset()), (ErrorCode::DuplicateKey, Some(9)));
 /// ```

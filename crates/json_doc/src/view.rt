@@ -43,7 +43,7 @@ impl<'a> DocView<'a> {
     ghost use Rattle.json_doc.specs.Left.{children_doc, children_places, children_left};
     ghost use Rattle.json_doc.specs.Nodes.{NodeOf, NodeIsNumber, NodeIn, NodeAt};
 
-    /// The place.
+    /// Returns the place of the value's cell.
     #[inline]
     pub fn place(self) -> u32
         ensures at { result ≡ view_place self.entry }
@@ -52,7 +52,7 @@ impl<'a> DocView<'a> {
         self.at
     }
 
-    /// The document.
+    /// Returns the document.
     #[inline]
     pub fn doc(self) -> &'a Doc
         ensures { result.now ≡ view_doc self.entry }
@@ -68,7 +68,7 @@ impl<'a> DocView<'a> {
         cell_at(self.doc, self.at as usize)
     }
 
-    /// The kind of the value.
+    /// Returns the kind of the value.
     #[inline]
     pub fn get_type(self) -> JsonType
         ensures { result ≡ type_of (view_tree self.entry) }
@@ -76,7 +76,7 @@ impl<'a> DocView<'a> {
         self.cell().get_type()
     }
 
-    /// The boolean; none of another kind.
+    /// Returns the boolean, or `None` of another kind.
     #[inline]
     pub fn as_bool(self) -> Option<bool>
         ensures { result ≡ bool_of (view_tree self.entry) }
@@ -84,8 +84,8 @@ impl<'a> DocView<'a> {
         self.cell().as_bool()
     }
 
-    /// The number, where it is an integer of `u64` or `i64` (RFC 8259, section 6); none of another,
-    /// nor of another kind.
+    /// Returns the number if it is an integer of `u64` or `i64` (RFC 8259, section 6), or `None` of
+    /// another number and of another kind.
     #[inline]
     pub fn as_number(self) -> Option<Number>
         ensures value { option_map value_of result ≡ integer_of (view_tree self.entry) }
@@ -98,8 +98,8 @@ impl<'a> DocView<'a> {
         }
     }
 
-    /// The literal of the number that is no integer of `u64` or `i64`, itself a number (RFC 8259,
-    /// section 6); none of an integer by value, nor of another kind.
+    /// Returns the literal of a number that is no integer of `u64` or `i64`, itself a number (RFC
+    /// 8259, section 6), or `None` of an integer by value and of another kind.
     #[inline]
     pub fn literal(self) -> Option<&'a str>
         ensures literal { option_map (λ s. s.now) result ≡ literal_of (view_tree self.entry) }
@@ -112,7 +112,7 @@ impl<'a> DocView<'a> {
         }
     }
 
-    /// The text of the string; none of another kind.
+    /// Returns the text of the string, or `None` of another kind.
     #[inline]
     pub fn text(self) -> Option<&'a str>
         ensures { option_map (λ s. s.now) result ≡ string_of (view_tree self.entry) }
@@ -120,7 +120,7 @@ impl<'a> DocView<'a> {
         text_at(self.doc, self.at as usize)
     }
 
-    /// How many elements or pairs there are; 0 for a scalar.
+    /// Returns the number of elements or pairs, which is 0 for a scalar.
     #[inline]
     pub fn len(self) -> usize
         ensures { result ≡ length (children (view_tree self.entry)) }
@@ -128,7 +128,7 @@ impl<'a> DocView<'a> {
         self.cell().len()
     }
 
-    /// The element `i`, counted from 0; none of another kind, or past the last.
+    /// Returns the element `i`, counted from 0, or `None` of another kind and past the last.
     #[inline]
     pub fn element(self, i: usize) -> Option<DocView<'a>>
         ensures tree { option_map view_tree result ≡ slice_get (elements (view_tree self.entry)) i }
@@ -176,7 +176,8 @@ impl<'a> DocView<'a> {
         }
     }
 
-    /// The key of the pair `i`, counted from 0; none of another kind, or past the last.
+    /// Returns the key of the pair `i`, counted from 0, or `None` of another kind and past the
+    /// last.
     #[inline]
     pub fn key(self, i: usize) -> Option<&'a str>
         ensures { option_map (λ s. s.now) result
@@ -188,8 +189,8 @@ impl<'a> DocView<'a> {
         }
     }
 
-    /// The key of the pair `i`, counted from 0, as a string of its own; none of another kind, or
-    /// past the last.
+    /// Returns the key of the pair `i`, counted from 0, as a string of its own, or `None` of
+    /// another kind and past the last.
     #[inline]
     pub fn key_view(self, i: usize) -> Option<DocView<'a>>
         ensures tree { option_map view_tree result
@@ -204,7 +205,8 @@ impl<'a> DocView<'a> {
         }
     }
 
-    /// The value of the pair `i`, counted from 0; none of another kind, or past the last.
+    /// Returns the value of the pair `i`, counted from 0, or `None` of another kind and past the
+    /// last.
     #[inline]
     pub fn pair_value(self, i: usize) -> Option<DocView<'a>>
         ensures tree { option_map view_tree result ≡ slice_get (values (view_tree self.entry)) i }
@@ -218,7 +220,7 @@ impl<'a> DocView<'a> {
         }
     }
 
-    /// The elements, or the values of the pairs, in order; none of a scalar.
+    /// Returns the elements, or the values of the pairs, in order; none of a scalar.
     #[inline]
     pub fn children(self) -> DocChildren<'a>
         ensures doc { children_doc result ≡ view_doc self.entry }
@@ -238,7 +240,8 @@ impl<'a> DocView<'a> {
         }
     }
 
-    /// The value by its kind, with all that can be read of it: one call in place of several.
+    /// Returns the value by its kind, with all that can be read of it: one call in place of
+    /// several.
     #[inline]
     pub fn node(self) -> DocNode<'a>
         ensures tree { NodeOf result (view_tree self.entry) }

@@ -11,8 +11,8 @@ use json_text::{Error, ErrorCode, Place, Result};
 const MOST: usize = 4_294_967_295;
 
 impl DocumentVisitor {
-    /// Room for a node or a key and so many bytes of text more. `NoMemory` comes where memory runs
-    /// out, or the document would have more than 4,294,967,295 of either.
+    /// Makes room for one more node or key and `bytes` more bytes of text. Fails with `NoMemory` if
+    /// memory runs out, or if the document would have more than 4,294,967,295 of either.
     pub(crate) fn make_room(&mut self, bytes: usize) -> Result<()>
         ensures nodes { OnOk result ((visitor_state self.new).nodes + 1
             ≤ (visitor_state self.new).cell_room) }

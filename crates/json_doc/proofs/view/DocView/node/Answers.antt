@@ -65,7 +65,7 @@ returns-in-Array-clause-places c i h =
     ap (λ (ks : List ℕ). slice_get ks i) c.new.ensures.places
     ∙ get-places (doc_cells d) 0 (s.at + 1) len i (omega (arith, ap length c.new.ensures.trees, count)) ∙ ap Some (array_child d s.at c.cell.result s.inside c.cell.ensures c.in-Array.link len i c.in-Array.is)
 
--- the first key, and the value behind it
+-- the first key, and the value after it
 second : (at : ℕ) → (at + 1) + 1 ≡ at + 2
 second at = omega arith
 
