@@ -1,4 +1,4 @@
--- Indents one behind another, and a line that is ready.
+-- Indents one after another, and a line that is ready.
 use Rattle.std.proofs.Common.{◌≡◌, ℕ, zero, suc, ◌+◌, ◌-◌, ◌*◌, ◌≤◌, true, false, Bool, List, [], ◌∷◌, ◌++◌, length, take, drop, refl, sym, ap, ap₂, ◌∙◌, subst, arith, append_assoc, Ok, Err, Result}
 use Rattle.std.specs.Int.{from_bool}
 use Rattle.std.specs.Prelude.{All}
@@ -24,7 +24,7 @@ length-indents : (n : ℕ) (s : List ℕ) → length (indents n s) ≡ n * lengt
 length-indents zero s = omega arith
 length-indents (suc n) s = omega (arith, length-append s (indents n s), length-indents n s)
 
--- so many indents, each so many of a smaller one
+-- m indents, each n of a smaller one
 indents-times : (m n : ℕ) (s : List ℕ) → indents m (indents n s) ≡ indents (m * n) s
 indents-times zero n s = let e : 0 ≡ 0 * n = omega arith in ap (λ k. indents k s) e
 indents-times (suc m) n s =
@@ -58,7 +58,7 @@ spaces_front m n h = let e : m ≡ m * 1 = omega arith in ap (λ k. take k (inde
 pub fewer_fit : (m n w top : ℕ) → m ≤ n → n * w ≤ top → m * w ≤ top
 fewer_fit m n w top h f = omega (arith, f, mul-le-mul_right w h)
 
--- so many indents in the spaces of the line
+-- m indents in the spaces of the line
 pub spaces_read : (m n top : ℕ) (s : List ℕ) → m ≤ n → n * length s ≤ top → indents n s ≡ indents (n * length s) (32 ∷ []) → take (m * length s) (indents top (32 ∷ [])) ≡ indents m s
 spaces_read m n top s h f e =
     spaces_front (m * length s) top (fewer_fit m n (length s) top h f)
@@ -75,7 +75,7 @@ break_read false m n top s h f e =
     let t : 2 + m * length s - 0 ≡ suc (suc (m * length s)) = omega arith in
     ap (λ k. take k (44 ∷ 10 ∷ indents top (32 ∷ []))) t ∙ ap (λ r. 44 ∷ 10 ∷ r) (spaces_read m n top s h f e)
 
--- ---- what stands in a sink
+-- ---- what a sink has
 
 -- a line from its front on
 pub break_put : (a b : SinkState) (first : Bool) (start m n top : ℕ) (s : List ℕ) (r : Result (Unit {0}) SinkError) → start ≡ from_bool first → m ≤ n → n * length s ≤ top → indents n s ≡ indents (n * length s) (32 ∷ [])
@@ -88,20 +88,20 @@ pub opening_put : (a b : SinkState) (first : Bool) (start top : ℕ) (r : Result
 opening_put a b true start top r z p = subst (λ k. Adds a b (take (2 - k) (drop k (44 ∷ 10 ∷ indents top (32 ∷ [])))) r) z p
 opening_put a b false start top r z p = subst (λ k. Adds a b (take (2 - k) (drop k (44 ∷ 10 ∷ indents top (32 ∷ [])))) r) z p
 
--- the indents behind it
+-- the indents after it
 pub opening_then : (a b c : SinkState) (first : Bool) (l : List ℕ) (u : Unit {0}) (r : Result (Unit {0}) SinkError) → Adds a b (comma first ++ 10 ∷ []) (Ok u) → Adds b c l r → Adds a c (comma first ++ (10 ∷ l)) r
 opening_then a b c first l u r p q = subst (λ k. Adds a c k r) (append_assoc (comma first) (10 ∷ []) l) (Adds-then a b c _ _ u r p q)
 
 pub opening_failed : (a b : SinkState) (first : Bool) (l : List ℕ) (e : SinkError) → Adds a b (comma first ++ 10 ∷ []) (Err e) → Adds a b (comma first ++ (10 ∷ l)) (Err e)
 opening_failed a b first l e p = subst (λ k. Adds a b k (Err e)) (append_assoc (comma first) (10 ∷ []) l) (Adds-first a b _ l e p)
 
--- so many indents of the line, without its front
+-- m indents of the line, without its prefix
 pub piece_read : (m n top : ℕ) (s : List ℕ) → m ≤ n → n * length s ≤ top → indents n s ≡ indents (n * length s) (32 ∷ []) → take (2 + m * length s - 2) (indents top (32 ∷ [])) ≡ indents m s
 piece_read m n top s h f e =
     let t : 2 + m * length s - 2 ≡ m * length s = omega arith in
     ap (λ k. take k (indents top (32 ∷ []))) t ∙ spaces_read m n top s h f e
 
--- so many indents more
+-- more indents
 pub indents_put : (a b c : SinkState) (left count level : ℕ) (s piece : List ℕ) (r : Result (Unit {0}) SinkError) → left ≤ level → count ≤ left → piece ≡ indents count s → Adds a b (indents (level - left) s) (Ok tt) → Adds b c piece r
     → Adds a c (indents (level - (left - count)) s) r
 indents_put a b c left count level s piece r h k w p q =

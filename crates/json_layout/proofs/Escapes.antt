@@ -27,7 +27,7 @@ control_shown x p q s b t n f r = rw (ne_eqb x 34 q, ne_eqb x 92 s, lt-ltb x 32 
 pub special_ascii : (x : ℕ) → ¬ (IsPlain x) → x < 128
 special_ascii x n = elim (cases_lt x 128) [ inl m ↦ m | inr m ↦ absurd (n (omega arith, (λ e. absurd (omega arith)), (λ e. absurd (omega arith)))) ]
 
--- the four digits that a formatter writes of it, behind a backslash and a `u`
+-- the four digits that a formatter writes of it, after a backslash and a `u`
 pub unit_text : (x : ℕ) → x < 256 → 92 ∷ 117 ∷ 48 ∷ 48 ∷ padded_integral (format_spec 32 0 4 2 (2 ^ 64 - 1)) false [] (digits 16 false x) ≡ unit_escape x
 unit_text x l = ap (λ d. 92 ∷ 117 ∷ 48 ∷ 48 ∷ d) (hex_byte false x l)
 
@@ -35,13 +35,13 @@ pub plain_all : (l : List ℕ) → plain l → shown_bytes l ≡ l
 plain_all [] h = refl
 plain_all (x ∷ l) h = ap₂ (λ a b. a ++ b) (plain_shown x h.0.1 h.0.2 h.0.0) (plain_all l h.1)
 
--- the bytes behind what was shown
+-- the bytes after what was shown
 pub batch_shown : (b : List ℕ) (i j : ℕ) → i ≤ j → shown_bytes (take i b) ++ shown_bytes (piece b i j) ≡ shown_bytes (take j b)
 batch_shown b i j l =
     let e : i + (j - i) ≡ j = omega (arith, l) in
     sym (shown_append (take i b) (piece b i j)) ∙ ap shown_bytes (sym (take-add i (j - i) b)) ∙ ap (λ n. shown_bytes (take n b)) e
 
--- a plain run behind what was shown
+-- a plain run after what was shown
 pub run_shown : (b : List ℕ) (i j : ℕ) → i ≤ j → plain (piece b i j) → shown_bytes (take i b) ++ piece b i j ≡ shown_bytes (take j b)
 run_shown b i j l h = ap (λ x. shown_bytes (take i b) ++ x) (sym (plain_all (piece b i j) h)) ∙ batch_shown b i j l
 
@@ -49,11 +49,11 @@ run_shown b i j l h = ap (λ x. shown_bytes (take i b) ++ x) (sym (plain_all (pi
 pub whole_plain : (b : List ℕ) (j : ℕ) → j ≡ length b → plain (piece b 0 j) → plain b
 whole_plain b j e h = let l : length b ≤ j - 0 = omega arith in subst plain (take_all (j - 0) b l) h
 
--- a special byte behind it
+-- a special byte after it
 pub byte_shown : (b : List ℕ) (i : ℕ) → i < length b → shown_bytes (take i b) ++ shown_byte (get_or b i 0) ≡ shown_bytes (take (i + 1) b)
 byte_shown b i l = rw (take_more b i 0 l, shown_append (take i b) (get_or b i 0 ∷ []), append-nil (shown_byte (get_or b i 0))) refl
 
--- a run to the end, and a run with a special byte behind it
+-- a run to the end, and a run with a special byte after it
 pub all_shown : (b : List ℕ) (i j : ℕ) (r : List ℕ) → i ≤ j → j ≡ length b → plain (piece b i j) → r ≡ piece b i j → shown_bytes (take i b) ++ r ≡ shown_bytes b
 all_shown b i j r l e h p = ap (λ x. shown_bytes (take i b) ++ x) p ∙ run_shown b i j l h ∙ ap shown_bytes (take_all j b (omega arith))
 
@@ -61,7 +61,7 @@ pub more_shown : (b c : List ℕ) (i j : ℕ) (r : List ℕ) → c ≡ b → i �
     → (shown_bytes (take i b) ++ r) ++ shown_byte (get_or c j 0) ≡ shown_bytes (take (j + 1) b)
 more_shown b c i j r e l m h p = rw (e, p) (ap (λ o. o ++ shown_byte (get_or b j 0)) (run_shown b i j l h) ∙ byte_shown b j m)
 
--- ---- what stands in a sink
+-- ---- what a sink has
 
 pub run_put : (a b c : SinkState) (value : List ℕ) (i j : ℕ) (r : Result (Unit {0}) SinkError) → i ≤ j → plain (piece value i j) → Adds a b (shown_bytes (take i value)) (Ok tt) → Adds b c (piece value i j) r
     → Adds a c (shown_bytes (take j value)) r

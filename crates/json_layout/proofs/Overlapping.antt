@@ -5,7 +5,7 @@ use Rattle.std.proofs.lemmas.List.{take-take, take_all, take-append-drop, length
 use Rattle.std.proofs.lemmas.Simd.{length-put_chunk, length-chunk, take_more_put_chunk}
 use lib.Lanes.{chunk, put_chunk}
 
--- what stands before the second block, once the first is stored
+-- what precedes the second block, once the first is stored
 pub before_back : (b q : List ℕ) (at k : ℕ) → at + length q ≤ length b → k ≤ length q → take (at + k) (put_chunk at b q) ≡ take at b ++ take k q
 before_back b q at k room short =
     let whole : take (at + length q) (put_chunk at b q) ≡ take at b ++ q = take_more_put_chunk at b q (at + length q) (omega arith) room in

@@ -101,7 +101,7 @@ pub write_whole : (a b : SinkState) (piece : List ℕ) (n : ℕ) → n ≡ lengt
 write_whole a b piece n e h =
     record { ok = subst (Appends a.gained b.gained) (take_all n piece (omega (arith, e))) h.appends; err = tt; counts = counts_ok a b h.counts.faults_ok h.counts.lacks_ok h.counts.same_loan }
 
--- a write that took some, and the rest behind it
+-- a write that took some, and the rest after it
 pub write_then : (a b c : SinkState) (piece : List ℕ) (n : ℕ) (r : Result (Unit {0}) SinkError) → Writes a b piece (Ok n) → Adds b c (drop n piece) r → Adds a c piece r
 write_then a b c piece n r h k =
     subst (λ p. Adds a c p r) (take-append-drop n piece) (Adds-then a b c (take n piece) (drop n piece) tt r (record { ok = h.appends; err = tt; counts = counts_ok a b h.counts.faults_ok h.counts.lacks_ok h.counts.same_loan }) k)

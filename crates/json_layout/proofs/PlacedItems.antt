@@ -1,4 +1,4 @@
--- Short strings stored behind what stands in memory.
+-- Short strings stored after other bytes.
 use Rattle.std.proofs.Common.{◌≡◌, ℕ, ◌+◌, ◌≤◌, List, [], ◌∷◌, ◌++◌, length, take, Bool, true, false, refl, sym, ap, ◌∙◌, arith, append_assoc}
 use Rattle.std.proofs.lemmas.List.{take-take, take_at, length-take-le}
 use Rattle.json_model.specs.Print.{quoted}
@@ -6,11 +6,11 @@ use Rattle.json_scan.specs.Runs.{plain}
 use Rattle.json_layout.specs.Pieces.{comma}
 use Rattle.json_layout.proofs.Escapes.{plain_all}
 
--- what was stored behind them leaves the first
+-- what was stored after them leaves the first
 pub front_stays : (old new x : List ℕ) (end at : ℕ) → end ≤ at → end ≤ length old → take at new ≡ take end old ++ x → take end new ≡ take end old
 front_stays old new x end at l m h = sym (take-take end at new l) ∙ ap (take end) h ∙ take_at (take end old) x end (length-take-le end old m)
 
--- ... also what was stored behind that
+-- ... also what was stored after that
 pub front_stays_on : (old new x : List ℕ) (end at : ℕ) (mid : List ℕ) → end ≤ at → end ≤ length old → take at mid ≡ take end old ++ x → take at new ≡ take at mid → take end new ≡ take end old
 front_stays_on old new x end at mid l m h k = front_stays old new x end at l m (k ∙ h)
 

@@ -62,7 +62,7 @@ pub sent_all : (old new : SinkState) (buffer : List ℕ) (from to : ℕ) → Has
 sent_all old new buffer from to h l =
     record { later = h.later; within = h.within; gains = h.gains; all = omega (arith, h.within); counts = counts_ok old new h.no_fault h.no_lack h.same_loan }
 
--- ---- a sink with bytes behind it
+-- ---- a sink with bytes after it
 
 pub held_none : (s : SinkState) → held_behind s [] ≡ s
 held_none s = ap (λ (g : Option (List ℕ)). let r : SinkState = record s { gained = g } in r) (known-nil s.gained)

@@ -55,7 +55,7 @@ ran_out_more : (a b : SinkState) (m n : ℕ) → m ≤ n → RanOut a b m → Ra
 ran_out_more a b m n h (inl rose) = inl rose
 ran_out_more a b m n h (inr long) = inr (omega (arith, h, long))
 
--- behind a call that found memory
+-- after a call that found memory
 ran_out_later : (a b c : SinkState) (m n : ℕ) → m ≤ n → b.lacks ≡ a.lacks → RanOut b c m → RanOut a c n
 ran_out_later a b c m n h e (inl rose) = inl (subst (λ k. Rose k c.lacks) e rose)
 ran_out_later a b c m n h e (inr long) = inr (omega (arith, h, long))
@@ -75,7 +75,7 @@ Shows-first {n} a b p q e h =
       same_loan = h.same_loan;
     }
 
--- both were shown, or the second failed, which stands no deeper than the first is long
+-- both were shown, or the second failed, which is within no more levels than the first has bytes
 pub Shows-within : (n m : ℕ) (a b c : SinkState) (p q : List ℕ) (u : Unit {0}) (r : Result (Unit {0}) SinkError) → m ≤ n + length p → Shows n a b p (Ok u) → Shows m b c q r → Shows n a c (p ++ q) r
 Shows-within n m a b c p q u (Ok v) d g h =
     record {

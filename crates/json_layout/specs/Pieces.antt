@@ -1,4 +1,4 @@
--- The pieces of a text: strings, arrays of bytes, and what comes between elements.
+-- The pieces of a text: strings, arrays of bytes, and what is between elements.
 use Rattle.std.specs.Prelude.{ℕ, List, [], ◌∷◌, ◌++◌, Bool, true, false, Option}
 use Rattle.std.specs.Fmt.{decimal}
 use Rattle.json_model.specs.Print.{shown_bytes, quoted, line}
@@ -18,7 +18,7 @@ abbrev pub closing_line : Bool → Option (List ℕ) → ℕ → List ℕ
 closing_line true i d = line i d
 closing_line false i d = []
 
--- the bytes as numbers with d containers around them, each but the first behind a comma
+-- the bytes as numbers with d containers around them, each but the first after a comma
 abbrev pub byte_elements : Option (List ℕ) → ℕ → Bool → List ℕ → List ℕ
 byte_elements i d first [] = []
 byte_elements i d first (x ∷ bytes) = comma first ++ (line i d ++ (decimal x ++ byte_elements i d false bytes))

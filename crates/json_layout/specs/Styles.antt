@@ -8,7 +8,7 @@ use Rattle.json_layout.specs.declared.style.Style.{Style}
 abbrev pub indent_of : Style → Option (List ℕ)
 indent_of s = option_map (λ t. t.now) s.indent
 
--- whether the members of each object stand in the order of their keys
+-- whether the members of each object are in the order of their keys
 abbrev pub is_sorted : Style → Bool
 is_sorted s = s.sorted
 

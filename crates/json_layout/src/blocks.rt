@@ -17,7 +17,7 @@ pub(crate) const BLOCK_ROOM: usize = 112;
 pub(crate) struct Stored {
     // The end of what is stored.
     pub(crate) end: usize,
-    // The offset of the byte of the string that comes next.
+    // The offset of the next byte of the string.
     pub(crate) next: usize,
 }
 

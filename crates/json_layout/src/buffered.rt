@@ -38,7 +38,7 @@ pub struct Buffer {
 }
 
 impl Buffer {
-    /// Takes its bytes at once: `NoMemory` comes where they are not there.
+    /// Allocates its bytes at once. Fails with `NoMemory` if memory runs out.
     pub fn new(alloc: Global) -> Result<Buffer>
         ensures only { OnlyNoMemory result }
     {
@@ -114,8 +114,8 @@ fn fill(buffer: &mut [u8], at: usize, piece: &[u8])
 }
 
 impl<W: Sink> BufferedWriter<W> {
-    /// A sink over the inner one that holds nothing yet. It takes its 8,192 bytes at once:
-    /// `NoMemory` comes where they are not there.
+    /// Creates a sink over the inner one that holds nothing yet. It allocates its 8,192 bytes at
+    /// once. Fails with `NoMemory` if memory runs out.
     pub fn new(alloc: Global, inner: W) -> Result<BufferedWriter<W>>
     where
         W: Drop,
@@ -126,7 +126,7 @@ impl<W: Sink> BufferedWriter<W> {
         Ok(BufferedWriter::with_buffer(buffer, inner))
     }
 
-    /// The same in memory that is there.
+    /// Creates a sink over the inner one in a buffer that was allocated before.
     pub fn with_buffer(buffer: Buffer, inner: W) -> BufferedWriter<W>
         ensures starts { ⟦<BufferedWriter<W> as Sink>⟧.state result ≡ W.state inner }
     {
@@ -138,7 +138,7 @@ impl<W: Sink> BufferedWriter<W> {
         }
     }
 
-    /// The inner sink. Bytes that are held are dropped.
+    /// Returns the inner sink. Bytes that are held are dropped.
     pub fn into_inner(self) -> W
         ensures { (held : List ℕ)
             × (⟦<BufferedWriter<W> as Sink>⟧.state self ≡ held_behind (W.state result) held) }

@@ -120,8 +120,8 @@ pub fn add_string<W: Sink>(writer: &mut W, value: &str, need_quote: bool) -> Add
     }
 }
 
-/// Writes an integer, as its decimal text. Fails with the error of the sink.
 // Not in line: what a serializer does at each token has to stay small enough to be in line itself.
+/// Writes an integer, as its decimal text. Fails with the error of the sink.
 #[inline(never)]
 pub fn add_number<N: Integer, W: Sink>(writer: &mut W, number: N) -> Added
     ensures { Adds (W.state writer.old) (W.state writer.new) (N.text number) result }

@@ -51,7 +51,7 @@ fn ready(bytes: &[u8]) -> usize
 impl<'a> Indent<'a> {
     ghost use Rattle.json_layout.specs.IndentBytes.{indent_bytes};
 
-    /// An indent of these bytes.
+    /// Creates an indent of these bytes.
     pub fn new(bytes: &'a [u8]) -> Indent<'a>
         ensures { indent_bytes result ≡ bytes.now }
     {
@@ -62,7 +62,7 @@ impl<'a> Indent<'a> {
     }
 }
 
-// As many indents as are one piece, up to so many, and how many they are.
+// Returns as many indents as one piece holds, at most `most`, and their number.
 fn piece_of_indents<'a>(indent: Indent<'a>, most: usize) -> (&'a [u8], usize)
     requires { 0 < most }
     ensures some { 0 < result.1 }

@@ -10,8 +10,8 @@ use crate::escape::add_number;
 use crate::indent::{Indent, add_break};
 use json_io::Sink;
 
-/// Writes what comes before an element or a key: a comma unless it is the first, and then a new
-/// line with `level` indents if there is an indent. Fails with the error of the sink.
+/// Writes what precedes an element or a key: a comma unless it is the first, and then a new line
+/// with `level` indents if there is an indent. Fails with the error of the sink.
 #[inline(always)]
 pub fn add_start<W: Sink>(
     writer: &mut W,

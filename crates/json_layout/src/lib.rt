@@ -1,5 +1,5 @@
 //! Writes the parts of a JSON text to a sink and lays them out (RFC 8259, sections 2 and 7):
-//! strings with their escapes, integers, indents, and what comes before and after elements and
+//! strings with their escapes, integers, indents, and what precedes and follows elements and
 //! members.
 //!
 //! ```

@@ -39,7 +39,7 @@ fn place_by<const N: usize>(buffer: &mut [u8], at: usize, text: &[u8]) -> bool
     plain
 }
 
-// Stores one byte, and says whether it has to stand as it is.
+// Stores one byte, and returns whether it needs no escape.
 #[inline(always)]
 fn place_one(buffer: &mut [u8], at: usize, text: &[u8]) -> bool
     requires room { at < length buffer.old }
@@ -87,7 +87,7 @@ pub(crate) fn place_lead(buffer: &mut [u8], end: usize, first: bool) -> usize
 }
 
 // Stores a short string between quotes after the first `end` bytes, and a comma before it unless it
-// is the first. The end of it comes, or none where it is not short or has to be escaped.
+// is the first. Returns the end of it, or `None` if it is not short or has to be escaped.
 #[inline(always)]
 pub(crate) fn place_item(buffer: &mut [u8], end: usize, first: bool, text: &[u8]) -> Option<usize>
     requires { end + 36 ≤ length buffer.old }

@@ -44,7 +44,7 @@ fn write_escaped<W: fmt::Write>(text: &str, f: &mut fmt::Formatter<W>) -> fmt::R
     }
 }
 
-// The backslash and the letter that stand for the byte, where two characters do.
+// Returns the backslash and the letter that denote the byte, if two characters do.
 #[tactic(auto, using(crate::proofs::Escapes::control_shown), unfolding(json_model::specs::Print::shown_byte))]
 fn short_escape(byte: u8) -> Option<&'static str>
     requires { ¬ (IsPlain byte) }

@@ -16,8 +16,8 @@ use crate::escape::{add_number, add_unsigned};
 use crate::indent::{Indent, add_break};
 use json_io::{Result, Sink};
 
-/// How the parts of a text are laid out: what comes before elements and keys, after keys, and
-/// before closing brackets.
+/// How the parts of a text are laid out: what precedes elements, keys and closing brackets, and
+/// what follows keys.
 ///
 /// ```
 /// use json_layout::{BufferedWriter, Layout, ManyLines, answered, show_unsigned};
@@ -34,12 +34,12 @@ pub trait Layout: Copy {
     /// The indent, or none for no whitespace.
     ghost indent: { Self → Option (List ℕ) };
 
-    /// Writes what comes before an element that is no string.
+    /// Writes what precedes an element that is no string.
     fn lead<W: Sink>(self, out: &mut BufferedWriter<W>, level: usize, first: bool) -> Added
         ensures { Adds (⟦<BufferedWriter<W> as Sink>⟧.state out.old)
             (⟦<BufferedWriter<W> as Sink>⟧.state out.new) (lead (indent self) level first) result };
 
-    /// Writes an element that is a string, and what comes before it.
+    /// Writes an element that is a string, and what precedes it.
     fn element<W: Sink>(
         self,
         out: &mut BufferedWriter<W>,
@@ -51,7 +51,7 @@ pub trait Layout: Copy {
             (⟦<BufferedWriter<W> as Sink>⟧.state out.new)
             (text_shown (indent self) level first text.now) result };
 
-    /// Writes a key, and what comes before and after it.
+    /// Writes a key, and what precedes and follows it.
     fn key<W: Sink>(
         self,
         out: &mut BufferedWriter<W>,
@@ -63,13 +63,13 @@ pub trait Layout: Copy {
             (⟦<BufferedWriter<W> as Sink>⟧.state out.new)
             (key_shown (indent self) level first key.now) result };
 
-    /// Writes what comes after a key.
+    /// Writes what follows a key.
     fn colon<W: Sink>(self, out: &mut BufferedWriter<W>) -> Added
         ensures { Adds (⟦<BufferedWriter<W> as Sink>⟧.state out.old)
             (⟦<BufferedWriter<W> as Sink>⟧.state out.new) (colon_bytes (indent self)) result };
 
-    /// Writes a closing bracket, and what comes before it. `empty` says that no element and no
-    /// member came.
+    /// Writes a closing bracket, and what precedes it. `empty` says that the container has no
+    /// element and no member.
     fn close<W: Sink>(
         self,
         out: &mut BufferedWriter<W>,
@@ -191,7 +191,7 @@ pub struct ManyLines<'a> {
 }
 
 impl<'a> ManyLines<'a> {
-    /// With an indent of these bytes.
+    /// Creates a layout with an indent of these bytes.
     pub fn new(indent: &'a [u8]) -> ManyLines<'a>
         ensures { ⟦<ManyLines<'a> as Layout>⟧.indent result ≡ Some indent.now }
     {

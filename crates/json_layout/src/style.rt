@@ -26,8 +26,8 @@ impl<'a> Style<'a> {
     ghost use Rattle.std.specs.Prelude.{◌≡◌, MatchOption};
     ghost use Rattle.json_layout.specs.Styles.{indent_of, is_sorted};
 
-    /// A style of this indent, which is sorted or not. `None` comes exactly where a byte of the
-    /// indent is no whitespace (RFC 8259, section 2).
+    /// Creates a style of this indent, which is sorted or not. Returns `None` exactly if a byte of
+    /// the indent is no whitespace (RFC 8259, section 2).
     pub fn new(indent: Option<&'a str>, sorted: bool) -> Option<Style<'a>>
         ensures { let i = option_map (λ s. s.now) indent.entry in
             MatchOption result (¬ (IsIndent i)) (λ s. (indent_of s ≡ i) × (is_sorted s ≡ sorted)) }
@@ -38,7 +38,7 @@ impl<'a> Style<'a> {
         }
     }
 
-    /// The indent that it was made with.
+    /// Returns the indent that the style was made with.
     pub fn indent(self) -> Option<&'a str>
         ensures same { option_map (λ s. s.now) result ≡ indent_of self.entry }
         ensures whitespace { IsIndent (option_map (λ s. s.now) result) }
@@ -46,7 +46,7 @@ impl<'a> Style<'a> {
         self.indent
     }
 
-    /// Whether it is sorted.
+    /// Returns whether the members of each object are sorted by their keys.
     pub fn sorted(self) -> bool
         ensures { result ≡ is_sorted self.entry }
     {

@@ -7,7 +7,7 @@ use Rattle.json_print.specs.Layouts.{Form, pieces}
 use Rattle.json_print.specs.Standing.{first_turn}
 use Rattle.json_print.specs.Printer.{Out, layered, call, value_begun, took_scalar, took_end, took_key}
 
--- the level behind a call
+-- the level after a call
 abbrev pub level_in : ℕ → Call → ℕ
 level_in d (bytes_call bytes) = d
 level_in d (begin_call k) = suc d
@@ -35,11 +35,11 @@ pub ideal_laid : (i : Option (List ℕ)) (f : Level) → LaidIn (ideal i) f i f.
 ideal_laid i f [] = refl
 ideal_laid i f (c ∷ cs) = ap (λ xs. piece_of i f.level f.flag c ∷ xs) (ideal_laid i (record { level = level_in f.level c; flag = flag_after f.flag c }) cs)
 
--- behind an opening bracket
+-- after an opening bracket
 abbrev pub opened_in : {F : Type 0} → Out F → Kind → Out F
 opened_in s k = record s { turn = first_turn k; opened = k ∷ s.opened; layers = layered k s.sorts s.layers }
 
--- behind a token
+-- after a token
 abbrev pub after_in : {F : Type 0} → Form F → Out F → Token → Out F
 after_in m s null_token = took_scalar m s null_call
 after_in m s (boolean_token b) = took_scalar m s (boolean_call b)

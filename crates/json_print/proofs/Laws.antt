@@ -14,7 +14,7 @@ use Rattle.json_print.proofs.Calms.{all_calm}
 use Rattle.json_print.proofs.Prefixes.{whole_law, prefix_law, stopped_law}
 use Rattle.json_print.proofs.Stopping.{Calm}
 
--- behind calm steps an error was met
+-- after calm steps an error was met
 stops_writer : {F : Type 0} (old mid s aim : Out F) (w new : SinkState) (e : Error) → old.faults ≡ w.faults → old.loan ≡ w.loan → new.faults ≡ s.faults → new.loan ≡ s.loan → Calm old mid → Stops mid s aim e → StopsWriter w new e
 stops_writer old mid s aim w new e f l nf nl c h =
     let from : mid.faults ≡ w.faults = c.0 ∙ f in

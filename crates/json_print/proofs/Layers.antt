@@ -3,7 +3,7 @@ use Rattle.std.proofs.Common.{◌≡◌, ℕ, ◌+◌, ◌-◌, ◌<◌, List, [
 use Rattle.std.proofs.lemmas.List.{take_more, take_all, reverse-append, length-set, get_or-set_same, take-set-le}
 use Rattle.json_print.specs.Printer.{Out, Layer, gained_put, layers_put}
 
--- the last of a list, and what stands before it
+-- the last of a list, and what precedes it
 pub record Innermost (xs : List Layer) (n : ℕ) (l : Layer) : Type 0 where
   pub outer : List Layer
   pub there : reverse xs ≡ l ∷ outer

@@ -72,7 +72,7 @@ module _ {F : Type 0} (m : Form F) (i : Option (List ℕ)) where
   one_like true s s' x x' d g h = g
   one_like false s s' x x' d g h = h
 
-  -- ---- before and behind a value
+  -- ---- before and after a value
 
   like_begun : (s : Out F) (x : Out Level) (d : ℕ) → Like m i s x d → Like m i (value_begun m s) (value_begun (ideal i) x) d
   like_begun s x d h = like_of s (value_begun m s) x (value_begun (ideal i)) d d (λ b l. go s.turn (itself s d b l)) h

@@ -1,4 +1,4 @@
--- The members of an object as keys and texts grow behind them.
+-- The members of an object as keys and texts grow after them.
 use Rattle.std.proofs.Common.{◌≡◌, ℕ, zero, suc, ◌-◌, ◌<◌, ◌≤◌, List, [], ◌∷◌, ◌++◌, length, take, drop, map, get_or, ◌∙◌, sym, ap, ap₂, refl, subst, arith, inl, inr, Some, Ok, Err, Result, length-drop, length-append}
 use Rattle.std.specs.Prelude.{OnOk, slice_get}
 use Rattle.std.proofs.lemmas.Result.{on_ok_weaker}
@@ -15,7 +15,7 @@ use Rattle.json_print.specs.declared.sorted.Member.{Member}
 use Rattle.json_print.specs.Printer.{MemberText, Layer}
 use Rattle.json_print.specs.Members.{member_text_of, layer_of, IsWithin, AreWithin, HoldMembers}
 
--- ---- a text behind others
+-- ---- a text after others
 
 boundary_on : (bs t : List ℕ) (i : ℕ) → IsUtf8 t → IsCharBoundary bs i → IsCharBoundary (bs ++ t) i
 boundary_on bs t i u h =

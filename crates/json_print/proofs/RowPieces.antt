@@ -16,7 +16,7 @@ take_get [] n r e = absurd (cc)
 take_get (x ∷ xs) zero r e = let same : x ≡ r = cc in ap (λ y. y ∷ []) same
 take_get (x ∷ xs) (suc n) r e = let k : suc n + 1 ≡ suc (n + 1) = omega arith in ap (λ j. take j (x ∷ xs)) k ∙ ap (λ l. x ∷ l) (take_get xs n r e)
 
--- whether none stand before
+-- whether no row precedes
 abbrev none_before : Bool → List MemberText → Bool
 none_before first [] = first
 none_before first (x ∷ xs) = false
@@ -43,7 +43,7 @@ module _ {F : Type 0} (m : Form F) where
       never [] = refl
       never (y ∷ ys) = refl
 
-  -- those behind the first rows
+  -- the pieces after the first rows
   bytes_on : (xs ys : List MemberText) (f : F) (first : Bool) → (q : List ℕ) × (rows_bytes m f first (xs ++ ys) ≡ rows_bytes m f first xs ++ q)
   bytes_on [] ys f first = (rows_bytes m f first ys, refl)
   bytes_on (x ∷ xs) ys f first = let h = bytes_on xs ys (row_next m f first x) false in (h.0, ap (λ l. row_bytes m f first x ++ l) h.1 ∙ sym (append_assoc (row_bytes m f first x) _ h.0))

@@ -132,7 +132,7 @@ Stops-from old x new aim e b f h =
 pub Stopped-on : {F : Type 0} (old new aim aim' : Out F) (f : Option Error) → Stopped old new aim f → Begins aim.gained aim'.gained → Stopped old new aim' f
 Stopped-on old new aim aim' f h b = record { error = h.error; kept = h.kept; stops = Stops-on old new aim aim' h.error h.stops b }
 
--- a step behind others that came to x
+-- a step after others that reached x
 pub Steps-from : {F : Type 0} (old x mid new : Out F) (step : Out F → Out F) (f : Option Error) (r : Result (Unit {0}) Halted) → Begins old.gained x.gained → Calm old x → mid ≡ x → Steps mid new (step mid) f r → Steps old new (step x) f r
 Steps-from old x mid new step f r b l e h =
     let g : Steps x new (step x) f r = subst (λ y. Steps y new (step y) f r) e h in
@@ -173,7 +173,7 @@ shut_same {F = F} a x o e h = ap (λ (c : List Kind). let r : Out F = record a {
 
 -- ---- a scalar
 
--- it stopped before the value, at the value, or came to what stands behind it
+-- it stopped before the value, at the value, or reached what follows it
 pub scalar_begun : {F : Type 0} (m : Form F) (old new : Out F) (c : Call) (f : Option Error) (r : Result (Unit {0}) Halted) (halted : Halted) → (y : Halted) × (r ≡ Err y) × (y ≡ halted) → Stopped old new (value_begun m old) f → Steps old new (took_scalar m old c) f r
 scalar_begun m old new c f r halted p h = exits old new _ f r halted p (Stopped-on old new _ _ f h (scalar_rest m old c))
 
@@ -188,11 +188,11 @@ scalar_ended {F = F} m old mid last new c f r e k h =
 
 -- ---- a key
 
--- a key and what stands around it, the first or not
+-- a key and what surrounds it, the first or not
 abbrev pub key_by : {F : Type 0} → Form F → Out F → Bool → List ℕ → Out F
 key_by m s first k = call m (call m (call m s (begin_key first)) (string_call true k)) end_key
 
--- it stopped before the key, at the key, or came to what stands behind it
+-- it stopped before the key, at the key, or reached what follows it
 pub key_begun : {F : Type 0} (m : Form F) (old new : Out F) (first : Bool) (k : List ℕ) (f : Option Error) (r : Result (Unit {0}) Halted) (halted : Halted) → (y : Halted) × (r ≡ Err y) × (y ≡ halted) → Stopped old new (call m old (begin_key first)) f → Steps old new (key_by m old first k) f r
 key_begun m old new first k f r halted p h =
     let a = call m old (begin_key first) in

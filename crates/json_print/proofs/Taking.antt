@@ -15,7 +15,7 @@ pub tokens_append : (a b : List TokenOrInteger) → given_tokens (a ++ b) ≡ gi
 tokens_append [] b = refl
 tokens_append (g ∷ a) b = ap (λ ts. token_of g ∷ ts) (tokens_append a b)
 
--- where what may come moves with each that is given, it does with all
+-- where what may follow changes with each that is given, it does with all
 pub stand_moves : {S : Type 0} (after : S → TokenOrInteger → S) (stand : S → TokenState) → ((s : S) (g : TokenOrInteger) → stand (after s g) ≡ after_token (stand s) (token_of g)) → (s : S) (gs : List TokenOrInteger)
     → stand (after_all after s gs) ≡ after_tokens (stand s) (given_tokens gs)
 stand_moves after stand moves s [] = refl

@@ -57,7 +57,7 @@ front_gained (Some x) (Some y) text rest e g =
     let both : x ++ text ≡ x ++ (drop n y ++ rest) = some_same e ∙ ap (λ l. l ++ rest) here ∙ append_assoc x (drop n y) rest in
     record { front = drop n y; back = rest; whole = append_cancel_left x _ _ both; gains = ap Some here }
 
--- ---- the sink that was lent and comes back
+-- ---- the borrowed sink that is returned
 
 -- it is the loan that was begun
 pub same_loan : (old now sent began : SinkState) (name name' : GName) → began ≡ lent_as old name old.gained → sent.loan ≡ began.loan → (back : ComesBack sent now name')

@@ -54,11 +54,11 @@ all_append m s (x ∷ xs) ys = all_append m (after_in m s x) xs ys
 called : {F : Type 0} (m : Form F) (s : Out F) (i : Option (List ℕ)) (d : ℕ) (b : Bool) (c : Call) → LaidIn m s.formatter i d b → call m s c ≡ wrote s (m.next s.formatter c) (piece_of i d b c)
 called m s i d b c h = ap (wrote s (m.next s.formatter c)) (laid_piece m s.formatter i d b c h)
 
--- what stands where the members of an array come
+-- the state within an array
 abbrev in_array : {F : Type 0} → Out F → Bool → List Kind → Out F
 in_array s first c = record s { turn = at_element first; opened = array ∷ c }
 
--- the value's own part, behind what stands before it
+-- the value's own part, after what precedes it
 abbrev pub own : {F : Type 0} → Form F → Out F → Tree → Out F
 own m v null = value_ended m (call m v null_call)
 own m v (boolean b) = value_ended m (call m v (boolean_call b))
@@ -139,7 +139,7 @@ retext m s new i d b p q e r = record { f = r.f; laid = r.laid; same = r.same �
 
 -- ---- the members of an array
 
--- the same, and the last member is behind
+-- the same, and the last member was passed
 record Members {F : Type 0} (m : Form F) (at : Out F → Out F) (new s : Out F) (i : Option (List ℕ)) (d : ℕ) (p : List ℕ) : Type 0 where
   pub f : F
   pub laid : LaidIn m f i d true

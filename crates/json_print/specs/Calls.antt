@@ -64,14 +64,14 @@ piece_of i d flag begin_member = colon_bytes i
 piece_of i d flag end_member = []
 piece_of i d flag (raw_call t) = t
 
--- the level behind a call
+-- the level after a call
 abbrev pub level_after : ℕ → Call → ℕ
 level_after d (bytes_call bytes) = down (up d)
 level_after d (begin_call k) = up d
 level_after d (end_call k) = down d
 level_after d call = d
 
--- the flag behind a call
+-- the flag after a call
 abbrev pub flag_after : Bool → Call → Bool
 flag_after flag (bytes_call bytes) = holds_any bytes
 flag_after flag (begin_call k) = false

@@ -1,4 +1,4 @@
--- The end of a container behind its members.
+-- The end of a container after its members.
 use Rattle.json_grammar.specs.declared.Kind.{Kind}
 use Rattle.json_grammar.specs.Place.{outside}
 use Rattle.json_print.specs.Calls.{end_call}

@@ -4,7 +4,7 @@ use Rattle.json_layout.specs.IndentBytes.{indent_bytes}
 use Rattle.json_print.specs.declared.pretty.PrettyFormatter.{PrettyFormatter}
 use Rattle.json_print.specs.Calls.{Call, piece_of, level_after, flag_after}
 
--- a formatter: the piece of a call, and the formatter behind it
+-- a formatter: the piece of a call, and the formatter after it
 pub record Form (F : Type 0) : Type 0 where
   pub piece : F → Call → List ℕ
   pub next : F → Call → F

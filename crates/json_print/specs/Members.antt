@@ -1,4 +1,4 @@
--- Where the keys and the texts of an object's finished members stand.
+-- The places of the keys and the texts of an object's finished members.
 use Rattle.std.specs.Prelude.{ℕ, ◌≤◌, List, [], ◌∷◌, length, map, drop}
 use Rattle.std.specs.Str.{IsCharBoundary}
 use Rattle.json_grammar.specs.Given.{piece}
@@ -9,11 +9,11 @@ use Rattle.json_print.specs.Printer.{MemberText, Layer}
 abbrev pub member_text_of : List ℕ → List ℕ → Member → MemberText
 member_text_of keys texts m = record { key = piece keys m.key_from m.key_to; text = piece texts m.text_from m.text_to }
 
--- the finished members, and the open one behind them
+-- the finished members, and the open one after them
 abbrev pub layer_of : List ℕ → List ℕ → List Member → ℕ → ℕ → Layer
 layer_of keys texts members key_from text_from = record { rows = map (member_text_of keys texts) members; key = drop key_from keys; text = drop text_from texts }
 
--- its key stands among the keys, and its text among the texts
+-- its key is among the keys, and its text among the texts
 pub record IsWithin (keys texts : List ℕ) (m : Member) : Type 0 where
   pub key_begins : IsCharBoundary keys m.key_from
   pub key_ends : IsCharBoundary keys m.key_to

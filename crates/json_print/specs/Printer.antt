@@ -84,7 +84,7 @@ call m s c = record s { formatter = m.next s.formatter c; gained = gained_put s.
 abbrev pub turned : {F : Type 0} → Out F → Turn → Out F
 turned s turn = record s { turn = turn }
 
--- ---- before and behind a value
+-- ---- before and after a value
 
 abbrev pub lead_in : {F : Type 0} → Form F → Out F → Turn → Out F
 lead_in m s at_value = s

@@ -15,28 +15,28 @@ numbered n (r ∷ rows) = (r.key, n) ∷ numbered (suc n) rows
 abbrev pub IsOrderOf : List Numbered → List MemberText → Type 0
 IsOrderOf order rows = map numbered_pair order ≡ inserted_pairs (numbered 0 rows)
 
--- the pieces of a key, and the formatter behind them
+-- the pieces of a key, and the formatter after them
 abbrev pub key_bytes : {F : Type 0} → Form F → F → Bool → List ℕ → List ℕ
 key_bytes m f first k = let g = m.next f (begin_key first) in m.piece f (begin_key first) ++ (m.piece g (string_call true k) ++ m.piece (m.next g (string_call true k)) end_key)
 
 abbrev pub key_next : {F : Type 0} → Form F → F → Bool → List ℕ → F
 key_next m f first k = m.next (m.next (m.next f (begin_key first)) (string_call true k)) end_key
 
--- the pieces of a value whose text is there, and the formatter behind them
+-- the pieces of a value whose text is there, and the formatter after them
 abbrev pub value_bytes : {F : Type 0} → Form F → F → List ℕ → List ℕ
 value_bytes m f text = m.piece f begin_member ++ (text ++ m.piece (m.next f begin_member) end_member)
 
 abbrev pub value_next : {F : Type 0} → Form F → F → F
 value_next m f = m.next (m.next f begin_member) end_member
 
--- the pieces of a row, and the formatter behind them
+-- the pieces of a row, and the formatter after them
 abbrev pub row_bytes : {F : Type 0} → Form F → F → Bool → MemberText → List ℕ
 row_bytes m f first r = key_bytes m f first r.key ++ value_bytes m (key_next m f first r.key) r.text
 
 abbrev pub row_next : {F : Type 0} → Form F → F → Bool → MemberText → F
 row_next m f first r = value_next m (key_next m f first r.key)
 
--- the pieces of the rows, and the formatter behind them
+-- the pieces of the rows, and the formatter after them
 abbrev pub rows_bytes : {F : Type 0} → Form F → F → Bool → List MemberText → List ℕ
 rows_bytes m f first [] = []
 rows_bytes m f first (r ∷ rows) = row_bytes m f first r ++ rows_bytes m (row_next m f first r) false rows
@@ -50,7 +50,7 @@ abbrev pub rows_written : {F : Type 0} → Form F → Out F → List MemberText 
 rows_written m s rows =
     let p = rows_bytes m s.formatter true rows in record s { formatter = rows_next m s.formatter true rows; gained = gained_put s.layers s.gained p; layers = layers_put s.layers p }
 
--- the pieces of a sorted object's pairs in the order of their keys, and the formatter behind them
+-- the pieces of a sorted object's pairs in the order of their keys, and the formatter after them
 abbrev pub members_bytes : {F : Type 0} → Form F → F → Layer → List ℕ
 members_bytes m f l = rows_bytes m f true (rows_sorted l.rows)
 

@@ -1,4 +1,4 @@
--- What a serializer stands for, and what a step of it does.
+-- What a serializer's state is, and what a step of it does.
 use Rattle.std.specs.Prelude.{false, reverse, Option, Result}
 use Rattle.json_io.specs.declared.error.Error.{Error}
 use Rattle.json_io.specs.Outside.{SinkState}

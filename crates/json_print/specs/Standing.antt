@@ -7,7 +7,7 @@ use Rattle.json_print.specs.declared.events.Turn.{Turn}
 use Rattle.json_print.specs.declared.events.Turn.TheVariants.{Value as at_value, Element as at_element, Key as at_key, Member as at_member, Done as at_done}
 use Rattle.json_io.specs.declared.error.Error.{Error}
 
--- what comes next at a turn
+-- what may follow at a turn
 abbrev pub expected_at_turn : Turn → Expected
 expected_at_turn at_value = a_value
 expected_at_turn (at_element first) = element_or_end
@@ -20,7 +20,7 @@ abbrev pub first_turn : Kind → Turn
 first_turn array = at_element true
 first_turn object = at_key true
 
--- a value may come, unless an error is kept
+-- a value may follow, unless an error is kept
 abbrev pub AcceptsValue : Option Error → TokenState → Type 0
 AcceptsValue failed s = failed ≡ None → ValueMayCome s.expected
 

@@ -1,4 +1,4 @@
--- What may come next of a serializer's state.
+-- What may follow in a serializer's state.
 use Rattle.std.specs.Prelude.{◌≡◌, List, [], ◌∷◌, Bool, true, false, cond, refl}
 use Rattle.std.proofs.Common.{◌∙◌, ap}
 use Rattle.json_grammar.specs.declared.Kind.{Kind}

@@ -15,7 +15,7 @@ pub record Takes {S T : Type 0} (next : S → T → S) (left : S → T → S →
   pub stopped : err ≡ None → IfErr result (λ e. left old t new e)
   pub again : IfSome err (λ e. (result ≡ Err e) × (new ≡ old))
 
--- an error was met at one of them, behind those before it
+-- an error was met at one of them, after those before it
 pub record StopsAmong {S T : Type 0} (after : S → T → S) (stopped : S → T → S → Error → Type 0) (old new : S) (ts : List T) (e : Error) : Type 0 where
   pub front : List T
   pub at : T

@@ -21,8 +21,9 @@ pub record StopsWriter (old new : SinkState) (e : Error) : Type 0 where
   pub told : old.faults < new.faults → e ≡ writing_failed
   pub same_loan : new.loan ≡ old.loan
 
--- where a state came from the tokens of a tree the writer has its text; where from some first tokens of it, a prefix of its text,
--- also after an error that was met at the token behind these. With no error no call of the writer failed
+-- where a state is that after the tokens of a tree, the writer has its text; where after some first
+-- tokens of it, a prefix of its text, also after an error that was met at the token after these.
+-- With no error no call of the writer failed
 pub record Written {F : Type 0} (m : Form F) (s : Out F) (new : SinkState) : Type 0 where
   pub whole : (f : F) (sorts : Bool) (w : SinkState) (i : Option (List ℕ)) (t : Tree) → LaidOut m f i 0 false
       → s ≡ after_all (after m) (start f sorts w) (tokens t) → new.gained ≡ text_behind w i sorts t

@@ -11,12 +11,12 @@ ghost use Rattle.json_print.specs.Taking.{Takes};
 
 use json_io::Result;
 
-/// What comes next of a value's parts. The contracts of [`Events`] say by it which call may come;
+/// What may follow of a value's parts. The contracts of [`Events`] say by it which call may follow;
 /// no call returns it.
 ///
 /// ```
 /// use json_print::Turn;
-/// // after the beginning of an array the first element may come, or the end
+/// // after the beginning of an array the first element may follow, or the end
 /// let turn = Turn::Element(true);
 /// assert!(rt; matches!(turn, Turn::Element(first) if first));
 /// ```
@@ -36,7 +36,7 @@ pub enum Turn {
 
 /// Takes the parts of one value from left to right, a call for each. An integer is given by its
 /// value, all else as a token. What is taken does not depend on a hint of how many elements or
-/// members come.
+/// members follow.
 ///
 /// Errors are sticky: a call that meets an error returns it, and each later call returns it again
 /// and changes nothing.
@@ -60,7 +60,7 @@ pub trait Events {
     /// The state after what is given.
     ghost after: { State → TokenOrInteger → State };
 
-    /// What may come.
+    /// What may follow.
     ghost stand: { State → TokenState };
 
     /// What a call that meets an error at what is given may leave.
@@ -113,7 +113,7 @@ pub trait Events {
         ensures { Takes after stopped (state self.old) (state self.new)
             (failed self.old) (failed self.new) (given (text_token s.now)) result };
 
-    /// Takes the beginning of an array. The hint is how many elements come, where that is known.
+    /// Takes the beginning of an array. The hint is how many elements follow, if that is known.
     /// Fails if what takes the parts does, and again after any error.
     fn begin_array(&mut self, hint: Option<usize>) -> Result<()>
         requires { failed self.old ≡ None → MayCome (stand (state self.old)) (begin array) }
@@ -127,14 +127,14 @@ pub trait Events {
         ensures { Takes after stopped (state self.old) (state self.new)
             (failed self.old) (failed self.new) (given (end array)) result };
 
-    /// Takes the beginning of an object. The hint is how many members come, where that is known.
+    /// Takes the beginning of an object. The hint is how many members follow, if that is known.
     /// Fails if what takes the parts does, and again after any error.
     fn begin_object(&mut self, hint: Option<usize>) -> Result<()>
         requires { failed self.old ≡ None → MayCome (stand (state self.old)) (begin object) }
         ensures { Takes after stopped (state self.old) (state self.new)
             (failed self.old) (failed self.new) (given (begin object)) result };
 
-    /// Takes the key of the next member, by its characters. Its value comes next. Fails if what
+    /// Takes the key of the next member, by its characters. Its value must follow. Fails if what
     /// takes the parts does, and again after any error.
     fn key(&mut self, s: &str) -> Result<()>
         requires { failed self.old ≡ None → MayCome (stand (state self.old)) (key_token s.now) }
@@ -148,7 +148,7 @@ pub trait Events {
         ensures { Takes after stopped (state self.old) (state self.new)
             (failed self.old) (failed self.new) (given (end object)) result };
 
-    /// What may come moves as in the tokens of a tree.
+    /// What may follow changes as in the tokens of a tree.
     ghost moves: { (s : State) (g : TokenOrInteger)
         → stand (after s g) ≡ after_token (stand s) (token_of g) };
 }

@@ -9,8 +9,8 @@ use json_io::{Result, Sink};
 
 /// Writes the parts of a JSON text (RFC 8259): each call appends one piece to the writer.
 ///
-/// `Io` at `Writing` comes where the writer failed, and `NoMemory` where it found none; a prefix of
-/// the piece was gained then.
+/// Fails with `Io` at `Writing` if the writer failed, and with `NoMemory` if the writer found no
+/// memory; it has then gained a prefix of the piece.
 ///
 /// ```
 /// use json_print::{Formatter, PrettyFormatter};
@@ -143,20 +143,20 @@ pub trait Formatter {
             (form.piece self.old (begin_call array)) result }
         ensures next { OnOk result (self.new ≡ form.next self.old (begin_call array)) };
 
-    /// Writes what comes before the end of an array, and `]`. Fails if the writer does.
+    /// Writes what precedes the end of an array, and `]`. Fails if the writer does.
     fn end_array<W: Sink>(&mut self, writer: &mut W) -> Result<()>
         ensures puts { Puts (W.state writer.old) (W.state writer.new)
             (form.piece self.old (end_call array)) result }
         ensures next { OnOk result (self.new ≡ form.next self.old (end_call array)) };
 
-    /// Writes what comes before an element: a comma unless it is the first, and the layout. Fails
-    /// if the writer does.
+    /// Writes what precedes an element: a comma unless it is the first, and the layout. Fails if
+    /// the writer does.
     fn begin_array_value<W: Sink>(&mut self, writer: &mut W, first: bool) -> Result<()>
         ensures puts { Puts (W.state writer.old) (W.state writer.new)
             (form.piece self.old (begin_element first)) result }
         ensures next { OnOk result (self.new ≡ form.next self.old (begin_element first)) };
 
-    /// Writes what comes after an element. Fails if the writer does.
+    /// Writes what follows an element. Fails if the writer does.
     fn end_array_value<W: Sink>(&mut self, writer: &mut W) -> Result<()>
         ensures puts { Puts (W.state writer.old) (W.state writer.new)
             (form.piece self.old end_element) result }
@@ -168,20 +168,20 @@ pub trait Formatter {
             (form.piece self.old (begin_call object)) result }
         ensures next { OnOk result (self.new ≡ form.next self.old (begin_call object)) };
 
-    /// Writes what comes before the end of an object, and `}`. Fails if the writer does.
+    /// Writes what precedes the end of an object, and `}`. Fails if the writer does.
     fn end_object<W: Sink>(&mut self, writer: &mut W) -> Result<()>
         ensures puts { Puts (W.state writer.old) (W.state writer.new)
             (form.piece self.old (end_call object)) result }
         ensures next { OnOk result (self.new ≡ form.next self.old (end_call object)) };
 
-    /// Writes what comes before a key: a comma unless it is the first, and the layout. Fails if the
+    /// Writes what precedes a key: a comma unless it is the first, and the layout. Fails if the
     /// writer does.
     fn begin_object_key<W: Sink>(&mut self, writer: &mut W, first: bool) -> Result<()>
         ensures puts { Puts (W.state writer.old) (W.state writer.new)
             (form.piece self.old (begin_key first)) result }
         ensures next { OnOk result (self.new ≡ form.next self.old (begin_key first)) };
 
-    /// Writes what comes after a key. Fails if the writer does.
+    /// Writes what follows a key. Fails if the writer does.
     fn end_object_key<W: Sink>(&mut self, writer: &mut W) -> Result<()>
         ensures puts { Puts (W.state writer.old) (W.state writer.new)
             (form.piece self.old end_key) result }
@@ -193,7 +193,7 @@ pub trait Formatter {
             (form.piece self.old begin_member) result }
         ensures next { OnOk result (self.new ≡ form.next self.old begin_member) };
 
-    /// Writes what comes after a value of an object. Fails if the writer does.
+    /// Writes what follows a value of an object. Fails if the writer does.
     fn end_object_value<W: Sink>(&mut self, writer: &mut W) -> Result<()>
         ensures puts { Puts (W.state writer.old) (W.state writer.new)
             (form.piece self.old end_member) result }
