@@ -1,4 +1,4 @@
--- Keys behind the numbers of their first eight bytes stand in the order of the keys.
+-- Keys with the numbers of their first eight bytes before them are in the order of the keys.
 use Rattle.std.proofs.Common.{◌≡◌, ℕ, zero, suc, ◌+◌, ◌*◌, ◌^◌, ◌<◌, ◌≤◌, ◌⊎◌, List, [], ◌∷◌, ◌++◌, Bool, true, false, cond, Some, nat_lt, get_or, drop, length, map, refl, sym, ap, ap₂, subst, ◌∙◌, arith, inl, inr}
 use Rattle.std.proofs.lemmas.Bool.{cases_lt, lt-ltb, le-ltb}
 use Rattle.std.proofs.lemmas.List.{get_or-map, length-map}
@@ -83,11 +83,11 @@ less_one_way (x ∷ a) (y ∷ b) e = go (cases_lt x y) (cases_lt y x) (less_one_
         let rest : bytes_less a b ≡ true = ap₂ (λ c d. cond c true (cond d false (bytes_less a b))) (sym (le-ltb x y g)) (sym (le-ltb y x m)) ∙ e in
         rw (le-ltb y x m, le-ltb x y g) (ih rest)
 
--- a list behind its number
+-- a list with its number before it
 abbrev pub fronted : List ℕ → List ℕ
 fronted s = front_of s ∷ s
 
--- two lists behind their numbers stand as without them
+-- two lists with their numbers before them are ordered as without them
 less_fronted : (a b : List ℕ) → AreBytes a → AreBytes b → bytes_less (fronted a) (fronted b) ≡ bytes_less a b
 less_fronted a b h k = go (cases_lt (front_of a) (front_of b)) (cases_lt (front_of b) (front_of a)) (bytes_less a b) refl
   where
@@ -99,7 +99,7 @@ less_fronted a b h k = go (cases_lt (front_of a) (front_of b)) (cases_lt (front_
     go (inr g) (inl m) true e = absurd (omega (arith, front_is a, front_is b, lead_not_less 8 b a h (less_one_way a b e), m))
     go (inr g) (inr m) c e = rw (le-ltb (front_of a) (front_of b) g, le-ltb (front_of b) (front_of a) m) refl
 
--- ---- what has been sorted behind its numbers
+-- ---- what has been sorted with its numbers
 
 abbrev plain : Pair → Pair
 plain x = (drop 1 x.0, x.1)
@@ -128,7 +128,7 @@ plain_all (x ∷ xs) h =
 
 -- ---- entries
 
--- the key of an entry's member behind the entry's number of its first bytes
+-- the key of an entry's member, with the entry's number of its first bytes before it
 abbrev pub fronted_pair : (ℕ → List ℕ) → Entry → Pair
 fronted_pair key e = (e.front ∷ key e.number, e.number)
 
@@ -141,7 +141,7 @@ plain_keyed : (key : ℕ → List ℕ) (es : List Entry) → map plain (map (fro
 plain_keyed key [] = refl
 plain_keyed key (e ∷ es) = ap (λ ps. key_and_number key e.number ∷ ps) (plain_keyed key es)
 
--- sorted by the fronts, the keys and the numbers they stand in the order of the keys
+-- sorted by the first bytes, the keys and the numbers they are in the order of the keys
 pub order_by_fronts : (key : ℕ → List ℕ) (xs ys : List Entry) → AreEntries key xs → map (fronted_pair key) ys ≡ inserted_pairs (map (fronted_pair key) xs) → IsKeyOrder key (numbers_in xs) (numbers_in ys)
 order_by_fronts key xs ys h e =
     sym (plain_keyed key ys) ∙ ap (map plain) e ∙ plain_all (map (fronted_pair key) xs) (entries_fronted key xs h) ∙ ap inserted_pairs (plain_keyed key xs)

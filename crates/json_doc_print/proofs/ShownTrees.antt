@@ -19,7 +19,7 @@ use Rattle.json_layout.proofs.ShownParts.{added_shows, Shows-first, Shows-within
 use Rattle.json_doc_print.specs.ShownNodes.{node_tree}
 use Rattle.json_doc_print.proofs.TokensGiven.{list_seen, pairs_seen}
 
--- a node's tree is the one that stands there
+-- a node's tree is the one at its place
 pub node_is : (r : DocNode) (t : Tree) → NodeOf r t → node_tree r ≡ t
 node_is node.Null t h = sym h
 node_is (node.Boolean b) t h = sym h
@@ -31,7 +31,7 @@ node_is (node.Object p) t h = pairs_seen t h.0 (pairs_left p) h.1 h.2
 
 -- ---- what is left
 
--- of the elements of an array at level d, which stand at level e, and the bracket behind them
+-- of the elements of an array at level d, which are at level e, and the bracket after them
 abbrev pub elements_left : Option (List ℕ) → ℕ → ℕ → Bool → List Tree → List ℕ
 elements_left i d e first [] = closed_by i d first 93
 elements_left i d e first (t ∷ ts) = (lead i e first ++ shown i e t) ++ elements_left i d e false ts
@@ -54,7 +54,7 @@ array_from i d (t ∷ ts) =
     let m = more_trees_shown i (suc d) (list_trees ts) in
     ap (λ x. 91 ∷ x) (regroup (line i (suc d)) (shown i (suc d) t) (elements_left i d (suc d) false ts) (m ++ line i d) (93 ∷ []) (more_elements i d (suc d) ts ∙ sym (append_assoc m (line i d) (93 ∷ []))))
 
--- a key, its value and what is behind it
+-- a key, its value and what is after it
 member_group : (l q c s : List ℕ) (m : List ℕ) → (l ++ (q ++ c)) ++ (s ++ m) ≡ l ++ (q ++ (c ++ (s ++ m)))
 member_group l q c s m = append_assoc l (q ++ c) (s ++ m) ∙ ap (λ x. l ++ x) (append_assoc q c (s ++ m))
 
@@ -82,7 +82,7 @@ object_is i d ps = ap (λ e. 123 ∷ members_left i d e true ps) (next d) ∙ ob
 
 -- ---- a loop
 
--- what a buffered writer stands for
+-- what a buffered writer represents
 abbrev pub held : {W : Type 0} → (W → SinkState) → BufferedWriter W → SinkState
 held state b = held_behind (state b.inner) (drop b.sent (take b.end b.buffer.items))
 
@@ -90,7 +90,7 @@ held state b = held_behind (state b.inner) (drop b.sent (take b.end b.buffer.ite
 pub record Goes (d e : ℕ) (old now : SinkState) (left all : List ℕ) : Type 0 where
   pub brings : (new : SinkState) (r : Result (Unit {0}) SinkError) → Shows e now new left r → Shows d old new all r
 
--- behind the bracket that opens it
+-- after the bracket that opens it
 goes_opened : (d e : ℕ) (old now : SinkState) (x : ℕ) (left all : List ℕ) (u : Unit {0}) → e ≤ d + 1 → Adds old now (x ∷ []) (Ok u) → x ∷ left ≡ all → Goes d e old now left all
 goes_opened d e old now x left all u l h is =
     record { brings = λ new r k. Shows-same old new (x ∷ left) all r is (Shows-within d e old now new (x ∷ []) left u r (omega (arith, l)) (added_shows old now (x ∷ []) (Ok u) h) k) }
@@ -102,7 +102,7 @@ goes_first d old now x left all u h is = goes_opened d (d + 1) old now x left al
 pub goes_from : (d : ℕ) (old now : SinkState) (x : ℕ) (left all : List ℕ) (u : Unit {0}) → Adds old now (x ∷ []) (Ok u) → x ∷ left ≡ all → Goes d d old now left all
 goes_from d old now x left all u h is = goes_opened d d old now x left all u (omega arith) h is
 
--- behind one more
+-- after one more
 pub goes_on : (d e : ℕ) (old now next : SinkState) (p rest left all : List ℕ) (u : Unit {0}) → Goes d e old now left all → left ≡ p ++ rest → Shows e now next p (Ok u) → Goes d e old next rest all
 goes_on d e old now next p rest left all u g is h = record { brings = λ new r k. g.brings new r (Shows-same now new (p ++ rest) left r (sym is) (Shows-then now next new p rest u r h k)) }
 
@@ -129,7 +129,7 @@ pub element_failed : {v w : ℕ} (old now next : SinkState) (i : Option (List �
 element_failed {v} {w} old now next i d e first n u left rest all x g h k s =
     goes_failed v w old now next (lead i e first ++ shown i e n) (elements_left i d e false rest) (elements_left i d e first left) all x g (element_eq i d e first n u left rest h k) s
 
--- an element and those behind it have no more nodes than all
+-- an element and those after it have no more nodes than all
 pub element_bound : (n u : Tree) (left rest : List Tree) → left ≡ u ∷ rest → n ≡ u → nodes n + trees_nodes (list_trees rest) ≡ trees_nodes (list_trees left)
 element_bound n u left rest h k = ap (λ t. nodes t + trees_nodes (list_trees rest)) k ∙ sym (ap (λ ts. trees_nodes (list_trees ts)) h)
 

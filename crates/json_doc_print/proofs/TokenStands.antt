@@ -1,4 +1,4 @@
--- What may come next behind what is given of trees.
+-- What may follow what is given of trees.
 use Rattle.std.proofs.Common.{◌≡◌, List, [], ◌∷◌, ◌++◌, ℕ, ℤ, Option, Some, None, refl, ap, ◌∙◌}
 use Rattle.json_grammar.specs.declared.Kind.{Kind}
 use Rattle.json_grammar.specs.declared.Kind.TheVariants.{Array as array, Object as object}
@@ -27,7 +27,7 @@ number_stand s (Some n) l = refl
 number_stand s None l = refl
 
 mutual
-  -- a tree leads behind a value
+  -- a tree leads to the state after a value
   pub tree_stand : (s : TokenState) (t : Tree) → after_tokens s (given_tokens (tree_given t)) ≡ state_after_value s
   tree_stand s null = refl
   tree_stand s (boolean b) = refl
@@ -52,7 +52,7 @@ abbrev pub all_given : List Tree → List TokenOrInteger
 all_given [] = []
 all_given (t ∷ ts) = tree_given t ++ all_given ts
 
--- an element or the end may come
+-- an element or the end may follow
 pub elements_stand : (c : List Kind) (ts : List Tree) → after_tokens (state_in (array ∷ c)) (given_tokens (all_given ts)) ≡ state_in (array ∷ c)
 elements_stand c [] = refl
 elements_stand c (t ∷ ts) = then_to (state_in (array ∷ c)) (state_in (array ∷ c)) (tree_given t) (all_given ts) (tree_stand (state_in (array ∷ c)) t) ∙ elements_stand c ts
@@ -64,7 +64,7 @@ abbrev pub all_pairs : List (List ℕ × Tree) → List TokenOrInteger
 all_pairs [] = []
 all_pairs (p ∷ ps) = given (key_token p.0) ∷ (tree_given p.1 ++ all_pairs ps)
 
--- a name or the end may come
+-- a name or the end may follow
 pub members_stand : (c : List Kind) (ps : List (List ℕ × Tree)) → after_tokens (state_in (object ∷ c)) (given_tokens (all_pairs ps)) ≡ state_in (object ∷ c)
 members_stand c [] = refl
 members_stand c (p ∷ ps) =

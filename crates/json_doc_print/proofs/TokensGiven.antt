@@ -39,7 +39,7 @@ if_none : (err : Option Error) (P : Error → Type 0) → err ≡ None → IfSom
 if_none None P f = tt
 if_none (Some e) P f = absurd (cc)
 
--- ---- what stands in a container
+-- ---- what is in a container
 
 -- an array is the list of its elements
 pub list_seen : (t : Tree) (ts : Trees) (xs : List Tree) → t ≡ list ts → xs ≡ trees_list ts → list (list_trees xs) ≡ t
@@ -137,7 +137,7 @@ more_given [] i u e = absurd (cc)
 more_given (x ∷ xs) zero u e = let s : x ≡ u = cc in append-nil (tree_given x) ∙ ap tree_given s
 more_given (x ∷ xs) (suc i) u e = ap (λ o. tree_given x ++ o) (more_given xs i u e) ∙ sym (append_assoc (tree_given x) (all_given (take i xs)) (tree_given u))
 
--- what stands behind an element
+-- what follows an element
 rest_given : (xs : List Tree) (i : ℕ) (u : Tree) → slice_get xs i ≡ Some u → (m : List TokenOrInteger) × (all_given xs ≡ all_given (take i xs) ++ (tree_given u ++ m))
 rest_given [] i u e = absurd (cc)
 rest_given (x ∷ xs) zero u e = let s : x ≡ u = cc in (all_given xs, ap (λ o. tree_given o ++ all_given xs) s)
@@ -193,7 +193,7 @@ array_more ts i u e = ap (array_front ts) (next i) ∙ ap (λ o. given (begin ar
 pub array_whole : (ts : List Tree) (n : ℕ) → length ts ≤ n → tree_given (list (list_trees ts)) ≡ array_front ts n ++ (given (end array) ∷ [] ++ [])
 array_whole ts n l = array_given ts ∙ ap (λ o. given (begin array) ∷ (all_given o ++ given (end array) ∷ [])) (sym (take_all n ts l))
 
--- an element or the end may come behind some elements
+-- after some elements an element or the end may follow
 pub array_stand : {S : Type 0} (after : S → TokenOrInteger → S) (stand : S → TokenState) → ((s : S) (g : TokenOrInteger) → stand (after s g) ≡ after_token (stand s) (token_of g)) → (first now : S) (ts : List Tree) (i : ℕ) → now ≡ after_all after first (array_front ts i)
     → ValueMayCome (stand now).expected × EndMayCome (stand now).expected array
 array_stand after stand moves first now ts i e =
@@ -249,7 +249,7 @@ object_more ps i k u d e = ap (object_front ps) (next i) ∙ ap (λ o. given (be
 pub object_whole : (ps : List (List ℕ × Tree)) (n : ℕ) → length ps ≤ n → tree_given (pairs (list_pairs ps)) ≡ object_front ps n ++ (given (end object) ∷ [] ++ [])
 object_whole ps n l = object_given ps ∙ ap (λ o. given (begin object) ∷ (all_pairs o ++ given (end object) ∷ [])) (sym (take_all n ps l))
 
--- a name or the end may come behind some members
+-- after some members a name or the end may follow
 pub object_stand : {S : Type 0} (after : S → TokenOrInteger → S) (stand : S → TokenState) → ((s : S) (g : TokenOrInteger) → stand (after s g) ≡ after_token (stand s) (token_of g)) → (first now : S) (ps : List (List ℕ × Tree)) (i : ℕ) → now ≡ after_all after first (object_front ps i)
     → NameMayCome (stand now).expected × EndMayCome (stand now).expected object
 object_stand after stand moves first now ps i e =
@@ -257,7 +257,7 @@ object_stand after stand moves first now ps i e =
     let s = ap stand e ∙ stand_moves after stand moves first (object_front ps i) ∙ r in
     (subst (λ (z : TokenState). NameMayCome z.expected) (sym s) tt, subst (λ (z : TokenState). EndMayCome z.expected object) (sym s) tt)
 
--- a value may come behind a name
+-- a value may follow a name
 pub member_stand : {S : Type 0} (after : S → TokenOrInteger → S) (stand : S → TokenState) → ((s : S) (g : TokenOrInteger) → stand (after s g) ≡ after_token (stand s) (token_of g)) → (now new : S) (k : List ℕ) → new ≡ after now (given (key_token k)) → ValueMayCome (stand new).expected
 member_stand after stand moves now new k e = subst (λ (z : TokenState). ValueMayCome z.expected) (sym (ap stand e ∙ moves now (given (key_token k)))) tt
 

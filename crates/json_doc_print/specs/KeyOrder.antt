@@ -31,6 +31,6 @@ numbers_in es = map (λ (e : Entry). e.number) es
 
 -- ---- a document: a member's number is the place of its value
 
--- the key that stands before a place
+-- the key that precedes a place
 abbrev pub place_key : Doc → ℕ → List ℕ
 place_key d at = text_of_tree (doc_tree d (at - 1))

@@ -4,7 +4,7 @@ use Rattle.json_io.specs.declared.sink.SinkError.{SinkError}
 use Rattle.json_io.specs.Outside.{SinkState}
 use Rattle.json_layout.specs.Showing.{Shows}
 
--- the greatest level: memory may run out at any text that has so many containers around it
+-- the greatest level: memory may run out at any text within that many containers
 abbrev pub greatest_level : ℕ
 greatest_level = 2 ^ 64 - 1
 

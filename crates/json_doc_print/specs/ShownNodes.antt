@@ -5,7 +5,7 @@ use Rattle.json_doc.specs.Left.{children_left, pairs_left}
 use Rattle.json_doc.specs.declared.node.DocNode.{DocNode}
 use Rattle.json_doc.specs.declared.node.DocNode.TheVariants as node
 
--- the tree of what stands there
+-- the tree of the node
 abbrev pub node_tree : DocNode → Tree
 node_tree node.Null = null
 node_tree (node.Boolean b) = boolean b

@@ -49,7 +49,7 @@ impl Keys for Doc {
     }
 }
 
-/// Returns whether the bytes of `a` come before those of `b`.
+/// Returns whether the bytes of `a` precede those of `b`.
 pub fn is_less(a: &[u8], b: &[u8]) -> bool
     ensures { result ≡ bytes_less a.now b.now }
 {

@@ -166,7 +166,7 @@ pub fn show_sorted_members<W: Sink, L: Layout>(
     }
 }
 
-// An object whose keys stand in order.
+// An object whose keys are in order.
 #[cycle(shown_sorted)]
 fn show_in_place<W: Sink, L: Layout>(
     members: DocPairs<'_>,

@@ -12,7 +12,7 @@ pub struct Stopped;
 /// What a walk that writes tokens returns.
 pub type Walked = std::result::Result<(), Stopped>;
 
-/// Returns whether a call of the events went well: fails with `Stopped` where `answer` is an error.
+/// Returns whether a call of the events went well: fails with `Stopped` if `answer` is an error.
 #[inline(always)]
 pub fn taken(answer: Result<()>) -> Walked
     ensures { is_ok result ≡ is_ok answer }

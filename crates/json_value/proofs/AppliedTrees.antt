@@ -92,7 +92,7 @@ module _ (self : Value) (o : Container (Keyed Value)) (v : Vec (Keyed Value) Glo
 pub pair_got : (ps : List (Keyed Value)) (i : ℕ) (p : Keyed Value) → i < length ps → p ≡ get_or ps i p → slice_get (map pair_of ps) i ≡ Some (pair_of p)
 pair_got ps i p h is = slice_get-map pair_of ps i ∙ ap (option_map pair_of) (slice_get_read ps (length ps) i p refl h is)
 
--- the first member of a key stands here
+-- the first member of a key is at this index
 pub first_at : (k : List ℕ) (ps : List (Keyed Value)) (i : ℕ) (p : Keyed Value) → i < length ps → p ≡ get_or ps i p → text_bytes p.key ≡ k
     → has_key k (list_pairs (map pair_of (take i ps))) ≡ false → IsFirstOf k (map pair_of ps) i
 first_at k ps i p h is same front = record {

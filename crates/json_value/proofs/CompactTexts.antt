@@ -44,7 +44,7 @@ array_text ts i = 91 ∷ trees_shown None 0 (list_trees (take i ts))
 next : (i : ℕ) → suc i ≡ i + 1
 next i = omega arith
 
--- a comma stands before each but the first
+-- a comma precedes each but the first
 behind : (i : ℕ) → comma (suc i == 0) ≡ 44 ∷ []
 behind i = ap comma (ne_eqb (suc i) 0 (λ e. absurd (omega arith)))
 

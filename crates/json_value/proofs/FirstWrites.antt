@@ -1,4 +1,4 @@
--- What a first write makes, and where containers stand.
+-- What a first write makes, and the positions of containers.
 use Rattle.std.proofs.Common.{◌≡◌, ◌<◌, ℕ, List, [], ◌∷◌, map, length, Bool, true, false, Option, Some, None, Vec, Global, refl, sym, ap, ◌∙◌, subst, arith}
 use Rattle.std.specs.Prelude.{◌==◌, cond, option_and_then, slice_get, slice_index_or, IfSome, IsSome}
 use Rattle.std.proofs.lemmas.List.Folds.{flat_map-map}
@@ -27,7 +27,7 @@ use Rattle.json_value.proofs.ValueLevels.{array_spot, object_spot}
 
 -- ---- by the place alone
 
--- where a value that is read from a place stands
+-- the position of a value that is read from a place
 abbrev spot_read : CellRef → Option CellRef
 spot_read s = kept_spot (spot_tree s) s
 
@@ -72,7 +72,7 @@ none_seen : {X Y : Type 0} (f : X → Y) (xs : List X) → map f xs ≡ [] → x
 none_seen f [] e = refl
 none_seen f (x ∷ xs) e = cc
 
--- what stands nowhere as an array has no elements
+-- what has no position as an array has no elements
 no_elements : (t : Tree) (x : CellRef) → cond (type_number (type_of t) == type_number kind.Array) (Some x) None ≡ None → elements t ≡ []
 no_elements (list ts) x e = absurd (none-some x (sym e))
 no_elements null x e = refl
@@ -105,7 +105,7 @@ members_kept (Packed p) items h same e = none_seen pair_of items (same ∙ no_me
 pub members_stay : FirstMembersStay
 members_stay o items h same e = members_kept o.form items h same (sym (object_spot o) ∙ e)
 
--- ---- where containers stand
+-- ---- the positions of containers
 
 elements_stand : (t : Tree) (x : CellRef) → 0 < length (elements t) → IsSome (cond (type_number (type_of t) == type_number kind.Array) (Some x) None)
 elements_stand (list ts) x h = refl
@@ -139,7 +139,7 @@ object_form_stands (Packed p) is h = members_stand (place_tree p) (spot_in p.doc
 pub packed_object_stands : PackedObjectStands
 packed_object_stands o is h = subst IsSome (sym (object_spot o)) (object_form_stands o.form is h)
 
--- what stands somewhere is a place
+-- what has a position is a place
 stands_packed : {T : Type 0} (k : JsonType) (f : Form T) → IsSome (option_and_then (kind_spot k) (form_spot f)) → IsPacked f
 stands_packed k Empty h = cc
 stands_packed k (Owned v) h = cc

@@ -35,7 +35,7 @@ behind (y ∷ ys) rest (suc i) x e = behind ys rest i x e
 next : (i : ℕ) → i + 1 ≡ suc i
 next i = omega arith
 
--- a call gave the item at an index, if there is one, and what is left stands behind it
+-- a call gave the item at an index, if there is one, and what is left follows it
 pub next_got : {S A B : Type 0} (view : A → B) (rest : S → List B) (s t : S) (r : Option A) (ys : List B) (i : ℕ) → YieldsFirstBy view rest s r t → drop i ys ≡ rest s → (option_map view r ≡ slice_get ys i) × (drop (i + 1) ys ≡ rest t)
 next_got view rest s t None ys i (e, f) h = (sym (past ys i (h ∙ e)), ap (λ n. drop n ys) (next i) ∙ none_past ys i (h ∙ e) ∙ sym f)
 next_got view rest s t (Some x) ys i e h = (sym (here ys (rest t) i (view x) (h ∙ e)), ap (λ n. drop n ys) (next i) ∙ behind ys (rest t) i (view x) (h ∙ e))

@@ -1,4 +1,4 @@
--- What a write through a lent part makes of the tree around it, and what stands there before.
+-- What a write through a borrowed part makes of the tree around it, and the tree there before.
 use Rattle.std.proofs.Common.{◌≡◌, ℕ, zero, suc, cond, Bool, true, false, ◌<◌, ◌≤◌, List, [], ◌∷◌, ◌++◌, Vec, Global, length, get_or, set, take, map, Ok, Err, Some, None, refl, sym, ap, ◌∙◌, subst, arith, bytes_eq, Result, MutBor, IfOk, IfErr}
 use Rattle.std.specs.Prelude.{Option, IfSome, slice_get, option_map}
 use Rattle.std.proofs.Math.Seq.{get_or-append_seam}

@@ -1,4 +1,5 @@
--- Places along a path: what stands there, and what a write there makes of the whole, one step at a time.
+-- Places along a path: the tree there, and what a write there makes of the whole, one step at a
+-- time.
 use Rattle.std.proofs.Common.{◌≡◌, ℕ, zero, suc, ◌<◌, List, [], ◌∷◌, Bool, true, false, cond, Some, None, Option, length, drop, refl, sym, ap, ◌∙◌, subst, arith, Result, Ok, Err, inl, inr, ◌⊎◌, bytes_eq}
 use Rattle.std.specs.Prelude.{slice_get, option_map}
 use Rattle.std.specs.Bool.{OnTrue, OnFalse}
@@ -49,7 +50,7 @@ there (index_step i) (num l) c g r here e = absurd (none-some c here)
 there (index_step i) (text s) c g r here e = absurd (none-some c here)
 there (index_step i) (pairs ps) c g r here e = absurd (none-some c here)
 
--- a refusal there is one of the whole, and what stands there put back changes nothing
+-- an error there is one of the whole, and putting back the tree there changes nothing
 key_passes : (k : List ℕ) (ps : Pairs) (c : Tree) (e : Refusal) → option_map (λ (q : List ℕ × Tree). q.1) (first_of k (pairs_list ps)) ≡ Some c → at_key k (λ _. Err e) ps ≡ Err e
 key_passes k no_pairs c e here = absurd (none-some c here)
 key_passes k (pair_and n t ps) c e here = by (bytes_eq n k) here (key_passes k ps c e)
@@ -157,7 +158,7 @@ put_end path t w e = rw e refl
 pub seen_end : (path : List PointerNode) (t : Tree) → path ≡ [] → tree_at (steps_of path) t ≡ Some t
 seen_end path t e = rw e refl
 
--- ---- what a test and a result told
+-- ---- what a test and a result say
 
 pub on_true : (b : Bool) (X : Type 0) → T b → OnTrue b X → X
 on_true true X h x = x

@@ -66,7 +66,7 @@ pub matched_whole : (ps qs : List (List ℕ × Tree)) (i : ℕ) → length ps �
 matched_whole ps qs i h n m =
     subst (λ (xs : List (List ℕ × Tree)). AreMatched xs qs) (take_all i ps h) (subst (λ (ys : List (List ℕ × Tree)). AreMatched (take i ps) ys) (take_all i qs (omega arith)) m)
 
--- behind members that match, the first of a key has two values
+-- after members that match, the first of a key has two values
 pub differ_there : (ps qs : List (List ℕ × Tree)) (i : ℕ) (k l : List ℕ) (t u : Tree) → length ps ≡ length qs → AreMatched (take i ps) (take i qs) → slice_get ps i ≡ Some (k, t) → slice_get qs i ≡ Some (l, u) → k ≡ l → same t u ≡ false
     → list_any (λ m. bytes_eq m k) (take i (keys_in ps)) ≡ false → same (pairs (list_pairs ps)) (pairs (list_pairs qs)) ≡ false
 differ_there ps qs i k l t u n h e f s v none =

@@ -54,7 +54,7 @@ member_over m ps i p is first =
     let its_key : text_bytes p.key ≡ text_bytes m.key = subst (λ (o : Option (List ℕ × Tree)). IfSome o (λ q. q.0 ≡ text_bytes m.key)) (pair_got ps i p low is) first.here in
     sym (put_over m ps i p first.before (slice_get_read ps (length ps) i p refl low is) its_key)
 
--- none had the key, and the member came behind the others
+-- none had the key, and the member was added after the others
 pub member_beside : (m : Keyed Value) (ps : List (Keyed Value)) → has_key (text_bytes m.key) (list_pairs (map pair_of ps)) ≡ false → ps ++ m ∷ [] ≡ with_member m ps
 member_beside m [] none = refl
 member_beside m (q ∷ ps) none =

@@ -1,4 +1,4 @@
--- What stands where steps lead, said by a result and by what `missing_as_none` makes of it.
+-- The value where steps lead, by a result and by what `missing_as_none` makes of it.
 use Rattle.std.proofs.Common.{◌≡◌, ◌<◌, length, drop, List, [], ◌∷◌, Some, None, Option, Result, Ok, Err, IfOk, IfErr, MutBor, ◌⊎◌, inl, inr, refl, sym, ap, subst, ◌∙◌}
 use Rattle.std.specs.Prelude.{option_map, IfSome}
 use Rattle.std.proofs.lemmas.Option.{none-some, same_Some}

@@ -1,4 +1,4 @@
--- What a place says of a value that stands there.
+-- What a place says of the value there.
 use Rattle.std.proofs.Common.{◌≡◌, sym, ap, ◌∙◌}
 use Rattle.json_grammar.specs.Tree.{Tree, list, pairs, list_trees, list_pairs}
 use Rattle.json_doc.specs.Readings.{type_of}

@@ -53,7 +53,7 @@ pub returned_text : {A : Type 0} (bytes : A → List ℕ) (r : Result A Error) (
 returned_text bytes (Ok x) old new text u h n e = text_gained old new text (bytes x) n h.ok e
 returned_text bytes (Err e) old new text u h n k = tt
 
--- ---- behind a flush nothing is held
+-- ---- after a flush nothing is held
 
 none_held : (held : List ℕ) (waits : Bool) → (holds_any held || waits) ≡ false → held ≡ []
 none_held [] waits e = refl

@@ -53,7 +53,7 @@ each_pair : (ps : List (Keyed Shown)) → ArePairsProper (list_pairs (map pair_o
 each_pair [] = tt
 each_pair (p ∷ ps) = (text_utf8 p.key, p.value.1, each_pair ps)
 
--- what stands at a place
+-- the trees at a place
 elements_proper : (t : Tree) → IsProper t → AreProper (list_trees (elements t))
 elements_proper (list ts) h = subst AreProper (sym (list_back ts)) h
 elements_proper _ h = tt

@@ -60,7 +60,7 @@ rest_step (x ∷ xs) (y ∷ ys) (suc i) h e = rest_step xs ys i (omega arith) (o
 next : (i : ℕ) → suc i ≡ i + 1
 next i = omega arith
 
--- the elements from i on are the same where those at i are and those behind them
+-- the elements from i on are the same if those at i are and those after them
 pub trees_step : (xs ys : List Tree) (i : ℕ) (r : Bool) → i < length xs → length xs ≡ length ys → r ≡ option_eq same (slice_get xs i) (slice_get ys i) → trees_same (list_trees (drop i xs)) (list_trees (drop i ys)) ≡ (r && trees_same (list_trees (drop (i + 1) xs)) (list_trees (drop (i + 1) ys)))
 trees_step xs ys i r h e f = rest_step xs ys i h e ∙ ap₂ (λ b j. b && trees_same (list_trees (drop j xs)) (list_trees (drop j ys))) (sym f) (next i)
 
@@ -152,7 +152,7 @@ passed_before f (n ∷ ks) k h g = by (bytes_eq n k) refl h (λ i. passed_before
 
 -- ---- members
 
--- the key of a member that stands there
+-- the key of the member at an index
 pub key_of_pair : (ps : List (List ℕ × Tree)) (i : ℕ) (k : List ℕ) (u : Tree) → slice_get ps i ≡ Some (k, u) → slice_get (keys_in ps) i ≡ Some k
 key_of_pair [] i k u e = absurd (cc)
 key_of_pair (p ∷ ps) zero k u e = ap (option_map (λ (q : List ℕ × Tree). q.0)) e

@@ -17,7 +17,7 @@ use Rattle.json_value.specs.declared.value.Value.{Value}
 use Rattle.json_value.specs.declared.view.ViewForm.TheVariants as whole
 use Rattle.json_doc_print.proofs.Items.{map_there}
 
--- what stands in a row, seen with its number
+-- the items of a list, seen with their numbers
 got_numbered : {X Y : Type 0} (f : ℕ × X → Y) (xs : List X) (n i : ℕ) (x : X) → slice_get xs i ≡ Some x → slice_get (map f (enumerate_from n xs)) i ≡ Some (f (n + i, x))
 got_numbered f [] n i x e = absurd (cc)
 got_numbered f (y ∷ ys) n zero x e = let s : y ≡ x = cc in let z : n ≡ n + zero = omega arith in ap (λ z. Some (f (n, z))) s ∙ ap (λ m. Some (f (m, x))) z

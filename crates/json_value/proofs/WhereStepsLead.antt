@@ -1,4 +1,4 @@
--- Changes where steps lead, and what stands there before and after.
+-- Changes where steps lead, and the tree there before and after.
 use Rattle.std.proofs.Common.{◌≡◌, ℕ, zero, suc, List, [], ◌∷◌, Bool, true, false, cond, Option, Some, None, Ok, Err, refl, sym, ap, ◌∙◌, subst, bytes_eq}
 use Rattle.std.specs.Prelude.{slice_get, option_map, option_and_then, IsErr, IsOkAnd}
 use Rattle.std.proofs.lemmas.Option.{none-some, same_Some}

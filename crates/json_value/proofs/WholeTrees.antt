@@ -42,7 +42,7 @@ array_there v a f e h = array_in v a e ∙ ap (λ g. list (list_trees (form_list
 pub object_there : (v : Value) (o : Container (Keyed Value)) (f : Form (Keyed Value)) → v ≡ Object o → o.form ≡ f → tree_of v ≡ pairs (list_pairs (form_pairs f))
 object_there v o f e h = object_in v o e ∙ ap (λ g. pairs (list_pairs (form_pairs g))) h
 
--- the key and the tree of a member that stands there
+-- the key and the tree of the member at an index
 pub key_of_item : (ps : List (List ℕ × Tree)) (i : ℕ) (p : Keyed Value) (k : List ℕ) → slice_get ps i ≡ Some (pair_of p) → k ≡ text_bytes p.key → slice_get (map (λ (q : List ℕ × Tree). q.0) ps) i ≡ Some k
 key_of_item ps i p k e h = map_there (λ (q : List ℕ × Tree). q.0) ps i (pair_of p) e ∙ ap (λ z. Some z) (sym h)
 

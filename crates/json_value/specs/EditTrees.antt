@@ -31,7 +31,7 @@ abbrev pub path_in : Tree → Option (List Step)
 path_in (list ts) = each_in step_in (trees_list ts)
 path_in _ = None
 
--- what stands behind the name of an edit
+-- what follows the name of an edit
 abbrev pub edit_named : List ℕ → List Tree → Option Edit
 edit_named name (p ∷ u ∷ []) =
     cond (bytes_eq name (codes "set")) (option_map (λ s. set_at s u) (path_in p))

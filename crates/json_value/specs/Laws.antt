@@ -1,4 +1,5 @@
--- Laws of values: what a first write makes, where containers stand, and what stands where steps lead.
+-- Laws of values: what a first write makes, the positions of containers, and the values where steps
+-- lead.
 use Rattle.std.specs.Prelude.{◌≡◌, ◌<◌, ℕ, List, length, map, Option, Some, None, Ok, Err, Vec, IfSome, IsSome, IsErr, IsOkAnd, slice_get}
 use Rattle.std.specs.List.{flat_map}
 use Rattle.std.specs.declared.alloc.Global.{Global}
@@ -19,39 +20,40 @@ use Rattle.json_value.specs.declared.value.Value.{Value, Array, Object}
 
 -- ---- what a first write makes
 
--- of an array that stands in a document: each element is read from its place there
+-- of an array in a document: each element is read from its place there
 abbrev pub FirstElementsAreRead : Type 0
 FirstElementsAreRead = (a : Container Value) (items : List Value) (d : Doc) (at : ℕ) → FirstElements a items → spot_of (Array a) ≡ Some (spot_in d at)
     → (i : ℕ) → IfSome (slice_get items i) (λ v. spot_of v ≡ read_spot d (child_place d at i))
 
--- of an object that stands in a document: each key is the place of its string there, and each value is read from its place
+-- of an object in a document: each key is the place of its string there, and each value is read
+-- from its place
 abbrev pub FirstMembersAreRead : Type 0
 FirstMembersAreRead = (o : Container (Keyed Value)) (items : List (Keyed Value)) (d : Doc) (at : ℕ) → FirstMembers o items → spot_of (Object o) ≡ Some (spot_in d at)
     → (i : ℕ) → IfSome (slice_get items i) (λ m. (key_spot m ≡ Some (spot_in d (key_place d at i))) × (spot_of (value_in m) ≡ read_spot d (child_place d at i)))
 
--- of an array that stands nowhere: its own list
+-- of an array in no document: its own list
 abbrev pub FirstElementsStay : Type 0
 FirstElementsStay = (a : Container Value) (items : List Value) → FirstElements a items → map tree_of items ≡ list_in a → spot_of (Array a) ≡ None → items ≡ owned_items_of a
 
--- of an object that stands nowhere: its own list
+-- of an object in no document: its own list
 abbrev pub FirstMembersStay : Type 0
 FirstMembersStay = (o : Container (Keyed Value)) (items : List (Keyed Value)) → FirstMembers o items → map pair_of items ≡ pairs_in o → spot_of (Object o) ≡ None → items ≡ owned_items_of o
 
--- ---- where containers stand
+-- ---- the positions of containers
 
--- an array with elements that is a place stands there
+-- an array with elements that is a place has that position
 abbrev pub PackedArrayStands : Type 0
 PackedArrayStands = (a : Container Value) → IsPlace a → 0 < length (list_in a) → IsSome (spot_of (Array a))
 
--- an object with members that is a place stands there
+-- an object with members that is a place has that position
 abbrev pub PackedObjectStands : Type 0
 PackedObjectStands = (o : Container (Keyed Value)) → IsPlace o → 0 < length (pairs_in o) → IsSome (spot_of (Object o))
 
--- an array that stands somewhere is a place
+-- an array with a position is a place
 abbrev pub ArrayStandsAsPlace : Type 0
 ArrayStandsAsPlace = (a : Container Value) → IsSome (spot_of (Array a)) → IsPlace a
 
--- an object that stands somewhere is a place
+-- an object with a position is a place
 abbrev pub ObjectStandsAsPlace : Type 0
 ObjectStandsAsPlace = (o : Container (Keyed Value)) → IsSome (spot_of (Object o)) → IsPlace o
 
@@ -63,15 +65,15 @@ OwnArrayIsNoPlace = (a : Container Value) → OwnsList a → IsPlace a → ⊥
 abbrev pub OwnObjectIsNoPlace : Type 0
 OwnObjectIsNoPlace = (o : Container (Keyed Value)) → OwnsList o → IsPlace o → ⊥
 
--- the parts of an array with a list of its own stand where those of its elements stand
+-- the parts of an array with a list of its own have the positions of those of its elements
 abbrev pub PlacesOfElements : Type 0
 PlacesOfElements = (list : Vec Value Global) → places_in (Array (owned list)) ≡ flat_map places_in list.items
 
--- the parts of an object with a list of its own stand where those of its members stand
+-- the parts of an object with a list of its own have the positions of those of its members
 abbrev pub PlacesOfMembers : Type 0
 PlacesOfMembers = (list : Vec (Keyed Value) Global) → places_in (Object (owned list)) ≡ flat_map member_places list.items
 
--- ---- what stands where steps lead
+-- ---- the values where steps lead
 
 -- a change where steps lead is one of the tree to which they lead, which is there afterwards
 abbrev pub ChangeIsThere : Type 0

@@ -48,7 +48,7 @@ sights_to_come (elements.Whole vs) = map whole_value vs.now
 abbrev pub elements_sights_left : ArrayIter → List Sight
 elements_sights_left s = sights_to_come s.left
 
--- so of the members, each behind its key
+-- the same of the members, each with its key
 abbrev pub packed_member_sights : PackedMembers → List (List ℕ × Sight)
 packed_member_sights p = zip (map (λ q. q.0) (pairs_left p.members)) (map (place_of (view_doc p.packed.view) (doc_held p.packed.holder)) (places_of_pairs p.members))
 
@@ -56,7 +56,7 @@ abbrev pub member_sights_to_come : MembersLeft → List (List ℕ × Sight)
 member_sights_to_come (members.Packed p) = packed_member_sights p
 member_sights_to_come (members.Whole ps) = map pair_sight ps.now
 
--- what the views of the values are of, each behind its key
+-- what the views of the values are of, each with its key
 abbrev pub members_sights_left : Iter → List (List ℕ × Sight)
 members_sights_left s = member_sights_to_come s.left
 

@@ -30,7 +30,7 @@ abbrev pub opened_with : List ℕ → Tree → Tree
 opened_with k null = pairs (pair_and k null no_pairs)
 opened_with k t = t
 
--- the members, and behind them one of the key with null where none has the key
+-- the members, and then one of the key with null where none has the key
 abbrev pub with_null_member : List ℕ → Pairs → Pairs
 with_null_member k ps = cond (has_key k ps) ps (inserted k null ps)
 
@@ -109,7 +109,8 @@ abbrev pub first_node : List PointerNode → PointerNode
 first_node [] = Index 0
 first_node (s ∷ path) = s
 
--- what a result tells of the place in t to which the steps lead: what stands there first, or why they lead nowhere
+-- what a result says of the place in t to which the steps lead: the tree there at first, or why
+-- they lead nowhere
 abbrev pub LeadsTo : List Step → Tree → Result (MutBor Value) Error → Type 0
 LeadsTo p t (Ok x) = tree_at p t ≡ Some (tree_of x.now)
 LeadsTo p t (Err e) = (f : Tree → Changed Tree) → RefusesChange (at_path p f t) e.code e.place

@@ -5,7 +5,8 @@ use Rattle.json_value.specs.Written.{value_in, with_value}
 use Rattle.json_value.specs.declared.pair.Keyed.{Keyed}
 use Rattle.json_value.specs.declared.value.Value.{Value}
 
--- the members, the first of the member's key with its value, or the member behind them where none has the key
+-- the members, the first of the member's key with its value, or the member after them where none
+-- has the key
 abbrev pub with_member : Keyed Value → List (Keyed Value) → List (Keyed Value)
 with_member m [] = m ∷ []
 with_member m (n ∷ ns) = cond (bytes_eq (text_bytes n.key) (text_bytes m.key)) (with_value n (value_in m) ∷ ns) (n ∷ with_member m ns)

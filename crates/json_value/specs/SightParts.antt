@@ -1,4 +1,5 @@
--- What the views of parts are of: the elements and the members of what is seen, and what stands where steps lead.
+-- What the views of parts are of: the elements and the members of what is seen, and the values
+-- where steps lead.
 use Rattle.std.specs.Prelude.{ℕ, List, [], ◌∷◌, Option, None, Some, map, option_map, option_and_then, slice_get}
 use Rattle.std.specs.Borrow.{Bor}
 use Rattle.std.specs.List.{enumerate_from}
@@ -27,7 +28,8 @@ use Rattle.json_value.specs.declared.value.Value.{Value, out-Value}
 use Rattle.json_value.specs.declared.value.Value.TheOpen.{Value-F}
 use Rattle.json_value.specs.declared.view.View.{View}
 
--- the child i of the container at a place: it stands at its place of the same document, which a value holds if one holds the container's
+-- the child i of the container at a place: it is a place of the same document, which a value holds
+-- if one holds the container's
 abbrev pub child_sight : Doc → Option Doc → ℕ → ℕ → Sight
 child_sight d held at i = place_of d held (child_place d at i)
 
@@ -86,12 +88,12 @@ abbrev pub sight_after : Step → Sight → Option Sight
 sight_after (key_step k) s = option_and_then (λ ps. option_map (λ p. p.1) (first_of k ps)) (sight_members s)
 sight_after (index_step i) s = option_and_then (λ ss. slice_get ss i) (sight_elements s)
 
--- what stands where the steps lead
+-- what is seen where the steps lead
 abbrev pub sight_along : List Step → Sight → Option Sight
 sight_along [] s = Some s
 sight_along (x ∷ p) s = elim (sight_after x s) [ None ↦ None | Some u ↦ sight_along p u ]
 
--- that, or null, which stands nowhere
+-- that, or null, which has no position
 abbrev pub or_nowhere : Option Sight → Sight
 or_nowhere None = nowhere
 or_nowhere (Some s) = s
@@ -108,7 +110,7 @@ abbrev pub object_form_sights : ObjectForm → List (List ℕ × Sight)
 object_form_sights (object.Packed p) = members_at (view_doc p.view) (doc_held p.holder) (view_place p.view) (members (view_tree p.view))
 object_form_sights (object.Whole ps) = map pair_sight ps.now
 
--- what the views of the members' values are of, each behind its key
+-- what the views of the members' values are of, each with its key
 abbrev pub members_sights : ObjectView → List (List ℕ × Sight)
 members_sights v = object_form_sights v.form
 

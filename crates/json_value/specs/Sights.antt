@@ -15,7 +15,8 @@ use Rattle.json_value.specs.declared.view.View.{View}
 use Rattle.json_value.specs.declared.view.ViewForm.{ViewForm}
 use Rattle.json_value.specs.declared.view.ViewForm.TheVariants as whole
 
--- a whole value; a place of a document, with the document that a value holds, if one does; or null, which stands nowhere
+-- a whole value; a place of a document, with the document that a value holds, if one does; or null,
+-- which has no position
 pub data Sight : Type 0 where
   whole_value : Value → Sight
   place_of : Doc → Option Doc → ℕ → Sight
@@ -27,24 +28,25 @@ sight_tree (whole_value v) = tree_of v
 sight_tree (place_of d held at) = doc_tree d at
 sight_tree nowhere = null
 
--- where it stands; nowhere for a value that is no place
+-- its position; none for a value that is no place
 abbrev pub sight_spot : Sight → Option CellRef
 sight_spot (whole_value v) = spot_of v
 sight_spot (place_of d held at) = Some (spot_in d at)
 sight_spot nowhere = None
 
--- where a value stands that is read from a place of the document which a value holds; nowhere if none holds it
+-- the position of a value that is read from a place of the document which a value holds; none if no
+-- value holds it
 abbrev pub kept_at : Option Doc → ℕ → Option CellRef
 kept_at None at = None
 kept_at (Some d) at = read_spot d at
 
--- where a value made of it stands
+-- the position of a value made of it
 abbrev pub sight_kept : Sight → Option CellRef
 sight_kept (whole_value v) = spot_of v
 sight_kept (place_of d held at) = kept_at held at
 sight_kept nowhere = None
 
--- where the parts of a value made of it stand, if it is a whole value
+-- the positions of the parts of a value made of it, if it is a whole value
 abbrev pub sight_places : Sight → Option (List (Option CellRef))
 sight_places (whole_value v) = Some (places_in v)
 sight_places (place_of d held at) = None

@@ -58,22 +58,23 @@ pub record AtMember (k : List ℕ) (Changes : Value → Value → Type 0) (items
   pub exchanged : now ≡ set items at (with_value before after)
   pub changed : Changes (value_in before) after
 
--- a member that is so came behind the others, none of which has the key
+-- such a member was added after the others, none of which has the key
 pub record Appended (k : List ℕ) (Is : Keyed Value → Type 0) (items now : List (Keyed Value)) : Type 0 where
   pub member : Keyed Value
   pub none : has_key k (list_pairs (map pair_of items)) ≡ false
   pub more : now ≡ items ++ member ∷ []
   pub is : Is member
 
--- a member whose key stands where this one does, and whose value and its parts stand so
+-- a member whose key has the position of this one, and whose value and its parts have those
+-- positions
 abbrev pub HasOrigin : Text → Origin → Keyed Value → Type 0
 HasOrigin k s m = (spot_of_text m.key ≡ spot_of_text k) × (value_origin m.value ≡ s)
 
--- a value that stands so came to the first member of the key, or with a member of its own
+-- such a value was put in the first member of the key, or added with a member of its own
 abbrev pub Inserts : Text → Origin → List (Keyed Value) → List (Keyed Value) → Type 0
 Inserts k s items now = AtMember (text_bytes k) (λ before after. value_origin after ≡ s) items now ⊎ Appended (text_bytes k) (HasOrigin k s) items now
 
--- a value that stands so came behind the others
+-- such a value was added after the others
 abbrev pub Pushes : Origin → List Value → List Value → Type 0
 Pushes s items now = (v : Value) × (value_origin v ≡ s) × (now ≡ items ++ v ∷ [])
 
@@ -157,7 +158,7 @@ ReplacedBy x w before after = (before ≡ x) × (after ≡ w)
 abbrev pub Exchanges : List Step → (x w old new : Value) → Type 0
 Exchanges p x w = Along p (ReplacedBy x w)
 
--- w came behind the other elements
+-- w was added after the other elements
 abbrev pub AppendsItem : (w old new : Value) → Type 0
 AppendsItem w = ArrayTouched (λ items now. now ≡ items ++ w ∷ [])
 
@@ -165,7 +166,8 @@ AppendsItem w = ArrayTouched (λ items now. now ≡ items ++ w ∷ [])
 abbrev pub OfValue : Value → Keyed Value → Type 0
 OfValue w m = (spot_of_text m.key ≡ None) × (m.value ≡ w)
 
--- a member of the key with null came behind the others where none has the key, and then it is the member at i
+-- a member of the key with null was added after the others where none has the key, and then it is
+-- the member at i
 abbrev pub UpsertedAt : List ℕ → ℕ → (items now : List (Keyed Value)) → Type 0
 UpsertedAt k i items now = (now ≡ items) ⊎ ((i ≡ length items) × Appended k (OfValue Null) items now)
 

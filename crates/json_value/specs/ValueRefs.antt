@@ -1,4 +1,4 @@
--- What a value is, with what is in it behind references.
+-- What a value is, with its contents by reference.
 use Rattle.std.specs.Prelude.{◌≡◌, ℕ, List, Option, None, Some}
 use Rattle.json_grammar.specs.Tree.{Tree, null, boolean, num, text, list, pairs, list_trees, list_pairs}
 use Rattle.json_number.specs.Numbers.{text_of_number}

@@ -83,7 +83,7 @@ pub(crate) fn copy_list(alloc: Global, list: &Vec<Value>) -> Result<Vec<Value>>
 }
 
 impl Container<Value> {
-    /// The array without elements. Takes no memory.
+    /// Creates an array without elements. Takes no memory.
     pub fn new() -> Array
         ensures empty { list_in result ≡ [] }
         ensures no_place { IsPlace result → ⊥ }
@@ -91,7 +91,7 @@ impl Container<Value> {
         Container { form: Form::Empty }
     }
 
-    /// The array of this list. Takes no memory.
+    /// Creates an array of this list. Takes no memory.
     pub fn from_list(list: Vec<Value>) -> Array
         ensures { result ≡ owned list }
     {
@@ -100,7 +100,7 @@ impl Container<Value> {
         }
     }
 
-    /// The array as a value.
+    /// Returns the array as a value.
     pub fn into_value(self) -> Value
         ensures tree { tree_of result ≡ list (list_trees (list_in self)) }
         ensures value { result ≡ ArrayValue self }
@@ -108,8 +108,8 @@ impl Container<Value> {
         Value::Array(self)
     }
 
-    /// How many more elements it takes before it asks for memory: none where nothing was put in
-    /// yet, and of a place of a document. Takes no memory.
+    /// Returns how many more elements fit before the array allocates: 0 if nothing was put in yet,
+    /// and for a place of a document. Takes no memory.
     pub fn spare(&self) -> usize
         ensures { result ≡ spare_in self.now }
     {
@@ -119,7 +119,7 @@ impl Container<Value> {
         }
     }
 
-    /// The owned list; none exactly for a place of a document.
+    /// Returns the owned list, or `None` exactly for a place of a document.
     pub fn list(&self) -> Option<&[Value]>
         ensures list { IfSome result (λ v. map tree_of v.now ≡ list_in self.now) }
         ensures items { IfSome result (λ v. v.now ≡ owned_items_of self.now) }
@@ -154,10 +154,10 @@ impl Container<Value> {
         Ok(())
     }
 
-    /// The elements, to be changed. On a place of a document this is the first write: each child
-    /// becomes a value of its own, or a place of the same document, and nothing deeper is copied.
-    /// What is written through the list is what the array becomes. Fails with `NoMemory` if memory
-    /// runs out, which it can for a place of a document alone.
+    /// Returns the elements, to be changed. On a place of a document this is the first write: each
+    /// child becomes a value of its own, or a place of the same document, and nothing deeper is
+    /// copied. What is written through the list is what the array becomes. Fails with `NoMemory` if
+    /// memory runs out, which it can for a place of a document alone.
     pub fn list_mut(&mut self, alloc: Global) -> Result<&mut Vec<Value>>
         ensures* writes_back { sem 𝓛 (LendsIfOk array_row (vec_row value_row) self.entry result
             owned self.old) }
@@ -172,7 +172,7 @@ impl Container<Value> {
         Ok(self.form.owned())
     }
 
-    /// The owned list, to be changed; the array must have one. Takes no memory.
+    /// Returns the owned list, to be changed; the array must have one. Takes no memory.
     pub fn owned_mut(&mut self) -> &mut Vec<Value>
         requires { OwnsList self.old }
         ensures* writes_back { sem 𝓛 (Lends array_row (vec_row value_row) self.entry result
@@ -182,7 +182,7 @@ impl Container<Value> {
         self.form.owned()
     }
 
-    /// The whole array.
+    /// Returns a view of the whole array.
     #[inline]
     pub fn view(&self) -> ArrayView<'_>
         ensures trees { elements_seen result ≡ list_in self.now }
@@ -207,8 +207,8 @@ impl Container<Value> {
         text_written(out)
     }
 
-    /// An array of the same elements, which no later write to this one reaches; places stay places
-    /// of the same document. Fails with `NoMemory` if memory runs out.
+    /// Returns an array of the same elements, which no later write to this one reaches; places stay
+    /// places of the same document. Fails with `NoMemory` if memory runs out.
     pub fn clone(&self, alloc: Global) -> Result<Array>
         ensures list { IfOk result (λ a. list_in a ≡ list_in self.now) }
         ensures places { IfOk result (λ a. array_places a ≡ array_places self.now) }

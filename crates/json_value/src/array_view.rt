@@ -63,7 +63,7 @@ impl<'a> ArrayView<'a> {
         }
     }
 
-    /// How many elements there are.
+    /// Returns the number of elements.
     #[inline]
     pub fn len(self) -> usize
         ensures { result ≡ length (elements_seen self.entry) }
@@ -74,7 +74,7 @@ impl<'a> ArrayView<'a> {
         }
     }
 
-    /// Whether there is none.
+    /// Returns whether there is no element.
     #[inline]
     pub fn is_empty(self) -> bool
         ensures { IsTrue result ↔ (elements_seen self.entry ≡ []) }
@@ -82,7 +82,7 @@ impl<'a> ArrayView<'a> {
         self.len() == 0
     }
 
-    /// The element `i`, counted from 0; none past the last.
+    /// Returns the element `i`, counted from 0, or `None` past the last.
     #[inline]
     pub fn get(self, i: usize) -> Option<View<'a>>
         ensures tree { option_map seen result ≡ slice_get (elements_seen self.entry) i }
@@ -94,7 +94,7 @@ impl<'a> ArrayView<'a> {
         }
     }
 
-    /// The elements, in order.
+    /// Returns the elements, in order.
     #[inline]
     pub fn iter(self) -> ArrayIter<'a>
         ensures trees { elements_left result ≡ elements_seen self.entry }
@@ -142,7 +142,7 @@ fn whole_element(values: &[Value], i: usize) -> Option<View<'_>>
     }
 }
 
-/// The elements of an array that are still to come, in order.
+/// The elements of an array that are left, in order.
 ///
 /// ```
 /// use json_doc::read_document;
@@ -165,7 +165,7 @@ pub(crate) enum ElementsLeft<'a> {
     Whole(&'a [Value]),
 }
 
-// The elements of a packed array that are still to come.
+// The elements of a packed array that are left.
 #[derive(Drop)]
 pub(crate) struct PackedElements<'a> {
     packed: PackedView<'a>,
@@ -212,7 +212,7 @@ impl<'a> ElementsLeft<'a> {
 impl<'a> ArrayIter<'a> {
     ghost use Rattle.json_value.specs.Left.{elements_left};
 
-    /// How many elements are still to come.
+    /// Returns how many elements are left.
     #[inline]
     pub fn len(&self) -> usize
         ensures { result ≡ length (elements_left self.now) }

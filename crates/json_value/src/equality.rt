@@ -29,7 +29,7 @@ use json_number::Number;
 
 /// Scalars are equal where their content is, numbers by their literals; arrays element by element;
 /// and objects of as many members where the first values of each key are, in any order of the keys.
-/// Allocates nothing. Where the keys of two objects come in another order each is searched for from
+/// Allocates nothing. Where the keys of two objects are in another order each is searched for from
 /// the left, so the time grows with the square of the members.
 impl PartialEq for Value {
     ghost eq = { on tree_of same };
@@ -76,21 +76,21 @@ impl Eq for Container<Keyed<Value>> {
 }
 
 impl Value {
-    /// Whether this is the boolean.
+    /// Returns whether this is the boolean.
     pub fn eq_bool(&self, b: bool) -> bool
         ensures { result ≡ same (tree_of self.now) (boolean b) }
     {
         self.view().as_bool() == Some(b)
     }
 
-    /// Whether this is the integer.
+    /// Returns whether this is the integer.
     pub fn eq_i64(&self, n: i64) -> bool
         ensures { result ≡ same (tree_of self.now) (num (signed_decimal n)) }
     {
         self.eq_number(Number::from(n))
     }
 
-    /// Whether this is the integer.
+    /// Returns whether this is the integer.
     pub fn eq_u64(&self, n: u64) -> bool
         ensures { result ≡ same (tree_of self.now) (num (decimal n)) }
     {
@@ -114,14 +114,14 @@ impl Value {
         self.view().as_number() == Some(number)
     }
 
-    /// Whether this is the string of these characters.
+    /// Returns whether this is the string of these characters.
     pub fn eq_str(&self, s: &str) -> bool
         ensures { result ≡ same (tree_of self.now) (text s.now) }
     {
         self.view().text() == Some(s)
     }
 
-    /// Whether this is the array of the same elements.
+    /// Returns whether this is the array of the same elements.
     pub fn eq_slice(&self, items: &[Value]) -> bool
         ensures { result ≡ same (tree_of self.now) (list (list_trees (map tree_of items.now))) }
     {

@@ -93,7 +93,7 @@ pub(crate) fn copy_pairs(alloc: Global, list: &Vec<Pair>) -> Result<Vec<Pair>>
 }
 
 impl Container<Keyed<Value>> {
-    /// The object without members. Takes no memory.
+    /// Creates an object without members. Takes no memory.
     pub fn new() -> Object
         ensures empty { pairs_in result ≡ [] }
         ensures no_place { IsPlace result → ⊥ }
@@ -101,7 +101,7 @@ impl Container<Keyed<Value>> {
         Container { form: Form::Empty }
     }
 
-    /// The object of this list. Takes no memory.
+    /// Creates an object of this list. Takes no memory.
     pub fn from_list(pairs: Vec<Pair>) -> Object
         ensures { result ≡ owned pairs }
     {
@@ -110,7 +110,7 @@ impl Container<Keyed<Value>> {
         }
     }
 
-    /// The object as a value.
+    /// Returns the object as a value.
     pub fn into_value(self) -> Value
         ensures tree { tree_of result ≡ pairs (list_pairs (pairs_in self)) }
         ensures value { result ≡ ObjectValue self }
@@ -118,8 +118,8 @@ impl Container<Keyed<Value>> {
         Value::Object(self)
     }
 
-    /// How many more members it takes before it asks for memory: none where nothing was put in yet,
-    /// and of a place of a document. Takes no memory.
+    /// Returns how many more members fit before the object allocates: 0 if nothing was put in yet,
+    /// and for a place of a document. Takes no memory.
     pub fn spare(&self) -> usize
         ensures { result ≡ spare_in self.now }
     {
@@ -129,7 +129,7 @@ impl Container<Keyed<Value>> {
         }
     }
 
-    /// The owned members; none exactly for a place of a document.
+    /// Returns the owned members, or `None` exactly for a place of a document.
     pub fn pairs(&self) -> Option<&[Pair]>
         ensures pairs { IfSome result (λ v. map pair_of v.now ≡ pairs_in self.now) }
         ensures items { IfSome result (λ v. v.now ≡ owned_items_of self.now) }
@@ -164,11 +164,11 @@ impl Container<Keyed<Value>> {
         Ok(())
     }
 
-    /// The members, to be changed. On a place of a document this is the first write: each key
-    /// becomes a place of the same document, each value a value of its own or a place of the same
-    /// document, and nothing deeper is copied. What is written through the list is what the object
-    /// becomes. Fails with `NoMemory` if memory runs out, which it can for a place of a document
-    /// alone.
+    /// Returns the members, to be changed. On a place of a document this is the first write: each
+    /// key becomes a place of the same document, each value a value of its own or a place of the
+    /// same document, and nothing deeper is copied. What is written through the list is what the
+    /// object becomes. Fails with `NoMemory` if memory runs out, which it can for a place of a
+    /// document alone.
     pub fn pairs_mut(&mut self, alloc: Global) -> Result<&mut Vec<Pair>>
         ensures* writes_back { sem 𝓛 (LendsIfOk object_row (vec_row pair_row) self.entry result
             owned self.old) }
@@ -183,7 +183,7 @@ impl Container<Keyed<Value>> {
         Ok(self.form.owned())
     }
 
-    /// The owned list, to be changed; the object must have one. Takes no memory.
+    /// Returns the owned list, to be changed; the object must have one. Takes no memory.
     pub fn owned_mut(&mut self) -> &mut Vec<Pair>
         requires { OwnsList self.old }
         ensures* writes_back { sem 𝓛 (Lends object_row (vec_row pair_row) self.entry result
@@ -193,7 +193,7 @@ impl Container<Keyed<Value>> {
         self.form.owned()
     }
 
-    /// The whole object.
+    /// Returns a view of the whole object.
     #[inline]
     pub fn view(&self) -> ObjectView<'_>
         ensures trees { members_seen result ≡ pairs_in self.now }
@@ -218,8 +218,8 @@ impl Container<Keyed<Value>> {
         text_written(out)
     }
 
-    /// An object of the same members, which no later write to this one reaches; places stay places
-    /// of the same document. Fails with `NoMemory` if memory runs out.
+    /// Returns an object of the same members, which no later write to this one reaches; places stay
+    /// places of the same document. Fails with `NoMemory` if memory runs out.
     pub fn clone(&self, alloc: Global) -> Result<Object>
         ensures pairs { IfOk result (λ o. pairs_in o ≡ pairs_in self.now) }
         ensures places { IfOk result (λ o. object_places o ≡ object_places self.now) }

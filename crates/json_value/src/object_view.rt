@@ -63,7 +63,7 @@ impl<'a> ObjectView<'a> {
         }
     }
 
-    /// How many members there are.
+    /// Returns the number of members.
     #[inline]
     pub fn len(self) -> usize
         ensures { result ≡ length (members_seen self.entry) }
@@ -74,7 +74,7 @@ impl<'a> ObjectView<'a> {
         }
     }
 
-    /// Whether there is none.
+    /// Returns whether there is no member.
     #[inline]
     pub fn is_empty(self) -> bool
         ensures { IsTrue result ↔ (members_seen self.entry ≡ []) }
@@ -82,7 +82,7 @@ impl<'a> ObjectView<'a> {
         self.len() == 0
     }
 
-    /// The key and the value of the member `i`, counted from 0; none past the last.
+    /// Returns the key and the value of the member `i`, counted from 0, or `None` past the last.
     #[inline]
     pub fn pair(self, i: usize) -> Option<(&'a str, View<'a>)>
         ensures tree { option_map member_seen result ≡ slice_get (members_seen self.entry) i }
@@ -94,7 +94,7 @@ impl<'a> ObjectView<'a> {
         }
     }
 
-    /// The key and the value of the first member of the key; none where there is none.
+    /// Returns the key and the value of the first member named `key`, or `None` if there is none.
     pub fn get_key_value(self, key: &str) -> Option<(&'a str, View<'a>)>
         ensures tree { option_map member_seen result
             ≡ first_of key.now (members_seen self.entry) }
@@ -109,7 +109,7 @@ impl<'a> ObjectView<'a> {
         None
     }
 
-    /// The value of the first member of the key; none where there is none.
+    /// Returns the value of the first member named `key`, or `None` if there is none.
     pub fn get(self, key: &str) -> Option<View<'a>>
         ensures tree { option_map seen result ≡ option_map (λ p. p.1)
             (first_of key.now (members_seen self.entry)) }
@@ -122,7 +122,7 @@ impl<'a> ObjectView<'a> {
         }
     }
 
-    /// The members, each its key and its value, in order.
+    /// Returns the members, each its key and its value, in order.
     #[inline]
     pub fn iter(self) -> Iter<'a>
         ensures trees { members_left result ≡ members_seen self.entry }
@@ -175,7 +175,7 @@ fn whole_pair(pairs: &[Pair], i: usize) -> Option<(&str, View<'_>)>
     }
 }
 
-/// The members of an object that are still to come, in order.
+/// The members of an object that are left, in order.
 ///
 /// ```
 /// use json_doc::read_document;
@@ -197,7 +197,7 @@ pub(crate) enum MembersLeft<'a> {
     Whole(&'a [Pair]),
 }
 
-// The members of a packed object that are still to come.
+// The members of a packed object that are left.
 #[derive(Drop)]
 pub(crate) struct PackedMembers<'a> {
     packed: PackedView<'a>,
@@ -246,7 +246,7 @@ impl<'a> MembersLeft<'a> {
 impl<'a> Iter<'a> {
     ghost use Rattle.json_value.specs.Left.{members_left};
 
-    /// How many members are still to come.
+    /// Returns how many members are left.
     #[inline]
     pub fn len(&self) -> usize
         ensures { result ≡ length (members_left self.now) }

@@ -47,7 +47,7 @@ pub struct Keyed<T> {
 pub type Pair = Keyed<Value>;
 
 impl Keyed<Value> {
-    /// A member of this key and this value.
+    /// Creates a member of this key and this value.
     pub fn new(key: Text, value: Value) -> Pair
         ensures pair { pair_of result ≡ (text_bytes key, tree_of value) }
         ensures member { result ≡ keyed_so key value }
@@ -55,14 +55,14 @@ impl Keyed<Value> {
         Keyed { key, value }
     }
 
-    /// The key's characters.
+    /// Returns the key's characters.
     pub fn key(&self) -> &str
         ensures { result.now ≡ (pair_of self.now).0 }
     {
         self.key.as_str()
     }
 
-    /// The value.
+    /// Returns the value.
     pub fn value(&self) -> &Value
         ensures tree { tree_of result.now ≡ (pair_of self.now).1 }
         ensures value { result.now ≡ value_in self.now }
@@ -70,7 +70,7 @@ impl Keyed<Value> {
         &self.value
     }
 
-    /// The value, to be changed. What is written there is what the member names.
+    /// Returns the value, to be changed. What is written there is the member's value.
     pub fn value_mut(&mut self) -> &mut Value
         ensures* writes_back { sem 𝓛 (Lends pair_row value_row self.entry result
             (with_value self.old)) }
@@ -80,8 +80,8 @@ impl Keyed<Value> {
     }
 }
 
-/// The index of the first member of the key (RFC 8259, section 4: names may repeat); none where no
-/// member has it. Takes no memory.
+/// Returns the index of the first member named `key` (RFC 8259, section 4: names may repeat), or
+/// `None` if there is none. Takes no memory.
 ///
 /// ```
 /// use json_value::{Pair, Text, Value, find_key};

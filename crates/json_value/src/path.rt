@@ -68,7 +68,7 @@ pub enum Edit {
 }
 
 impl Path {
-    /// The path without steps. Takes no memory.
+    /// Creates a path without steps. Takes no memory.
     pub fn new(alloc: Global) -> Path
         ensures { path_steps result ≡ [] }
     {
@@ -88,7 +88,7 @@ impl Path {
         Ok(())
     }
 
-    /// The steps, from the first on.
+    /// Returns the steps, from the first on.
     pub fn steps(&self) -> &[PointerNode]
         ensures { steps_of result.now ≡ path_steps self.now }
     {
@@ -97,7 +97,7 @@ impl Path {
 }
 
 impl Edit {
-    /// The path to the place of the change.
+    /// Returns the path to the place of the change.
     pub fn path(&self) -> &Path
         ensures edit { edit_of self.now ≡ edit_at (path_steps result.now) self.now }
         ensures steps { path_steps result.now ≡ edit_path self.now }

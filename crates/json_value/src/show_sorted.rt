@@ -113,7 +113,7 @@ fn show_sorted_pairs<W: Sink, L: Layout>(
     }
 }
 
-// An object whose keys stand in order.
+// An object whose keys are in order.
 #[cycle(shown_sorted_value)]
 fn show_in_place<W: Sink, L: Layout>(
     values: &Vec<Pair>,

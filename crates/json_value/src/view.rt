@@ -70,7 +70,7 @@ pub struct View<'a> {
 }
 
 impl<'a> View<'a> {
-    /// A place of a document.
+    /// Creates a view of a place of a document.
     #[inline]
     pub fn packed(view: DocView<'a>) -> View<'a>
         ensures tree { seen result ≡ view_tree view.entry }
@@ -85,7 +85,7 @@ impl<'a> View<'a> {
         }
     }
 
-    /// The kind of the value.
+    /// Returns the kind of the value.
     #[inline]
     pub fn get_type(self) -> JsonType
         ensures { result ≡ type_of (seen self.entry) }
@@ -97,7 +97,7 @@ impl<'a> View<'a> {
         }
     }
 
-    /// The boolean; none of another kind.
+    /// Returns the boolean, or `None` of another kind.
     #[inline]
     pub fn as_bool(self) -> Option<bool>
         ensures { result ≡ bool_of (seen self.entry) }
@@ -109,7 +109,8 @@ impl<'a> View<'a> {
         }
     }
 
-    /// The number, where it is an integer of `u64` or `i64`; none of another, nor of another kind.
+    /// Returns the number if it is an integer of `u64` or `i64`, or `None` of another number and of
+    /// another kind.
     #[inline]
     pub fn as_number(self) -> Option<Number>
         ensures value { option_map value_of result ≡ integer_of (seen self.entry) }
@@ -122,8 +123,8 @@ impl<'a> View<'a> {
         }
     }
 
-    /// The literal of the number that is no integer of `u64` or `i64`; none of such an integer, nor
-    /// of another kind.
+    /// Returns the literal of a number that is no integer of `u64` or `i64`, or `None` of such an
+    /// integer and of another kind.
     #[inline]
     pub fn literal(self) -> Option<&'a str>
         ensures { option_map (λ s. s.now) result ≡ literal_of (seen self.entry) }
@@ -155,7 +156,7 @@ impl<'a> View<'a> {
         }
     }
 
-    /// The text of the string; none of another kind.
+    /// Returns the text of the string, or `None` of another kind.
     #[inline]
     pub fn text(self) -> Option<&'a str>
         ensures { option_map (λ s. s.now) result ≡ string_of (seen self.entry) }
@@ -167,7 +168,7 @@ impl<'a> View<'a> {
         }
     }
 
-    /// The array; none of another kind.
+    /// Returns the array, or `None` of another kind.
     #[inline]
     pub fn as_array(self) -> Option<ArrayView<'a>>
         ensures trees { option_map elements_seen result ≡ list_of (seen self.entry) }
@@ -180,7 +181,7 @@ impl<'a> View<'a> {
         }
     }
 
-    /// The object; none of another kind.
+    /// Returns the object, or `None` of another kind.
     #[inline]
     pub fn as_object(self) -> Option<ObjectView<'a>>
         ensures trees { option_map members_seen result ≡ object_pairs (seen self.entry) }
@@ -225,8 +226,8 @@ impl<'a> View<'a> {
         }
     }
 
-    /// The value of the first member of a key, or the element of an index; none where the step
-    /// leads nowhere.
+    /// Returns the value of the first member of a key, or the element of an index, or `None` if
+    /// there is none.
     pub fn get<I: Index>(self, index: I) -> Option<View<'a>>
         ensures tree { option_map seen result ≡ child (I.step index) (seen self.entry) }
         ensures sight { option_map sight_of result
@@ -241,7 +242,7 @@ impl<'a> View<'a> {
         }
     }
 
-    /// The value at the end of the steps; none where one of them leads nowhere.
+    /// Returns the value at the end of the steps, or `None` if one of them leads nowhere.
     pub fn pointer(self, path: &[PointerNode]) -> Option<View<'a>>
         ensures tree { option_map seen result ≡ tree_at (steps_of path.now) (seen self.entry) }
         ensures sight { option_map sight_of result
@@ -254,8 +255,8 @@ impl<'a> View<'a> {
         Some(here)
     }
 
-    /// The value of the first member of a key, or the element of an index; null where the step
-    /// leads nowhere.
+    /// Returns the value of the first member of a key, or the element of an index, or null if there
+    /// is none.
     pub fn at<I: Index>(self, index: I) -> View<'a>
         ensures tree { seen result ≡ tree_or_null (child (I.step index) (seen self.entry)) }
         ensures sight { sight_of result
@@ -267,8 +268,8 @@ impl<'a> View<'a> {
         }
     }
 
-    /// The document and the place in it, where what is seen is a place of a document, or a value
-    /// that is one; else none. The value at that place is what is seen.
+    /// Returns the document and the place in it if what is seen is a place of a document, or a
+    /// value that is one, else `None`. The value at that place is what is seen.
     pub fn place(self) -> Option<(&'a Doc, u32)>
         ensures spot { option_map (λ p. spot_in p.0.now p.1) result ≡ spot_seen self.entry }
         ensures within { IfSome result (λ p. p.1 < length (doc_cells p.0.now)) }
@@ -281,9 +282,9 @@ impl<'a> View<'a> {
         }
     }
 
-    /// A value of the tree that is seen, which no later write to a value that is seen reaches: of a
-    /// whole value a `clone`, of a packed part of a value the value at that place of the same
-    /// document, of a document alone a copy. Fails with `NoMemory` if memory runs out.
+    /// Returns a value of the tree that is seen, which no later write to a value that is seen
+    /// reaches: of a whole value a `clone`, of a packed part of a value the value at that place of
+    /// the same document, of a document alone a copy. Fails with `NoMemory` if memory runs out.
     pub fn to_value(self, alloc: Global) -> Result<Value>
         ensures tree { IfOk result (λ v. tree_of v ≡ seen self.entry) }
         ensures spot { IfOk result (λ v. spot_of v ≡ spot_kept self.entry) }
@@ -300,7 +301,7 @@ impl<'a> View<'a> {
 
     /// Gives the tokens of the tree that is seen to `out`, an integer by value as that, up to the
     /// first that meets an error, which is returned. Where the events had returned an error it is
-    /// returned again, and nothing changes; else a value may come there.
+    /// returned again, and nothing changes; else a value has to be allowed there.
     pub fn emit<E: Events>(self, out: &mut E) -> Result<()>
         requires { AcceptsValue (E.failed out.old) (E.stand (E.state out.old)) }
         ensures given { Emits E.after E.stopped (E.state out.old) (E.state out.new)

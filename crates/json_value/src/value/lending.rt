@@ -51,10 +51,10 @@ fn none_if_no_object<'a>(r: Result<&'a mut Object>) -> Result<Option<&'a mut Obj
 }
 
 impl Value {
-    /// The place to which the steps lead; none where they lead nowhere. What is written there
-    /// changes that place and no other; a copy of one level is made of each packed container on the
-    /// way, and nothing more changes on None and on a refusal. Fails with `NoMemory` if memory runs
-    /// out.
+    /// Returns the place to which the steps lead, to be changed, or `None` if they lead nowhere.
+    /// What is written there changes that place and no other; a copy of one level is made of each
+    /// packed container on the way, and `None` or an error changes nothing else. Fails with
+    /// `NoMemory` if memory runs out.
     pub fn reach(&mut self, alloc: Global, path: &[PointerNode]) -> Result<Option<&mut Value>>
         ensures* writes_back { sem 𝓛 (LendsPlace self.entry result
             (λ x w n. PutsAtPath (steps_of path.now) x w self.old n)
@@ -66,9 +66,10 @@ impl Value {
         none_if_missing(reach_in(self, alloc, path))
     }
 
-    /// The place to which the step leads; none where it leads nowhere. What is written there
-    /// changes that place and no other; a packed container is copied by one level, and nothing more
-    /// changes on None and on a refusal. Fails with `NoMemory` if memory runs out.
+    /// Returns the place to which the step leads, to be changed, or `None` if it leads nowhere.
+    /// What is written there changes that place and no other; a packed container is copied by one
+    /// level, and `None` or an error changes nothing else. Fails with `NoMemory` if memory runs
+    /// out.
     pub fn step_mut<I: Index>(&mut self, alloc: Global, index: I) -> Result<Option<&mut Value>>
         ensures* writes_back { sem 𝓛 (LendsPlace self.entry result
             (λ x w n. PutsAtPath (I.step index ∷ []) x w self.old n)
@@ -139,9 +140,9 @@ impl Value {
         }
     }
 
-    /// The array, to be changed; none exactly for another kind. What is written there is the array
-    /// that the value then is. A packed array is copied by one level. None and a refusal change
-    /// nothing. Fails with `NoMemory` if memory runs out.
+    /// Returns the array, to be changed, or `None` exactly for another kind. What is written there
+    /// is the array that the value then is. A packed array is copied by one level. `None` or an
+    /// error changes nothing. Fails with `NoMemory` if memory runs out.
     pub fn as_array_mut(&mut self, alloc: Global) -> Result<Option<&mut Array>>
         ensures* writes_back { sem 𝓛 (LendsPart value_row array_row self.entry result
             (λ n w. (tree_of n ≡ list (list_trees (list_in w))) × (n ≡ ArrayValue w))
@@ -154,9 +155,9 @@ impl Value {
         none_if_no_array(self.array_open(alloc))
     }
 
-    /// The object, to be changed; none exactly for another kind. What is written there is the
-    /// object that the value then is. A packed object is copied by one level. None and a refusal
-    /// change nothing. Fails with `NoMemory` if memory runs out.
+    /// Returns the object, to be changed, or `None` exactly for another kind. What is written there
+    /// is the object that the value then is. A packed object is copied by one level. `None` or an
+    /// error changes nothing. Fails with `NoMemory` if memory runs out.
     pub fn as_object_mut(&mut self, alloc: Global) -> Result<Option<&mut Object>>
         ensures* writes_back { sem 𝓛 (LendsPart value_row object_row self.entry result
             (λ n w. (tree_of n ≡ pairs (list_pairs (pairs_in w))) × (n ≡ ObjectValue w))

@@ -30,35 +30,35 @@ use json_text::Result;
 use std::alloc::Global;
 
 impl Value {
-    /// Null. Takes no memory.
+    /// Creates null. Takes no memory.
     pub fn new() -> Value
         ensures { tree_of result ≡ null }
     {
         Value::Null
     }
 
-    /// Null. Takes no memory.
+    /// Creates null. Takes no memory.
     pub fn new_null() -> Value
         ensures { tree_of result ≡ null }
     {
         Value::Null
     }
 
-    /// The boolean. Takes no memory.
+    /// Creates a boolean. Takes no memory.
     pub fn new_bool(val: bool) -> Value
         ensures { tree_of result ≡ boolean val }
     {
         Value::Bool(val)
     }
 
-    /// The integer. Takes no memory.
+    /// Creates an integer. Takes no memory.
     pub fn new_u64(val: u64) -> Value
         ensures { tree_of result ≡ num (decimal val) }
     {
         Value::Number(Number::from(val))
     }
 
-    /// The integer. Takes no memory.
+    /// Creates an integer. Takes no memory.
     pub fn new_i64(val: i64) -> Value
         ensures { tree_of result ≡ num (signed_decimal val) }
     {
@@ -106,15 +106,15 @@ impl Value {
         }
     }
 
-    /// The number. Takes no memory.
+    /// Creates a number. Takes no memory.
     pub fn from_number(n: Number) -> Value
         ensures { tree_of result ≡ num (text_of_number n) }
     {
         Value::Number(n)
     }
 
-    /// The number: by value where it is an integer of `u64` or `i64`, else as its literal. Takes no
-    /// memory.
+    /// Creates a number: by value if it is an integer of `u64` or `i64`, else as its literal. Takes
+    /// no memory.
     pub fn from_raw_number(n: RawNumber) -> Value
         ensures tree { tree_of result ≡ num (raw_literal n) }
         ensures places { places_in result ≡ None ∷ [] }
@@ -125,7 +125,7 @@ impl Value {
         }
     }
 
-    /// The array without elements. Takes no memory.
+    /// Creates an array without elements. Takes no memory.
     pub fn new_array() -> Value
         ensures tree { tree_of result ≡ list no_trees }
         ensures no_place { ContainerIsPlace result → ⊥ }
@@ -133,7 +133,7 @@ impl Value {
         Value::Array(Container { form: Form::Empty })
     }
 
-    /// The object without members. Takes no memory.
+    /// Creates an object without members. Takes no memory.
     pub fn new_object() -> Value
         ensures tree { tree_of result ≡ object no_pairs }
         ensures no_place { ContainerIsPlace result → ⊥ }
@@ -141,7 +141,7 @@ impl Value {
         Value::Object(Container { form: Form::Empty })
     }
 
-    /// The static string. Takes no memory.
+    /// Creates a string from a static one. Takes no memory.
     pub fn from_static_str(val: &'static str) -> Value
         ensures tree { tree_of result ≡ text val.now }
         ensures places { places_in result ≡ None ∷ [] }
@@ -149,7 +149,7 @@ impl Value {
         Value::Text(Text::from_static(val))
     }
 
-    /// The array of these elements. Takes no memory.
+    /// Creates an array of these elements. Takes no memory.
     pub fn from_vec(items: Vec<Value>) -> Value
         ensures tree { tree_of result ≡ list (list_trees (map tree_of items.items)) }
         ensures value { result ≡ ArrayValue (owned items) }
@@ -159,7 +159,7 @@ impl Value {
         })
     }
 
-    /// A string of these characters, of its own. Fails with `NoMemory` if memory runs out.
+    /// Creates a string of these characters, of its own. Fails with `NoMemory` if memory runs out.
     pub fn copy_str(alloc: Global, val: &str) -> Result<Value>
         ensures tree { IfOk result (λ v. tree_of v ≡ text val.now) }
         ensures places { IfOk result (λ v. places_in v ≡ None ∷ []) }
@@ -169,7 +169,7 @@ impl Value {
         Ok(Value::Text(copied))
     }
 
-    /// The value; null for none. Takes no memory.
+    /// Returns the value, or null for `None`. Takes no memory.
     pub fn from_option(v: Option<Value>) -> Value
         ensures tree { tree_of result ≡ tree_or_null (option_map tree_of v) }
         ensures value { result ≡ unwrap_or v Null }
@@ -180,15 +180,15 @@ impl Value {
         }
     }
 
-    /// Null. Takes no memory.
+    /// Creates null. Takes no memory.
     pub fn from_unit() -> Value
         ensures { tree_of result ≡ null }
     {
         Value::Null
     }
 
-    /// A string of these characters, of its own: nothing is parsed. Fails with `NoMemory` if memory
-    /// runs out.
+    /// Creates a string of these characters, of its own: nothing is parsed. Fails with `NoMemory`
+    /// if memory runs out.
     pub fn from_str(alloc: Global, val: &str) -> Result<Value>
         ensures tree { IfOk result (λ v. tree_of v ≡ text val.now) }
         ensures places { IfOk result (λ v. places_in v ≡ None ∷ []) }
@@ -197,7 +197,7 @@ impl Value {
         Value::copy_str(alloc, val)
     }
 
-    /// A string of this character. Fails with `NoMemory` if memory runs out.
+    /// Creates a string of this character. Fails with `NoMemory` if memory runs out.
     pub fn from_char(alloc: Global, c: char) -> Result<Value>
         ensures tree { IfOk result (λ v. tree_of v ≡ text (encode_utf8 c)) }
         ensures places { IfOk result (λ v. places_in v ≡ None ∷ []) }
@@ -210,7 +210,7 @@ impl Value {
         }))
     }
 
-    /// An array without elements, which takes `capacity` of them before it asks for memory again.
+    /// Creates an array without elements, which takes `capacity` of them before it allocates again.
     /// Fails with `NoMemory` if memory runs out.
     pub fn new_array_with(alloc: Global, capacity: usize) -> Result<Value>
         ensures tree { IfOk result (λ v. tree_of v ≡ list no_trees) }
@@ -224,7 +224,7 @@ impl Value {
         }))
     }
 
-    /// An object without members, which takes `capacity` of them before it asks for memory again.
+    /// Creates an object without members, which takes `capacity` of them before it allocates again.
     /// Fails with `NoMemory` if memory runs out.
     pub fn new_object_with(alloc: Global, capacity: usize) -> Result<Value>
         ensures tree { IfOk result (λ v. tree_of v ≡ object no_pairs) }
@@ -238,7 +238,7 @@ impl Value {
         }))
     }
 
-    /// An array of clones of the items. Fails with `NoMemory` if memory runs out.
+    /// Creates an array of clones of the items. Fails with `NoMemory` if memory runs out.
     pub fn from_slice_of(alloc: Global, items: &[Value]) -> Result<Value>
         ensures tree { IfOk result (λ v. tree_of v ≡ list (list_trees (map tree_of items.now))) }
         ensures places { IfOk result (IsArrayOf (λ vs. map places_in vs
@@ -252,9 +252,9 @@ impl Value {
         Ok(Value::from_vec(copies))
     }
 
-    /// The object into which the pairs are put in turn, from the first on: a pair whose key is
-    /// there gives the member its value, another is appended. Fails with `NoMemory` if memory runs
-    /// out.
+    /// Creates an object into which the pairs are put in turn, from the first on: a pair whose key
+    /// is there gives the member its value, another is appended. Fails with `NoMemory` if memory
+    /// runs out.
     pub fn from_pairs(alloc: Global, pairs: Vec<Pair>) -> Result<Value>
         ensures tree { IfOk result (λ v. tree_of v
             ≡ object (inserted_all (map pair_of pairs.items) no_pairs)) }

@@ -149,7 +149,7 @@ show_sorted_members-returns-else-keys_in_order g t c =
     let o = c.in-Object.ensures.tree in
     Shows-same _ _ _ _ _ (ap (λ ps. shown (g.L.Layout.indent c.args.layout.inner) c.args.level (sorted (pairs (list_pairs ps)))) (o.2 ∙ sym (ap members o.1))) c.show_by_places.ensures
 
--- ---- an object whose keys stand in order
+-- ---- an object whose keys are in order
 
 pub show_in_place-returns-in_err-show_piece : goal.show_in_place-returns-in_err-show_piece
 show_in_place-returns-in_err-show_piece g t c =

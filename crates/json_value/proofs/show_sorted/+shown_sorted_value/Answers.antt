@@ -100,7 +100,7 @@ show_sorted_values-returns g t c =
     let e = none_there (map tree_of xs) i (items_end tree_of _ xs i c.deref-value-items.ensures.value c.loop-value-test.false) in
     goes_last _ _ _ _ _ _ _ _ _ c.loop-value.invariant (sym (ap (λ ts. elements_left (g.L.Layout.indent c.args.layout.inner) c.args.level (c.args.level + 1) c.loop-value.first (map sorted ts)) e)) c.close.ensures
 
--- ---- an object whose keys stand in order
+-- ---- an object whose keys are in order
 
 pub show_in_place-returns-in_err-show_piece : goal.show_in_place-returns-in_err-show_piece
 show_in_place-returns-in_err-show_piece g t c =
