@@ -1,4 +1,4 @@
--- What is found by a key behind an insertion and a removal.
+-- What is found by a key after an insertion and a removal.
 use Rattle.std.proofs.Common.{◌≡◌, ℕ, Bool, true, false, cond, not, bytes_eq, List, [], ◌∷◌, filter, Option, Some, None, refl, sym, ap, ◌∙◌}
 use Rattle.std.specs.Prelude.{option_map}
 use Rattle.json_grammar.specs.Tree.{Tree, list_pairs, pairs_list}

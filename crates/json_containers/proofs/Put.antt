@@ -26,7 +26,7 @@ under_here k (m ∷ ms) (suc i) low here before =
     let parts = split_front k (text_bytes m.key) (list_pairs (take i (map pair_of ms))) before in
     under_here k ms i (omega (arith, low)) here parts.1 ∙ sym (ap (λ b. option_map its_value (cond b (Some (named_value m)) (first_of k (map named_value ms)))) parts.0)
 
--- the first value of the key stands at the first member of the key
+-- the first value of the key is that of the first member of the key
 pub value_there : (k : List ℕ) (ms : List (Keyed Value)) (i : ℕ) → IsFirstOf k (map pair_of ms) i → option_map value_in (slice_get ms i) ≡ value_under k ms
 value_there k ms i first = under_here k ms i (first_within k ms i first) (key_first k ms i first) first.before
 

@@ -57,7 +57,7 @@ TakesRoomForOne old new = spare_in old ≤ spare_in new + 1
 abbrev pub KeepsRoom : {T : Type 0} → ℕ → (old new : Container T) → Type 0
 KeepsRoom n old new = (IsPlace old → ⊥) → spare_in new ≡ n + spare_in old
 
--- copies of these came behind the others: they stand where these do, and so do their parts
+-- copies of these were added after the others: they and their parts have the positions of these
 abbrev pub AppendsCopies : List Value → (items now : List Value) → Type 0
 AppendsCopies copied items now = (more : List Value) × (map value_origin more ≡ map value_origin copied) × (now ≡ items ++ more)
 

@@ -1,4 +1,5 @@
--- The members of an object with an owned list, and what a write at one of them, or behind them, leaves.
+-- The members of an object with an owned list, and what a write at one of them, or after them,
+-- leaves.
 use Rattle.std.specs.Prelude.{◌≡◌, ◌+◌, ◌-◌, ◌<◌, ℕ, Bool, List, [], ◌∷◌, ◌++◌, Option, Some, None, slice_get, Vec, option_map, cond}
 use denote.Ref.{Bor, MutBor}
 use denote.Param.Members.{Mut}

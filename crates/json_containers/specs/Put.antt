@@ -18,7 +18,8 @@ named_value m = (text_bytes m.key, value_in m)
 abbrev pub value_under : List ℕ → List (Keyed Value) → Option Value
 value_under k items = found k (map named_value items)
 
--- w came to the first member of the key, in the place of the value o, or with a member of its own behind the others
+-- w was put in the first member of the key, in the place of the value o, or added with a member of
+-- its own after the others
 abbrev pub PutsValue : List ℕ → Value → Option Value → (items now : List (Keyed Value)) → Type 0
 PutsValue k w o items now =
     (o ≡ value_under k items) × (AtMember k (λ before after. after ≡ w) items now ⊎ Appended k (OfValue w) items now)
@@ -27,7 +28,7 @@ PutsValue k w o items now =
 abbrev pub TakesOut : List ℕ → Option Value → (items now : List (Keyed Value)) → Type 0
 TakesOut k o items now = (o ≡ value_under k items) × (now ≡ unkeyed k items)
 
--- where a member's key stands, and its value with its parts
+-- the positions of a member's key, and of its value with its parts
 abbrev pub stood_member : Keyed Value → Option CellRef × Origin
 stood_member m = (key_spot m, value_origin (value_in m))
 
@@ -35,6 +36,6 @@ stood_member m = (key_spot m, value_origin (value_in m))
 abbrev pub copied_member : Keyed Value → Option CellRef × Origin
 copied_member m = (None, value_origin (value_in m))
 
--- copies of these: keys of their own, and values that stand where theirs do
+-- copies of these: keys of their own, and values with the positions of theirs
 abbrev pub AreCopies : (items copies : List (Keyed Value)) → Type 0
 AreCopies items copies = map stood_member copies ≡ map copied_member items

@@ -41,7 +41,7 @@ fn copy_all(alloc: Global, items: &[Value]) -> Result<Vec<Value>>
     Ok(copies)
 }
 
-// So many copies of the value.
+// Returns `count` copies of the value.
 fn copies_of(alloc: Global, value: &Value, count: usize) -> Result<Vec<Value>>
     ensures list { IfOk result (λ v. map tree_of v.items ≡ replicate count (tree_of value.now)) }
     ensures stands { IfOk result (λ v. map value_origin v.items
@@ -89,8 +89,8 @@ fn take_range(list: &mut Vec<Value>, from: usize, to: usize) -> Result<Vec<Value
 }
 
 /// The calls of an array that are those of a list. The first write to a place of a document copies
-/// one level of it: each element becomes a value of its own, or a place of the same document.
-/// `NoMemory` comes where memory runs out, and then the array has the elements that it had.
+/// one level of it: each element becomes a value of its own, or a place of the same document. Fails
+/// with `NoMemory` if memory runs out, and then the array has the elements that it had.
 ///
 /// ```
 /// use json_containers::ArrayCalls;
@@ -162,7 +162,8 @@ pub trait ArrayCalls {
         ensures free { (IsPlace (held self.old) → ⊥) → IsOk result }
         ensures only { OnlyNoMemory result };
 
-    /// The array without elements, with room for so many. Fails with `NoMemory` if memory runs out.
+    /// Creates an array without elements, with room for `capacity` of them. Fails with `NoMemory`
+    /// if memory runs out.
     fn with_capacity(alloc: Global, capacity: usize) -> Result<Array>
         ensures list { IfOk result (λ a. list_in a ≡ []) }
         ensures no_place { IfOk result (λ a. IsPlace a → ⊥) }
@@ -183,8 +184,8 @@ pub trait ArrayCalls {
         ensures free { (IsPlace (held self.old) → ⊥) → IsOk result }
         ensures only { OnlyNoMemory result };
 
-    /// The first so many elements, or all. Fails with `NoMemory`, and changes nothing, if memory
-    /// runs out.
+    /// Keeps the first `len` elements, or all. Fails with `NoMemory`, and changes nothing, if
+    /// memory runs out.
     fn truncate(&mut self, alloc: Global, len: usize) -> Result<()>
         ensures ok { OnOk result (list_in (held self.new) ≡ take len (list_in (held self.old))) }
         ensures children { OnOk result (ArrayBecame (take len) (held self.old) (held self.new)) }

@@ -98,7 +98,8 @@ pub(crate) fn add(pairs: &mut Vec<Pair>, pair: Pair)
     }
 }
 
-// Takes out all members of the key of the one at the index. Its value.
+// Removes every member whose key is that of the one at the index, and returns the value of that
+// one.
 pub(crate) fn take_all(pairs: &mut Vec<Pair>, at: usize) -> Value
     requires { at < vec_len pairs.old }
     ensures value { option_map value_in (slice_get pairs.old.items at) ≡ Some result }
@@ -116,7 +117,7 @@ impl<'a> OccupiedEntry<'a> {
     ghost use Rattle.json_value.specs.declared.value.Value.{Value};
     ghost use Rattle.json_value.specs.Rows.{OwnsList};
 
-    /// The value.
+    /// Returns the value, to be changed, for as long as the object is borrowed.
     pub fn into_mut(self) -> &'a mut Value
         ensures* writes_back { sem 𝓛 (entry_lends (Occupied self.entry) result) }
         ensures value { entry_value (Occupied self.entry) ≡ Some result.now }
@@ -125,7 +126,7 @@ impl<'a> OccupiedEntry<'a> {
         value_at(object, self.at)
     }
 
-    /// The value, for as long as the entry is lent.
+    /// Returns the value, to be changed, for as long as the entry is borrowed.
     pub fn get_mut(&mut self) -> &mut Value
         ensures* writes_back { sem 𝓛 (occupied_lends self.entry result) }
         ensures value { entry_value (Occupied self.old) ≡ Some result.now }
@@ -144,7 +145,7 @@ impl<'a> OccupiedEntry<'a> {
         replace(self.get_mut(), val)
     }
 
-    /// The key.
+    /// Returns the key.
     pub fn key(&self) -> &str
         ensures { result.now ≡ entry_key (Occupied self.now) }
     {
@@ -154,7 +155,7 @@ impl<'a> OccupiedEntry<'a> {
         }
     }
 
-    /// The value.
+    /// Returns the value.
     pub fn get(&self) -> &Value
         ensures { entry_value (Occupied self.now) ≡ Some result.now }
     {
@@ -184,14 +185,14 @@ impl<'a> OccupiedEntry<'a> {
 impl<'a> VacantEntry<'a> {
     ghost use Rattle.json_containers.specs.Entry.{Vacant, entry_key, entry_lends};
 
-    /// The key.
+    /// Returns the key.
     pub fn key(&self) -> &str
         ensures { result.now ≡ entry_key (Vacant self.now) }
     {
         self.key.as_str()
     }
 
-    /// The new member's value.
+    /// Inserts the member and returns its value, to be changed.
     pub fn insert(self, val: Value) -> &'a mut Value
         ensures* writes_back { sem 𝓛 (entry_lends (Vacant self.entry) result) }
         ensures value { result.now ≡ val }
@@ -215,7 +216,7 @@ impl<'a> Entry<'a> {
     ghost use Rattle.json_containers.specs.Entry.{entry_ref, entry_key, entry_value, entry_with};
     ghost use Rattle.json_containers.specs.Entry.{entry_lends};
 
-    /// The value there, or the default, appended.
+    /// Returns the value there, or the default, which is appended.
     pub fn or_insert(self, default: Value) -> &'a mut Value
         ensures* writes_back { sem 𝓛 (entry_lends self.entry result) }
         ensures value { result.now ≡ unwrap_or (entry_value self.entry) default }
@@ -229,7 +230,7 @@ impl<'a> Entry<'a> {
         }
     }
 
-    /// The key.
+    /// Returns the key.
     pub fn key(&self) -> &str
         ensures { result.now ≡ entry_key self.now }
     {
@@ -252,7 +253,7 @@ impl<'a> Entry<'a> {
         }
     }
 
-    /// The same, with the key.
+    /// Returns the value there, or that of `default`, called with the key, which is appended.
     pub fn or_insert_with_key<F: FnOnce(&str) -> Value>(self, default: F) -> &'a mut Value
         requires { entry_value self ≡ None
             → (p : Bor (List ℕ)) → p.now ≡ entry_key self → F.pre default p }
@@ -269,7 +270,7 @@ impl<'a> Entry<'a> {
         }
     }
 
-    /// The entry, after `f` has run on a value that is there.
+    /// Returns the entry, after `f` has run on a value that is there.
     pub fn and_modify<F: FnOnce(&mut Value)>(self, f: F) -> Entry<'a>
         requires { (p : MutBor Value) → entry_value self ≡ Some p.now → F.pre f p }
         ensures same_object { (entry_ref result).ghost_name ≡ (entry_ref self.entry).ghost_name }
@@ -286,7 +287,7 @@ impl<'a> Entry<'a> {
         }
     }
 
-    /// The value there, or null, appended.
+    /// Returns the value there, or null, which is appended.
     pub fn or_default(self) -> &'a mut Value
         ensures* writes_back { sem 𝓛 (entry_lends self.entry result) }
         ensures value { result.now ≡ unwrap_or (entry_value self.entry) NullValue }

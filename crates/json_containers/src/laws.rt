@@ -14,7 +14,7 @@ pub fn remove_leaves_none()
 {}
 
 /// However an iterator is asked, at the front and at the back, it gives each element once: those
-/// from the front, those that are still to come, and those from the back are the elements in order.
+/// from the front, those that are left, and those from the back are the elements in order.
 pub fn each_is_given_once()
     ensures { EachIsGivenOnce }
 {}

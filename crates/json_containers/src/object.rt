@@ -107,7 +107,7 @@ fn none_if_missing<'a>(r: Result<&'a mut Value>) -> Result<Option<&'a mut Value>
 
 /// The calls of an object that are those of a list of members. The first of equal keys is read and
 /// set, and a removal takes out all. The first write to a place of a document copies one level of
-/// it. `NoMemory` comes where memory runs out, and then the object has the members that it had.
+/// it. Fails with `NoMemory` if memory runs out, and then the object has the members that it had.
 ///
 /// ```
 /// use json_containers::ObjectCalls;
@@ -203,7 +203,8 @@ pub trait ObjectCalls {
         ensures free { (IsPlace (held self.old) → ⊥) → IsOk result }
         ensures only { OnlyNoMemory result };
 
-    /// The object without members, with room for so many. Fails with `NoMemory` if memory runs out.
+    /// Creates an object without members, with room for `capacity` of them. Fails with `NoMemory`
+    /// if memory runs out.
     fn with_capacity(alloc: Global, capacity: usize) -> Result<Object>
         ensures pairs { IfOk result (λ o. pairs_in o ≡ []) }
         ensures no_place { IfOk result (λ o. IsPlace o → ⊥) }
