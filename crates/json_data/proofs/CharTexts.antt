@@ -13,7 +13,7 @@ use Rattle.json_data.specs.Reader.{KeyReadingFails}
 use Rattle.json_tokens.specs.Refusals.{refusal}
 use Rattle.json_data.specs.Reading.{Reading, gives, refuses, one_character, read_character}
 
--- nothing is left behind it
+-- nothing is left after it
 pub only_one : (b r : List ℕ) (c : ℕ) → IsUtf8 b → b ≡ encode_utf8 c ++ r → length r ≡ 0 → (b ≡ encode_utf8 c) × (length (chars b) ≡ 1)
 only_one b [] c u e l = (e ∙ append-nil (encode_utf8 c), ap length (chars_past_char b [] c u e) ∙ ap (λ (xs : List ℕ). suc (length xs)) chars-nil)
 only_one b (x ∷ r) c u e l = absurd (omega arith)
@@ -22,7 +22,7 @@ some_first : (xs : List ℕ) (d : ℕ) → slice_get xs 0 ≡ Some d → 0 < len
 some_first [] d e = absurd (cc)
 some_first (x ∷ xs) d e = omega arith
 
--- another comes
+-- another character follows
 pub one_more : (b r : List ℕ) (c d : ℕ) → IsUtf8 b → b ≡ encode_utf8 c ++ r → slice_get (chars r) 0 ≡ Some d → length (chars b) ≢ 1
 one_more b r c d u e h =
     let l : length (chars b) ≡ suc (length (chars r)) = ap length (chars_past_char b r c u e) in

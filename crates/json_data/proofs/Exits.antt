@@ -84,7 +84,7 @@ pub another : (h : Tree → Reading) (ts : Trees) (k : TokenKind) (xs : List Tok
 another h ts k xs f n q no_trees i = absurd (n (sym (subst (λ (ys : List Tok). FirstIs ys k) i f)))
 another h ts k xs f n q (tree_and t us) i = q t us
 
--- another element comes, and the list is left
+-- another element follows, and the list is left
 pub longer : {S : Type 0} {taken : S → List Tok → Type 0} {stand : S → TokensState} {h : Tree → Reading} {a b c d : S} {ts : Trees} {k : TokenKind} {r : Error}
     → r ≡ refusal TypeUnmatched → InList taken stand a b ts → Peeks (stand b) (stand c) k → TakesTokens taken b [] c → k ≢ EndArray → Leaves taken stand c d
     → ((t : Tree) (us : Trees) → h (list (join ts (tree_and t us))) ≡ refuses TypeUnmatched)

@@ -9,7 +9,7 @@ use Rattle.json_tokens.specs.Stand.{TakesTokens}
 use Rattle.json_grammar.proofs.TokenStates.{after_append, after_tree, accepts_tree, accepts_back}
 use Rattle.json_tokens.proofs.Places.{kind_may}
 
--- at the spot p the tokens `rest` of the tree are left
+-- in the state p the tokens `rest` of the tree remain
 pub record LeftOf (tree : Tree) (p : TokenState) (rest : List Tok) : Type 0 where
   pub before : List Tok
   pub row : before ++ rest ≡ tokens tree

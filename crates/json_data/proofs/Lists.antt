@@ -22,7 +22,7 @@ pub tokens-join : (ts us : Trees) → trees_tokens (join ts us) ≡ trees_tokens
 tokens-join no_trees us = refl
 tokens-join (tree_and t ts) us = ap (λ (xs : List Tok). tokens t ++ xs) (tokens-join ts us) ∙ sym (append_assoc (tokens t) (trees_tokens ts) (trees_tokens us))
 
--- the source stands in a list, behind the elements ts
+-- the source is in a list, after the elements ts
 pub record InList {S : Type 0} (taken : S → List Tok → Type 0) (stand : S → TokensState) (a b : S) (ts : Trees) : Type 0 where
   pub takes : TakesTokens taken a (begin array ∷ trees_tokens ts) b
   pub input : (stand b).input ≡ (stand a).input
@@ -119,7 +119,7 @@ leaves {taken = taken} {stand = stand} {a = a} {b = b} {c = c} {ts = ts} w r =
       rest.1,
     )
 
--- behind an element it stands in the list again
+-- after an element it is in the list again
 pub in_array_again : (p q : TokenState) → InArray p → q ≡ state_after_value p → InArray q
 in_array_again p q i e = subst (λ (s : TokenState). InArray s) (sym e) (by p.expected p.opened i)
   where

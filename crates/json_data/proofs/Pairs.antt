@@ -29,7 +29,7 @@ pub join-join_pairs : (ps qs rs : Pairs) → join_pairs (join_pairs ps qs) rs �
 join-join_pairs no_pairs qs rs = refl
 join-join_pairs (pair_and k t ps) qs rs = ap (λ (us : Pairs). pair_and k t us) (join-join_pairs ps qs rs)
 
--- the source stands in an object, behind the pairs ps
+-- the source is in an object, after the pairs ps
 pub record InPairs {S : Type 0} (taken : S → List Tok → Type 0) (stand : S → TokensState) (a b : S) (ps : Pairs) : Type 0 where
   pub takes : TakesTokens taken a (begin object ∷ pairs_tokens ps) b
   pub input : (stand b).input ≡ (stand a).input
@@ -37,7 +37,7 @@ pub record InPairs {S : Type 0} (taken : S → List Tok → Type 0) (stand : S �
   pub left : (stand b).left < (stand a).left
   pub as_told : AsTold (stand a) BeginObject
 
--- and behind a key more
+-- and after one more key
 pub record InMember {S : Type 0} (taken : S → List Tok → Type 0) (stand : S → TokensState) (a b : S) (ps : Pairs) (k : List ℕ) : Type 0 where
   pub takes : TakesTokens taken a (begin object ∷ (pairs_tokens ps ++ key_token k ∷ [])) b
   pub input : (stand b).input ≡ (stand a).input
@@ -168,7 +168,7 @@ leaves_member {taken = taken} {stand = stand} {a = a} {b = b} {c = c} {ps = ps} 
       },
     )
 
--- behind a member it stands in the object again
+-- after a member it is in the object again
 pub in_object_again : (p q r : TokenState) (k : List ℕ) → InObject p → q ≡ after_token p (key_token k) → r ≡ state_after_value q → InObject r
 in_object_again p q r k i e h = subst (λ (s : TokenState). InObject s) (sym (h ∙ ap (λ (s : TokenState). state_after_value s) e)) (by p.expected p.opened i)
   where

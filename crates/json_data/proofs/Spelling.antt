@@ -69,7 +69,7 @@ path_of_array (num l) xs e = absurd (none_some (sym e))
 path_of_array (text s) xs e = absurd (none_some (sym e))
 path_of_array (pairs ps) xs e = absurd (none_some (sym e))
 
--- ---- the elements behind the first
+-- ---- the elements after the first
 
 pub two_of : (xs : List Tree) (a b : Tree) → length xs ≡ 3 → Some a ≡ slice_get xs 1 → Some b ≡ slice_get xs 2 → drop 1 xs ≡ a ∷ b ∷ []
 two_of [] a b n e f = absurd (omega arith)

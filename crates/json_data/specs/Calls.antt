@@ -18,7 +18,7 @@ use Rattle.json_data.specs.Reading.{Reading, gives, refuses}
 use Rattle.json_io.specs.declared.error.Error.{Error}
 use Rattle.json_io.specs.Errors.{no_memory, too_large}
 
--- the bytes are a text of a tree of so many levels at most, of which r is the reading
+-- the bytes are a text of a tree of at most that many levels, of which r is the reading
 abbrev pub ReadsTypedText : ℕ → (Tree → Reading) → List ℕ → Reading → Type 0
 ReadsTypedText limit f b r = (t : Tree) × is_text false t b × (depth t ≤ limit) × (f t ≡ r)
 
@@ -34,8 +34,8 @@ ValueBegins b p = (k : ℕ) × ws (piece b 0 k) × (k < length b → ¬ (IsWhite
 abbrev pub TreeRefused : ℕ → (Tree → Reading) → List ℕ → ErrorCode → Place → Type 0
 TreeRefused limit f b c p = ReadsTypedText limit f b (refuses c) × ValueBegins b p
 
--- why no value of so many levels at most is read of bytes: memory ran out, there are more than 4,294,967,295, they are no UTF-8, they are no text,
--- or its tree is refused
+-- why no value of at most that many levels is read of bytes: memory ran out, there are more than
+-- 4,294,967,295, they are no UTF-8, they are no text, or its tree is refused
 abbrev pub TypedReadingFails : ℕ → (Tree → Reading) → List ℕ → ErrorCode → Place → Type 0
 TypedReadingFails limit f b code.NoMemory place.None = Unit {0}
 TypedReadingFails limit f b code.TooLarge place.None = 2 ^ 32 ≤ length b

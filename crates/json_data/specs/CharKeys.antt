@@ -50,7 +50,7 @@ ends Less x y h = h
 ends Equal x y h = h
 ends Greater x y h = h
 
--- the first digit decides, and else those behind it
+-- the first digit decides, or else those after it
 by_64 : (o p : Ordering) (x y u v a b : ℕ) → a ≡ 64 * x + u → b ≡ 64 * y + v → u < 64 → v < 64 → Ranks o x y → Ranks p u v → Ranks (ordering_then o p) a b
 by_64 Less p x y u v a b e f g h i j = omega (arith, e, f, g, h, i)
 by_64 Equal Less x y u v a b e f g h i j = omega arith

@@ -1,4 +1,4 @@
--- What is read of an object, one member after another: a datum stands for what was read so far.
+-- What is read of an object, one member after another: a datum represents what was read so far.
 use Rattle.std.specs.Prelude.{ℕ, List}
 use Rattle.json_grammar.specs.Tree.{Tree, pairs, Pairs, no_pairs, pair_and}
 use Rattle.json_model.specs.Datum.{Datum}
@@ -10,7 +10,8 @@ abbrev pub reading_then : Reading → (Datum → Reading) → Reading
 reading_then (refuses c) f = refuses c
 reading_then (gives d) f = f d
 
--- the members in their order, where a step tells what is read behind what was read so far, of a name and its value
+-- the members in their order, where a step tells what is read after what was read so far, of a name
+-- and its value
 abbrev pub members_from : (Datum → List ℕ → Tree → Reading) → Datum → Pairs → Reading
 members_from step d no_pairs = gives d
 members_from step d (pair_and k t ps) = reading_then (step d k t) (λ e. members_from step e ps)

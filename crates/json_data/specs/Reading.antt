@@ -21,7 +21,7 @@ pub data Series : Type 0 where
   gives_all : List Datum → Series
   stops : ErrorCode → Series
 
--- the leftmost refusal comes first
+-- the leftmost error is returned
 abbrev pub prepend_reading : Reading → Series → Series
 prepend_reading (refuses c) s = stops c
 prepend_reading (gives d) (stops c) = stops c
@@ -117,7 +117,7 @@ read_literal _ = refuses TypeUnmatched
 
 -- ---- keys, and pairs of them
 
--- how the data of keys of one type are ordered; null comes before all others
+-- how the data of keys of one type are ordered; null precedes all others
 abbrev pub key_cmp : Datum → Datum → Ordering
 key_cmp (text_datum a) (text_datum b) = slice_cmp nat_cmp a b
 key_cmp (integer_datum a) (integer_datum b) = int_cmp a b

@@ -7,7 +7,7 @@ use Rattle.json_io.specs.declared.error.Place.{Place}
 use Rattle.json_io.specs.declared.error.Place.TheVariants as place
 use Rattle.json_data.specs.Reading.{Reading, refuses}
 
--- why no value is read of a tree: memory ran out, or the tree is refused; no place is told
+-- why no value is read of a tree: memory ran out, or the tree is refused; the error has no place
 abbrev pub TreeReadingFails : (Tree → Reading) → Tree → ErrorCode → Place → Type 0
 TreeReadingFails f t code.NoMemory place.None = Unit {0}
 TreeReadingFails f t code.TypeUnmatched place.None = f t ≡ refuses code.TypeUnmatched

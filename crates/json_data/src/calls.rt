@@ -47,7 +47,7 @@ fn text_of(json: &[u8]) -> Result<&str>
     check_utf8(json)
 }
 
-// The value of a text of so many levels at most.
+// Returns the value of a text of at most `depth` levels.
 fn read_text<'a, T: Deserialize<'a> + Drop>(alloc: Global, text: &'a str, depth: u32) -> Result<T>
     requires { depth ≤ 1024 }
     ensures ok { IfOk result (λ v. ReadsTypedText depth T.from_tree text.now (gives (T.datum v))) }
@@ -95,8 +95,8 @@ pub fn from_str<'a, T: Deserialize<'a> + Drop>(alloc: Global, s: &'a str) -> Res
     read_text(alloc, s, LEVELS)
 }
 
-/// The value of the bytes of a JSON text, as [`from_str`]. Fails with `InvalidUTF8` where they are
-/// no UTF-8, before any fault of the text, and otherwise as [`from_str`] does.
+/// Reads the value of the bytes of a JSON text, as [`from_str`] does. Fails with `InvalidUTF8` if
+/// they are no UTF-8, before any fault of the text, and otherwise as [`from_str`] does.
 pub fn from_slice<'a, T: Deserialize<'a> + Drop>(alloc: Global, json: &'a [u8]) -> Result<T>
     ensures ok { ReadsTypedValue T.from_tree T.datum json.now result }
     ensures place { IfOk result (T.placed IsPackedAtRoot) }
@@ -108,8 +108,8 @@ pub fn from_slice<'a, T: Deserialize<'a> + Drop>(alloc: Global, json: &'a [u8]) 
     read_text(alloc, text, LEVELS)
 }
 
-/// The value of bytes that are UTF-8, as [`from_slice`], without a test of that. Fails as
-/// [`from_str`] does.
+/// Reads the value of bytes that are UTF-8, as [`from_slice`] does, without a test of that. Fails
+/// as [`from_str`] does.
 pub fn from_slice_unchecked<'a, T: Deserialize<'a> + Drop>(
     alloc: Global,
     json: &'a [u8],
@@ -183,11 +183,11 @@ fn fill<S: Source>(alloc: Global, source: &mut S, room: &mut Vec<u8>) -> Result<
     Ok(())
 }
 
-/// The value of all that the source has left, as [`from_slice`]. The bytes go into `room`, from
-/// which the value may borrow; those that it had are dropped.
+/// Reads the value of all that the source has left, as [`from_slice`] does. The bytes go into
+/// `room`, from which the value may borrow; those that it had are dropped.
 ///
-/// `Io` at `Reading` comes where the source failed, and `TooLarge` where it has more than
-/// 4,294,967,295 bytes: `room` is as it was then.
+/// Fails with `Io` at `Reading` if the source failed, and with `TooLarge` if it has more than
+/// 4,294,967,295 bytes; `room` is then as it was. Otherwise fails as [`from_slice`] does.
 pub fn from_reader<'a, S: Source, T: Deserialize<'a> + Drop>(
     alloc: Global,
     source: &mut S,

@@ -115,7 +115,7 @@ impl<S: Lent, K: FromKey<S>> FromKey<S> for Option<K> {
     }
 }
 
-// The key that comes next.
+// Returns the next key.
 #[inline(always)]
 pub(crate) fn next_key<S: Lent, T: Tokens<S>>(tokens: &mut T) -> Result<Piece<S>>
     requires whole { NotWhole (T.stand tokens.old) }
@@ -130,7 +130,7 @@ pub(crate) fn next_key<S: Lent, T: Tokens<S>>(tokens: &mut T) -> Result<Piece<S>
     }
 }
 
-/// The name that comes next in an object, or none where the object ends there, which is taken.
+/// Returns the next name in an object, or `None` if the object ends, whose end is taken.
 #[inline(always)]
 pub(crate) fn next_name<S: Lent, T: Tokens<S>>(tokens: &mut T) -> Result<Option<Piece<S>>>
     requires { InObject (T.stand tokens.old).spot }

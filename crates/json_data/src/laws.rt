@@ -44,7 +44,7 @@ pub fn reads_integer_as_double()
     ensures { ReadsIntegerAsDouble }
 {}
 
-/// The number of a finite double is read as that double, also -0. `NoMemory` comes where memory
+/// The number of a finite double is read as that double, also -0. Fails with `NoMemory` if memory
 /// runs out.
 pub fn double_is_read_again(alloc: Global, x: f64) -> Result<Option<RawNumber>>
     ensures read { IfOk result (λ o. IfSome o (λ r. IsReadAs binary64 (raw_literal r) x)) }
@@ -53,8 +53,8 @@ pub fn double_is_read_again(alloc: Global, x: f64) -> Result<Option<RawNumber>>
     RawNumber::from_f64(alloc, x)
 }
 
-/// The number of a finite `f32` is read as that `f32`, also -0. `NoMemory` comes where memory runs
-/// out.
+/// The number of a finite `f32` is read as that `f32`, also -0. Fails with `NoMemory` if memory
+/// runs out.
 pub fn single_is_read_again(alloc: Global, x: f32) -> Result<Option<RawNumber>>
     ensures read { IfOk result (λ o. IfSome o (λ r. IsReadAs binary32 (raw_literal r) x)) }
     ensures err { OnlyNoMemory result }

@@ -52,7 +52,7 @@ pub trait Members<S: Lent>: Sized {
     ghost step: { Datum → List ℕ → Tree → Reading };
 
     /// Takes the value of the member of that name: it is read, or skipped where the name is
-    /// unknown. A refusal of the value comes after the whole of it was taken.
+    /// unknown. If the value is refused, the whole of it was taken.
     fn member<T: Tokens<S>>(&mut self, alloc: Global, name: &str, tokens: &mut T) -> Result<()>
         requires { WantsValue (T.stand tokens.old) }
         ensures ok { OnOk result (ReadsTree T.taken T.stand (step (so_far self.old) name.now)
@@ -110,9 +110,9 @@ fn read_rest<S: Lent, M: Members<S>, T: Tokens<S>>(
     }
 }
 
-/// Takes an object, each member in its order. `TypeUnmatched` comes where another value comes; a
-/// refusal of a member, after the whole object was taken. `NoMemory` comes where a name that has an
-/// escape cannot be copied.
+/// Reads an object, each member in its order. Fails with `TypeUnmatched` if the next value is no
+/// object. If a member is refused, the rest of the object is read first. Fails with `NoMemory` if a
+/// name that has an escape cannot be copied.
 #[inline(always)]
 pub fn read_members<S: Lent, M: Members<S>, T: Tokens<S>>(
     alloc: Global,

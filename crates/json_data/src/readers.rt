@@ -63,7 +63,7 @@ impl<S: Lent> DeserializeFrom<S> for bool {
     }
 }
 
-// The text that comes next.
+// Returns the next string.
 #[inline(always)]
 pub(crate) fn next_text<S: Lent, T: Tokens<S>>(tokens: &mut T) -> Result<Piece<S>>
     requires whole { NotWhole (T.stand tokens.old) }
@@ -94,7 +94,7 @@ fn text_by_kind<S: Lent, T: Tokens<S>>(tokens: &mut T) -> Result<Piece<S>>
     next_text(tokens)
 }
 
-// The text that comes next, or a refusal of another value.
+// Returns the next string. Fails with `TypeUnmatched` at another value.
 #[inline(always)]
 pub(crate) fn expect_text<S: Lent, T: Tokens<S>>(tokens: &mut T) -> Result<Piece<S>>
     requires { WantsValue (T.stand tokens.old) }
@@ -280,7 +280,7 @@ fn element_by_kind<S: Lent, V: DeserializeFrom<S>, T: Tokens<S>>(
     Ok(Some(element))
 }
 
-/// The element that comes next in a list, or none where the list ends there, whose end is taken.
+/// Reads the next element of a list, or returns `None` if the list ends, whose end is taken.
 #[inline(always)]
 fn next_element<S: Lent, V: DeserializeFrom<S>, T: Tokens<S>>(
     alloc: Global,

@@ -27,7 +27,7 @@ pub(crate) fn whole_of_number(n: Number) -> IntegerLiteral
     }
 }
 
-// The integer by value that comes next.
+// Returns the next integer by value.
 #[inline(always)]
 pub(crate) fn next_int<S: Lent, T: Tokens<S>>(tokens: &mut T) -> Result<Number>
     requires whole { NotWhole (T.stand tokens.old) }
@@ -44,7 +44,7 @@ pub(crate) fn next_int<S: Lent, T: Tokens<S>>(tokens: &mut T) -> Result<Number>
     }
 }
 
-// The literal of another number that comes next.
+// Returns the literal of another number.
 #[inline(never)]
 pub(crate) fn next_raw<S: Lent, T: Tokens<S>>(tokens: &mut T) -> Result<S>
     requires whole { NotWhole (T.stand tokens.old) }
@@ -60,7 +60,7 @@ pub(crate) fn next_raw<S: Lent, T: Tokens<S>>(tokens: &mut T) -> Result<S>
     }
 }
 
-/// The integer of the tree that comes next.
+/// Returns the integer of the next tree.
 #[inline(always)]
 pub(crate) fn read_whole<S: Lent, T: Tokens<S>>(tokens: &mut T) -> Result<IntegerLiteral>
     requires { WantsValue (T.stand tokens.old) }

@@ -27,7 +27,7 @@ use Rattle.json_tokens.proofs.TextSteps.{takes_none, takes_next}
 abbrev pub clear : ParserState → Option Error → TextTokensState
 clear p f = record { parser = p; ahead = None; failed = f }
 
--- an event was read, and its kind was told
+-- an event was read, and its kind was peeked
 pub told_ahead : (p q : ParserState) (f : Option Error) (e : Event) → ReadsAhead p e q → Peeks (text_tokens_state (clear p f)) (text_tokens_state (record { parser = q; ahead = Some e; failed = f })) (event_kind e)
 told_ahead p q f e r =
     let s = r.same in
@@ -59,7 +59,7 @@ no_minus (x ∷ l) d h = λ e.
     let q : is_ascii_digit 45 ≡ true = subst (λ y. is_ascii_digit y ≡ true) e p.0 in
     cc
 
--- the source goes on behind it
+-- the source goes on after it
 pub still_reading : (p q : ParserState) (e : Event) (ts : List Tok) → HasGiven p ts → ReadsAhead p e q → p.start ≤ p.index → (IsWhole q → HasRead q) → IsReadingText (clear q None)
 still_reading p q e ts h r o w =
     let g = r.goes ts h in
@@ -76,7 +76,7 @@ module _ (a : TextTokensState) (p : ParserState) (o : Option Event) (f : Option 
   pub clear_inside : NotWhole (text_tokens_state a) → ¬ (IsWhole p)
   clear_inside h = λ w. h (subst (λ (t : TextTokensState). (text_tokens_state t).spot ≡ state_in []) seen (subst (λ (u : Option Event). spot_before u p ≡ state_in []) (sym unwaiting) (whole_over p w)))
 
-  -- it goes on behind an event
+  -- it goes on after an event
   pub clear_reading : (q : ParserState) (e : Event) → a.failed ≡ None → IsReadingText (record { parser = p; ahead = o; failed = f })
       → ((ts : List Tok) → HasGiven p ts → ReadsAhead p e q) → (IsWhole q → HasRead q) → IsReadingText (record { parser = q; ahead = o; failed = f })
   clear_reading q e u i r w =

@@ -25,7 +25,7 @@ given_reading p ts h = stood_at p.lossy p.limit (input p) (taken p) p.open_kinds
 pub place_is : (p : ParserState) (ts : List Tok) → HasGiven p ts → parser_spot p ≡ after_tokens initial_state ts
 place_is p ts h = sym (place_state (given_reading p ts h))
 
--- behind the tokens of a tree nothing may come
+-- after the tokens of a tree nothing may follow
 pub tree_over : (p : ParserState) (ts : List Tok) (t : Tree) → HasGiven p ts → ts ≡ tokens t → parser_spot p ≡ state_in []
 tree_over p ts t h e = place_is p ts h ∙ ap (after_tokens initial_state) e ∙ after_tree initial_state t
 
@@ -78,7 +78,7 @@ event_number p event.BeginObject ts x m h = tt
 event_number p event.EndObject ts x m h = tt
 event_number p event.End ts x m h = tt
 
--- the last token may come
+-- the last token may follow
 last_may : (p : ParserState) (ts : List Tok) (x : Tok) → HasGiven p (ts ++ x ∷ []) → Accepts initial_state ts × MayCome (after_tokens initial_state ts) x
 last_may p ts x h = let a = place_accepts (given_reading p (ts ++ x ∷ []) h) in (accepts_front initial_state ts (x ∷ []) a, (accepts_back initial_state ts (x ∷ []) a).0)
 

@@ -41,7 +41,7 @@ around_same (one_element h t) = around_same h
 around_same (one_key h k) = around_same h
 around_same (one_member h t) = around_same h
 
--- the first of them has the kind k, or where there is none it was told
+-- the first of them has the kind k, or where there is none it was peeked
 abbrev pub First : List Tok → Option TokenKind → TokenKind → Type 0
 First [] o k = o ≡ Some k
 First (x ∷ xs) o k = kind_of x ≡ k
@@ -69,7 +69,7 @@ passed_none {taken = taken} a o u = record {
   first = λ k e. e;
 }
 
--- a told token is taken
+-- a peeked token is taken
 pub peek_one : {S : Type 0} {taken : S → List Tok → Type 0} {stand : S → TokensState} {a b c : S} {k : TokenKind} {x : Tok}
     → Peeks (stand a) (stand b) k → TakesTokens taken a [] b → TakesOne taken stand b c x → TakesOne taken stand a c x × (kind_of x ≡ k)
 peek_one {taken = taken} {stand = stand} {a = a} {b = b} {c = c} {k = k} {x = x} h z r =
@@ -265,7 +265,7 @@ begun_open (end object) p (inr e) = absurd (cc)
 begun_open (key_token s) p (inl e) = absurd (cc)
 begun_open (key_token s) p (inr e) = absurd (cc)
 
--- the end comes
+-- the end follows
 end_array : (e : Expected) (c : List Kind) → EndMayCome e array → RestAt e c (end array ∷ [])
 end_array a_value c m = absurd m
 end_array element_or_end c m = (no_trees, refl)

@@ -1,4 +1,4 @@
--- Where a value that a source returns stands.
+-- The position of a value that a source returns.
 use Rattle.std.proofs.Common.{◌≡◌, ◌∙◌, Option, Some, None, IfSome, sym, ap, subst}
 use Rattle.std.specs.Prelude.{option_map}
 use Rattle.json_value.specs.Places.{places_in}
@@ -19,7 +19,7 @@ stays P None l x e h = subst (λ (y : Option Sight). IfSome y P) e tt
 pub placed_before : (a m : ValueTokens) → option_map sight_of m.next ≡ next_sight a.next a.inner → (v : Value) → value_placed m v → value_placed a v
 placed_before a m e v h = stays (λ g. IsMadeOf g v) m.next m.inner (next_sight a.next a.inner) e h
 
--- the value that is made of the view that comes next
+-- the value that is made of the next view
 pub made_of_next : (a m : ValueTokens) (w : View) (v : Value) → option_map sight_of m.next ≡ next_sight a.next a.inner → m.next ≡ Some w
     → spot_of v ≡ spot_kept w → IfSome (places_kept w) (λ places. places_in v ≡ places) → value_placed a v
 made_of_next a m w v e n s p =

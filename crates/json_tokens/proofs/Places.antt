@@ -1,4 +1,5 @@
--- Kinds of tokens where tokens may come, and the state before a token, from the containers that are open behind it.
+-- Kinds of tokens where tokens may follow, and the state before a token, from the containers that
+-- are open after it.
 use Rattle.std.proofs.Common.{◌≡◌, ℕ, ℤ, List, [], ◌∷◌, true, Option, Some, None, refl}
 use Rattle.json_grammar.specs.declared.Kind.{Kind}
 use Rattle.json_grammar.specs.declared.Kind.TheVariants.{Array as array, Object as object}
@@ -30,7 +31,7 @@ number_may : (s : TokenState) (o : Option ℤ) → ValueMayCome s.expected → K
 number_may s None v = v
 number_may s (Some n) v = v
 
--- where a token may come, its kind may
+-- where a token may follow, its kind may
 pub kind_may : (s : TokenState) (x : Tok) → MayCome s x → KindMayCome s (kind_of x)
 kind_may s null_token m = m
 kind_may s (boolean_token b) m = m

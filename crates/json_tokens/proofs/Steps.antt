@@ -24,7 +24,7 @@ told_before {a = a} {k = k} {j = j} p q = let e : j ≡ k = q.told k p.told in r
 pub peek_moves : {a b c : TokensState} {k : TokenKind} {p : TokenState} → Peeks a b k → Moves b c p → Moves a c p
 peek_moves h m = record { input = m.input ∙ h.input; spot = m.spot; told = m.told; left = omega (arith, h.left, m.left) }
 
--- a kind was told, and then a tree was taken
+-- a kind was peeked, and then a tree was taken
 pub peek_tree : {S : Type 0} {taken : S → List Tok → Type 0} {stand : S → TokensState} {a b c : S} {k : TokenKind} {t : Tree}
     → Peeks (stand a) (stand b) k → TakesTokens taken a [] b → TakesTree taken stand b c t → TakesTree taken stand a c t
 peek_tree {taken = taken} {stand = stand} {a = a} {b = b} {c = c} {t = t} h z r = record {
@@ -47,7 +47,7 @@ pub from_same : {S : Type 0} {taken : S → List Tok → Type 0} {stand : S → 
     → b ≡ a → TakesTree taken stand b c t → TakesTree taken stand a c t
 from_same {S = S} {taken = taken} {stand = stand} {c = c} {t = t} e r = subst (λ (s : S). TakesTree taken stand s c t) e r
 
--- the tree that was taken begins as was told
+-- the tree that was taken begins as was peeked
 pub peek_kind : {S : Type 0} {taken : S → List Tok → Type 0} {stand : S → TokensState} {b c : S} {a : TokensState} {k : TokenKind} {t : Tree}
     → Peeks a (stand b) k → TakesTree taken stand b c t → first_kind t ≡ k
 peek_kind {k = k} h r = r.as_told.told k h.told

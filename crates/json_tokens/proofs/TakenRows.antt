@@ -24,7 +24,7 @@ use Rattle.json_doc.proofs.ValueRecording.{means_one}
 given_one : (p : ParserState) (ts us : List Tok) → HasGiven p ts → HasGiven p us → ts ≡ us
 given_one p ts us h k = (one_place p.lossy (given_reading p ts h) (given_reading p us k)).2
 
--- a space more, behind which a number ends
+-- one more space, after which a number ends
 reading_begins : (lossy : Bool) (b : List ℕ) (c : List Kind) (w : Place) (ts : List Tok) → reading lossy b c w ts → (t : Tree) × (rest : List Tok) × (tokens t ≡ ts ++ rest)
 reading_begins lossy b c w ts h =
     let v = place_viable lossy (b ++ 32 ∷ []) c w ts (reading_space lossy (32 ∷ []) (inl refl, tt) h) in

@@ -74,18 +74,18 @@ pub no_again : {X Y : Type 0} (o : Option Error) (r : Result X Error) (k : X) (q
 no_again None r k q h i = tt
 no_again (Some e) r k q h i = absurd (cc)
 
--- behind a value that was taken no event waits
+-- after a value that was taken no event waits
 pub none_waits : (p : ParserState) (o : Option Event) (f : Option Error) → (text_tokens_state (record { parser = p; ahead = o; failed = f })).told ≡ None → o ≡ None
 none_waits p None f t = refl
 none_waits p (Some e) f t = absurd (cc)
 
--- behind a value that was taken
+-- after a value that was taken
 pub has_read_value : (p : ParserState) (o : Option Event) (f : Option Error) → (text_tokens_state (record { parser = p; ahead = o; failed = f })).spot ≡ state_in []
     → (text_tokens_state (record { parser = p; ahead = o; failed = f })).told ≡ None → (IsWhole p → HasRead p) → HasReadValue (record { parser = p; ahead = o; failed = f })
 has_read_value p (Some a) f s t r = absurd (cc)
 has_read_value p None f s t r = r (over_whole p s)
 
--- behind a value and whitespace
+-- after a value and whitespace
 spaced_to : (p : ParserState) (ts : List Tok) (k : ℕ) → HasGiven p ts → parser_spot p ≡ state_in [] → p.start ≤ p.index → ComesNext p k → Stood p.lossy p.limit (input p) (k - p.start) p.open_kinds done ts
 spaced_to p ts k g o s n =
     let w = over_whole p o in

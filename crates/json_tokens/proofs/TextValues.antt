@@ -34,7 +34,7 @@ begins_one (end array) e = absurd (cc)
 begins_one (end object) e = absurd (cc)
 begins_one (key_token s) e = absurd (cc)
 
--- where a value is wanted, the event that was told begins one
+-- where a value is wanted, the event that was peeked begins one
 pub handed_out : (a : TextTokensState) (p : ParserState) (e : Event) (k : TokenKind) (f : Option Error) → (ts : List Tok) × TakenBefore (Some e) p ts → p.failure ≡ None
     → WantsValueAt (text_tokens_state a).spot (text_tokens_state a).told → Peeks (text_tokens_state a) (text_tokens_state (record { parser = p; ahead = Some e; failed = f })) k → HandedOut p e
 handed_out a p e k f (ts, (x, m, g)) n w h =
@@ -48,7 +48,7 @@ handed_out a p e k f (ts, (x, m, g)) n w h =
       unfailed = n;
     }
 
--- the tokens of the tree were taken, the one that was told among them
+-- the tokens of the tree were taken, the one that was peeked among them
 pub takes_value : (a : TextTokensState) (p q : ParserState) (f g : Option Error) (e : Event) (k : TokenKind) (t : Tree) → (ts : List Tok) × TakenBefore (Some e) p ts
     → Peeks (text_tokens_state a) (text_tokens_state (record { parser = p; ahead = Some e; failed = f })) k → TakesTokens text_taken a [] (record { parser = p; ahead = Some e; failed = f })
     → SameInput p q → p.index ≤ q.index → ReadsValue p e t q → TakesTree text_taken text_tokens_state a (record { parser = q; ahead = None; failed = g }) t

@@ -111,7 +111,7 @@ element_first t ts ls = regroup (tokens t) (trees_tokens (list_trees ts)) (end a
 member_first : (p : List ℕ × Tree) (ps : List (List ℕ × Tree)) (ls : List Left) → open_tokens (members_of (p ∷ ps) ∷ ls) ≡ key_token p.0 ∷ (tokens p.1 ++ open_tokens (members_of ps ∷ ls))
 member_first p ps ls = ap (λ (xs : List Tok). key_token p.0 ∷ xs) (regroup (tokens p.1) (pairs_tokens (list_pairs ps)) (end object ∷ []) (open_tokens ls))
 
--- the next token may come
+-- the next token may follow
 head_may : (ls : List Left) (o : Option Tree) (k : TokenKind) → head_kind (next_tokens o ++ open_tokens ls) ≡ Some k → KindMayCome (spot_in_levels ls o) k
 head_may ls (Some t) k e = value_head ls t k e
 head_may [] None k e = absurd (cc)
@@ -120,7 +120,7 @@ head_may (elements_of (t ∷ ts) ∷ ls) None k e = value_head (elements_of ts �
 head_may (members_of [] ∷ ls) None k e = subst (λ (j : TokenKind). KindMayCome (state_in (object ∷ map kind_left ls)) j) (some_is e) tt
 head_may (members_of (p ∷ ps) ∷ ls) None k e = subst (λ (j : TokenKind). KindMayCome (state_in (object ∷ map kind_left ls)) j) (some_is e) tt
 
--- where no value comes next, it is a key or an end
+-- where no value is next, a key or an end is
 front_head : (ls : List Left) (k : TokenKind) → NoElement ls → FrontIs ls k → spot_in_levels ls None ≢ state_in [] → head_kind (open_tokens ls) ≡ Some k
 front_head [] k n f o = absurd (o refl)
 front_head (elements_of [] ∷ ls) k n f o = ap Some (sym f)
@@ -183,7 +183,7 @@ tree_taken a b t s =
       as_told = as_told (value_state a) (first_kind t) (ap head_kind s.rest ∙ head_tree t (rest_of (value_state b)));
     }
 
--- ---- behind an element that was reached
+-- ---- after an element that was reached
 
 pub settled : {a m b : ValueState} {xs : List Tok} {p q : TokenState} → SettlesNext a m → TakesTokensTo m b xs p → p ≡ q → TakesTokensTo a b xs q
 settled s t e = record { tree = t.tree ∙ s.tree; rest = sym s.rest ∙ t.rest; spot = t.spot ∙ e; told = t.told; failed = t.failed ∙ s.failed }
@@ -212,7 +212,7 @@ peek_front a m k s w n f =
     peeks a m k s (ap (λ (o : Option Tree). head_kind (next_tokens o ++ open_tokens m.levels)) n
     ∙ front_head m.levels k (s.reached n) f (λ i. w (sym s.spot ∙ ap (spot_in_levels m.levels) n ∙ i)))
 
--- ---- a value that comes next
+-- ---- the next value
 
 next_rest : (a : ValueState) (t : Tree) → a.next ≡ Some t → rest_of a ≡ tokens t ++ open_tokens a.levels
 next_rest a t n = ap (λ (o : Option Tree). next_tokens o ++ open_tokens a.levels) n
@@ -402,7 +402,7 @@ leaves a b h x =
       moves = moves f.0 f.1 (subst (λ (xs : List Tok). TakesTokensTo s (value_state b) xs (around (spot_in_levels s.levels s.next))) f.2 q);
     }
 
--- ---- where a value is wanted, it comes next
+-- ---- where a value is wanted, it is next
 
 wanted : (ls : List Left) (o : Option Tree) (b : Bool) → WantsValueAt (spot_in_levels ls o) (if b then head_kind (next_tokens o ++ open_tokens ls) else None) → (o ≡ None → NoElement ls) → (t : Tree) × (o ≡ Some t)
 wanted ls (Some t) b h r = (t, refl)
@@ -419,7 +419,7 @@ wants_next a m s h =
     (subst (λ (xs : List Tok). WantsValueAt (spot_in_levels a.levels a.next) (if a.told then head_kind xs else None)) (sym s.rest) h))
     s.reached
 
--- the value that comes next is taken, whole
+-- the next value is taken, whole
 pub passes : (a b : ValueTokens) (m : ValueState) (t : Tree) → SettlesNext (value_state a) m → m.next ≡ Some t → value_state b ≡ record m { next = None; told = false } → TakesTree value_taken value_stand a b t
 passes a b m t s n e =
     tree_taken a b t
@@ -429,6 +429,6 @@ passes a b m t s n e =
 pub skips : (a b : ValueTokens) (m : ValueState) → SettlesNext (value_state a) m → WantsValue (value_stand a) → value_state b ≡ record m { next = None; told = false } → (t : Tree) × TakesTree value_taken value_stand a b t
 skips a b m s h e = let w = wants_next (value_state a) m s h in (w.0, passes a b m w.0 s w.1 e)
 
--- where a value is wanted, one comes next
+-- where a value is wanted, one is next
 pub not_none : (a m : ValueState) → SettlesNext a m → WantsValue (state_stand a) → m.next ≡ None → ⊥
 not_none a m s h n = let w = wants_next a m s h in let e : Some w.0 ≡ None = sym w.1 ∙ n in cc

@@ -42,7 +42,7 @@ may_before kind.Int c = value_there c
 may_before kind.Raw c = value_there c
 may_before kind.Text c = value_there c
 
--- it is told, and nothing is taken
+-- it is peeked, and nothing is taken
 told_waiting : (p : ParserState) (f : Option Error) (e : Event) → Peeks (text_tokens_state (waits p f e)) (text_tokens_state (waits p f e)) (event_kind e)
 told_waiting p f e = record {
   input = refl;

@@ -1,4 +1,4 @@
--- The kinds of tokens, and what a token that is lent stands for.
+-- The kinds of tokens, and what a borrowed token denotes.
 use Rattle.std.specs.Prelude.{◌≡◌, ℕ, ℤ, List, Option, Some, None}
 use Rattle.json_grammar.specs.declared.Kind.TheVariants.{Array as array, Object as object}
 use Rattle.json_grammar.specs.Grammar.{number}
@@ -39,7 +39,7 @@ first_kind (text s) = kind.Text
 first_kind (list ts) = kind.BeginArray
 first_kind (pairs ps) = kind.BeginObject
 
--- what a token that is lent stands for
+-- what a borrowed token denotes
 abbrev pub DenotesToken : {S : Type 0} {g : _} → (S → List ℕ) → Token Number S (Piece S g) → Tok → Type 0
 DenotesToken f token.Null x = x ≡ null_token
 DenotesToken f (token.Bool b) x = x ≡ boolean_token b

@@ -1,4 +1,4 @@
--- Which kinds of tokens may come next from a source of tokens.
+-- Which kinds of tokens a source may give next.
 use Rattle.std.specs.Prelude.{List, [], ◌∷◌, Bool, true, false}
 use Rattle.json_grammar.specs.declared.Kind.{Kind}
 use Rattle.json_grammar.specs.declared.Kind.TheVariants.{Array as array, Object as object}
@@ -18,7 +18,7 @@ begins_value kind.EndArray = false
 begins_value kind.EndObject = false
 begins_value _ = true
 
--- a token of the kind may come there
+-- a token of the kind may follow
 abbrev pub KindMayCome : TokenState → TokenKind → Type 0
 KindMayCome s kind.Key = NameMayCome s.expected
 KindMayCome s kind.EndArray = EndMayCome s.expected array

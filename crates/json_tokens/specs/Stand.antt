@@ -11,7 +11,7 @@ use Rattle.json_grammar.specs.declared.Kind.{Kind}
 use Rattle.json_grammar.specs.TokenStates.{TokenState, Expected, a_value, element_or_end, name_or_end, nothing, state_in, state_after_value, after_token}
 use Rattle.json_tokens.specs.Spots.{KindMayCome, begins_value, around}
 
--- what is read: a text from a place on, lossy or not, with so many levels at most, or a tree
+-- what is read: a text from a place on, lossy or not, with a limit of levels, or a tree
 pub data Input : Type 0 where
   over_text : List ℕ → ℕ → Bool → ℕ → Input
   over_tree : Tree → Input
@@ -19,7 +19,7 @@ pub data Input : Type 0 where
 pub record TokensState : Type 0 where
   pub input : Input
   pub spot : TokenState
-  -- the kind that was told since the last token was taken
+  -- the kind that was peeked since the last token was taken
   pub told : Option TokenKind
   -- falls with each token that is taken
   pub left : ℕ
@@ -51,7 +51,7 @@ WantsValue s = WantsValueAt s.spot s.told
 pub record TakesTokens {S : Type 0} (taken : S → List Tok → Type 0) (a : S) (xs : List Tok) (b : S) : Type 0 where
   pub on : (ts : List Tok) → taken a ts → taken b (ts ++ xs)
 
--- the kind k was told
+-- the kind k was peeked
 pub record Peeks (a b : TokensState) (k : TokenKind) : Type 0 where
   pub input : b.input ≡ a.input
   pub spot : b.spot ≡ a.spot
@@ -60,14 +60,14 @@ pub record Peeks (a b : TokensState) (k : TokenKind) : Type 0 where
   pub may : KindMayCome a.spot k
   pub again : (j : TokenKind) → a.told ≡ Some j → k ≡ j
 
--- tokens were taken, and it stands at p
+-- tokens were taken, and the state is p
 pub record Moves (a b : TokensState) (p : TokenState) : Type 0 where
   pub input : b.input ≡ a.input
   pub spot : b.spot ≡ p
   pub told : b.told ≡ None
   pub left : b.left < a.left
 
--- the kind told was that of the token taken
+-- the peeked kind was that of the token taken
 pub record AsTold (a : TokensState) (k : TokenKind) : Type 0 where
   pub may : KindMayCome a.spot k
   pub told : (j : TokenKind) → a.told ≡ Some j → k ≡ j

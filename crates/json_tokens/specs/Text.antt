@@ -23,11 +23,11 @@ use Rattle.json_grammar.specs.TokenStates.{TokenState, initial_state, state_in, 
 use Rattle.json_tokens.specs.Spots.{KindMayCome}
 use Rattle.json_tokens.specs.Stand.{TokensState, over_text}
 
--- where a value may come, within the open containers
+-- where a value may follow, within the open containers
 abbrev pub value_spot : List Kind → TokenState
 value_spot c = record { opened = c; expected = expected_before_value c }
 
--- the state before a token of the kind, by the containers that are open behind it
+-- the state before a token of the kind, by the containers that are open after it
 abbrev pub before : TokenKind → List Kind → TokenState
 before kind.Key c = state_in (object ∷ outside c)
 before kind.BeginArray c = value_spot (outside c)
@@ -59,7 +59,7 @@ event_integer _ = None
 abbrev pub parser_spot : ParserState → TokenState
 parser_spot p = state_at p.spot p.open_kinds
 
--- one event was read, of a token that may come there
+-- one event was read, of a token that may follow
 pub record ReadsAhead (old : ParserState) (e : Event) (new : ParserState) : Type 0 where
   pub same : SameInput old new
   pub goes : (ts : List Tok) → HasGiven old ts → (x : Tok) × Means e x × HasGiven new (ts ++ x ∷ [])
@@ -69,7 +69,8 @@ pub record ReadsAhead (old : ParserState) (e : Event) (new : ParserState) : Type
   pub may : KindMayCome (parser_spot old) (event_kind e)
   pub fresh : new.failure ≡ None
 
--- the value that is read has a fault, which is one of the text too, and is told at the token that needs the byte at its offset
+-- the value that is read has a fault, which is one of the text too, and is reported at the token
+-- that needs the byte at its offset
 pub record HasFault (p : ParserState) (e : Error) : Type 0 where
   pub offset : ℕ
   pub place : e.place ≡ place_at p.text (p.start + offset)
@@ -111,7 +112,7 @@ text_tokens_state s = record {
   failed = s.failed;
 }
 
--- no token was told, taken or refused
+-- no token was peeked, taken or refused
 pub record IsFreshReader (s : TextTokensState) : Type 0 where
   pub none : HasGiven s.parser []
   pub taken : text_taken s []

@@ -5,6 +5,7 @@ use Rattle.json_doc.specs.Docs.{doc_root}
 use Rattle.json_value.specs.declared.value.Value.{Value}
 use Rattle.json_value.specs.Spots.{spot_of, read_spot}
 
--- it stands at the root of a document, as each container in it that has members stands in that document
+-- it is the root of a document, and each container in it that has members is a place of that
+-- document
 abbrev pub IsPackedAtRoot : Value → Type 0
 IsPackedAtRoot v = (d : Doc) × (spot_of v ≡ read_spot d (doc_root d))

@@ -53,7 +53,7 @@ abbrev pub next_tokens : Option Tree → List Tok
 next_tokens None = []
 next_tokens (Some t) = tokens t
 
--- the spot within open containers, by whether a value of the innermost comes next
+-- the state within open containers, by whether a value of the innermost is next
 abbrev pub spot_in_levels : List Left → Option Tree → TokenState
 spot_in_levels [] None = state_in []
 spot_in_levels [] (Some t) = initial_state
@@ -64,11 +64,11 @@ spot_in_levels (members_of ps ∷ ls) (Some t) = record { opened = object ∷ ma
 -- a value whose tokens are taken
 pub record ValueState : Type 0 where
   pub tree : Tree
-  -- the value that comes next, if it was reached
+  -- the next value, if it was reached
   pub next : Option Tree
-  -- what the open containers have left behind it, the innermost first
+  -- what the open containers have left after it, the innermost first
   pub levels : List Left
-  -- whether the kind of the next token was told, and whether memory ran out
+  -- whether the kind of the next token was peeked, and whether memory ran out
   pub told : Bool
   pub failed : Bool
 
@@ -116,13 +116,13 @@ element_sights level.Root = []
 element_sights (level.List s) = elements_sights_left s
 element_sights (level.Pairs s) = []
 
--- what the view of the value that comes next is of
+-- what the view of the next value is of
 abbrev pub next_sight : Option View → Level → Option Sight
 next_sight (Some v) l = Some (sight_of v)
 next_sight None l = slice_get (element_sights l) 0
 
--- a value made of what is seen: where that is a place of the document of a value it is read from there, and of a whole value each part stands where
--- its own does
+-- a value made of what is seen: where that is a place of the document of a value it is read from
+-- there, and of a whole value each part has the position of its own
 pub record IsMadeOf (s : Sight) (v : Value) : Type 0 where
   pub spot : spot_of v ≡ sight_kept s
   pub parts : IfSome (sight_places s) (λ places. places_in v ≡ places)
@@ -130,13 +130,13 @@ pub record IsMadeOf (s : Sight) (v : Value) : Type 0 where
 abbrev pub value_placed : ValueTokens → Value → Type 0
 value_placed s v = IfSome (next_sight s.next s.inner) (λ g. IsMadeOf g v)
 
--- no token of the tree was told, taken or refused
+-- no token of the tree was peeked, taken or refused
 abbrev pub at_begin : Tree → ValueState
 at_begin t = record { tree = t; next = Some t; levels = []; told = false; failed = false }
 
 -- ---- steps
 
--- the first element, if one is left, comes next
+-- the next value is the first element, if one is left
 abbrev pub PullsElement : List Left → Option Tree → List Left → Type 0
 PullsElement (elements_of (t ∷ ts) ∷ c) o ls = (o ≡ Some t) × (ls ≡ elements_of ts ∷ c)
 PullsElement c o ls = (o ≡ None) × (ls ≡ c)
@@ -151,14 +151,14 @@ abbrev pub NoElement : List Left → Type 0
 NoElement (elements_of ts ∷ c) = ts ≡ []
 NoElement _ = Unit {0}
 
--- where no element is left, the token of a key or of the end that comes has the kind
+-- where no element is left, the next token, of a key or of an end, has the kind
 abbrev pub FrontIs : List Left → TokenKind → Type 0
 FrontIs [] k = Unit {0}
 FrontIs (elements_of ts ∷ c) k = k ≡ kind.EndArray
 FrontIs (members_of [] ∷ c) k = k ≡ kind.EndObject
 FrontIs (members_of (p ∷ ps) ∷ c) k = k ≡ kind.Key
 
--- an element that comes next was reached; nothing else changed
+-- the next element, if one is left, was reached; nothing else changed
 pub record SettlesNext (a b : ValueState) : Type 0 where
   pub tree : b.tree ≡ a.tree
   pub rest : rest_of b ≡ rest_of a
@@ -167,7 +167,7 @@ pub record SettlesNext (a b : ValueState) : Type 0 where
   pub told : b.told ≡ a.told
   pub failed : b.failed ≡ a.failed
 
--- the tokens xs were taken, and it stands at p
+-- the tokens xs were taken, and the state is p
 pub record TakesTokensTo (a b : ValueState) (xs : List Tok) (p : TokenState) : Type 0 where
   pub tree : b.tree ≡ a.tree
   pub rest : rest_of a ≡ xs ++ rest_of b

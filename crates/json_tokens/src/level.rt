@@ -64,7 +64,7 @@ impl<'a> Level<'a> {
         }
     }
 
-    /// The kind of the token that comes, where no element is left.
+    /// Returns the kind of the next token if no element is left.
     pub(crate) fn front(&self) -> TokenKind
         ensures { (c : List Left) → FrontIs (left_after_opening self.now c) result }
     {

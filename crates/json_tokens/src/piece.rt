@@ -40,7 +40,7 @@ impl<S: Lent> Clone for Piece<S> {
 impl<S: Lent> Copy for Piece<S> {}
 
 impl<S: Lent> Piece<S> {
-    /// A text without escapes.
+    /// Creates a piece of a text without escapes.
     #[inline(always)]
     pub fn plain(text: S) -> Piece<S>
         ensures escaped { result.escaped ≡ None }
@@ -52,7 +52,7 @@ impl<S: Lent> Piece<S> {
         }
     }
 
-    /// The text, exactly where it needs no unescaping.
+    /// Returns the text, exactly if it needs no unescaping.
     #[inline(always)]
     pub fn lent(self) -> Option<S>
         ensures text { IfSome result (λ t. (s : List ℕ) → Says s self.escaped (S.bytes self.text)
@@ -80,7 +80,7 @@ impl<S: Lent> Piece<S> {
         }
     }
 
-    /// The text, or `NoMemory`.
+    /// Returns the text as a string of its own. Fails with `NoMemory` if memory runs out.
     #[inline]
     pub fn copy(self, alloc: Global) -> Result<String>
         ensures ok { IfOk result (λ v. (s : List ℕ) → Says s self.escaped (S.bytes self.text)
@@ -103,7 +103,8 @@ impl<S: Lent> Piece<S> {
     }
 }
 
-/// The text of a piece, lent exactly where it needs no unescaping, or `NoMemory`.
+/// Returns the text of a piece, borrowed exactly if it needs no unescaping. Fails with `NoMemory`
+/// if memory runs out.
 #[inline]
 pub fn lend<'a>(piece: Piece<&'a str>, alloc: Global) -> Result<CowStr<'a>>
     ensures ok { IfOk result (λ v. (s : List ℕ) → Says s piece.entry.escaped piece.entry.text.now

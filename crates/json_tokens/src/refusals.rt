@@ -14,7 +14,7 @@ pub fn refusal(code: ErrorCode) -> Error
     }
 }
 
-/// Whether a reader refuses a tree so.
+/// Returns whether the code is one by which a reader refuses a tree.
 pub fn is_refusal(code: ErrorCode) -> bool
     ensures { result ≡ spec_is_refusal code }
 {

@@ -66,8 +66,8 @@ impl<'a> Model for TextTokens<'a> {
 }
 
 impl<'a> TextTokens<'a> {
-    /// Stands at the beginning of the text. A value of at most 254 levels is read, where `depth`
-    /// chooses none.
+    /// Creates a source at the beginning of the text. It reads values of at most 254 levels, unless
+    /// `depth` sets another limit.
     pub fn new(text: &'a str) -> TextTokens<'a>
         ensures text { result.parser.text ≡ text.now }
         ensures start { (result.parser.start ≡ 0) × (result.parser.limit ≡ 254) }
@@ -133,7 +133,7 @@ impl<'a> TextTokens<'a> {
     }
 
     /// Returns the error that was returned in place of a token: `NoMemory`, or the error of the
-    /// value, which comes at the first token that needs the byte at its place.
+    /// value, which is returned for the first token that needs the byte at its place.
     pub fn failure(&self) -> Option<Error>
         ensures same { result ≡ self.now.failed }
         ensures cause { IfSome self.now.failed (TextFails self.now.parser) }
@@ -330,7 +330,7 @@ impl<'a> TextTokens<'a> {
     }
 }
 
-/// At each state of a source over a text some tokens were taken so far.
+/// Shows that in each state of a source over a text some tokens were taken so far.
 pub fn text_row_exists(tokens: &TextTokens<'_>)
     ensures { (ts : List Tok) × text_taken tokens.now ts }
 {

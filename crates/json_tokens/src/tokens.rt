@@ -98,7 +98,7 @@ pub trait Tokens<S: Lent> {
         ensures again { IfSome (stand self.old).failed (λ e. result ≡ Err e) };
 
     /// Takes the next token if it is an integer from 0 to `most` that is found at once. Otherwise
-    /// nothing is taken: `peek` and `next` return what comes.
+    /// nothing is taken: `peek` and `next` return the next token.
     fn integer(&mut self, most: u64) -> Option<u64>
         requires { NotWhole (stand self.old) }
         ensures most { IfSome result (λ n. n ≤ most) }
@@ -113,7 +113,7 @@ pub trait Tokens<S: Lent> {
 
     /// Takes the next token if it is an integer below 0 that is found at once, and returns its
     /// magnitude, which is at most `least`. Otherwise nothing is taken: `peek` and `next` return
-    /// what comes.
+    /// the next token.
     fn negative(&mut self, least: u64) -> Option<u64>
         requires whole { NotWhole (stand self.old) }
         requires fits { least ≤ 2 ^ 63 }

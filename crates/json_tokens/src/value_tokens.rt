@@ -33,7 +33,7 @@ use std::mem;
 #[derive(Drop)]
 pub struct ValueTokens<'a> {
     whole: View<'a>,
-    // the value that comes next, if it was reached
+    // the next value, if it was reached
     next: Option<View<'a>>,
     // the innermost open container, and those around it, the outermost first
     inner: Level<'a>,
@@ -45,7 +45,7 @@ pub struct ValueTokens<'a> {
 }
 
 impl<'a> ValueTokens<'a> {
-    /// Stands before the value.
+    /// Creates a source at the beginning of the value.
     pub fn new(alloc: Global, view: View<'a>) -> ValueTokens<'a>
         ensures state { value_state result ≡ at_begin (seen view.entry) }
         ensures sight { next_sight result.next result.inner ≡ Some (sight_of view.entry) }
@@ -61,7 +61,7 @@ impl<'a> ValueTokens<'a> {
         }
     }
 
-    // Reaches an element that comes next.
+    // Reaches the next element, if one is left.
     fn settle(&mut self)
         ensures state { SettlesNext (value_state self.old) (value_state self.new) }
         ensures sight { option_map sight_of self.new.next
@@ -81,7 +81,7 @@ impl<'a> ValueTokens<'a> {
         refusal(ErrorCode::NoMemory)
     }
 
-    // Goes from the value that comes next into what is left of it.
+    // Goes from the next value into what is left of it.
     fn enter(&mut self, level: Level<'a>) -> Result<()>
         ensures ok { let s = value_state self.old in OnOk result (value_state self.new
             ≡ record s {
@@ -118,7 +118,7 @@ impl<'a> ValueTokens<'a> {
         }
     }
 
-    // Takes the first token of the value that comes next.
+    // Takes the first token of the next value.
     fn take_value(&mut self, view: View<'a>) -> Result<TokenOf<&'a str>>
         requires { (value_state self.old).next ≡ Some (seen view) }
         ensures ok { IfOk result (λ y. (x : Tok) × DenotesToken (λ s. s.now) y x
@@ -144,7 +144,7 @@ impl<'a> ValueTokens<'a> {
         }
     }
 
-    // Takes a key or the end of a container, where no value comes next.
+    // Takes a key or the end of a container if no value is next.
     fn take_front(&mut self) -> TokenOf<&'a str>
         requires open { NotWhole (value_stand self.old) }
         requires next { (value_state self.old).next ≡ None }

@@ -9,7 +9,7 @@ use Rattle.json_data.proofs.Pairs.{InPairs}
 use Rattle.json_data.proofs.Rows.{rows_of, OfTexts}
 use Rattle.json_data.proofs.maps.read_rows.Given as goal
 
--- the pairs so far, behind any place from which on the beginning was taken
+-- the pairs so far, from any place at which reading began
 abbrev pub invariant-each : goal.invariant-each
 invariant-each g l = (ps : Pairs)
     × ((a : _) → TakesOne g.T.Tokens.taken g.T.Tokens.stand a l.fn.tokens (begin object) → InPairs g.T.Tokens.taken g.T.Tokens.stand a l.tokens ps)

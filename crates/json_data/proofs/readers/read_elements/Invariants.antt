@@ -7,7 +7,7 @@ use Rattle.json_tokens.specs.Stand.{TakesOne}
 use Rattle.json_data.proofs.Lists.{InList}
 use Rattle.json_data.proofs.readers.read_elements.Given as goal
 
--- the elements so far, behind any place from which on the beginning was taken
+-- the elements so far, from any place at which reading began
 abbrev pub invariant-each : goal.invariant-each
 invariant-each g l = (ts : Trees)
     × ((a : _) → TakesOne g.T.Tokens.taken g.T.Tokens.stand a l.fn.tokens (begin array) → InList g.T.Tokens.taken g.T.Tokens.stand a l.tokens ts)
