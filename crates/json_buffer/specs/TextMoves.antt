@@ -1,4 +1,4 @@
--- What may come next of a text moves as in the tokens of a tree.
+-- What may follow in a text changes as in the tokens of a tree.
 use Rattle.std.specs.Prelude.{◌≡◌, refl}
 use Rattle.json_grammar.specs.Tree.{Token, null_token, boolean_token, num_token, text_token, begin, end, key_token}
 use Rattle.json_grammar.specs.TokenStates.{after_token}

@@ -1,4 +1,4 @@
--- What is written of a text without whitespace, and what comes next.
+-- What is written of a text without whitespace, and what follows.
 use Rattle.std.specs.Prelude.{◌≡◌, ℕ, List, [], ◌∷◌, ◌++◌, take, reverse, Bool, true, false, Option, Some, None, Result, IsTrue}
 use Rattle.json_grammar.specs.declared.Kind.{Kind}
 use Rattle.json_grammar.specs.Grammar.{null_bytes, boolean_bytes}
@@ -22,7 +22,7 @@ pub record TextState : Type 0 where
   -- the open containers, the innermost first
   pub opened : List Kind
 
--- what comes next after a bracket, or as the value itself
+-- what follows after a bracket, or as the value itself
 abbrev pub first_in : List Kind → Expected
 first_in [] = a_value
 first_in (k ∷ ks) = expected_in (k ∷ ks)
@@ -32,7 +32,7 @@ expected_by Nothing opened = first_in opened
 expected_by Comma opened = expected_in opened
 expected_by Colon opened = a_value
 
--- what may come next
+-- what may follow
 abbrev pub text_expected : TextState → TokenState
 text_expected s = record { opened = s.opened; expected = expected_by s.lead s.opened }
 
@@ -40,7 +40,7 @@ text_expected s = record { opened = s.opened; expected = expected_by s.lead s.op
 abbrev pub scalar_put : TextState → List ℕ → TextState
 scalar_put s p = record s { bytes = s.bytes ++ (lead_bytes s.lead ++ p); lead = Comma }
 
--- a string of these characters more, and what comes after it
+-- a string of these characters more, and what follows it
 abbrev pub string_put : Lead → TextState → List ℕ → TextState
 string_put next s t = record s { bytes = s.bytes ++ (lead_bytes s.lead ++ quoted t); lead = next }
 

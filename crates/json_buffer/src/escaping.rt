@@ -11,8 +11,8 @@ use std::simd::prelude::*;
 
 const BLOCK: usize = 16;
 
-// How much room a string needs besides six bytes for each of its own: what comes before it, its
-// quotes and a block.
+// How much room a string needs besides six bytes for each of its own: what precedes it, its quotes
+// and a block.
 pub(crate) const ESCAPED: usize = BLOCK + 3;
 
 // The letter after the backslash of a byte's escape, where two characters do.

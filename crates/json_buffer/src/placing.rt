@@ -101,8 +101,7 @@ fn place_text(buffer: &mut [u8], at: usize, text: &[u8]) -> bool
     }
 }
 
-// Stores what comes before a value or a key after the first `end` bytes, and returns the end of
-// it.
+// Stores what precedes a value or a key after the first `end` bytes, and returns the end of it.
 #[inline(always)]
 pub(crate) fn place_lead(buffer: &mut [u8], end: usize, lead: Lead) -> usize
     requires { end < length buffer.old }
@@ -114,8 +113,8 @@ pub(crate) fn place_lead(buffer: &mut [u8], end: usize, lead: Lead) -> usize
     end + lead.len()
 }
 
-// Stores a short string between quotes, and what comes before it, after the first `end` bytes.
-// Returns the end of it, or `None` where it is not short or has to be escaped.
+// Stores a short string between quotes, and what precedes it, after the first `end` bytes. Returns
+// the end of it, or `None` where it is not short or has to be escaped.
 #[inline(always)]
 pub(crate) fn place_item(buffer: &mut [u8], end: usize, lead: Lead, text: &[u8]) -> Option<usize>
     requires { end + 35 ≤ length buffer.old }

@@ -55,7 +55,7 @@ impl TextBuffer {
         bytes
     }
 
-    // Makes room for so many more bytes. Returns `false` where memory runs out.
+    // Makes room for `more` more bytes. Returns `false` if memory runs out.
     #[cold]
     #[inline(never)]
     fn grow(&mut self, more: usize) -> bool
@@ -86,8 +86,8 @@ impl TextBuffer {
         more <= self.bytes.len() - self.end || self.grow(more)
     }
 
-    // Appends a short string that needs no escape, between quotes, and what comes before it.
-    // Where that cannot be done nothing is appended.
+    // Appends a short string that needs no escape, between quotes, and what precedes it. Where that
+    // cannot be done nothing is appended.
     #[inline(always)]
     fn put_short(&mut self, lead: Lead, text: &[u8]) -> bool
         ensures put { PutsQuoted lead text.now self.old self.new result }
@@ -105,8 +105,8 @@ impl TextBuffer {
         }
     }
 
-    // Appends a string that is not too long, between quotes and escaped, and what comes before
-    // it. Returns `false` where memory runs out.
+    // Appends a string that is not too long, between quotes and escaped, and what precedes it.
+    // Returns `false` where memory runs out.
     #[inline(always)]
     fn put_escaped(&mut self, lead: Lead, text: &[u8]) -> bool
         requires { length text.now ≤ 1024 }
@@ -134,9 +134,9 @@ impl TextBuffer {
         self.put_piece(lead, b"") && CompactFormatter.write_string_fast(self, text, true).is_ok()
     }
 
-    /// Appends a string between quotes and escaped, and what comes before it. Returns `false`
-    /// where memory runs out. `lead` is a reference: by value it would be loaded with its
-    /// neighbours just after it was stored alone.
+    /// Appends a string between quotes and escaped, and what precedes it. Returns `false` where
+    /// memory runs out. `lead` is a reference: by value it would be loaded with its neighbours just
+    /// after it was stored alone.
     #[inline(never)]
     pub(crate) fn put_string(&mut self, lead: &Lead, text: &str) -> bool
         ensures { IsTrue result → buffered self.new
@@ -153,7 +153,7 @@ impl TextBuffer {
         self.put_short(lead, text.as_bytes()) || self.put_long(lead, text)
     }
 
-    /// Appends a piece as it is, and what comes before it. Returns `false` where memory runs out.
+    /// Appends a piece as it is, and what precedes it. Returns `false` where memory runs out.
     #[inline(always)]
     pub(crate) fn put_piece(&mut self, lead: Lead, piece: &[u8]) -> bool
         ensures { IsTrue result → buffered self.new
@@ -168,8 +168,7 @@ impl TextBuffer {
         true
     }
 
-    /// Appends a number by its digits, and what comes before it. Returns `false` where memory
-    /// runs out.
+    /// Appends a number by its digits, and what precedes it. Returns `false` where memory runs out.
     #[inline(always)]
     pub(crate) fn put_unsigned(&mut self, lead: Lead, number: u64) -> bool
         ensures { IsTrue result → buffered self.new

@@ -151,7 +151,7 @@ impl TextWriter {
         self.scalar(buffer.format(number).as_bytes())
     }
 
-    // A string, after which comes `next`. It is written out of line.
+    // Appends a string, after which `next` may follow, out of line.
     #[inline(always)]
     fn string(&mut self, text: &str, next: Lead) -> Result<()>
         ensures { texts.PutsText (texts.string_put next) self.old self.new text.now result }

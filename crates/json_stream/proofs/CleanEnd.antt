@@ -1,4 +1,4 @@
--- Where only whitespace is left no value comes, and that the input ends is its fault.
+-- Where only whitespace is left no value follows, and its fault is that the input ends.
 use Rattle.std.proofs.Common.{◌≡◌, inl, ◌∙◌, ℕ, zero, suc, ◌-◌, List, [], ◌∷◌, ◌++◌, Bool, length, take, drop, IsUtf8, Result, Ok, Err, IfOk, sym, ap, subst, arith, take_all, length-drop}
 use Rattle.std.proofs.lemmas.List.{append-nil}
 use Rattle.std.specs.Result.{IfErr, IsErrAnd}
@@ -42,7 +42,7 @@ module _ (lossy : Bool) where
       let o : opens b ≡ 0 = opens_reading lossy s in
       value_short lossy limit b (inl ([], at_value, ([], s))) (not_done b h) (omega arith)
 
--- so that is what is told
+-- so that is the error
 pub end_is_told : (lossy : Bool) (limit : ℕ) (b : List ℕ) (c : ErrorCode) (k : ℕ) → ws b → IsValueFault lossy limit b c k → (c ≡ code.EofWhileParsing) × (k ≡ length b)
 end_is_told lossy limit b c k h i =
     let s = stands (λ row. value_fault lossy limit b row k) c i in

@@ -1,4 +1,4 @@
--- Lines within bytes that stand behind others.
+-- Lines within bytes that follow others.
 use Rattle.std.proofs.Common.{◌≡◌, ◌≢◌, ℕ, suc, ◌+◌, ◌-◌, ◌<◌, ◌==◌, not, eqb, true, false, cond, List, [], ◌∷◌, ◌++◌, length, get_or, reverse, refl, ◌∙◌, ap, arith, length-drop}
 use Rattle.std.specs.Prelude.{count_by}
 use Rattle.std.specs.List.{suffix_len, prefix_len, after_last}
@@ -8,7 +8,7 @@ use Rattle.std.proofs.lemmas.List.{reverse-append, length-reverse}
 use Rattle.std.proofs.lemmas.List.Folds.{prefix_len-append}
 use Rattle.std.proofs.lemmas.List.Sums.{suffix_len-le-length, suffix_len_is, sum_by-append, sum_by-cons}
 
--- how many bytes stand behind the last 0A, or all where there is none
+-- how many bytes follow the last 0A, or all where there is none
 abbrev pub behind_line : List ℕ → ℕ
 behind_line b = suffix_len (λ x. not (x == 10)) b
 

@@ -95,7 +95,7 @@ module _ (b : List ℕ) (k : ℕ) (s : Step b) where
         column = inr (ap behind_line x ∙ behind_none (take k s.shown) in_line ∙ m, ap behind_line y ∙ sym o);
       }
 
-  -- behind the piece
+  -- after the piece
   module _ (l : length s.shown ≤ k) (zero_is : origin_at s.rest 0 ≤ 0) (h : Told s.rest (k - length s.shown)) where
     abbrev later : ℕ
     later = k - length s.shown

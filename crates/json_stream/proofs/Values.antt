@@ -1,4 +1,4 @@
--- What a value that was read from the tokens of a text comes to.
+-- What reading a value from the tokens of a text returns.
 use Rattle.std.proofs.Common.{◌≡◌, ◌⊎◌, inl, inr, ℕ, ◌+◌, ◌<◌, ◌≤◌, List, [], ◌∷◌, ◌++◌, Bool, length, take, drop, get_or, true, Option, Some, None, IfSome, Result, Ok, Err, IfOk, MatchResult, IsUtf8, Bor, refl, sym, ◌∙◌, ap, ap₂, subst, arith, length-append, length-take, length-drop}
 use Rattle.std.proofs.lemmas.List.{append-nil}
 use Rattle.std.specs.Str.{IsCharBoundary}
@@ -89,7 +89,7 @@ reads_some lossy b t n r =
     let f = r.fits in
     omega (arith, length-take n b)
 
--- a tree was taken, which is that of the value, and the place is right behind it
+-- a tree was taken, which is that of the value, and the place is right after it
 pub takes_value : (f : Tree → Reading) (b : List ℕ) (l : Bool) (o : Option RepairedText) (i j : ℕ) (s m : TextTokensState) (t : Tree) (r : Reading) → ReadsFrom b l i m → IsUtf8 b → text_taken s [] → TakesTree text_taken text_tokens_state s m t
     → HasReadValue m → j ≡ m.parser.index → m.parser.start ≤ j → f t ≡ r → TakesNextValue f (stands_at b l o i) r (stands_at b l o j)
 takes_value f b l o i j s m t r e u h k g n q a =
@@ -112,7 +112,7 @@ takes_value f b l o i j s m t r e u h k g n q a =
       within = let l = value.fits in omega (arith, length-drop i b);
     }
 
--- behind a value a character begins
+-- after a value a character begins
 pub behind_value : (lossy : Bool) (b : List ℕ) (i n : ℕ) (t : Tree) → IsUtf8 b → IsCharBoundary b i → reads lossy (drop i b) t n → IsCharBoundary b (i + n)
 behind_value lossy b i n t u h r =
     let c = drop i b in
@@ -164,7 +164,7 @@ value_fails f s code.NumberOutOfRange p u (k, e, h) = absurd h
 value_fails f s code.ExpectedNumericKey p u (k, e, h) = absurd h
 value_fails f s c p u h = (u, h, refl)
 
--- that is told
+-- that is reported
 pub gave_up : (f : Tree → Reading) (b : List ℕ) (l : Bool) (o : Option RepairedText) (i : ℕ) (e : Error) → IsUtf8 b → (e ≡ no_memory) ⊎ ValueFaultFrom l 254 i b e.code e.place
     → NextValueFails f (stands_at b l o i) e.code (in_input o e.place) (stands_at b l o i)
 gave_up f b l o i e u (inl q) = subst (λ (x : Error). NextValueFails f (stands_at b l o i) x.code (in_input o x.place) (stands_at b l o i)) (sym q) (by o)
@@ -195,7 +195,7 @@ comes_next p b i k e f o w s = record {
   stop = subst (λ (y : List ℕ). k < length y → ¬ (IsWhitespace (get_or y k 0))) e s;
 }
 
--- by what it reads and where it stands
+-- by what it reads and where it is
 pub comes_same : (p q : ParserState) (k : ℕ) → p.text ≡ q.text → p.index ≡ q.index → ComesNext p k → ComesNext q k
 comes_same p q k e f h = comes_next q p.text p.index k e f (h.order, h.within) h.space h.stop
 
@@ -211,7 +211,7 @@ trails_within s b e t h = let n = h.some in subst (λ (y : List ℕ). PlaceIsWit
 pub lacks_within : (k : Kind) (s : ParserState) (b : List ℕ) (e : Error) → s.text ≡ b → LacksEnd s k e → PlaceIsWithin b e.place
 lacks_within k s b e t h = subst (λ (y : List ℕ). PlaceIsWithin y e.place) t (subst (λ (x : Error). PlaceIsWithin s.text x.place) (sym h.told) (place_within s.text h.at h.next.within))
 
--- behind a closing bracket a character begins
+-- after a closing bracket a character begins
 pub past_end : (k : Kind) (b t : List ℕ) (i j : ℕ) (p q : ParserState) → p.text ≡ t → IsTextAt b i t → ReadsEnd p k q → j ≡ q.index → IsTextAt b j t
 past_end k b t i j p q e h n o =
     let same : p.text ≡ b = e ∙ h.same in

@@ -1,4 +1,4 @@
--- Laws on places that are told.
+-- Laws on places that are reported.
 use Rattle.std.specs.Prelude.{◌≡◌, ℕ, ◌≤◌, Bool, List, length, Some}
 use Rattle.std.specs.Str.Lossy.{utf8_lossy}
 use Rattle.json_io.specs.Positions.{place_at}
@@ -10,7 +10,7 @@ pub record IsRepairOf (b : List ℕ) (r : RepairedText) : Type 0 where
   pub text : r.text ≡ utf8_lossy b
   pub origin : (k : ℕ) → k ≤ length r.text → origin_of r k ≡ origin_at b k
 
--- what is told of a place of the repaired text is the place of the input from which it comes
+-- what is reported of a place of the repaired text is its origin in the input
 abbrev pub ToldByInput : Type 0
 ToldByInput =
     (b : List ℕ) (r : RepairedText) (lossy : Bool) (i k : ℕ)

@@ -21,8 +21,8 @@ use Rattle.json_scan.specs.Runs.{ByteAt}
 use Rattle.json_io.specs.Utf8.{Utf8Cause}
 use Rattle.json_data.specs.Reading.{Reading, gives, refuses}
 
--- what is read, and the place in it where the next value must come, in bytes; whether lone surrogates are taken; and, where the text was repaired,
--- where its places come from
+-- what is read, and the offset in it of the next value, in bytes; whether lone surrogates are
+-- taken; and, where the text was repaired, the origins of its places
 pub record InputState : Type 0 where
   pub text : List ℕ
   pub index : ℕ
@@ -43,7 +43,8 @@ standing s = record { text = s.text; start = s.index; lossy = s.lossy; limit = 2
 abbrev pub added : RepairedText → ℕ → ℕ
 added r k = k - origin_of r k
 
--- where a place of the repaired text comes from: the line is the same, and the column is less by the bytes that were added in its line
+-- the origin of a place of the repaired text: the line is the same, and the column is less by the
+-- bytes that were added in its line
 abbrev pub origin_place : RepairedText → Place → Place
 origin_place r (place.At k line column) = place.At (origin_of r k) line (column - (added r k - added r (k - (column - 1))))
 origin_place r p = p
@@ -62,7 +63,7 @@ offset_in (Some r) k = origin_of r k
 abbrev pub told_at : InputState → ℕ → Place
 told_at s k = in_input s.repaired (place_at s.text k)
 
--- of an error of the text that is read this holds, and it is told by its place in the input
+-- this holds of an error of the text that is read, and the error has its place in the input
 abbrev pub Tells : Option RepairedText → (Error → Type 0) → Error → Type 0
 Tells None why e = why e
 Tells (Some r) why e = (read : Error) × why read × (e ≡ record read { place = origin_place r read.place })
@@ -74,7 +75,7 @@ PlaceIsWithin b p = Unit {0}
 
 -- ---- one value
 
--- the value that comes next was taken, whatever follows it, and r is the reading of its tree
+-- the next value was taken, whatever follows it, and r is the reading of its tree
 pub record TakesNextValue (f : Tree → Reading) (old : InputState) (r : Reading) (new : InputState) : Type 0 where
   pub utf8 : IsUtf8 old.text
   pub tree : Tree
@@ -86,7 +87,7 @@ pub record TakesNextValue (f : Tree → Reading) (old : InputState) (r : Reading
   pub forward : old.index < new.index
   pub within : new.index ≤ length new.text
 
--- the value that comes next was taken, and its tree is refused at its first byte
+-- the next value was taken, and its tree is refused at its first byte
 pub record RefusesNextValue (f : Tree → Reading) (old : InputState) (c : ErrorCode) (p : Place) (new : InputState) : Type 0 where
   pub takes : TakesNextValue f old (refuses c) new
   pub begins : ℕ
@@ -97,8 +98,8 @@ pub record RefusesNextValue (f : Tree → Reading) (old : InputState) (c : Error
 abbrev pub FaultIsLeft : InputState → ErrorCode → Place → Type 0
 FaultIsLeft s c p = (k : ℕ) × (p ≡ told_at s (s.index + k)) × IsValueFault s.lossy 254 (drop s.index s.text) c k
 
--- why no value is given, and where it stands then: memory ran out, the whole input is no UTF-8, what is left has a fault as a value, or the
--- tree of the value is refused
+-- why no value is returned, and the state then: memory ran out, the whole input is no UTF-8, what
+-- is left has a fault as a value, or the tree of the value is refused
 abbrev pub NextValueFails : (Tree → Reading) → InputState → ErrorCode → Place → InputState → Type 0
 NextValueFails f old code.NoMemory place.None new = new ≡ old
 NextValueFails f old code.InvalidUTF8 p new = Utf8Cause old.text code.InvalidUTF8 p × (new ≡ old)
@@ -107,7 +108,7 @@ NextValueFails f old code.NumberOutOfRange p new = RefusesNextValue f old code.N
 NextValueFails f old code.ExpectedNumericKey p new = RefusesNextValue f old code.ExpectedNumericKey p new
 NextValueFails f old c p new = IsUtf8 old.text × FaultIsLeft old c p × (new ≡ old)
 
--- it is told that the text ended before a value came; or memory ran out
+-- the error is that the text ended before a value; or memory ran out
 abbrev pub TellsEnd : InputState → ErrorCode → Place → Type 0
 TellsEnd s code.NoMemory place.None = Unit {0}
 TellsEnd s code.EofWhileParsing p = p ≡ told_at s (length s.text)
@@ -115,7 +116,7 @@ TellsEnd s c p = ⊥
 
 -- ---- ends
 
--- the closing bracket comes next, and it stands right behind it
+-- the closing bracket was next, and the reader is right after it
 pub record PassesEnd (old : InputState) (k : Kind) (new : InputState) : Type 0 where
   pub utf8 : IsUtf8 old.text
   pub at : ℕ

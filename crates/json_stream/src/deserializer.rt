@@ -56,8 +56,8 @@ impl<'a> Model for Deserializer<'a> {
 }
 
 impl<'a> Deserializer<'a> {
-    /// Stands at the beginning of the bytes, which are at most 4,294,967,295. Whether they are
-    /// UTF-8 is tested here, once.
+    /// Creates a reader at the beginning of at most 4,294,967,295 bytes. Tests here, once, whether
+    /// they are UTF-8.
     pub fn from_slice(s: &'a [u8]) -> Deserializer<'a>
         requires { length s.now < 2 ^ 32 }
         ensures { result ≡ record { text = s.now; index = 0; lossy = false; repaired = None } }
@@ -71,7 +71,7 @@ impl<'a> Deserializer<'a> {
         }
     }
 
-    /// Stands at the beginning of the text, which has at most 4,294,967,295 bytes.
+    /// Creates a reader at the beginning of a text of at most 4,294,967,295 bytes.
     pub fn from_str(s: &'a str) -> Deserializer<'a>
         requires { length s.now < 2 ^ 32 }
         ensures { result ≡ record { text = s.now; index = 0; lossy = false; repaired = None } }
@@ -94,7 +94,7 @@ impl<'a> Deserializer<'a> {
         Deserializer::of_text(r.as_str(), true, Some(r))
     }
 
-    // Stands at the beginning of the text, which may have been repaired.
+    // Creates a reader at the beginning of the text, which may have been repaired.
     fn of_text(text: &'a str, lossy: bool, repaired: Option<&'a Repaired>) -> Deserializer<'a>
         requires { IfSome repaired (λ r. r.now.text ≡ text.now) }
         ensures { result ≡ stands_at text.now lossy (option_copied repaired.entry) 0 }
@@ -108,7 +108,7 @@ impl<'a> Deserializer<'a> {
         }
     }
 
-    /// The same: every number is read as its literal, whatever is asked for.
+    /// Returns the same reader, which reads every number as its literal, whatever is asked for.
     pub fn use_rawnumber(self) -> Deserializer<'a>
         ensures { result ≡ self.entry }
     {
@@ -127,8 +127,8 @@ impl<'a> Deserializer<'a> {
         }
     }
 
-    /// Returns its offset in bytes from the beginning of the input; of a repaired text, where that
-    /// place comes from.
+    /// Returns the offset in bytes from the beginning of the input; of a repaired text, its origin
+    /// in the input.
     pub fn index(&self) -> usize
         ensures { result ≡ offset_in self.now.repaired self.now.index }
     {
@@ -138,7 +138,7 @@ impl<'a> Deserializer<'a> {
         }
     }
 
-    /// Reads the value that comes next.
+    /// Reads the next value.
     ///
     /// Fails with `InvalidUTF8` exactly if the whole input is no UTF-8, and with a code from
     /// `EofWhileParsing` to `InvalidSurrogate` or `RecursionLimitExceeded` for the error of what is
@@ -159,8 +159,9 @@ impl<'a> Deserializer<'a> {
         }
     }
 
-    /// Whether only whitespace is left. `InvalidUTF8` comes as in `deserialize`, else
-    /// `TrailingCharacters` exactly at the next other byte (RFC 8259, section 2). It does not move.
+    /// Checks that only whitespace is left. Fails with `InvalidUTF8` as `deserialize` does, else
+    /// with `TrailingCharacters` exactly at the next other byte (RFC 8259, section 2). It does not
+    /// move.
     pub fn end(&mut self) -> Result<()>
         ensures utf8 { OnOk result (IsUtf8 self.old.text) }
         ensures ok { OnOk result (NothingLeft (standing self.old)) }
@@ -176,10 +177,12 @@ impl<'a> Deserializer<'a> {
         }
     }
 
-    /// Takes whitespace and `]`, where the caller reads the elements of an array (RFC 8259, section
-    /// 5). `InvalidUTF8` comes as in `deserialize`, else `EofWhileParsing` where only whitespace is
-    /// left, else `ExpectedArrayCommaOrEnd`, both at the next byte that is no whitespace; then it
-    /// does not move.
+    /// Takes whitespace and `]`, for a caller that reads the elements of an array (RFC 8259,
+    /// section 5).
+    ///
+    /// Fails with `InvalidUTF8` as `deserialize` does, else with `EofWhileParsing` if only
+    /// whitespace is left, else with `ExpectedArrayCommaOrEnd`, both at the next byte that is no
+    /// whitespace; then it does not move.
     pub fn end_seq(&mut self) -> Result<()>
         ensures ok { OnOk result (PassesEnd self.old Kind.Array self.new) }
         ensures err { IfErr result (EndFails self.old (LacksEnd (standing self.old) Kind.Array)) }
@@ -200,10 +203,13 @@ impl<'a> Deserializer<'a> {
         }
     }
 
-    /// Takes whitespace and `}`, where the caller reads the members of an object (RFC 8259, section
-    /// 4). `InvalidUTF8` comes as in `deserialize`, else `EofWhileParsing` where only whitespace is
-    /// left, `TrailingComma` at a comma, and else `ExpectedObjectCommaOrEnd`, each at the next byte
-    /// that is no whitespace; then it does not move.
+    /// Takes whitespace and `}`, for a caller that reads the members of an object (RFC 8259,
+    /// section 4).
+    ///
+    /// Fails with `InvalidUTF8` as `deserialize` does, else with `EofWhileParsing` if only
+    /// whitespace is left, with `TrailingComma` at a comma, and else with
+    /// `ExpectedObjectCommaOrEnd`, each at the next byte that is no whitespace; then it does not
+    /// move.
     pub fn end_map(&mut self) -> Result<()>
         ensures ok { OnOk result (PassesEnd self.old Kind.Object self.new) }
         ensures err { IfErr result (EndFails self.old (LacksEnd (standing self.old) Kind.Object)) }
@@ -224,7 +230,7 @@ impl<'a> Deserializer<'a> {
         }
     }
 
-    /// All values that are left, one after another.
+    /// Returns all values that are left, one after another.
     pub fn into_stream<T: Deserialize<'a>>(self) -> StreamDeserializer<'a, T>
         ensures { result ≡ record { input = self.entry; ended = false } }
     {

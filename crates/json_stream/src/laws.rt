@@ -1,8 +1,8 @@
 // Laws over the definitions alone.
 ghost use Rattle.json_stream.specs.Laws.{ToldByInput, EndToldByInput};
 
-/// What is reported of a place of a repaired text is the place of the input from which it comes:
-/// its offset, its line and its column.
+/// What is reported of a place of a repaired text is its origin in the input: its offset, its line
+/// and its column.
 pub fn told_by_input()
     ensures { ToldByInput }
 {}

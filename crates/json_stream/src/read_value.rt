@@ -11,7 +11,7 @@ use json_data::{Deserialize, TextTokens, is_refusal};
 use json_text::{Error, Repaired, Result, place_of, ws_run};
 use std::alloc::Global;
 
-// The tokens of the value that comes next in the text, in either mode.
+// Returns the tokens of the next value in the text, in either mode.
 fn tokens_at<'a>(text: &'a str, lossy: bool, from: usize) -> TextTokens<'a>
     requires { IsCharBoundary text.now from }
     ensures text { result.parser.text ≡ text.now }
@@ -23,9 +23,9 @@ fn tokens_at<'a>(text: &'a str, lossy: bool, from: usize) -> TextTokens<'a>
     if lossy { tokens.lossy() } else { tokens }
 }
 
-/// Reads the value that comes next in the text from `at` on, in either mode. `at` becomes the
-/// offset after it if it was taken. A text that was repaired is read so too, and its errors have
-/// places of the input.
+/// Reads the next value in the text from `at` on, in either mode. `at` becomes the offset after it
+/// if it was taken. A text that was repaired is read so too, and its errors have places of the
+/// input.
 pub(crate) fn read_value<'a, T: Deserialize<'a>>(
     alloc: Global,
     text: &'a str,
