@@ -38,7 +38,8 @@ pub trait Builder<S: Lent>: Sized {
     fn new() -> Self
         ensures { so_far result ≡ no_members shape.fields };
 
-    /// Takes the value of the member of that name. A refusal comes after the whole value was taken.
+    /// Takes the value of the member of that name. If the value is refused, the whole of it was
+    /// taken.
     fn member<T: Tokens<S>>(&mut self, alloc: Global, name: &str, tokens: &mut T) -> Result<()>
         requires { WantsValue (T.stand tokens.old) }
         ensures ok { OnOk result (ReadsTree T.taken T.stand
@@ -85,8 +86,9 @@ pub fn required<V>(value: Option<V>) -> Result<V>
     }
 }
 
-/// Takes an object and returns the struct of its members. `TypeUnmatched` comes if another value
-/// comes or a member is missing; a refusal of a member, after the whole object was taken.
+/// Takes an object and returns the struct of its members. Fails with `TypeUnmatched` if the next
+/// value is no object or a member is missing. If a member is refused, the rest of the object is
+/// read first.
 pub fn read_struct<S: Lent, B: Builder<S> + Drop, T: Tokens<S>>(
     alloc: Global,
     tokens: &mut T,

@@ -45,7 +45,7 @@ member_within ps qs k u i x n w = (
   w.3,
 )
 
--- no element of ts is refused, and i comes after them
+-- no element of ts is refused, and i follows them
 pub record Passed (r : Tree → Option Refused) (ts : Trees) (i : ℕ) : Type 0 where
   pub rest : (us : Trees) → elements_refused r 0 (join ts us) ≡ elements_refused r i us
   pub count : length (trees_list ts) ≡ i
@@ -66,7 +66,7 @@ passed-stop r ts i t us x h n = h.rest (tree_and t us) ∙ ap (λ (o : Option Re
 pub passed-end : (r : Tree → Option Refused) (ts : Trees) (i : ℕ) → Passed r ts i → elements_refused r 0 ts ≡ None
 passed-end r ts i h = ap (λ (vs : Trees). elements_refused r 0 vs) (sym (join-nil ts)) ∙ h.rest no_trees
 
--- no member of ps is refused, i comes after them, and these fields were seen
+-- no member of ps is refused, i follows them, and these fields were seen
 pub record PassedMembers (r : ObjectReading) (start : List Bool) (ps : Pairs) (i : ℕ) (seen : List Bool) : Type 0 where
   pub rest : (qs : Pairs) → members_refused r 0 start (join_pairs ps qs) ≡ members_refused r i seen qs
   pub count : length (pairs_list ps) ≡ i

@@ -50,7 +50,7 @@ module _ (s m : TextTokensState) (same : (text_tokens_state m).input ≡ (text_t
       let z : reads false (input m.parser) x.0 (taken m.parser) = subst (λ (l : Bool). reads l (input m.parser) x.0 (taken m.parser)) (by_mode same ∙ g) x.1 in
       (taken m.parser, subst (λ (u : Tree). reads false (drop i b) u (taken m.parser)) one (subst (λ (w : List ℕ). reads false w x.0 (taken m.parser)) y z))
 
--- a text whose tree is refused is the text of a tree of at most so many levels
+-- a text whose tree is refused is the text of a tree of at most that many levels
 pub refused_text : (n : ℕ) (f : Tree → Reading) (b : List ℕ) (c : ErrorCode) (p : Place) → is_refusal c ≡ true → TypedReadingFails n f b c p → (t : Tree) × is_text false t b × (depth t ≤ n)
 refused_text n f b code.TypeUnmatched p e r = (r.0.0, r.0.1, r.0.2)
 refused_text n f b code.NumberOutOfRange p e r = (r.0.0, r.0.1, r.0.2)

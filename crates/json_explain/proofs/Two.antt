@@ -39,7 +39,7 @@ one_refused r s t e = rw e
 pub two_read : (r s : Tree → Option Refused) (t u : Tree) → r t ≡ None → s u ≡ None → pair_refused r s (list (tree_and t (tree_and u no_trees))) ≡ None
 two_read r s t u e h = rw (e, h)
 
--- ---- what comes next
+-- ---- what follows
 
 value_kind : (k : TokenKind) (e : Expected) (c : List Kind) → BeforeElement e c → KindMayCome (record { opened = c; expected = e }) k → k ≢ kind.EndArray → WantsAt e (Some k)
 value_kind k a_value c i m n = absurd i
@@ -81,7 +81,7 @@ module _ {S : Type 0} {taken : S → List Tok → Type 0} {stand : S → TokensS
       let e : x ≡ end array = is_end x (r.as_told.told kind.EndArray h.told) in
       subst (λ (y : Tok). TakesOne taken stand a c y) e (peek_one h z r)
 
-  -- another element comes, and the array is left
+  -- another element follows, and the array is left
   pub longer : {h : Tree → Option Refused} {a b c d : S} {ts : Trees} {k : TokenKind}
       → InList taken stand a b ts → Peeks (stand b) (stand c) k → TakesTokens taken b [] c → k ≢ kind.EndArray → Leaves taken stand c d
       → ((t : Tree) (us : Trees) → h (list (join ts (tree_and t us))) ≡ other_length) → Explains taken stand h a d other_length

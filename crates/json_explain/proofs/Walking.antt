@@ -57,7 +57,7 @@ module _ {limit : ℕ} {b : List ℕ} {t : Tree} {old : ParserState} {xs ys : Li
       let d : [] ≡ x ∷ ys = append_cancel_left xs [] (x ∷ ys) e in
       cc
 
-  -- where a token comes next, the next event is not the end
+  -- where a token follows, the next event is not the end
   pub no_end : (new : ParserState) (r : Result Event Error) → r ≡ Ok event.End → ReadsNextEvent old new r → OnTheWay limit b t old xs (x ∷ ys) → ⊥
   no_end new r i g w = not_over w ((subst (λ (z : Result Event Error). ReadsNextEvent old new z) i g).2.1)
 
@@ -104,7 +104,7 @@ module _ {limit : ℕ} {b : List ℕ} {t : Tree} {old : ParserState} {xs ys : Li
   next_event new event.EndObject q w g k = took new event.EndObject q w (g xs w.given) k
   next_event new event.End q w g k = absurd (not_over w g.1)
 
-  -- an event that was read is that of the token that comes next
+  -- an event that was read is that of the next token
   pub takes_event : (new : ParserState) (e : Event) (r : Result Event Error) (o : Option Event) → r ≡ Ok e → o ≡ Some e → SameInput old new → ReadsNextEvent old new r → StopsTight old new r
       → OnTheWay limit b t old xs (x ∷ ys) → TakesNext limit b t old new xs x ys o
   takes_event new e r o i j q g k w =
@@ -131,7 +131,7 @@ ahead_is {limit = limit} {b = b} {t = t} {s = s} {xs = xs} e w = subst (λ (us :
 pub so_far_is : {limit : ℕ} {b : List ℕ} {t : Tree} {s : ParserState} {xs ys zs : List Tok} → xs ≡ zs → OnTheWay limit b t s xs ys → OnTheWay limit b t s zs ys
 so_far_is {limit = limit} {b = b} {t = t} {s = s} {ys = ys} e w = subst (λ (us : List Tok). OnTheWay limit b t s us ys) e w
 
--- what comes next says what was taken
+-- what follows says what was taken
 pub so_far_by : {limit : ℕ} {b : List ℕ} {t : Tree} {s m : ParserState} {xs : List Tok} (ys : List Tok) {zs us : List Tok} → OnTheWay limit b t s xs (ys ++ zs) → OnTheWay limit b t m us zs → OnTheWay limit b t m (xs ++ ys) zs
 so_far_by {xs = xs} ys {zs = zs} {us = us} w v = so_far_is (append_cancel_right us (xs ++ ys) zs (sym v.row ∙ w.row ∙ sym (append_assoc xs ys zs))) v
 
@@ -194,7 +194,7 @@ ends_ahead m n x xs rest e h a = let c : Some xs ≡ Some rest = ap (λ (k : ℕ
 pub same_input : {a b c : ParserState} → SameInput a b → SameInput b c → SameInput a c
 same_input h k = record { text = k.text ∙ h.text; start = k.start ∙ h.start; lossy = k.lossy ∙ h.lossy; limit = k.limit ∙ h.limit }
 
--- what take promises of the token that comes next
+-- what taking the next token promises
 abbrev pub TakesAny : ℕ → List ℕ → Tree → ParserState → ParserState → Option Event → Type 0
 TakesAny limit b t old new o = (xs ys : List Tok) (x : Tok) → OnTheWay limit b t old xs (x ∷ ys) → TakesNext limit b t old new xs x ys o
 
@@ -349,7 +349,7 @@ begins_at {b = b} {old = old} {new = new} {ys = ys} zs {x = x} w e n =
       bytes = subst (λ (y : List ℕ). piece y k.begins new.index ≡ event_bytes n.event) u k.bytes;
     }
 
--- and that is so many bytes before its end
+-- and that is as many bytes before its end as it has
 pub event_start : {old new : ParserState} {e : Event} → (k : TakesToken old e new) → k.begins + length (event_bytes e) ≡ new.index
 event_start {new = new} {e = e} k =
     let n : length (piece new.text k.begins new.index) ≡ new.index - k.begins = piece_length new.text k.begins new.index (omega (arith, k.order)) k.within in

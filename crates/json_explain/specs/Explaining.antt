@@ -45,7 +45,8 @@ pub record Explains {S : Type 0} (taken : S → List Tok → Type 0) (stand : S 
 abbrev pub IsPlaced : ℕ → List ℕ → Tree → Place → Refused → Type 0
 IsPlaced limit b t p x = (v : Tree) × (xs : List Tok) × LeadsTo t x.path v xs × (type_of v ≡ x.found) × (i : ℕ) × BeginsAt limit b xs v i × (p ≡ place_at b i)
 
--- the bytes are a text of a tree of so many levels at most, and r is where that is refused, if it is; p is the place of the value there
+-- the bytes are a text of a tree of at most that many levels, and r is where that is refused, if it
+-- is; p is the place of the value there
 abbrev pub TextRefused : ℕ → (Tree → Option Refused) → List ℕ → Option Refused → Place → Type 0
 TextRefused limit f b r p = (t : Tree) × is_text false t b × (depth t ≤ limit) × (f t ≡ r) × IfSome r (IsPlaced limit b t p)
 

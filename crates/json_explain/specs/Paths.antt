@@ -44,7 +44,7 @@ pub record BeginsAt (limit : ℕ) (b : List ℕ) (xs : List Tok) (v : Tree) (i :
 
 -- ---- on the way to a value
 
--- the tokens of the text b of t were xs so far, and ys come next
+-- the tokens of the text b of t were xs so far, and ys follow
 pub record OnTheWay (limit : ℕ) (b : List ℕ) (t : Tree) (s : ParserState) (xs ys : List Tok) : Type 0 where
   pub text : s.text ≡ b
   pub start : s.start ≡ 0
@@ -63,7 +63,7 @@ pub record TakesNext (limit : ℕ) (b : List ℕ) (t : Tree) (old new : ParserSt
   pub takes : TakesToken old event new
   pub goes : OnTheWay limit b t new (xs ++ x ∷ []) ys
 
--- how many containers are open behind a token, if n were before it
+-- how many containers are open after a token, if n were before it
 abbrev pub levels_behind : Tok → ℕ → ℕ
 levels_behind (begin k) n = suc n
 levels_behind (end k) n = pred n

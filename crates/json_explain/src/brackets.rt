@@ -55,7 +55,7 @@ pub(crate) fn pass<S: Lent, T: Tokens<S>>(tokens: &mut T) -> Result<()>
     Ok(())
 }
 
-// The key that comes next.
+// Returns the next key.
 fn next_key<S: Lent, T: Tokens<S>>(tokens: &mut T) -> Result<Piece<S>>
     requires whole { NotWhole (T.stand tokens.old) }
     requires told { (T.stand tokens.old).told ≡ Some TokenKind.Key }
@@ -69,7 +69,7 @@ fn next_key<S: Lent, T: Tokens<S>>(tokens: &mut T) -> Result<Piece<S>>
     }
 }
 
-// The name that comes next in an object, or none where the object ends there, which is taken.
+// Returns the next name in an object, or `None` if the object ends, whose end is taken.
 pub(crate) fn next_name<S: Lent, T: Tokens<S>>(tokens: &mut T) -> Result<Option<Piece<S>>>
     requires { InObject (T.stand tokens.old).spot }
     ensures name { IfOk result (λ r. IfSome r (λ p.

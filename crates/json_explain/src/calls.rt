@@ -167,7 +167,7 @@ pub fn from_slice<'a, T: Explain<&'a str>>(
 /// ```
 /// use json_explain::from_slice_with;
 /// use json_text::Rules;
-/// let rules = Rules::new(2, false).ok_or("so many levels")?;
+/// let rules = Rules::new(2, false).ok_or("too many levels")?;
 /// let error = from_slice_with::<Vec<u8>>(alloc, b"[[]]", rules).err().ok_or("no error")?;
 /// let shown = format!(in alloc; "{error}")?;
 /// assert_eq!(rt; shown.as_str(), "line 1 column 2, path \"/0\": an array, where an integer from 0 to 255 is wanted");

@@ -42,7 +42,7 @@ fn levels_after(event: Event<'_>, levels: usize, most: usize) -> usize
     }
 }
 
-// Takes the value that comes next, and returns whether it was taken.
+// Takes the next value, and returns whether it was taken.
 fn skip_value(parser: &mut Parser<'_>) -> bool
     ensures same { SameInput parser.old parser.new }
     ensures next { (limit : ℕ) (b : List ℕ) (t u : Tree) (xs ys : List Tok)
@@ -62,7 +62,7 @@ fn skip_value(parser: &mut Parser<'_>) -> bool
     }
 }
 
-// Takes so many elements of an array, from the first on.
+// Takes `count` elements of an array, from the first on.
 fn skip_elements(parser: &mut Parser<'_>, count: usize) -> bool
     ensures next { (limit : ℕ) (b : List ℕ) (t : Tree) (us : List Tree) (xs ys : List Tok)
         → length us ≡ count
@@ -80,7 +80,7 @@ fn skip_elements(parser: &mut Parser<'_>, count: usize) -> bool
     true
 }
 
-// Takes so many members of an object, from the first on, and the key of the next.
+// Takes `count` members of an object, from the first on, and the key of the next.
 fn skip_members(parser: &mut Parser<'_>, count: usize) -> bool
     ensures next { (limit : ℕ) (b : List ℕ) (t : Tree) (us : List (List ℕ × Tree)) (k : List ℕ)
         (xs ys : List Tok)
@@ -106,7 +106,7 @@ fn skip_members(parser: &mut Parser<'_>, count: usize) -> bool
     }
 }
 
-// Takes what comes before the value to which a step leads from the value that comes next.
+// Takes what precedes the value to which a step leads within the next value.
 fn enter(parser: &mut Parser<'_>, step: &Step) -> bool
     ensures next { (limit : ℕ) (b : List ℕ) (t u v : Tree) (xs ys zs : List Tok)
         → OnTheWay limit b t parser.old xs (tokens u ++ zs)
@@ -138,7 +138,8 @@ fn start_of(event: Event<'_>, end: usize) -> Option<usize>
     }
 }
 
-/// The offset of the value to which a path leads in a text of so many levels at most.
+/// Returns the offset in bytes of the value to which a path leads in a text of at most `depth`
+/// levels.
 pub(crate) fn offset_of(text: &str, depth: u32, steps: &[Step]) -> Option<usize>
     requires { depth ≤ 1024 }
     ensures { (t v : Tree) (xs : List Tok) → is_text false t text.now → depth_of t ≤ depth

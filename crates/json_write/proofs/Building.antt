@@ -69,7 +69,7 @@ mutual
       work_append w (tokens t) (pairs_tokens ps) ∙ ap (λ x. work_all x (pairs_tokens ps)) (tree_built w t) ∙ pairs_built (qs ++ (k, merged t) ∷ []) fs ps
       ∙ ap (λ us. in_rows us fs) (append_assoc qs ((k, merged t) ∷ []) (pairs_list (values_merged ps)))
 
--- the work does not depend on what may come, nor on the integers
+-- the work does not depend on what may follow, nor on the integers
 work_of : (b : Build) (gs : List TokenOrInteger) → (after_all build_after b gs).work ≡ work_all b.work (given_tokens gs)
 work_of b [] = refl
 work_of b (g ∷ gs) = work_of (build_after b g) gs
@@ -123,7 +123,7 @@ cond_same : {A : Type 0} (b : Bool) (x : A) → cond b x x ≡ x
 cond_same true x = refl
 cond_same false x = refl
 
--- an integer that lies outside stands before the first such key
+-- an integer that lies outside is before the first such key
 outside_is_first : (ps : List (Option TokenOrInteger)) (front back : List TokenOrInteger) (n : ℤ) → before_gap ps ≡ front ++ given_integer n ∷ back → is_inside n ≡ false → first_refusal ps ≡ Some out_of_range
 outside_is_first [] [] back n e o = absurd (cc)
 outside_is_first [] (g ∷ front) back n e o = absurd (cc)

@@ -35,7 +35,7 @@ rows_stand : (o : List Kind) (rs : Rows) → Stays o (rows_parts rs)
 rows_stand o no_rows w = refl
 rows_stand o (row_and k d rs) w = one_stand o (key_of k) d (rows_parts rs) (rows_stand o rs) w
 
--- behind members the next may come
+-- after members the next one may follow
 pub fields_more : {S : Type 0} {after : S → TokenOrInteger → S} (stand : S → TokenState) {old new : S} {err failed : Option Error} (rs : Rows) → Moves after stand → AtKey (stand old) → Wrote after old new err failed (rows_parts rs) → AtKey (stand new)
 fields_more {after = after} stand {old = old} rs moves i w =
     record { outer = i.outer; is = ap stand w.state ∙ stand_moves after stand moves old (before_gap (rows_parts rs)) ∙ ap (λ (z : TokenState). after_tokens z (given_tokens (before_gap (rows_parts rs)))) i.is ∙ rows_stand i.outer rs w.whole }
@@ -49,6 +49,6 @@ key_takes i = subst (λ (z : TokenState). NameMayCome z.expected) (sym i.is) tt
 pub key_ends : {s : TokenState} → AtKey s → EndMayCome s.expected object
 key_ends i = subst (λ (z : TokenState). EndMayCome z.expected object) (sym i.is) tt
 
--- the value behind a key
+-- the value after a key
 pub behind_key : {S : Type 0} {after : S → TokenOrInteger → S} (stand : S → TokenState) {old new : S} {err failed : Option Error} (k : List ℕ) → Moves after stand → Wrote after old new err failed (Some (given (key_token k)) ∷ []) → ValueMayCome (stand new).expected
 behind_key stand {old = old} k moves w = subst (λ (z : TokenState). ValueMayCome z.expected) (sym (ap stand w.state ∙ moves old (given (key_token k)))) tt

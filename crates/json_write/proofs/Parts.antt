@@ -26,7 +26,7 @@ before_gap_append [] qs w = absurd (cc)
 before_gap_append (None ∷ ps) qs w = refl
 before_gap_append (Some t ∷ ps) qs w = ap (λ ts. t ∷ ts) (before_gap_append ps qs w)
 
--- what stands behind
+-- what follows
 before_more : (ps qs : List (Option TokenOrInteger)) → (more : List TokenOrInteger) × (before_gap (ps ++ qs) ≡ before_gap ps ++ more)
 before_more [] qs = (before_gap qs, refl)
 before_more (None ∷ ps) qs = ([], refl)

@@ -11,7 +11,7 @@ use Rattle.json_write.proofs.Parts.{answer_gap}
 pub if_err : {T : Type 0} (P : Error → Type 0) (r : Result T Error) (e : Error) → (y : Error) × (r ≡ Err y) × (y ≡ e) → P e → IfErr r P
 if_err P r e q h = subst (λ x. IfErr x P) (sym (q.1 ∙ ap Err q.2)) h
 
--- a key was refused, and what stands before it was given
+-- a key was refused, and all before it was given
 pub record Refuses {S : Type 0} (after : S → TokenOrInteger → S) (old new : S) (ps : List (Option TokenOrInteger)) (e : Error) : Type 0 where
   pub is : e ≡ key_refused
   pub gap : is_whole ps ≡ false

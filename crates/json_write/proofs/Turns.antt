@@ -1,4 +1,4 @@
--- What may come next behind the tokens of data.
+-- What may follow the tokens of data.
 use Rattle.std.proofs.Common.{ℕ, ◌≡◌, List, [], ◌∷◌, true, Option, Some, sym, ap, subst, ◌∙◌}
 use Rattle.json_grammar.specs.declared.Kind.{Kind}
 use Rattle.json_grammar.specs.declared.Kind.TheVariants.{Array as array, Object as object}
@@ -25,7 +25,7 @@ Moves {S = S} after stand = (s : S) (t : TokenOrInteger) → stand (after s t) �
 pub wrote_stand : {S : Type 0} {after : S → TokenOrInteger → S} (stand : S → TokenState) {old new : S} {err failed : Option Error} (d : Datum) → Moves after stand → Wrote after old new err failed (parts d) → stand new ≡ state_after_value (stand old)
 wrote_stand {after = after} stand {old = old} d moves w = ap stand w.state ∙ stand_moves after stand moves old (before_gap (parts d)) ∙ datum_stand (stand old) d w.whole
 
--- an element or the end of a list may come, in the containers o
+-- an element or the end of a list may follow, in the containers o
 pub record InList (o : List Kind) (s : TokenState) : Type 0 where
   pub is : s ≡ state_in (array ∷ o)
 
@@ -41,11 +41,11 @@ list_takes i = subst (λ (z : TokenState). ValueMayCome z.expected) (sym i.is) t
 pub list_ends : {o : List Kind} {s : TokenState} → InList o s → EndMayCome s.expected array
 list_ends i = subst (λ (z : TokenState). EndMayCome z.expected array) (sym i.is) tt
 
--- a key or the end of rows may come, in the containers o
+-- a key or the end of rows may follow, in the containers o
 pub record InRows (o : List Kind) (s : TokenState) : Type 0 where
   pub is : s ≡ state_in (object ∷ o)
 
--- the value behind a key may come
+-- the value after a key may follow
 pub record AtValue (o : List Kind) (s : TokenState) : Type 0 where
   pub is : s ≡ record { opened = object ∷ o; expected = a_value }
 

@@ -87,7 +87,7 @@ fits_after b (given_integer n) = b && is_inside n
 abbrev pub build_after : Build → TokenOrInteger → Build
 build_after b t = record { stand = after_token b.stand (token_of t); work = work_after b.work (token_of t); fits = fits_after b.fits t }
 
--- a value is behind
+-- a value was passed
 abbrev pub placed : Tree → Build → TokenOrInteger → Build
 placed u b t = record { stand = after_token b.stand null_token; work = record (b.work) { top = frame_take b.work.top u }; fits = b.fits }
 

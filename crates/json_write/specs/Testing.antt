@@ -1,4 +1,4 @@
--- What may come next of what was tested.
+-- What may follow after what was tested.
 use Rattle.std.specs.Prelude.{◌≡◌, Result}
 use Rattle.json_grammar.specs.TokenStates.{TokenState, state_after_value, after_token}
 use Rattle.json_io.specs.declared.error.Error.{Error}
@@ -14,7 +14,7 @@ expected_in_test s = nesting_stand s.nesting
 abbrev pub stand_given : TokenState → TokenOrInteger → TokenState
 stand_given s g = after_token s (token_of g)
 
--- behind a value
+-- after a value
 abbrev pub passed : TokenState → TokenOrInteger → TokenState
 passed s g = state_after_value s
 
@@ -22,6 +22,6 @@ passed s g = state_after_value s
 abbrev pub StopsTest : TokenState → TokenOrInteger → TokenState → Error → Type 0
 StopsTest s g s' e = e ≡ no_memory
 
--- a call of a test: what may come next goes on so, or memory ran out
+-- a call of a test: what may follow changes so, or memory ran out
 abbrev pub Tests : (TokenState → TokenOrInteger → TokenState) → KeyTest → KeyTest → TokenOrInteger → Result (Unit {0}) Error → Type 0
 Tests next old new g result = Takes next StopsTest (expected_in_test old) (expected_in_test new) old.failed new.failed g result

@@ -23,7 +23,7 @@ abbrev pub AreTokensProper : List TokenOrInteger → Type 0
 AreTokensProper [] = Unit {0}
 AreTokensProper (g ∷ gs) = IsTokenProper (token_of g) × AreTokensProper gs
 
--- what stands before the first key that has no text was given in turn, up to what met an error
+-- all before the first key that has no text was given in turn, up to what met an error
 pub record WritesDatumTokens {S : Type 0} (after : S → TokenOrInteger → S) (stopped : S → TokenOrInteger → S → Error → Type 0) (old new : S) (err err' : Option Error) (ps : List (Option TokenOrInteger)) (result : Result (Unit {0}) Error) : Type 0 where
   -- where the events met no error, all of it was given, and the answer is Ok exactly where each key has a text
   pub given : err' ≡ None → new ≡ after_all after old (before_gap ps)

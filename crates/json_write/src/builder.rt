@@ -263,10 +263,12 @@ impl Events for Builder {
     }
 }
 
-/// The value of the datum's tree, with each repeated key, at every object, at its first place with
-/// its last value. `NumberOutOfRange` comes exactly where an integer that is no key lies outside
-/// `i64` and `u64`, and `SerExpectKeyIsStrOrNum` exactly where a key has no text; where both are
-/// there, the first from the left decides. `NoMemory` comes where memory ran out.
+/// Returns the value of the datum's tree, with each repeated key, at every object, at its first
+/// place with its last value.
+///
+/// Fails with `NumberOutOfRange` exactly if an integer that is no key lies outside `i64` and `u64`,
+/// and with `SerExpectKeyIsStrOrNum` exactly if a key has no text; if both are there, the first
+/// from the left decides. Fails with `NoMemory` if memory runs out.
 pub fn to_value<T: Serialize>(alloc: Global, value: &T) -> Result<Value>
     ensures ok { IfOk result (λ v.
         option_map merged (datum_tree (T.datum value.now)) ≡ Some (tree_of v)) }

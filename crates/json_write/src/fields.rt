@@ -28,7 +28,7 @@ pub trait Fields {
     ghost rows: { Self → Rows };
 
     /// Gives the members to `out`, up to the first that is refused or meets an error, which is
-    /// answered. A key may come there.
+    /// returned. A key has to be allowed there.
     fn give<E: Events>(&self, out: &mut E) -> Result<()>
         requires { E.failed out.old ≡ None → AtKey (E.stand (E.state out.old)) }
         ensures { WritesDatumTokens E.after E.stopped (E.state out.old) (E.state out.new)

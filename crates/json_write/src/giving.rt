@@ -73,8 +73,8 @@ pub fn give_text<E: Events>(s: &str, out: &mut E) -> Result<()>
     out.text(s)
 }
 
-/// Begins an array. The hint is how many elements come, where that is known; it changes nothing
-/// that is given. Fails if the events do.
+/// Begins an array. The hint is how many elements follow, if that is known; it changes nothing that
+/// is given. Fails if the events do.
 #[inline(always)]
 pub fn begin_list<E: Events>(hint: Option<usize>, out: &mut E) -> Result<()>
     requires { AcceptsValue (E.failed out.old) (E.stand (E.state out.old)) }
@@ -94,8 +94,8 @@ pub fn end_list<E: Events>(out: &mut E) -> Result<()>
     out.end_array()
 }
 
-/// Begins an object. The hint is how many members come, where that is known; it changes nothing
-/// that is given. Fails if the events do.
+/// Begins an object. The hint is how many members follow, if that is known; it changes nothing that
+/// is given. Fails if the events do.
 #[inline(always)]
 pub fn begin_rows<E: Events>(hint: Option<usize>, out: &mut E) -> Result<()>
     requires { AcceptsValue (E.failed out.old) (E.stand (E.state out.old)) }

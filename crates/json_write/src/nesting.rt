@@ -1,4 +1,4 @@
-// What may come next of tokens.
+// Which tokens may follow.
 ghost use Rattle.std.specs.Prelude.{◌≡◌, OnOk};
 ghost use Rattle.json_grammar.specs.TokenStates.{initial_state, after_token};
 ghost use Rattle.json_grammar.specs.Tree.{null_token, begin, end, key_token};

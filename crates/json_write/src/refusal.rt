@@ -4,7 +4,7 @@ ghost use Rattle.json_io.specs.Errors.{key_refused};
 
 use json_text::{Error, ErrorCode, Place};
 
-/// What a body answers where a key has no text: `SerExpectKeyIsStrOrNum`, without a place.
+/// Returns the error of a key that has no text: `SerExpectKeyIsStrOrNum`, without a place.
 pub fn refused_key() -> Error
     ensures { result ≡ key_refused }
 {

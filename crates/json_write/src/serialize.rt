@@ -22,9 +22,9 @@ pub trait Serialize {
     ghost datum: { Self → Datum };
 
     /// Gives the tokens of the datum's tree to `out`, up to the first that meets an error, which is
-    /// answered. Where a key has no text, those before the first such key are given, and
-    /// `SerExpectKeyIsStrOrNum` is answered. Where the events had answered an error it is answered
-    /// again, and nothing changes; else a value may come there.
+    /// returned. If a key has no text, those before the first such key are given, and
+    /// `SerExpectKeyIsStrOrNum` is returned. If the events had returned an error it is returned
+    /// again, and nothing changes; else a value has to be allowed there.
     fn serialize<E: Events>(&self, out: &mut E) -> Result<()>
         requires { AcceptsValue (E.failed out.old) (E.stand (E.state out.old)) }
         ensures { WritesDatumTokens E.after E.stopped (E.state out.old) (E.state out.new)

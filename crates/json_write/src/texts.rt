@@ -9,8 +9,8 @@ use json_print::Serializer;
 use json_text::{Result, VecSink};
 use std::alloc::Global;
 
-/// The compact text of the value's tree. A refusal comes exactly where a key has no text, but for
-/// `NoMemory`.
+/// Returns the compact text of the value's tree. Fails with `SerExpectKeyIsStrOrNum` exactly if a
+/// key has no text, and with `NoMemory` if memory runs out.
 pub fn to_vec<T: Serialize>(alloc: Global, value: &T) -> Result<Vec<u8>>
     ensures ok { IfOk result (λ v. datum_text None (T.datum value.now) ≡ Some v.items) }
     ensures utf8 { IfOk result (λ v. IsUtf8 v.items) }
@@ -21,8 +21,8 @@ pub fn to_vec<T: Serialize>(alloc: Global, value: &T) -> Result<Vec<u8>>
     Ok(out.into_vec())
 }
 
-/// The text of the value's tree, indented by two spaces. A refusal comes exactly where a key has no
-/// text, but for `NoMemory`.
+/// Returns the text of the value's tree, indented by two spaces. Fails with
+/// `SerExpectKeyIsStrOrNum` exactly if a key has no text, and with `NoMemory` if memory runs out.
 pub fn to_vec_pretty<T: Serialize>(alloc: Global, value: &T) -> Result<Vec<u8>>
     ensures ok { IfOk result (λ v. datum_text two_spaces (T.datum value.now) ≡ Some v.items) }
     ensures utf8 { IfOk result (λ v. IsUtf8 v.items) }
@@ -33,8 +33,8 @@ pub fn to_vec_pretty<T: Serialize>(alloc: Global, value: &T) -> Result<Vec<u8>>
     Ok(out.into_inner().into_vec())
 }
 
-/// The compact text of the value's tree. A refusal comes exactly where a key has no text, but for
-/// `NoMemory`.
+/// Returns the compact text of the value's tree. Fails with `SerExpectKeyIsStrOrNum` exactly if a
+/// key has no text, and with `NoMemory` if memory runs out.
 pub fn to_string<T: Serialize>(alloc: Global, value: &T) -> Result<String>
     ensures ok { IfOk result (λ s. datum_text None (T.datum value.now) ≡ Some (string_bytes s)) }
     ensures err { FailsOnKeyText (T.datum value.now) result }
@@ -43,8 +43,8 @@ pub fn to_string<T: Serialize>(alloc: Global, value: &T) -> Result<String>
     Ok(unsafe { String::from_utf8_unchecked(bytes) })
 }
 
-/// The text of the value's tree, indented by two spaces. A refusal comes exactly where a key has no
-/// text, but for `NoMemory`.
+/// Returns the text of the value's tree, indented by two spaces. Fails with
+/// `SerExpectKeyIsStrOrNum` exactly if a key has no text, and with `NoMemory` if memory runs out.
 pub fn to_string_pretty<T: Serialize>(alloc: Global, value: &T) -> Result<String>
     ensures ok { IfOk result (λ s.
         datum_text two_spaces (T.datum value.now) ≡ Some (string_bytes s)) }

@@ -6,7 +6,7 @@ use Rattle.json_data.proofs.Lists.{InList}
 use Rattle.json_explain.proofs.Parts.{Passed}
 use Rattle.json_explain.proofs.containers.explain_elements.Given as goal
 
--- the elements so far, behind any place from which on the beginning was taken
+-- the elements so far, from any place at which reading began
 abbrev pub invariant-each : goal.invariant-each
 invariant-each g l = (ts : Trees)
     × ((a : _) → TakesOne g.T.Tokens.taken g.T.Tokens.stand a l.fn.tokens (begin array) → InList g.T.Tokens.taken g.T.Tokens.stand a l.tokens ts)

@@ -6,7 +6,7 @@ use Rattle.json_data.proofs.Pairs.{InPairs}
 use Rattle.json_explain.proofs.Parts.{PassedMembers}
 use Rattle.json_explain.proofs.containers.explain_rest.Given as goal
 
--- the members so far, behind any place from which on the beginning was taken
+-- the members so far, from any place at which reading began
 abbrev pub invariant-each : goal.invariant-each
 invariant-each g l = (ps : Pairs)
     × ((a : _) → TakesOne g.T.Tokens.taken g.T.Tokens.stand a l.fn.tokens (begin object) → InPairs g.T.Tokens.taken g.T.Tokens.stand a l.tokens ps)

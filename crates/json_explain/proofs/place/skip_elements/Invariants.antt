@@ -4,7 +4,7 @@ use Rattle.json_explain.specs.Paths.{OnTheWay}
 use Rattle.json_explain.proofs.Walking.{elements_tokens}
 use Rattle.json_explain.proofs.place.skip_elements.Given as goal
 
--- so many elements are left
+-- how many elements are left
 abbrev pub invariant-each : goal.invariant-each
 invariant-each l =
     (limit : ℕ) (b : List ℕ) (t : Tree) (us : List Tree) (xs ys : List Tok) → length us ≡ l.count → OnTheWay limit b t l.fn.parser xs (elements_tokens us ++ ys)

@@ -4,7 +4,7 @@ use Rattle.json_explain.specs.Paths.{OnTheWay}
 use Rattle.json_explain.proofs.Walking.{members_tokens}
 use Rattle.json_explain.proofs.place.skip_members.Given as goal
 
--- so many members are left
+-- how many members are left
 abbrev pub invariant-each : goal.invariant-each
 invariant-each l =
     (limit : ℕ) (b : List ℕ) (t : Tree) (us : List (List ℕ × Tree)) (xs ys : List Tok) → length us ≡ l.count → OnTheWay limit b t l.fn.parser xs (members_tokens us ++ ys)

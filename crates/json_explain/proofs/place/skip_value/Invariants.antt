@@ -5,7 +5,7 @@ use Rattle.json_explain.specs.Paths.{OnTheWay}
 use Rattle.json_explain.proofs.Walking.{ahead}
 use Rattle.json_explain.proofs.place.skip_value.Given as goal
 
--- of a value so many containers are open, and its other tokens are ahead
+-- how many containers of a value are open, and its other tokens follow
 abbrev pub invariant-each : goal.invariant-each
 invariant-each l = record {
   same : SameInput l.fn.parser l.parser;

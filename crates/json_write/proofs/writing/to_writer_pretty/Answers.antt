@@ -9,7 +9,7 @@ pub returns-in_err-test_keys : goal.returns-in_err-test_keys
 returns-in_err-test_keys g c =
     not_begun (g.K.Sink.state c.args.writer.now) (Some (codes "  ")) (g.T.Serialize.datum c.args.value.now) _ _ (err_from_is_err_and c.from_residual.result c.from_residual.ensures.1) c.in_err-test_keys.ensures.err
 
--- the sink that comes back is the one that was lent
+-- the returned sink is the borrowed one
 pub returns : goal.returns
 returns g c =
     let old : SinkState = g.K.Sink.state c.args.writer.now in
