@@ -1,4 +1,4 @@
--- What the known bytes of a source come to.
+-- What the known bytes of a source lead to.
 use Rattle.std.proofs.Common.{◌≡◌, ◌⊎◌, inl, inr, ℕ, ◌<◌, List, length, Some, None, Option, IfSome, Err, Result, refl, subst, ap, false}
 use Rattle.json_grammar.specs.Tree.{Tree}
 use Rattle.json_grammar.specs.Rules.{Rules}
@@ -44,7 +44,7 @@ one_of e x y (inl h) = inl (ap Err h)
 one_of e x y (inr h) = inr (ap Err h)
 
 module _ (rules : Rules) where
-  -- ---- what was read stands in the known bytes
+  -- ---- what was read is part of the known bytes
 
   pub fault_known : (source source' : SourceState) (b : List ℕ) (code : ErrorCode) (place : Place) → ReadsFault rules source source' code place → source.left ≡ Some b → InputFault rules b code place
   fault_known source source' b code place h known = subst (λ b. InputFault rules b code place) (bytes_are source source' h.bytes b h.all known) h.fault

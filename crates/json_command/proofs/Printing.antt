@@ -53,13 +53,13 @@ style_ran_out lacks i j s z t e f h = subst (λ x. RunOut lacks (length (shown_a
 pub flush_ran_out : (old new : SinkState) (size : ℕ) (r : Result (Unit {0}) Error) → FlushesAll old new r → IsErrOf r no_memory → HasRunOut new size
 flush_ran_out old new size r h e = inl (risen old.lacks new.lacks (subst (λ x. IfErr x (λ y. WritingCause old new y.code y.place)) e h.cause))
 
--- the sink that comes back is the one that ran out
+-- the returned sink is the one that ran out of memory
 pub lent_ran_out : (old now sent lent : SinkState) (name : GName) (held : List ℕ) (size : ℕ) (r : Result (Unit {0}) Error) → sent ≡ held_behind lent held → ComesBack lent now name → (IsErrOf r no_memory → HasRunOut sent size) → RunsOutOnlyWith old now size r
 lent_ran_out old now sent lent name held size r s back h e =
     let lacks : sent.lacks ≡ now.lacks = ap (λ (x : SinkState). x.lacks) s ∙ ap (λ (x : SinkState). x.lacks) back.as_lent in
     inr (subst (λ n. RunOut n size) lacks (h e))
 
--- ---- a flush behind it
+-- ---- a flush after it
 
 stop_cause : (old mid new : SinkState) (code : ErrorCode) (place : Place) → mid.faults ≡ old.faults → WritingCause mid new code place → StopCause old.faults new.faults code place
 stop_cause old mid new NoMemory nowhere e h = tt

@@ -1,4 +1,5 @@
--- What a program says of itself: its help and its version, each asked for by an argument that stands alone.
+-- What a program says of itself: its help and its version, each asked for by an argument that is
+-- alone.
 use Rattle.std.specs.Prelude.{◌≡◌, ◌⊎◌, ℕ, Bool, ◌||◌, cond, false, List, [], ◌∷◌, Option, Some, None, bytes_eq, codes}
 use Rattle.json_io.specs.Known.{Appends}
 use Rattle.json_io.specs.Outside.{SinkState, Rose}

@@ -20,7 +20,7 @@ number_up_to max d = cond (is_plain d) (option_and_then (up_to max) (integer_in 
 abbrev pub number_after : List ℕ → ℕ → List ℕ → Option ℕ
 number_after name max word = cond (bytes_eq (before_first (λ x. x == 61) word) name) (number_up_to max (after_first (λ x. x == 61) word)) None
 
--- the greatest number of levels that a word asks for: --depth=N so many, 1,024 at most
+-- the greatest number of levels that a word asks for: --depth=N the number N, at most 1,024
 abbrev pub depth_in : List ℕ → Option ℕ
 depth_in w = number_after (codes "--depth") 1024 w
 

@@ -37,7 +37,7 @@ pub record Prints (old new : SinkState) (text : List ℕ) (result : Result (Unit
 abbrev pub ReturnsWriteError : {A : Type 0} → SinkState → SinkState → Result A Error → Type 0
 ReturnsWriteError sink sink' result = sink.faults < sink'.faults → IsErrOf result writing_failed
 
--- the sink counts a call that found no memory, or a text of so many bytes has as many as a usize counts
+-- the sink counts a call that found no memory, or a text has more bytes than a usize counts
 abbrev pub HasRunOut : SinkState → ℕ → Type 0
 HasRunOut sink size = (0 < sink.lacks) ⊎ (2 ^ 64 - 1 ≤ size)
 

@@ -1,11 +1,11 @@
 //! Worked rows of a program: a table of inputs and arguments, each with the status and the texts
-//! that the program comes to.
+//! that are the program's.
 //!
 //! A row is a line of fields, each closed by `|`: the input, the status, the output, the errors
 //! without their last line break, and then the arguments. `«N PIECE»` means N times the piece;
 //! of the first, third and fourth field `%XX` is a byte. A line that begins with `#` says what
 //! follows. Where the status is that of invalid arguments the source fails at its first call, so a
-//! program that reads it comes to another status.
+//! program that reads it has another status.
 //!
 //! ```
 //! use json_command::rows::differing_rows;
@@ -24,7 +24,7 @@ use json_text::{FakeSource, Result, VecSink, Words};
 use percent_encoding::percent_decode;
 use std::alloc::Global;
 
-// What a program is given, and what it comes to.
+// What a program is given, and what it returns.
 #[derive(Drop)]
 struct Row {
     input: Vec<u8>,
@@ -102,8 +102,8 @@ fn read_row(alloc: Global, line: &str) -> Result<Option<Row>>
     }))
 }
 
-// Whether the program comes to what the row says, by a source that gives at most `at_once` bytes a
-// call.
+// Returns whether the program does what the row says, by a source that gives at most `at_once`
+// bytes a call.
 fn holds<F>(alloc: Global, row: &Row, at_once: usize, run: &F) -> bool
 where
     F: Fn(Global, &Words, &mut FakeSource<'_>, &mut VecSink, &mut VecSink) -> u8,
@@ -120,9 +120,8 @@ where
         && errs.as_slice() == row.errors.as_slice()
 }
 
-/// Runs a program on worked rows and returns how many come to something else, or cannot be read.
-/// The source gives at most `at_once` bytes a call. Returns `NoMemory` where memory runs out for a
-/// row.
+/// Runs a program on worked rows and returns how many have another result, or cannot be read. The
+/// source gives at most `at_once` bytes a call. Fails with `NoMemory` if memory runs out for a row.
 pub fn differing_rows<F>(alloc: Global, rows: &str, at_once: usize, run: F) -> Result<u32>
 where
     F: Fn(Global, &Words, &mut FakeSource<'_>, &mut VecSink, &mut VecSink) -> u8,

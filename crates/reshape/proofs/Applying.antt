@@ -25,13 +25,13 @@ ok_is x y e = cc
 err_ok : (x : Tree) (e : ℕ × Refusal) → ◌≡◌ {A = Answer} (Err e) (Ok x) → ⊥
 err_ok x e h = cc
 
--- what holds behind one edit holds behind it and those that follow
+-- what holds after one edit holds after it and those that follow
 first_then : (n : ℕ) (ds bs : List Edit) (u : Tree) → ((v : Tree) → edited_from (suc n) ds v ≡ Ok u → edited_from (suc n) (ds ++ bs) v ≡ edited_from (suc n + length ds) bs u)
     → (c : Changed Tree) → Behind n ds c ≡ Ok u → Behind n (ds ++ bs) c ≡ edited_from (suc n + length ds) bs u
 first_then n ds bs u rest (Ok v) g = rest v g
 first_then n ds bs u rest (Err r) g = absurd (err_ok u (n, r) g)
 
--- the edits behind the first, where it applies
+-- the edits after the first, where it applies
 pub edited_then : (n : ℕ) (ds bs : List Edit) (t u : Tree) → edited_from n ds t ≡ Ok u → edited_from n (ds ++ bs) t ≡ edited_from (n + length ds) bs u
 edited_then n [] bs t u h = ap (λ v. edited_from n bs v) (ok_is t u h) ∙ ap (λ m. edited_from m bs u) (none n)
   where
@@ -59,7 +59,7 @@ edited_stops es e more t u why n h g l = edited_then 0 es (e ∷ more) t u h ∙
 up_to : (xs : List value.Edit) (i : ℕ) (x : value.Edit) → i < length xs → x ≡ slice_index_or xs i x → map edit_of (take (i + 1) xs) ≡ map edit_of (take i xs) ++ edit_of x ∷ []
 up_to xs i x l e = ap (map edit_of) (take_more xs i x l ∙ ap (λ y. take i xs ++ y ∷ []) (sym e)) ∙ map-append edit_of (take i xs) (x ∷ [])
 
--- all of them, with those before it and behind it
+-- all of them, with those before and after it
 around : (xs : List value.Edit) (i : ℕ) (x : value.Edit) → i < length xs → x ≡ slice_index_or xs i x → map edit_of xs ≡ map edit_of (take i xs) ++ edit_of x ∷ map edit_of (drop (i + 1) xs)
 around xs i x l e =
     ap (map edit_of) (sym (take-append-drop (i + 1) xs)) ∙ map-append edit_of (take (i + 1) xs) (drop (i + 1) xs) ∙ ap (λ ys. ys ++ map edit_of (drop (i + 1) xs)) (up_to xs i x l e)

@@ -1,4 +1,4 @@
--- What the known bytes of a source come to behind edits.
+-- What the known bytes of a source lead to after edits.
 use Rattle.std.proofs.Common.{◌≡◌, ◌⊎◌, inl, inr, ℕ, List, Ok, Err, Result, OnOk, IfErr, IsErrOf, refl, sym, ap, ◌∙◌}
 use Rattle.std.specs.Result.{IsOkUnless}
 use Rattle.json_grammar.specs.Tree.{Tree}
@@ -80,7 +80,7 @@ module _ (rules : Rules) where
   unfit_applied : (es : List Edit) (source source' : SourceState) (tree changed : Tree) (n : ℕ) (why : Refusal) → ReadsInput rules source source' tree → edited es tree ≡ Ok changed → KnownUnfit rules es source source' n why → ⊥
   unfit_applied es source source' tree changed n why reads applied unfit = ok_err changed (n, why) (sym applied ∙ same_made rules (edited es) source source' tree unfit.tree unfit.input.bytes reads unfit.input.known unfit.input.input ∙ unfit.refused)
 
-  -- the edit that was told is the one that does not apply
+  -- the edit that was returned is the one that does not apply
   unfit_same : (es : List Edit) (source source' : SourceState) (n n' : ℕ) (why why' : Refusal) → ReadsUnfit rules es source source' n' why' → KnownUnfit rules es source source' n why → edit_refused n' why' ≡ edit_refused n why
   unfit_same es source source' n n' why why' h unfit =
       let same : ◌≡◌ {A = ℕ × Refusal} (n', why') (n, why) = err_is (n', why') (n, why) (sym h.refused ∙ same_made rules (edited es) source source' h.tree unfit.tree unfit.input.bytes h.reads unfit.input.known unfit.input.input ∙ unfit.refused) in

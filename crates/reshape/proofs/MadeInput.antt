@@ -20,7 +20,7 @@ use Rattle.reshape.specs.Known.{KnownFit}
 use Rattle.json_command.proofs.KnownBytes.{input_known}
 use Rattle.reshape.specs.Made.{made_record, made_records, made, separator, summary, sorted_compact, IsPrinted, IsSummary, SummaryFails}
 
--- a record behind another
+-- a record after another
 abbrev pub next_record : ℕ → List ℕ
 next_record i = codes ", " ++ made_record i
 

@@ -1,4 +1,4 @@
--- What the words and the bytes that are told come to.
+-- What the words and the known bytes lead to.
 use Rattle.std.proofs.Common.{◌≡◌, ◌⊎◌, inl, inr, ℕ, ◌≤◌, List, [], ◌∷◌, Result, Ok, Err, OnOk, IfErr, refl, sym, subst, ap, ◌∙◌}
 use Rattle.json_model.specs.Edit.{Edit, Refusal, not_found, type_unmatched}
 use Rattle.json_grammar.specs.Rules.{Rules}

@@ -23,7 +23,8 @@ HasRole w UniqueKeys = IsRole w true None false true None
 HasRole w (Depth n) = IsRole w true None false false (Some n)
 HasRole w (EditsWord s) = IsRole w false None false false None × (s.now ≡ w)
 
--- the words are known, and this indent, this order, these rules and this edits word alone stand among them
+-- the words are recognized, and ask for this indent, this order, these rules and this edits word
+-- alone
 pub record HoldsWords (words : List (List ℕ)) (indent : Option (List ℕ)) (sorts unique : Bool) (depth : Option ℕ) (word : Option (List ℕ)) : Type 0 where
   pub known : list_all is_known words ≡ true
   pub indent_is : filter_map indent_in words ≡ option_to_list indent

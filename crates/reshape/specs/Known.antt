@@ -1,4 +1,5 @@
--- What the known bytes of a source come to: a text to which the edits apply, or one to which they do not apply.
+-- What the known bytes of a source are: a text to which the edits apply, or one to which they do
+-- not apply.
 use Rattle.std.specs.Prelude.{◌≡◌, ◌⊎◌, ℕ, List, Result, Ok, Err, IsErrOf}
 use Rattle.json_io.specs.declared.error.Error.{Error}
 use Rattle.json_io.specs.declared.error.Place.TheVariants.{Edit as in_edit}

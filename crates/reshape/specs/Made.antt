@@ -1,4 +1,4 @@
--- A large input that is made from a number, and what is told of it and of its text.
+-- A large input that is made from a number, and what is reported of it and of its text.
 use Rattle.std.specs.Prelude.{◌≡◌, ◌⊎◌, ℕ, zero, suc, List, [], ◌∷◌, ◌++◌, length, sum, decimal, codes, None, true, false}
 use Rattle.std.specs.List.{join_by, range_with_len}
 use Rattle.json_grammar.specs.Tree.{Tree}
@@ -20,11 +20,11 @@ made_record i = codes "{\"n\": " ++ (decimal i ++ codes ", \"k\": [-0, 1.50], \"
 abbrev pub made_records : List ℕ → List ℕ
 made_records is = join_by made_record (codes ", ") is
 
--- made input: an array of so many records, which are numbered from 0 on
+-- made input: an array of n records, which are numbered from 0 on
 abbrev pub made : ℕ → List ℕ
 made n = codes "[" ++ (made_records (range_with_len 0 n) ++ codes "]")
 
--- what stands before a record: nothing before the first, and a comma and a space before each other
+-- what precedes a record: nothing before the first, and a comma and a space before each other
 abbrev pub separator : ℕ → List ℕ
 separator zero = []
 separator (suc i) = codes ", "
@@ -47,7 +47,7 @@ pub record IsPrinted (input output : List ℕ) : Type 0 where
   pub is_text_of_it : is_text false tree input
   pub prints : output ≡ laid_out sorted_compact tree
 
--- this is the summary of made input of so many records, and of what is printed of it
+-- this is the summary of made input of n records, and of what is printed of it
 pub record IsSummary (n : ℕ) (text : List ℕ) : Type 0 where
   pub output : List ℕ
   pub printed : IsPrinted (made n) output

@@ -16,11 +16,11 @@ is_option w = bytes_eq (take 2 w) (codes "--")
 abbrev pub is_edits_word : List ℕ → Bool
 is_edits_word w = not (is_option w)
 
--- so many spaces
+-- n spaces
 abbrev pub spaces : ℕ → List ℕ
 spaces n = replicate n 32
 
--- the indent that a word asks for: --pretty two spaces, --tabs one tab, --indent=N so many spaces
+-- the indent that a word asks for: --pretty two spaces, --tabs one tab, --indent=N N spaces
 abbrev pub indent_in : List ℕ → Option (List ℕ)
 indent_in w =
     cond (bytes_eq w (codes "--pretty")) (Some (spaces 2))
@@ -35,7 +35,7 @@ is_sorting w = bytes_eq w (codes "--sort-keys")
 abbrev pub is_unique : List ℕ → Bool
 is_unique w = bytes_eq w (codes "--unique-keys")
 
--- the records of made input that a word asks for: --make=N so many, 100,000 at most
+-- the records of made input that a word asks for: --make=N N of them, at most 100,000
 abbrev pub made_in : List ℕ → Option ℕ
 made_in w = number_after (codes "--make") 100000 w
 
@@ -68,7 +68,7 @@ pub record Asks (words : List (List ℕ)) (c : Command) : Type 0 where
 abbrev pub IsReshaping : List (List ℕ) → Type 0
 IsReshaping words = (c : Command) × Asks words c
 
--- the words ask for made input of so many records: one word asks for them, and stands alone
+-- the words ask for made input of n records: one word asks for them, and is the only one
 abbrev pub AsksMade : List (List ℕ) → ℕ → Type 0
 AsksMade (w ∷ []) n = made_in w ≡ Some n
 AsksMade _ n = ⊥

@@ -1,4 +1,4 @@
--- What becomes of a source and a sink: a text comes in, and the text of the edited tree goes out.
+-- What becomes of a source and a sink: a text goes in, and the text of the edited tree goes out.
 use Rattle.std.specs.Prelude.{Bool, Option, cond, ◌≡◌, ◌⊎◌, ℕ, ◌+◌, ◌<◌, List, length, ⊤, IfSome, false, Ok, Err}
 use Rattle.json_grammar.specs.Tree.{Tree}
 use Rattle.json_grammar.specs.Grammar.{is_text}

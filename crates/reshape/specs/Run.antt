@@ -28,7 +28,7 @@ RunRefuses words source source' sink sink' NoMemory nowhere = (sink' ≡ sink) �
 RunRefuses words source source' sink sink' BadWords nowhere = (¬ IsAsked words) × (source' ≡ source) × (sink' ≡ sink)
 RunRefuses words source source' sink sink' code place = WithCommand words (λ c. ReshapingRefuses c.rules c.es c.layout source source' sink sink' code place)
 
--- the words ask for made input of so many records, and of their number this holds
+-- the words ask for made input of some records, and of their number this holds
 pub record WithMade (words : List (List ℕ)) (holds : ℕ → Type 0) : Type 0 where
   pub number : ℕ
   pub asked : AsksMade words number

@@ -51,8 +51,8 @@ impl AskedStyle {
         self.style
     }
 
-    /// The rules that the input is read by: 254 levels at most and keys that may repeat where the
-    /// words say nothing of them.
+    /// Returns the rules that the input is read by: at most 254 levels and keys that may repeat,
+    /// unless the words ask for others.
     pub fn rules(&self) -> Rules
         ensures { rules_of result ≡ rules_asked self.now }
     {

@@ -29,12 +29,12 @@ use json_value::Edit;
 pub enum Asked {
     /// The text of the tree that is read by these rules, after these edits and in this style.
     Reshape(Edits, AskedStyle),
-    /// A summary of made input of so many records, 100,000 at most, and of what is printed of it.
+    /// A summary of made input of this many records, at most 100,000, and of what is printed of it.
     Made(u32),
 }
 
 impl Asked {
-    /// The edits, from the first on. Made input is not edited.
+    /// Returns the edits, from the first on. Made input is not edited.
     pub fn edits(&self) -> &[Edit]
         ensures { map edit_of result.now ≡ (asked_command self.now).es }
     {
@@ -44,7 +44,7 @@ impl Asked {
         }
     }
 
-    /// The style of the text. That of made input is compact and sorted.
+    /// Returns the style of the text. That of made input is compact and sorted.
     pub fn style(&self) -> Style<'static>
         ensures { layout_of result ≡ (asked_command self.now).layout }
     {
@@ -54,7 +54,7 @@ impl Asked {
         }
     }
 
-    /// The rules that the input is read by. Made input is read by the usual ones.
+    /// Returns the rules that the input is read by. Made input is read by the usual ones.
     pub fn rules(&self) -> Rules
         ensures { rules_of result ≡ (asked_command self.now).rules }
     {

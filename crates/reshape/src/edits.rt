@@ -34,7 +34,7 @@ impl Edits {
         }
     }
 
-    /// The edits, in the order in which they apply.
+    /// Returns the edits, in the order in which they apply.
     pub fn as_slice(&self) -> &[Edit]
         ensures { map edit_of result.now ≡ edits_of self.now }
     {

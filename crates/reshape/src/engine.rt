@@ -91,8 +91,8 @@ pub fn reshape_with<S: Source, K: Sink>(
     read_edit_write(alloc, source, sink, edits, Forms { rules, style })
 }
 
-/// `reshape_with` by the usual rules: input of 254 levels at most, in which the keys of an object
-/// may repeat. Fails as `reshape_with` does.
+/// Reshapes by the usual rules, as `reshape_with` does: input of at most 254 levels, in which the
+/// keys of an object may repeat. Fails as `reshape_with` does.
 pub fn reshape<S: Source, K: Sink>(
     alloc: Global,
     source: &mut S,

@@ -16,8 +16,8 @@ use json_print::Style;
 use json_text::{Result, Sink, SliceSource, VecSink};
 use std::alloc::Global;
 
-/// The style in which made input is printed: compact, with the members of each object in the order
-/// of their keys.
+/// Returns the style in which made input is printed: compact, with the members of each object in
+/// the order of their keys.
 pub fn sorted_style() -> Style<'static>
     ensures { layout_of result ≡ sorted_compact }
 {
@@ -44,7 +44,7 @@ fn push_record(text: &mut Vec<u8>, number: u32) -> Result<()>
     Ok(())
 }
 
-// An array of so many records, which are numbered from 0 on.
+// Returns an array of `count` records, which are numbered from 0 on.
 fn make(alloc: Global, records: u32) -> Result<Vec<u8>>
     ensures ok { IfOk result (λ v. v.items ≡ spec.made records) }
     ensures err { OnlyNoMemory result }
@@ -102,7 +102,7 @@ fn push_totals(text: &mut Vec<u8>, name: &[u8], bytes: &[u8]) -> Result<()>
     Ok(())
 }
 
-// The summary of made input of so many records.
+// Returns the summary of made input of `count` records.
 fn summary(alloc: Global, records: u32) -> Result<Vec<u8>>
     requires { records ≤ 100000 }
     ensures ok { IfOk result (λ v. IsSummary records v.items) }

@@ -34,7 +34,7 @@ pub(crate) struct Options<'a> {
     pub edits: Option<&'a str>,
 }
 
-// So many spaces as the one digit says, which is 8 at most.
+// Returns as many spaces as the one digit says, at most 8.
 fn spaces_of(digits: &[u8]) -> Option<&'static str>
     ensures { option_map (λ s. s.now) result ≡ option_map spaces (width_in digits.now) }
 {
@@ -142,7 +142,7 @@ impl<'a> Options<'a> {
         }
     }
 
-    /// The rules that are asked for: the usual ones where nothing is said of them.
+    /// Returns the rules that are asked for: the usual ones if the words say nothing of them.
     pub fn rules(self) -> Rules
         requires { ForSome self.depth (λ n. n ≤ 1024) }
         ensures { rules_of result

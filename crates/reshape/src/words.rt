@@ -43,15 +43,15 @@ fn read_edits_word(alloc: Global, word: Option<&str>) -> Result<Edits>
     }
 }
 
-/// What the words ask for. A word that begins with `--` is an option: `--pretty` asks for an indent
-/// of two spaces, `--tabs` for one of a tab, `--indent=N` for one of N spaces, which is one digit
-/// from 0 to 8, `--sort-keys` for members in the order of their keys, `--unique-keys` for input in
-/// which the keys of each object differ, and `--depth=N` for input of N levels at most, which is a
-/// number from 0 to 1,024 without leading zeros. Any other word is the edits word, which asks for
-/// the edits that it spells; it is itself read by the usual rules. `--make=N` alone asks for made
-/// input of N records, which is a number from 0 to 100,000 without leading zeros. Fails with
-/// `BadWords` if an option is unknown or occurs twice, if two options ask for an indent, if
-/// `--make=N` comes with another word, and if there are two edits words or the one has another
+/// Reads what the words ask for. A word that begins with `--` is an option: `--pretty` asks for an
+/// indent of two spaces, `--tabs` for one of a tab, `--indent=N` for one of N spaces, which is one
+/// digit from 0 to 8, `--sort-keys` for members in the order of their keys, `--unique-keys` for
+/// input in which the keys of each object differ, and `--depth=N` for input of N levels at most,
+/// which is a number from 0 to 1,024 without leading zeros. Any other word is the edits word, which
+/// asks for the edits that it spells; it is itself read by the usual rules. `--make=N` alone asks
+/// for made input of N records, which is a number from 0 to 100,000 without leading zeros. Fails
+/// with `BadWords` if an option is unknown or occurs twice, if two options ask for an indent, if
+/// `--make=N` has another word beside it, and if there are two edits words or the one has another
 /// form, and with `NoMemory` if memory runs out.
 pub fn asked(alloc: Global, words: &Words) -> Result<Asked>
     ensures ok { IfOk result (AsksFor words.now) }

@@ -5,7 +5,7 @@ use Rattle.json_value.specs.Denotes.{tree_of}
 use Rattle.json_command.proofs.Printing.{same_sink, printed_through, lent_ran_out}
 use Rattle.json_command.proofs.output.print_value.Goals as goal
 
--- the sink that comes back is the one that was lent
+-- the returned sink is the borrowed one
 pub returns-clause-prints : goal.returns-clause-prints
 returns-clause-prints g c =
     let old : SinkState = g.K.Sink.state c.args.sink.now in
