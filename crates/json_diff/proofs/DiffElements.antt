@@ -14,7 +14,7 @@ use Rattle.json_patch.proofs.PatchLaws.{no_dash}
 use Rattle.json_patch.proofs.ReplacedAt.{replaced_at_index}
 use Rattle.json_diff.proofs.DiffSteps.{Makes, made_nothing, made_first, made_both, AreBelowRoot, made_under}
 
--- ---- one element, behind those that are done
+-- ---- one element, after those that are done
 
 removed_there : (done : List Tree) (x : Tree) (rest : List Tree) → without_index (length done) (list_trees (done ++ x ∷ rest)) ≡ Ok (list_trees (done ++ rest))
 removed_there [] x rest = refl
@@ -155,7 +155,7 @@ length_left zero xs h = omega arith
 length_left (suc n) [] h = absurd (omega arith)
 length_left (suc n) (a ∷ xs) h = let i = length_left n xs (omega arith) in omega (arith, i)
 
--- the last n are the first n from behind
+-- the last n are the first n from the end
 last_reversed : (n : ℕ) (xs : List Tree) → n ≤ length (reverse xs) → drop (length xs - n) xs ≡ reverse (take n (reverse xs))
 last_reversed n xs h =
     let rs : List Tree = reverse xs in

@@ -1,4 +1,4 @@
--- What the arguments and the bytes of a source come to.
+-- What the arguments and the bytes of a source lead to.
 use Rattle.std.proofs.Common.{◌≡◌, ◌⊎◌, inl, inr, ℕ, ◌<◌, ◌≤◌, List, [], ◌∷◌, ◌++◌, codes, Result, Ok, Err, OnOk, IfErr, Option, None, arith, length, false, refl, sym, subst, ap, ◌∙◌}
 use Rattle.json_doc.specs.Readings.{elements}
 use Rattle.json_grammar.proofs.Sizes.{text_fits, nodes_some}

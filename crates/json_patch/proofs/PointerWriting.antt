@@ -16,7 +16,7 @@ pub escaped_token-append : (a b : List ℕ) → escaped_token (a ++ b) ≡ escap
 escaped_token-append [] b = refl
 escaped_token-append (x ∷ a) b = ap (λ s. escaped_byte x ++ s) (escaped_token-append a b) ∙ sym (append_assoc (escaped_byte x) (escaped_token a) (escaped_token b))
 
--- bytes without a tilde and a slash stand for themselves
+-- bytes without a tilde and a slash stay as they are
 pub escaped_token-plain : (a : List ℕ) → Lacks 126 a → Lacks 47 a → escaped_token a ≡ a
 escaped_token-plain [] t s = refl
 escaped_token-plain (x ∷ a) t s = by (x == tilde) (x == slash) (lacks_first 126 x a t) (lacks_first 47 x a s) (escaped_token-plain a (lacks_rest 126 x a t) (lacks_rest 47 x a s))

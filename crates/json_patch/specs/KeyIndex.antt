@@ -9,7 +9,7 @@ use Rattle.json_value.specs.declared.value.Value.{Value}
 unfoldable pub key_hash : List ℕ → ℕ
 key_hash k = folding.finish (folding.write folding.initial k)
 
--- the two slots of a key, of so many slots
+-- the two slots of a key, of n slots
 abbrev pub first_slot : List ℕ → ℕ → ℕ
 first_slot k slots = bit_and (key_hash k) (slots - 1)
 

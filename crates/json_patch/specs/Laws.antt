@@ -126,7 +126,7 @@ AreOperations ts os = map operation_of ts ≡ map Some os
 abbrev pub PatchAppliesOperations : Type 0
 PatchAppliesOperations = (t : Tree) (ts : List Tree) (os : List Operation) → AreOperations ts os → patched t (list (list_trees ts)) ≡ applied_from 0 os t
 
--- the first element that is not an operation is named, whatever comes before and after it
+-- the first element that is not an operation is named, whatever precedes and follows it
 abbrev pub FirstBadOperationIsNamed : Type 0
 FirstBadOperationIsNamed =
     (t : Tree) (ts : List Tree) (os : List Operation) (u : Tree) (us : List Tree)

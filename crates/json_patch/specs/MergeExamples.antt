@@ -52,7 +52,7 @@ MergedRepeatedKeys =
     (merge_patched t (example_object (example_member "a" null ∷ [])) ≡ example_object [])
     × (merge_patched t (example_object (example_member "a" (example_object (example_member "c" (example_number "3") ∷ [])) ∷ [])) ≡ example_object (example_member "a" (example_object (example_member "b" (example_number "1") ∷ example_member "c" (example_number "3") ∷ [])) ∷ example_member "a" (example_number "2") ∷ []))
 
--- RFC 7396, sections 1 and 3; a new member comes last
+-- RFC 7396, sections 1 and 3; a new member is last
 abbrev pub MergesOfTheText : Type 0
 MergesOfTheText =
     (

@@ -11,7 +11,7 @@ use Rattle.json_patch.specs.declared.pointer.Pointer.{Pointer}
 use Rattle.json_patch.specs.declared.operation.Operation.{Operation}
 use Rattle.json_patch.specs.declared.operation.Operation.TheVariants.{Add, Remove, Replace, Move, Copy, Test}
 
--- the operation on trees that an `Operation` stands for
+-- the operation on trees that an `Operation` represents
 abbrev pub model_operation : Operation → model.Operation
 model_operation (Add p v) = model.add (pointer_tokens p) (tree_of v)
 model_operation (Remove p) = model.remove (pointer_tokens p)

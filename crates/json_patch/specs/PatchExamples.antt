@@ -21,7 +21,7 @@ op_from op from path = example_object (example_member "op" (example_string op) �
 abbrev pub OperationMakes : Tree → Tree → Tree → Type 0
 OperationMakes t o u = patched t (example_array (o ∷ [])) ≡ Ok u
 
--- A.1: the new member comes last; the appendix shows it first, and the two are the same
+-- A.1: the new member is last; the appendix shows it first, and the two are the same
 abbrev pub AddingAnObjectMember : Type 0
 AddingAnObjectMember =
     let made = example_object (example_member "foo" (example_string "bar") ∷ example_member "baz" (example_string "qux") ∷ []) in
@@ -132,7 +132,7 @@ FormsAreReadFirst =
     × (patched null (example_array (op_path "drop" "" [] ∷ [])) ≡ Err (bad_patch, Some 0))
     × (patched null (example_array (op_path "remove" "a" [] ∷ [])) ≡ Err (bad_patch, Some 0))
 
--- a value cannot be moved into its child, even if there is none; it can be moved to where it is
+-- a value cannot be moved into its child, even if there is none; it can be moved to its own place
 abbrev pub MovesIntoThemselves : Type 0
 MovesIntoThemselves =
     let t = example_object (example_member "a" (example_object (example_member "b" (example_number "1") ∷ [])) ∷ []) in

@@ -12,7 +12,7 @@ use json_value::{Pair, find_key};
 use std::alloc::Global;
 use std::hash::{FoldHasher, Hasher};
 
-// An index pays only for so many searches among so many members.
+// The fewest searches, and members, for which an index pays.
 const MIN_SEARCHES: usize = 16;
 
 const MIN_MEMBERS: usize = 256;
@@ -53,7 +53,7 @@ impl KeyIndex {
         }
     }
 
-    // Returns an index for so many members, none of which is added yet. It has no slots if memory
+    // Returns an index for `members` members, none of which is added yet. It has no slots if memory
     // runs out.
     fn with_slots_for(alloc: Global, members: usize) -> KeyIndex
         ensures { result.removed ≡ 0 }
@@ -68,7 +68,7 @@ impl KeyIndex {
         }
     }
 
-    // Returns an index of the members, in which so many keys are to be searched.
+    // Returns an index of the members, in which `searches` keys are to be searched.
     pub(crate) fn new(alloc: Global, pairs: &[Pair], searches: usize) -> KeyIndex
         ensures { HasStarts result pairs.now }
     {
@@ -128,7 +128,7 @@ impl KeyIndex {
         self.lower(second, start);
     }
 
-    // Takes note of so many members that were removed.
+    // Notes the number of members that were removed.
     #[tactic(auto, using(crate::proofs::KeyStarts::no_starts))]
     pub(crate) fn subtract(&mut self, count: usize)
         ensures { (pairs : List (Keyed MemberValue))
