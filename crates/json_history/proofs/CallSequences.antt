@@ -73,7 +73,7 @@ numbered_call_fails n h g c cs all e f same refuses code place = by e.code e.pla
 no_calls : (x : ℕ × Refusal) (g : TreeHistory) → ◌≡◌ {A = Result TreeHistory (ℕ × Refusal)} (Err x) (Ok g) → ⊥
 no_calls x g e = cc
 
--- after calls that all apply, those behind them
+-- after calls that all apply, the calls that follow
 run_calls_after : (n : ℕ) (h g : TreeHistory) (cs ds : List TreeCall) → run_calls_from n h cs ≡ Ok g → run_calls_from n h (cs ++ ds) ≡ run_calls_from (n + length cs) g ds
 run_calls_after n h g [] ds so =
     let same : h ≡ g = cc in

@@ -116,7 +116,7 @@ from_truncated false t f = absurd (not_there t (λ p. no (f p)))
 pub history_equal_from : {P : Type 0} (h g : TreeHistory) → ∥ P ∥₁ → (P → h ≡ g) → h ≡ g
 history_equal_from h g known f = history_equal_sound h g (from_truncated (history_equal h g) known (λ p. subst (λ x. history_equal h x ≡ true) (f p) (history_equal_refl h)))
 
--- ---- a valid log stays valid, and stands for the history after each call
+-- ---- a valid log stays valid, and represents the history after each call
 
 pub log_edit_is_call : (k n : ChangeLog) (e : Edit) → log_edit k e ≡ Ok n → n ≡ log_call k (edit e)
 log_edit_is_call k n e so = sym (ap (log_or k) so)

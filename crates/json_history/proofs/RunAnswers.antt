@@ -1,4 +1,4 @@
--- The status and the text that a run comes to, where the bytes of the source are known.
+-- The status and the text of a run, where the bytes of the source are known.
 use Rattle.std.proofs.Common.{◌≡◌, ◌⊎◌, inl, inr, ℕ, List, [], ◌∷◌, Some, Ok, Err, Result, refl, sym, subst, ap, ◌∙◌, false}
 use Rattle.json_grammar.specs.Tree.{Tree}
 use Rattle.json_grammar.proofs.Values.{one_tree}

@@ -1,4 +1,4 @@
--- What the words and the replay come to.
+-- What the words and the replay lead to.
 use Rattle.std.proofs.Common.{◌≡◌, ◌⊎◌, inl, inr, List, ℕ, Result, Ok, Err, OnOk, IfErr, refl, sym, subst}
 use Rattle.json_io.specs.Errors.{no_memory, bad_words}
 use Rattle.json_text.specs.Ruled.{usual_rules}

@@ -75,11 +75,11 @@ last_member_sight v n m e f = ap (λ k. slice_get (members_sights v) (k - 1)) (o
 -- ---- members that are met from the left
 
 module _ {A : Type 0} (all : List A) (len left count : ℕ) (x : A) (here rest : List A) (more : left ≡ suc count) (below : left ≤ len) where
-  -- where the next one stands
+  -- the index of the next one
   pub next_index : suc (len - left) ≡ len - (left - 1)
   next_index = omega arith
 
-  -- what is left behind the one that is met
+  -- what is left after the current one
   pub left_behind : here ≡ drop (len - left) all → here ≡ x ∷ rest → rest ≡ drop (len - (left - 1)) all
   left_behind at step = dropped_one_more all (len - left) x rest (sym step ∙ at) ∙ ap (λ k. drop k all) next_index
 

@@ -12,7 +12,7 @@ use Rattle.json_history.specs.declared.call.Call.{Call}
 use Rattle.json_history.specs.declared.call.Call.TheVariants.{Edit, Undo, Redo}
 use Rattle.json_command.specs.Statuses.{code_of_refusal}
 
--- the call on trees that a call stands for
+-- the call on trees that a call represents
 abbrev pub call_of : Call → TreeCall
 call_of (Edit e) = edit (edit_of e)
 call_of Undo = undo

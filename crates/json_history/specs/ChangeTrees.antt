@@ -1,4 +1,4 @@
--- The changes of trees that changes of values stand for.
+-- The changes of trees that changes of values represent.
 use Rattle.std.specs.Prelude.{ℕ, List, map}
 use Rattle.json_grammar.specs.Tree.{Tree}
 use Rattle.json_model.specs.Edit.{Step}
@@ -15,11 +15,11 @@ use Rattle.json_history.specs.declared.change.Change.TheVariants.{Put, DropLast,
 abbrev pub removed_member : ℕ × Keyed Value → ℕ × List ℕ × Tree
 removed_member e = (e.0, (pair_of e.1).0, (pair_of e.1).1)
 
--- the removed members that a list of them stands for
+-- the removed members that a list of them represents
 abbrev pub removed_members : Taken → RemovedMembers
 removed_members t = map removed_member t.list.items
 
--- the change of trees that a change stands for
+-- the change of trees that a change represents
 abbrev pub tree_change_of : Change → TreeChange
 tree_change_of (Put p old) = put (path_steps p) (tree_of old)
 tree_change_of (DropLast p) = drop_last (path_steps p)

@@ -63,7 +63,7 @@ run_call h redo = Ok (after_redo h h.future)
 abbrev pub run_calls : Tree → List TreeCall → Result TreeHistory (ℕ × Refusal)
 run_calls t cs = run_calls_from 0 (new_history t) cs
 
--- ---- change logs: what stands for a history in memory
+-- ---- change logs: the form of a history in memory
 
 -- an edit to redo, with the change that undoes it again
 abbrev pub TreeRedo : Type 0
@@ -89,7 +89,7 @@ abbrev pub future_of : Tree → List TreeRedo → Changed (List Tree)
 future_of t [] = Ok []
 future_of t (r ∷ rs) = and_then (edited_once r.0 t) (λ u. and_then (future_of u rs) (λ us. Ok (u ∷ us)))
 
--- the log stands for the history
+-- the log represents the history
 pub record Represents (k : ChangeLog) (h : TreeHistory) : Type 0 where
   pub now : k.value ≡ h.now
   pub past : past_of k.value k.changes ≡ Ok h.past
@@ -118,7 +118,7 @@ abbrev pub trees_or_empty : Changed (List Tree) → List Tree
 trees_or_empty (Ok ts) = ts
 trees_or_empty (Err r) = []
 
--- the history that the log stands for
+-- the history that the log represents
 abbrev pub history_of : ChangeLog → TreeHistory
 history_of k = record { now = k.value; past = trees_or_empty (past_of k.value k.changes); future = trees_or_empty (future_of k.value k.redos) }
 

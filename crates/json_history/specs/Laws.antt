@@ -60,12 +60,12 @@ UndosAfterEdits =
 abbrev pub EmptyPastOrFuture : Type 0
 EmptyPastOrFuture = (h : TreeHistory) → (h.past ≡ [] → after_call h undo ≡ h) × (h.future ≡ [] → after_call h redo ≡ h)
 
--- after every list of calls the log is valid and stands for the history
+-- after every list of calls the log is valid and represents the history
 abbrev pub LogRepresentsHistory : Type 0
 LogRepresentsHistory = (t : Tree) (cs : List TreeCall) → IsValidLog (log_calls (new_log t) cs) × Represents (log_calls (new_log t) cs) (after_calls (new_history t) cs)
 
--- a valid log stands for a history, and after a call it is valid and stands for the history
--- after that call
+-- a valid log represents a history, and after a call it is valid and represents the history after
+-- that call
 abbrev pub LogFollowsCall : Type 0
 LogFollowsCall =
     (k : ChangeLog) (c : TreeCall)

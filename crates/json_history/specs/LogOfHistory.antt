@@ -1,4 +1,4 @@
--- The change log that a history stands for.
+-- The change log that a history represents.
 use Rattle.std.specs.Prelude.{List}
 use Rattle.json_value.specs.declared.value.Value.{Value}
 use Rattle.json_history.specs.History.{ChangeLog}

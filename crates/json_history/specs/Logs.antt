@@ -1,4 +1,4 @@
--- The change log that a value, its changes and its edits to redo stand for.
+-- The change log that a value, its changes and its edits to redo represent.
 use Rattle.std.specs.Prelude.{List, map, reverse}
 use Rattle.json_value.specs.Denotes.{tree_of}
 use Rattle.json_value.specs.Edits.{edit_of}

@@ -1,4 +1,4 @@
--- What each status of the top call means, and which status comes when.
+-- What each status of the top call means, and when each is returned.
 use Rattle.std.specs.Prelude.{◌≡◌, ◌⊎◌, ℕ, List, Ok, Err}
 use Rattle.json_io.specs.declared.error.Error.{Error}
 use Rattle.json_io.specs.declared.error.ErrorCode.{ErrorCode}

@@ -1,5 +1,5 @@
--- What changes and edits to redo share with the value that they come from: what they keep is where that was, and
--- nothing packed is copied.
+-- What changes and edits to redo share with the value that they are made from: what they keep has
+-- its positions, and nothing packed is copied.
 use Rattle.std.specs.Prelude.{◌≡◌, ◌⊎◌, ◌-◌, ℕ, List, [], ◌∷◌, ◌++◌, Option, Some, Result, IfOk, IfSome, length, slice_get, ⊤}
 use Rattle.std.specs.List.{All}
 use Rattle.json_io.specs.declared.error.Error.{Error}

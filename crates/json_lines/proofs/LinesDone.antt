@@ -1,4 +1,4 @@
--- How the lines that are done stand in all bytes.
+-- The lines that are done, within all bytes.
 use Rattle.std.proofs.Common.{◌≡◌, ℕ, ◌<◌, ◌≤◌, ◌==◌, Bool, true, false, cond, List, [], ◌∷◌, ◌++◌, length, Some, refl, sym, ap, ◌∙◌, subst, arith, append_assoc, append-nil}
 use Rattle.std.proofs.lemmas.Bool.{false≢true, cond-false, eqb-true}
 use Rattle.json_lines.specs.declared.line_reader.Line.{Line}

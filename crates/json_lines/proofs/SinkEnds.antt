@@ -21,7 +21,7 @@ failed e = Err e
 pub err_same : (e f : Error) → failed e ≡ failed f → e ≡ f
 err_same e f h = cc
 
--- a sink was lent, and comes back from a writer that held these bytes
+-- a sink was borrowed, and is returned by a writer that held these bytes
 module _ (old now sent lent began : SinkState) (name name' : GName) (held : List ℕ) (b : began ≡ lent_as old name old.gained) (loan_kept : sent.loan ≡ began.loan) (s : sent ≡ held_behind lent held) (back : ComesBack lent now name') where
   loan : lent.loan ≡ began.loan
   loan = ap (λ (x : SinkState). x.loan) (sym s) ∙ loan_kept

@@ -35,7 +35,7 @@ abbrev pub LineHas : (List ℕ → Outcome → Type 0) → Line → Outcome → 
 LineHas has (Whole line) outcome = has line.now outcome
 LineHas has TooLong outcome = outcome ≡ line_too_long
 
--- a line of at most so many bytes
+-- a line of at most n bytes
 abbrev pub IsWithinLimit : ℕ → Line → Type 0
 IsWithinLimit limit (Whole line) = length line.now ≤ limit
 IsWithinLimit limit TooLong = ⊤

@@ -1,4 +1,4 @@
--- The command that a table stands for.
+-- The command that a table represents.
 use Rattle.std.specs.Prelude.{ℕ, List, [], ◌∷◌, Bool, true, false, Option, Some, None, map}
 use Rattle.json_grammar.specs.Grammar.{boolean_bytes}
 use Rattle.json_model.specs.Print.{quoted}

@@ -40,10 +40,10 @@ pub(crate) trait RowWriter<K: Sink> {
             RowFails (has_outcome self.now line.now) (K.state sink.old) (K.state sink.new) e) };
 }
 
-// How far a run has come.
+// The state of a run.
 #[derive(Drop)]
 pub(crate) struct Tally {
-    // where memory comes from
+    // the allocator
     pub(crate) alloc: Global,
     // the number of lines so far
     pub(crate) number: u64,
@@ -186,7 +186,7 @@ fn step<R: RowWriter<K>, S: Source, K: Sink, E: Sink>(
     }
 }
 
-// Sends the rows so far before a read that may wait, so that rows flow as lines come.
+// Sends the rows so far before a read that may wait, so that rows flow as lines arrive.
 #[inline(always)]
 fn send_before_read<K: Sink>(reader: &LineReader, sink: &mut K) -> Result<()>
     ensures { WritesText (K.state sink.old) (K.state sink.new) [] result }

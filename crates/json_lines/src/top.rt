@@ -129,7 +129,7 @@ fn run_words<S: Source, K: Sink, E: Sink>(
 
 /// Filters JSON Lines: writes a row for each good line of `source`, and the error of each bad line.
 ///
-/// `words` are a columns word and the option `--has=PATH`, which may come before or after it. The
+/// `words` are a columns word and the option `--has=PATH`, which may precede or follow it. The
 /// columns word is a JSON array of 1 to 64 columns `[path, kind]`. A path is an array of keys and
 /// indexes; a kind is one of `"text"`, `"int"`, `"bool"` and `"json"`. A line where the path of
 /// `--has` leads to no value has no row.

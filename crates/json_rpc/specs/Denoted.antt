@@ -1,4 +1,4 @@
--- What the types of the code stand for.
+-- What the types of the code denote.
 use Rattle.std.specs.Prelude.{option_map}
 use Rattle.json_value.specs.Edits.{path_steps, edit_of}
 use Rattle.json_value.specs.Seen.{seen}

@@ -63,7 +63,7 @@ InvalidLeavesTheDocument = (t u : Tree) → request_of u ≡ None → (member_se
 abbrev pub OneResponseEach : Type 0
 OneResponseEach = (t : Tree) (us : List Tree) → length (batch_served t us).1 ≡ count_by (λ u. wants_response (request_of u)) us
 
--- members after others begin with the document that those left, and their responses come after
+-- members that follow others begin with the document that those left, and their responses follow
 abbrev pub BatchInTurn : Type 0
 BatchInTurn =
     (t : Tree) (us vs : List Tree)

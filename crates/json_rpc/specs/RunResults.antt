@@ -69,7 +69,7 @@ pub record StopsRun (old new : ServiceStreams) (error : Error) : Type 0 where
   pub gives : GivesBytes old.source new.source bytes
   pub prefix : AppendsRepliesPrefix bytes old new
   pub cause : ServingErrorCause bytes old new error.code error.place
-  -- a failed call is always told
+  -- a failed call is always reported
   pub reading_told : old.source.faults < new.source.faults → error ≡ reading_failed
   pub writing_told : old.sink.faults < new.sink.faults → error ≡ writing_failed
 

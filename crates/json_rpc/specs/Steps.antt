@@ -88,6 +88,6 @@ pub record StopsServing (old new : ServingState) (error : Error) : Type 0 where
   pub prefix : BeginsWith new.out.gained (append_known old.out.gained (replies old.document messages))
   pub same_loan : new.out.loan ≡ old.out.loan
   pub cause : LoopErrorCause old new error
-  -- a failed call is always told
+  -- a failed call is always reported
   pub reading_told : old.source.faults < new.source.faults → error ≡ reading_failed
   pub writing_told : old.out.faults < new.out.faults → error ≡ writing_failed

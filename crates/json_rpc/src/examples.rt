@@ -1,62 +1,62 @@
 //! Examples of requests and replies, each the contract of a function that does nothing.
 ghost use Rattle.json_rpc.specs.Examples.{SetsTheRoot, NotifiesInVain, NotifiesWithEffect, ServesABatch, CannotRead, SaysNothing, EmptyBatch, InvalidBatch, NotifiesAll, MethodIsNoText, UnknownMethod, MissingParam, ParamsByName, GetsNothing, AnotherKind, FirstCounts};
 
-/// `set` at the root has the result null.
+/// Shows that `set` at the root has the result null.
 pub fn sets_the_root()
     ensures { SetsTheRoot }
 {}
 
-/// A notification that does not apply.
+/// Shows a notification that does not apply.
 pub fn notifies_in_vain()
     ensures { NotifiesInVain }
 {}
 
-/// A notification that applies.
+/// Shows a notification that applies.
 pub fn notifies_with_effect()
     ensures { NotifiesWithEffect }
 {}
 
-/// A request and a number, as a batch.
+/// Shows a request and a number, as a batch.
 pub fn serves_a_batch()
     ensures { ServesABatch }
 {}
 
-/// A line that is no JSON text.
+/// Shows the response to a line that is no JSON text.
 pub fn cannot_read()
     ensures { CannotRead }
 {}
 
-/// A line of whitespace.
+/// Shows that a line of whitespace has no response.
 pub fn says_nothing()
     ensures { SaysNothing }
 {}
 
-/// An empty array.
+/// Shows the response to an empty array.
 pub fn empty_batch()
     ensures { EmptyBatch }
 {}
 
-/// A batch of values that are no requests.
+/// Shows the responses to a batch of values that are no requests.
 pub fn invalid_batch()
     ensures { InvalidBatch }
 {}
 
-/// A batch of notifications.
+/// Shows that a batch of notifications has no response.
 pub fn notifies_all()
     ensures { NotifiesAll }
 {}
 
-/// A method that is a number.
+/// Shows the response to a method that is a number.
 pub fn method_is_no_text()
     ensures { MethodIsNoText }
 {}
 
-/// A method that begins with the name of another.
+/// Shows the response to a method that begins with the name of another.
 pub fn unknown_method()
     ensures { UnknownMethod }
 {}
 
-/// A param is missing.
+/// Shows the response to a request without a param.
 pub fn missing_param()
     ensures { MissingParam }
 {}
@@ -66,17 +66,17 @@ pub fn params_by_name()
     ensures { ParamsByName }
 {}
 
-/// A path to a key that is not there.
+/// Shows the response to a path to a key that is not there.
 pub fn nothing_there()
     ensures { GetsNothing }
 {}
 
-/// An insertion into a number.
+/// Shows the response to an insertion into a number.
 pub fn another_kind()
     ensures { AnotherKind }
 {}
 
-/// Of members of one name, the first counts.
+/// Shows that of members of one name, the first counts.
 pub fn first_counts()
     ensures { FirstCounts }
 {}

@@ -13,7 +13,7 @@ returns-in_err-buffer-clause-err g c =
     let p = err_from_is_err_and c.from_residual.result c.from_residual.ensures.1 in
     rw (p.1, p.2) (short_none (HasWithin 1048576 (HasOutcome (table_command c.args.table.now))) _ _ _ c.args.tally.now _ c.in_err-buffer.ensures.only c.requires.unmuted)
 
--- the sink that comes back is the one that was lent
+-- the returned sink is the borrowed one
 pub returns-clause-err : goal.returns-clause-err
 returns-clause-err g c =
     let has = HasWithin 1048576 (HasOutcome (table_command c.args.table.now)) in

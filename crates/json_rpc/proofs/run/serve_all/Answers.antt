@@ -15,7 +15,7 @@ returns-in_err-buffer-clause-err g c =
     let p = err_from_is_err_and c.from_residual-in_err-buffer.result c.from_residual-in_err-buffer.ensures.1 in
     rw (p.1, p.2) (stops_at_once _ _ _ c.in_err-buffer.ensures.only)
 
--- the sink that comes back is the one that was lent
+-- the returned sink is the borrowed one
 pub returns-clause-err : goal.returns-clause-err
 returns-clause-err g c =
     let old : SinkState = g.K.Sink.state c.args.sink.now in
