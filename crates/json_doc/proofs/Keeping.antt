@@ -18,10 +18,9 @@ use Rattle.json_grammar.specs.Fault.{duplicate_key, fault}
 use Rattle.json_grammar.specs.Repeated.{keys_from, RepeatsAt, TokensRepeat}
 use Rattle.json_grammar.specs.Rules.{Rules, fits, fault_with}
 use Rattle.json_text.proofs.DueTokens.{names_before_due, name_told}
-use Rattle.json_text.proofs.OneFaultAt.{stands, stood, fault_with_limit_at}
+use Rattle.json_text.proofs.OneFaultAt.{stands, stood}
 use Rattle.json_text.proofs.Stands.{stood_at}
 use Rattle.json_text.specs.Standing.{Stood}
-use Rattle.json_text.specs.Ruled.{usual_rules}
 use Rattle.json_io.specs.declared.error.Error.{Error}
 use Rattle.json_io.specs.declared.error.ErrorCode.{ErrorCode}
 use Rattle.json_io.specs.declared.error.ErrorCode.TheVariants as code
@@ -36,7 +35,7 @@ use Rattle.json_text.specs.Parsing.{ParserState, input, HasGiven, SameInput, Goe
 use Rattle.json_grammar.specs.TokenStates.{BeginsTree}
 use Rattle.json_doc.specs.State.{VisitorState}
 use Rattle.json_doc.specs.Recorded.{visitor_state, Holds, SameRoom}
-use Rattle.json_doc.specs.Reading.{ReadingFails, ReadingFailsWith, RefusesName, EventIsNumber, Follows}
+use Rattle.json_doc.specs.Reading.{ReadingFailsWith, RefusesName, EventIsNumber, Follows}
 use Rattle.json_doc.specs.OpenNames.{HasNames, TakesIn, Differ}
 use Rattle.json_doc.specs.Progress.{AreInStep}
 use Rattle.json_doc.specs.declared.open_keys.OpenKeys.{OpenKeys}
@@ -216,9 +215,6 @@ differ_on rules old new ts x t d u =
     by f (inl r) n = n r
     by f (inr r) n = let e : false ≡ true = f.1 r in absurd (cc)
 
-same_key : (s t : List ℕ) → key_token s ≡ key_token t → s ≡ t
-same_key s t e = cc
-
 -- a name that repeats is refused at its opening quotation mark
 pub repeated_fails : (rules : Rules) (p q : ParserState) (v : DocumentVisitor) (o : OpenKeys) (b : List ℕ) (ts : List Token) (e : Event) (error : Error)
     → rules.unique ≡ true → AreInStep rules.limit p v b ts → Differ rules o ts → Goes p e q → IsTight p e q → SameInput p q
@@ -281,9 +277,3 @@ repeated_fails rules p q v o b ts e error u k d goes tight same (inr (n, is, rep
 
     at : IsFaultWith false rules b code.DuplicateKey (q.index - (length n.raw.now + 2))
     at = subst (λ j. fault_with false rules b duplicate_key j) (sym begins) refused
-
--- ---- the usual rules
-
-pub usual_fails : (b : List ℕ) (c : ErrorCode) (at : Place) → ReadingFailsWith usual_rules b c at → ReadingFails b c at
-usual_fails b code.NoMemory place.None h = tt
-usual_fails b c at h = (fault_with_limit_at false 254 b c at).0 h

@@ -49,9 +49,6 @@ module _ (cells : List Cell) (bytes : List ℕ) where
         behind = subst (λ (n : ℕ). MembersStand cells bytes n ps end) (sym next) (b, stands_right cells (at + 1) a b inner, r, omega (arith, ap length e, length-append a b, f));
       }
 
-  pub members_end : (at end : ℕ) (ps : Pairs) → MembersStand cells bytes at ps end → at ≤ end
-  members_end at end ps (cs, s, r, e) = omega (arith, e)
-
   -- with no member left
   pub none_left : (at end : ℕ) (ps : Pairs) → MembersStand cells bytes at ps end → end ≤ at → names ps ≡ []
   none_left at end no_pairs m l = refl

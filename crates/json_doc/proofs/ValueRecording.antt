@@ -15,7 +15,7 @@ use Rattle.json_text.specs.Parsing.{ParserState, input, HasGiven, SameInput, IsW
 use Rattle.json_grammar.specs.TokenStates.{TokenState, Expected, nothing, initial_state, state_in, after_tokens, Accepts, BeginsTree}
 use Rattle.json_doc.specs.Recorded.{visitor_state, Holds, SameRoom}
 use Rattle.json_doc.specs.Reading.{EventIsNumber, HasRoomFor, Follows}
-use Rattle.json_doc.specs.OneValue.{TokenBeginsValue, levels_behind, HandedOut, ReadsValue, RefusesValue}
+use Rattle.json_doc.specs.OneValue.{TokenBeginsValue, levels_behind, ReadsValue, RefusesValue}
 use Rattle.json_doc.specs.declared.document_visitor.DocumentVisitor.{DocumentVisitor}
 use Rattle.json_grammar.proofs.TokenStates.{after_append, Agrees, agrees}
 use Rattle.json_grammar.proofs.TokenPrefixes.{begins_accepted, whole_tree}
@@ -59,30 +59,6 @@ pub record Records (old p : ParserState) (first here : Event) (v : DocumentVisit
   pub given : HasGiven p (before ++ (us ++ token ∷ []))
   pub goes : (ts : List Token) → HasGiven old (ts ++ first_token ∷ []) → HasGiven p (ts ++ (us ++ token ∷ []))
   pub read : (IsWhole old → HasRead old) → IsWhole p → HasRead p
-
-pub records_start : (p : ParserState) (first : Event) (v : DocumentVisitor) → HandedOut p first → Holds v [] → (visitor_state v).full ≡ false → Records p p first first v 0
-records_start p first v h held full = record {
-  same = record { text = refl; start = refl; limit = refl; lossy = refl };
-  order = omega arith;
-  unfailed = h.unfailed;
-  first_token = h.token;
-  first_means = h.means;
-  first_begins = h.begins;
-  us = [];
-  token = h.token;
-  means = h.means;
-  rest = [];
-  starts = refl;
-  held = held;
-  admits = full;
-  unfinished = (tt, λ e. cc);
-  open_levels = refl;
-  few = omega arith;
-  before = h.before;
-  given = h.given;
-  goes = λ ts g. g;
-  read = λ r. r;
-}
 
 module _ {old p : ParserState} {first here : Event} {v : DocumentVisitor} {levels : ℕ} (k : Records old p first here v levels) where
   pub starting : Starts (k.us ++ k.token ∷ [])

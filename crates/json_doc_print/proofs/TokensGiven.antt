@@ -5,8 +5,8 @@ use Rattle.json_grammar.specs.Tree.{Tree, null, boolean, num, text, list, pairs,
 use Rattle.json_grammar.specs.TokenStates.{TokenState, after_token, ValueMayCome, NameMayCome, EndMayCome}
 use Rattle.json_grammar.specs.Sizes.{nodes, trees_nodes, pairs_nodes}
 use Rattle.json_io.specs.declared.error.Error.{Error}
-use Rattle.json_doc.specs.Readings.{object_keys, values, children}
-use Rattle.std.proofs.lemmas.List.{take_all, length-map}
+use Rattle.json_doc.specs.Readings.{object_keys, values}
+use Rattle.std.proofs.lemmas.List.{take_all}
 use Rattle.json_print.specs.Given.{TokenOrInteger, given, token_of}
 use Rattle.json_print.proofs.Taking.{stand_moves}
 use Rattle.json_print.specs.Taking.{after_all, StopsAmong, Takes}
@@ -81,14 +81,6 @@ key_there t i k e = sym (e ∙ ap (λ o. slice_get o i) (keys_of t))
 
 pub value_there : (t : Tree) (i : ℕ) (u : Option Tree) → u ≡ slice_get (values t) i → slice_get (map (λ p. p.1) (members t)) i ≡ u
 value_there t i u e = sym (e ∙ ap (λ o. slice_get o i) (values_of t))
-
-pub members_within : (t : Tree) (n : ℕ) → n ≡ length (children t) → length (members t) ≤ n
-members_within (pairs ps) n h = omega (arith, h, length-map (pairs_list ps) (λ p. p.1))
-members_within null n h = omega arith
-members_within (boolean b) n h = omega arith
-members_within (num l) n h = omega arith
-members_within (text c) n h = omega arith
-members_within (list ts) n h = omega arith
 
 -- so has none of a list that is taken apart
 pub tree_among : (front rest ts : List Tree) (u : Tree) → front ++ u ∷ rest ≡ ts → nodes u ≤ trees_nodes (list_trees ts)

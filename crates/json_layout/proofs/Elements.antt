@@ -1,6 +1,6 @@
 -- Bytes as an array of numbers, one after another.
-use Rattle.std.proofs.Common.{◌≡◌, ℕ, suc, ◌+◌, ◌<◌, ◌≤◌, List, [], ◌∷◌, ◌++◌, length, drop, get_or, refl, sym, ap, ◌∙◌, subst, arith, append_assoc, append-nil, Bool, true, false, Ok, Err, Result, Option, ◌==◌, not}
-use Rattle.std.proofs.lemmas.List.{drop_more, drop_all}
+use Rattle.std.proofs.Common.{◌≡◌, ℕ, suc, ◌+◌, ◌<◌, List, [], ◌∷◌, ◌++◌, length, drop, get_or, refl, sym, ap, ◌∙◌, subst, arith, append_assoc, append-nil, Bool, true, false, Ok, Err, Result, Option, ◌==◌, not}
+use Rattle.std.proofs.lemmas.List.{drop_more}
 use Rattle.std.proofs.lemmas.Bool.{ne_eqb}
 use Rattle.std.specs.Fmt.{decimal}
 use Rattle.json_model.specs.Print.{line}
@@ -41,10 +41,6 @@ pub elements_failed : (a b c : SinkState) (i : Option (List ℕ)) (d at : ℕ) (
     → Adds a c (byte_elements i d true bytes) (Err e)
 elements_failed a b c i d at bytes e l h p =
     subst (λ x. Adds a c x (Err e)) (sym (h.whole ∙ ap (λ x. h.front ++ x) (element_whole i d at bytes l))) (Adds-then a b c h.front _ tt (Err e) h.puts (Adds-first b c _ _ e p))
-
-pub all_elements : (a b : SinkState) (i : Option (List ℕ)) (d at : ℕ) (bytes : List ℕ) → length bytes ≤ at → HasAddedElements a b i d at bytes → Adds a b (byte_elements i d true bytes) (Ok tt)
-all_elements a b i d at bytes l h =
-    subst (λ x. Adds a b x (Ok tt)) (sym (h.whole ∙ ap (λ x. h.front ++ byte_elements i d (at == 0) x) (drop_all at bytes l) ∙ append-nil h.front)) h.puts
 
 regroup : (x y z : List ℕ) → (x ++ y) ++ z ≡ x ++ (y ++ (z ++ []))
 regroup x y z = append_assoc x y z ∙ ap (λ l. x ++ (y ++ l)) (sym (append-nil z))

@@ -1,15 +1,11 @@
 -- Pieces put into a sink one after another.
-use Rattle.std.proofs.Common.{◌≡◌, ℕ, ◌-◌, List, [], ◌++◌, length, take, drop, ◌∙◌, sym, ap, refl, subst, arith, Ok, Err, Result, length-drop}
+use Rattle.std.proofs.Common.{◌≡◌, ℕ, ◌-◌, List, [], ◌++◌, take, drop, ◌∙◌, sym, ap, refl, subst, arith, Ok, Err, Result, length-drop}
 use Rattle.std.specs.Prelude.{IsErrOf}
 use Rattle.std.proofs.lemmas.List.{take_all, take-append-drop}
 use Rattle.json_io.specs.Known.{Appends}
 use Rattle.json_io.proofs.Known.{Appends-nil, Appends-trans}
-use Rattle.json_io.specs.declared.error.Error.{Error}
 use Rattle.json_io.specs.declared.sink.SinkError.{SinkError}
-use Rattle.json_io.specs.declared.sink.SinkError.TheVariants as sink_error
-use Rattle.json_io.specs.Errors.{no_memory, writing_failed}
-use Rattle.json_io.specs.Outside.{SinkState, Counts, Writes}
-use Rattle.json_io.specs.Transfer.{Puts}
+use Rattle.json_io.specs.Outside.{SinkState, Counts}
 use Rattle.json_io.proofs.Putting.{AppendsFront-first, AppendsFront-then}
 use Rattle.json_layout.specs.Adding.{Adds, Sends}
 
@@ -91,21 +87,6 @@ Adds-then a b c p q u (Err e) g h =
 
 -- ---- one write, and the rest
 
--- a write that failed added nothing
-pub write_failed : (a b : SinkState) (piece : List ℕ) (e : SinkError) → Writes a b piece (Err e) → Adds a b piece (Err e)
-write_failed a b piece e h =
-    record { ok = tt; err = record { front = []; back = piece; whole = refl; gains = h.appends ∙ Appends-nil a.gained }; counts = counts_err a b h.counts }
-
--- a write that took all
-pub write_whole : (a b : SinkState) (piece : List ℕ) (n : ℕ) → n ≡ length piece → Writes a b piece (Ok n) → Adds a b piece (Ok tt)
-write_whole a b piece n e h =
-    record { ok = subst (Appends a.gained b.gained) (take_all n piece (omega (arith, e))) h.appends; err = tt; counts = counts_ok a b h.counts.faults_ok h.counts.lacks_ok h.counts.same_loan }
-
--- a write that took some, and the rest after it
-pub write_then : (a b c : SinkState) (piece : List ℕ) (n : ℕ) (r : Result (Unit {0}) SinkError) → Writes a b piece (Ok n) → Adds b c (drop n piece) r → Adds a c piece r
-write_then a b c piece n r h k =
-    subst (λ p. Adds a c p r) (take-append-drop n piece) (Adds-then a b c (take n piece) (drop n piece) tt r (record { ok = h.appends; err = tt; counts = counts_ok a b h.counts.faults_ok h.counts.lacks_ok h.counts.same_loan }) k)
-
 -- what was sent from a place on
 pub sent_adds : (a b : SinkState) (piece : List ℕ) (from to : ℕ) (r : Result (Unit {0}) SinkError) → Sends a b piece from to r → Adds a b (drop from piece) r
 sent_adds a b piece from to (Ok u) h =
@@ -116,40 +97,3 @@ sent_adds a b piece from to (Err e) h =
       err = record { front = take (to - from) (drop from piece); back = drop (to - from) (drop from piece); whole = sym (take-append-drop (to - from) (drop from piece)); gains = h.gains };
       counts = h.counts;
     }
-
--- ---- returned to a caller
-
-pub told_ok : (a b : SinkState) (piece : List ℕ) → Adds a b piece (Ok tt) → Puts a b piece (Ok tt)
-told_ok a b piece h =
-    record {
-      ok = h.ok;
-      err = tt;
-      faults_ok = h.counts.faults_ok;
-      lacks_ok = h.counts.lacks_ok;
-      cause = tt;
-      told = λ l. absurd (omega (arith, l, h.counts.faults_ok));
-      later = record { faults = h.counts.faults_later; lacks = h.counts.lacks_later; same_loan = h.counts.same_loan };
-    }
-
-pub told_err : (a b : SinkState) (piece : List ℕ) (failure : SinkError) (r : Result (Unit {0}) Error) → (failure ≡ sink_error.Failed → r ≡ Err writing_failed) → (failure ≡ sink_error.NoMemory → r ≡ Err no_memory)
-    → Adds a b piece (Err failure) → Puts a b piece r
-told_err a b piece sink_error.Failed r f n h =
-    rw (f refl) (record {
-      ok = tt;
-      err = h.err;
-      faults_ok = tt;
-      lacks_ok = tt;
-      cause = h.counts.failed refl;
-      told = λ l. refl;
-      later = record { faults = h.counts.faults_later; lacks = h.counts.lacks_later; same_loan = h.counts.same_loan };
-    })
-told_err a b piece sink_error.NoMemory r f n h =
-    rw (n refl) (record {
-      ok = tt;
-      err = h.err;
-      faults_ok = tt;
-      lacks_ok = tt;
-      cause = h.counts.lacking refl;
-      told = λ l. absurd (omega (arith, l, h.counts.lacking_faults refl));
-      later = record { faults = h.counts.faults_later; lacks = h.counts.lacks_later; same_loan = h.counts.same_loan };
-    })

@@ -1,14 +1,14 @@
 -- What a sink that holds bytes back has sent.
 use Rattle.std.proofs.Common.{◌≡◌, Option, ℕ, ◌+◌, ◌-◌, ◌≤◌, List, [], ◌++◌, length, take, drop, ◌∙◌, subst, sym, ap, refl, arith, Ok, Err, Result}
 use Rattle.json_io.specs.Known.{Appends, Keeps, append_known}
-use Rattle.json_io.proofs.Known.{Appends-trans, Appends-nil, Appends-kept, append_known-moved, known-append, known-nil}
+use Rattle.json_io.proofs.Known.{Appends-trans, Appends-nil, Appends-kept, append_known-moved, known-nil}
 use Rattle.std.proofs.Math.Seq.{take-add}
-use Rattle.std.proofs.lemmas.List.{length-drop, length-take, take_all, take-append-drop, drop-drop, drop_all, drop-append-le}
+use Rattle.std.proofs.lemmas.List.{length-drop, take_all, take-append-drop, drop-drop, drop_all}
 use Rattle.json_io.specs.declared.sink.SinkError.{SinkError}
 use Rattle.json_io.specs.Outside.{SinkState, Counts, Writes, Flushes}
 use Rattle.json_layout.specs.Adding.{Adds, Sends}
 use Rattle.json_layout.specs.Buffered.{held_behind}
-use Rattle.json_layout.proofs.Pieces.{counts_from, counts_err, counts_ok}
+use Rattle.json_layout.proofs.Pieces.{counts_from, counts_err}
 
 -- so far these went to the inner sink, and no call failed
 pub record HasSent (old new : SinkState) (buffer : List ℕ) (from to : ℕ) : Type 0 where
@@ -57,10 +57,6 @@ sent_failed old mid new buffer rest from to e h w =
       all = tt;
       counts = counts_from old mid new h.no_fault h.no_lack h.same_loan (counts_err mid new w.counts);
     }
-
-pub sent_all : (old new : SinkState) (buffer : List ℕ) (from to : ℕ) → HasSent old new buffer from to → length buffer ≤ to → Sends old new buffer from to (Ok tt)
-sent_all old new buffer from to h l =
-    record { later = h.later; within = h.within; gains = h.gains; all = omega (arith, h.within); counts = counts_ok old new h.no_fault h.no_lack h.same_loan }
 
 -- ---- a sink with bytes after it
 
@@ -111,15 +107,3 @@ sent_on a b buffer from to (Err e) h =
 pub all_sent : (a b : SinkState) (buffer : List ℕ) (from to : ℕ) (u : Unit {0}) → Sends a b buffer from to (Ok u) → Adds (held_behind a (drop from buffer)) (held_behind b []) [] (Ok u)
 all_sent a b buffer from to u h =
     subst (λ x. Adds (held_behind a (drop from buffer)) (held_behind b x) [] (Ok u)) (drop_all to buffer (omega (arith, h.all))) (sent_on a b buffer from to (Ok u) h)
-
--- these were stored after what is held
-pub put_held : (inner : SinkState) (sent end now : ℕ) (old new x : List ℕ) → sent ≤ end → end ≤ length old → take now new ≡ take end old ++ x
-    → Adds (held_behind inner (drop sent (take end old))) (held_behind inner (drop sent (take now new))) x (Ok tt)
-put_held inner sent end now old new x l m h =
-    let held = drop sent (take end old) in
-    let front : sent ≤ length (take end old) = omega (arith, l, m, length-take end old) in
-    record {
-      ok = ap (λ y. append_known inner.gained (drop sent y)) h ∙ ap (append_known inner.gained) (drop-append-le sent (take end old) x front) ∙ sym (known-append inner.gained held x);
-      err = tt;
-      counts = counts_ok _ _ refl refl refl;
-    }

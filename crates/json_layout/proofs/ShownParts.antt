@@ -1,12 +1,12 @@
 -- Parts of a text shown one after another.
-use Rattle.std.proofs.Common.{◌≡◌, ℕ, ◌+◌, ◌-◌, ◌^◌, ◌≤◌, List, [], ◌++◌, length, ◌∙◌, sym, ap, refl, subst, inl, inr, arith, Ok, Err, Result, Option, length-append}
+use Rattle.std.proofs.Common.{◌≡◌, ℕ, ◌+◌, ◌≤◌, List, [], ◌++◌, length, ◌∙◌, sym, ap, refl, subst, inl, inr, arith, Ok, Err, Result, Option, length-append}
 use Rattle.std.specs.Prelude.{IsErrOf}
 use Rattle.json_io.specs.Known.{append_known}
 use Rattle.json_io.specs.declared.error.Error.{Error}
 use Rattle.json_io.specs.declared.error.ErrorCode.TheVariants as code
 use Rattle.json_io.specs.Errors.{no_memory, writing_failed}
 use Rattle.json_io.specs.Transfer.{AppendsFront}
-use Rattle.json_io.proofs.Known.{Appends-nil, Appends-trans, known-append}
+use Rattle.json_io.proofs.Known.{Appends-trans, known-append}
 use Rattle.json_io.specs.declared.sink.SinkError.{SinkError}
 use Rattle.json_io.specs.declared.sink.SinkError.TheVariants as sink_error
 use Rattle.json_io.specs.Outside.{Rose, SinkState}
@@ -28,26 +28,6 @@ added_shows a b p r h =
       ran_out = λ e. inl (h.counts.lacking e);
       later = h.counts.faults_later;
       same_loan = h.counts.same_loan;
-    }
-
--- nothing was to be shown
-pub Shows-nil : (n : ℕ) (s : SinkState) → Shows n s s [] (Ok tt)
-Shows-nil n s =
-    record { ok = Appends-nil s.gained; err = tt; faults_ok = refl; failed = λ e. absurd (cc); lacks_ok = refl; lacking = λ e. refl; ran_out = λ e. absurd (cc); later = omega arith; same_loan = refl }
-
--- the levels were too many before anything was shown
-pub Shows-deep : (n : ℕ) (s : SinkState) (p : List ℕ) → 2 ^ 64 - 1 ≤ n → Shows n s s p (Err sink_error.NoMemory)
-Shows-deep n s p deep =
-    record {
-      ok = tt;
-      err = record { front = []; back = p; whole = refl; gains = Appends-nil s.gained };
-      faults_ok = tt;
-      failed = λ e. absurd (cc);
-      lacks_ok = tt;
-      lacking = λ e. refl;
-      ran_out = λ e. inr (omega (arith, deep));
-      later = omega arith;
-      same_loan = refl;
     }
 
 -- why it ran out, of a longer text

@@ -6,7 +6,7 @@ use Rattle.std.proofs.lemmas.List.{take_all, take-append-drop}
 use Rattle.json_io.specs.declared.error.Error.{Error}
 use Rattle.json_io.specs.Outside.{SinkState}
 use Rattle.json_io.specs.Transfer.{Puts}
-use Rattle.json_io.proofs.Putting.{Puts-nil, Puts-first, Puts-then}
+use Rattle.json_io.proofs.Putting.{Puts-first, Puts-then}
 use Rattle.json_print.specs.Layouts.{Form}
 use Rattle.json_print.specs.Printer.{MemberText}
 use Rattle.json_print.specs.Rows.{row_bytes, row_next, rows_bytes, rows_next}
@@ -52,9 +52,6 @@ module _ {F : Type 0} (m : Form F) where
   pub record HasPutRows (f : F) (a b : SinkState) (g : F) (rows : List MemberText) (n : ℕ) : Type 0 where
     pub puts : Puts a b (rows_bytes m f true (take n rows)) (Ok tt)
     pub next : g ≡ rows_next m f true (take n rows)
-
-  pub no_rows : (f : F) (a : SinkState) (rows : List MemberText) → HasPutRows f a a f rows 0
-  no_rows f a rows = record { puts = Puts-nil a; next = refl }
 
   row_bytes_at : (f g : F) (a b : SinkState) (rows : List MemberText) (n : ℕ) (r : MemberText) → HasPutRows f a b g rows n → slice_get rows n ≡ Some r
       → rows_bytes m f true (take (n + 1) rows) ≡ rows_bytes m f true (take n rows) ++ row_bytes m g (n == 0) r

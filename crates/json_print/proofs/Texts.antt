@@ -134,9 +134,6 @@ said m (c ∷ cs) s i d b h =
 then_said : {F : Type 0} (m : Form F) (s x new : Out F) (i : Option (List ℕ)) (d : ℕ) (b : Bool) (f : F) (p q : List ℕ) → x ≡ wrote s f p → Said m x new i d b q → Said m s new i d b (p ++ q)
 then_said m s x new i d b f p q e r = record { f = r.f; laid = r.laid; same = r.same ∙ ap (λ y. wrote y r.f q) e ∙ twice s f r.f p q }
 
-retext : {F : Type 0} (m : Form F) (s new : Out F) (i : Option (List ℕ)) (d : ℕ) (b : Bool) (p q : List ℕ) → p ≡ q → Said m s new i d b p → Said m s new i d b q
-retext m s new i d b p q e r = record { f = r.f; laid = r.laid; same = r.same ∙ ap (wrote s r.f) e }
-
 -- ---- the members of an array
 
 -- the same, and the last member was passed

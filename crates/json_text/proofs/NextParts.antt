@@ -1,5 +1,5 @@
 -- Where the next value or name begins is one place alone.
-use Rattle.std.proofs.Common.{◌≡◌, ◌≢◌, ◌∙◌, inl, inr, ℕ, ◌+◌, ◌<◌, ◌≤◌, List, [], ◌∷◌, ◌++◌, length, get_or, drop, ◌-◌, Some, None, refl, sym, ap, subst, arith}
+use Rattle.std.proofs.Common.{◌≡◌, ◌≢◌, ◌∙◌, inl, inr, ℕ, ◌+◌, ◌<◌, ◌≤◌, List, [], ◌∷◌, ◌++◌, length, get_or, drop, ◌-◌, Some, refl, sym, ap, subst, arith}
 use Rattle.std.proofs.lemmas.Bool.{cases_lt}
 use Rattle.json_grammar.specs.declared.Kind.{Kind}
 use Rattle.json_grammar.specs.declared.Kind.TheVariants.{Array as array, Object as object}
@@ -97,13 +97,6 @@ module _ (b : List ℕ) (i j k : ℕ) (c : List Kind) (w v : Spot) (s : SpaceTo 
 
   pub no_comma_there : (x : Kind) → w ≡ done → top c ≡ Some x → ¬ (ByteAt b j 44) → ¬ (NextAt b i c w k v)
   no_comma_there x e o q h = let n = comma_next c x v o (subst (λ y. NextAt b i c y k v) e h) in q (mark_there 44 b i j k s n.0)
-
-  nothing_open : (d : List Kind) → top d ≡ None → ¬ (NextAt b i d done k v)
-  nothing_open [] o h = h
-  nothing_open (y ∷ d) o h = absurd (cc)
-
-  pub nothing_behind : w ≡ done → top c ≡ None → ¬ (NextAt b i c w k v)
-  nothing_behind e o h = nothing_open c o (subst (λ y. NextAt b i c y k v) e h)
 
   -- ---- nothing is needed between
 

@@ -133,16 +133,6 @@ pub record Repairing (b text rest : List ℕ) (runs : List IllFormed) (read : �
   pub sorted : IsNonDecreasingBy (λ (x : IllFormed). x.shown) runs
   pub shown : (i : ℕ) (d : IllFormed) → i < length runs → (slice_index_or runs i d).shown ≤ length text
 
-pub repair_start : (b : List ℕ) → Repairing b [] b [] 0
-repair_start b = record {
-  whole = refl;
-  taken = omega arith;
-  behind = λ k h. absurd (omega arith);
-  ahead = λ k h. let e : k - 0 ≡ k = omega arith in (omega arith, let f = ap (origin_at b) e in omega arith);
-  sorted = λ i j d h l. absurd (omega arith);
-  shown = λ i d h. absurd (omega arith);
-}
-
 repair_text : (b text v r : List ℕ) (runs : List IllFormed) (read : ℕ) → IsUtf8 v → Repairing b text (v ++ r) runs read → Repairing b (text ++ v) r runs (read + length v)
 repair_text b text v r runs read u h =
     let m = length-append text v in

@@ -2,14 +2,13 @@
 use Rattle.std.proofs.Common.{◌≡◌, ◌≢◌, ℕ, suc, ◌-◌, ◌<◌, List, [], ◌∷◌, ◌++◌, length, get_or, drop, true, false, inl, inr, refl, sym, ap, ◌∙◌, subst, arith}
 use Rattle.std.specs.Prelude.{IsTrue, ◌==◌}
 use Rattle.std.proofs.lemmas.Bool.{cases_lt, cases_eq, eqb-true, eq-eqb, ne_eqb}
-use Rattle.std.proofs.lemmas.Bool.Decides.{nat_tests}
 use Rattle.std.proofs.lemmas.List.{take_all}
 use Rattle.json_grammar.specs.Given.{piece}
 use Rattle.json_grammar.specs.Grammar.{number, IsDigit}
-use Rattle.json_grammar.specs.NumberStates.{NumberState, at_start, after_zero, no_number, is_digit_byte, number_step, number_run, is_whole_number}
+use Rattle.json_grammar.specs.NumberStates.{NumberState, at_start, after_zero, no_number, number_step, number_run, is_whole_number}
 use Rattle.json_grammar.proofs.NumberRuns.{number_ends, no_number_goes_on}
 use Rattle.json_grammar.proofs.NumberScan.{number_by_state, ended_whole}
-use Rattle.json_text.specs.Numbers.{BeginsNumber, Stands, IsUnfinished, NumberTo, StopsAt}
+use Rattle.json_text.specs.Numbers.{Stands, IsUnfinished, NumberTo, StopsAt}
 use Rattle.json_io.proofs.Pieces.{drop_piece, drop_byte}
 
 false_true : false ≡ true → ⊥
@@ -54,19 +53,6 @@ number_stopped b k h n =
       ]
       | inr z ↦ no_more b k h.state h.at z.1 (ap (λ s. number_step s (get_or b k 0)) z.0 ∙ zero_ends _ z.2) n
     ]
-
-no_digit : (x : ℕ) → ¬ (IsDigit x) → is_digit_byte x ≡ false
-no_digit x n = grind (arith, nat_tests)
-
-begins_none : (x : ℕ) → ¬ (BeginsNumber x) → number_step at_start x ≡ no_number
-begins_none x n =
-    let minus : x ≢ 45 = λ e. n (inl e) in
-    let zero : x ≢ 48 = λ e. n (inr (omega arith, omega arith)) in
-    rw (ne_eqb x 45 minus, ne_eqb x 48 zero, no_digit x (λ d. n (inr d))) refl
-
-pub begins_no_number : (b : List ℕ) → ((0 < length b) × BeginsNumber (get_or b 0 0) → ⊥) → ¬ (number b)
-begins_no_number [] h n = false_true (ended_whole at_start (number_ends [] n))
-begins_no_number (x ∷ b) h n = no_number_goes_on [] x b (begins_none x (λ k. h (omega arith, k))) n
 
 pub number_decided : (b : List ℕ) (e : ℕ) → NumberTo b 0 e → (IsTrue (e == length b) → number b) × (number b → IsTrue (e == length b))
 number_decided b e h = (

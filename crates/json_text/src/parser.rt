@@ -203,16 +203,6 @@ impl<'a> Parser<'a> {
         self.start + self.at
     }
 
-    /// Returns the number of bytes from where the parser began up to the end of the text, taken or
-    /// not.
-    pub fn input_len(&self) -> usize
-        ensures length { result ≡ length (input self.now) }
-        ensures within { (self.now.start ≤ self.now.index)
-            × (self.now.index ≤ length self.now.text) }
-    {
-        self.rest.len()
-    }
-
     /// Returns whether the value is whole.
     #[inline(always)]
     pub fn done(&self) -> bool
