@@ -6,15 +6,14 @@ use Rattle.json_grammar.specs.declared.Kind.TheVariants.{Array as array, Object 
 use Rattle.json_grammar.specs.Tree.{Tree, Pairs, pairs, no_pairs, pair_and, tokens, pairs_tokens, Token as Tok, begin, end, key_token}
 use Rattle.json_io.specs.declared.error.Error.{Error}
 use Rattle.json_io.specs.declared.error.ErrorCode.{ErrorCode}
-use Rattle.json_tokens.specs.declared.token.TokenKind.{TokenKind}
-use Rattle.json_tokens.specs.declared.token.TokenKind.TheVariants.{BeginObject, EndObject}
+use Rattle.json_tokens.specs.declared.token.TokenKind.TheVariants.{BeginObject}
 use Rattle.json_data.specs.Reading.{Reading, refuses}
 use Rattle.json_tokens.specs.Refusals.{refusal, is_refusal}
 use Rattle.json_data.specs.Reader.{ReadsTree, StopsReading, KeyReadingFails}
 use Rattle.json_grammar.specs.TokenStates.{TokenState, Expected, a_value, element_or_end, name_or_end, nothing, state_in, state_after_value, after_token}
 use Rattle.json_tokens.specs.Spots.{around, InObject, BeforeName}
-use Rattle.json_tokens.specs.Stand.{TokensState, TakesTokens, Peeks, AsTold, TakesTree, TakesOne, Leaves, Rest, TokensFail}
-use Rattle.json_tokens.proofs.Steps.{joins, is_begin_object as is_begin, is_end_object as is_end}
+use Rattle.json_tokens.specs.Stand.{TokensState, TakesTokens, AsTold, TakesTree, TakesOne, Leaves, Rest, TokensFail}
+use Rattle.json_tokens.proofs.Steps.{joins}
 use Rattle.json_data.proofs.Exits.{refusing, giving_up}
 
 abbrev pub join_pairs : Pairs → Pairs → Pairs
@@ -45,23 +44,6 @@ pub record InMember {S : Type 0} (taken : S → List Tok → Type 0) (stand : S 
   pub left : (stand b).left < (stand a).left
   pub as_told : AsTold (stand a) BeginObject
 
-pub still_in_pairs : {S : Type 0} {taken : S → List Tok → Type 0} {stand : S → TokensState} {a b c : S} {ps : Pairs}
-    → c ≡ b → InPairs taken stand a b ps → InPairs taken stand a c ps
-still_in_pairs {S = S} {taken = taken} {stand = stand} {a = a} {ps = ps} e w = subst (λ (s : S). InPairs taken stand a s ps) (sym e) w
-
-pub opens_pairs : {S : Type 0} {taken : S → List Tok → Type 0} {stand : S → TokensState} {a b c : S} {x : Tok} {k : TokenKind}
-    → k ≡ BeginObject → Peeks (stand a) (stand b) k → TakesTokens taken a [] b → TakesOne taken stand b c x → InPairs taken stand a c no_pairs
-opens_pairs {taken = taken} {stand = stand} {a = a} {b = b} {c = c} {x = x} i y z r =
-    let h = subst (λ (j : TokenKind). Peeks (stand a) (stand b) j) i y in
-    let e : x ≡ begin object = is_begin x (r.as_told.told BeginObject h.told) in
-    record {
-      takes = subst (λ (y : Tok). TakesTokens taken a (y ∷ []) c) e (joins z r.takes);
-      input = r.moves.input ∙ h.input;
-      spot = r.moves.spot ∙ ap (λ (y : Tok). after_token (stand b).spot y) e ∙ ap (λ (p : TokenState). after_token p (begin object)) h.spot;
-      left = omega (arith, h.left, r.moves.left);
-      as_told = record { may = h.may; told = h.again };
-    }
-
 pub begun_pairs : {S : Type 0} {taken : S → List Tok → Type 0} {stand : S → TokensState} {a c : S} → TakesOne taken stand a c (begin object) → InPairs taken stand a c no_pairs
 begun_pairs r = record { takes = r.takes; input = r.moves.input; spot = r.moves.spot; left = r.moves.left; as_told = r.as_told }
 
@@ -70,16 +52,6 @@ pub ended_pairs : {S : Type 0} {taken : S → List Tok → Type 0} {stand : S �
 ended_pairs w r = record {
   takes = joins w.takes r.takes;
   moves = record { input = r.moves.input ∙ w.input; spot = r.moves.spot ∙ ap (λ (p : TokenState). around p) w.spot; told = r.moves.told; left = omega (arith, w.left, r.moves.left) };
-  as_told = w.as_told;
-}
-
-pub peeks_pairs : {S : Type 0} {taken : S → List Tok → Type 0} {stand : S → TokensState} {a b c : S} {k : TokenKind} {ps : Pairs}
-    → InPairs taken stand a b ps → Peeks (stand b) (stand c) k → TakesTokens taken b [] c → InPairs taken stand a c ps
-peeks_pairs {taken = taken} {a = a} {c = c} {ps = ps} w h z = record {
-  takes = subst (λ (xs : List Tok). TakesTokens taken a xs c) (append-nil (begin object ∷ pairs_tokens ps)) (joins w.takes z);
-  input = h.input ∙ w.input;
-  spot = h.spot ∙ w.spot;
-  left = omega (arith, w.left, h.left);
   as_told = w.as_told;
 }
 
@@ -105,23 +77,6 @@ one_member {taken = taken} {a = a} {c = c} {ps = ps} {k = k} {t = t} w r = recor
   left = omega (arith, w.left, r.moves.left);
   as_told = w.as_told;
 }
-
-pub closes_pairs : {S : Type 0} {taken : S → List Tok → Type 0} {stand : S → TokensState} {a b c d : S} {ps : Pairs} {x : Tok} {k : TokenKind}
-    → k ≡ EndObject → InPairs taken stand a b ps → Peeks (stand b) (stand c) k → TakesTokens taken b [] c → TakesOne taken stand c d x → TakesTree taken stand a d (pairs ps)
-closes_pairs {taken = taken} {stand = stand} {a = a} {b = b} {c = c} {d = d} {ps = ps} {x = x} i w y z r =
-    let h = subst (λ (j : TokenKind). Peeks (stand b) (stand c) j) i y in
-    let v = peeks_pairs w h z in
-    let e : x ≡ end object = is_end x (r.as_told.told EndObject h.told) in
-    record {
-      takes = subst (λ (y : Tok). TakesTokens taken a (begin object ∷ (pairs_tokens ps ++ y ∷ [])) d) e (joins v.takes r.takes);
-      moves = record {
-        input = r.moves.input ∙ v.input;
-        spot = r.moves.spot ∙ ap (λ (y : Tok). after_token (stand c).spot y) e ∙ ap (λ (p : TokenState). around p) v.spot;
-        told = r.moves.told;
-        left = omega (arith, v.left, r.moves.left);
-      };
-      as_told = w.as_told;
-    }
 
 pub leaves_pairs : {S : Type 0} {taken : S → List Tok → Type 0} {stand : S → TokensState} {a b c : S} {ps : Pairs}
     → InPairs taken stand a b ps → Leaves taken stand b c → (qs : Pairs) × TakesTree taken stand a c (pairs (join_pairs ps qs))

@@ -2,18 +2,12 @@
 use Rattle.std.proofs.Common.{◌≡◌, ◌≢◌, ◌∙◌, inl, inr, ℕ, List, [], ◌∷◌, ◌++◌, length, drop, Bool, true, false, cond, Option, Some, None, option_map, option_and_then, slice_get, bytes_eq, codes, refl, sym, subst, ap, ap₂, arith, append_assoc, append-nil}
 use Rattle.std.proofs.lemmas.Bool.{false_from_ne_true}
 use Rattle.std.proofs.lemmas.Slice.Eq.{bytes_eq-Decides}
-use Rattle.json_grammar.specs.Tree.{Tree, null, boolean, num, text, list, pairs, Trees, Token as Tok, no_trees, tree_and, trees_list}
+use Rattle.json_grammar.specs.Tree.{Tree, null, boolean, num, text, list, pairs, Trees, no_trees, tree_and, trees_list}
 use Rattle.json_io.specs.declared.error.Error.{Error}
 use Rattle.json_doc.specs.Readings.{string_of}
-use Rattle.json_model.specs.Datum.{Datum}
 use Rattle.json_value.specs.EditTrees.{both, each_in, step_in, path_in, edit_named, edit_in}
 use Rattle.json_value.specs.Seen.{list_of}
-use Rattle.json_data.specs.Reader.{StopsReading}
-use Rattle.json_tokens.specs.Refusals.{is_refusal}
-use Rattle.json_data.specs.ReadingValues.{spelled}
 use Rattle.json_data.specs.Spelled.{Unspelled}
-use Rattle.json_tokens.specs.Stand.{TokensState, TakesTree}
-use Rattle.json_data.proofs.Exits.{mismatch, giving_up}
 
 none_some : {A : Type 0} {x : A} → None ≡ Some x → ⊥
 none_some e = cc
@@ -108,29 +102,6 @@ edit_by_name (num l) xs name form e h f = absurd (none_some (sym e))
 edit_by_name (text s) xs name form e h f = absurd (none_some (sym e))
 edit_by_name (pairs ps) xs name form e h f = absurd (none_some (sym e))
 
-pub no_array_edit : (t : Tree) → None ≡ list_of t → edit_in t ≡ None
-no_array_edit (list ts) e = absurd (none_some e)
-no_array_edit null e = refl
-no_array_edit (boolean b) e = refl
-no_array_edit (num l) e = refl
-no_array_edit (text s) e = refl
-no_array_edit (pairs ps) e = refl
-
-pub no_array_path : (t : Tree) → None ≡ list_of t → path_in t ≡ None
-no_array_path (list ts) e = absurd (none_some e)
-no_array_path null e = refl
-no_array_path (boolean b) e = refl
-no_array_path (num l) e = refl
-no_array_path (text s) e = refl
-no_array_path (pairs ps) e = refl
-
--- without a text first there is no edit
-pub no_name_edit : (t : Tree) (xs : List Tree) → Some xs ≡ list_of t → None ≡ option_and_then string_of (slice_get xs 0) → edit_in t ≡ None
-no_name_edit (list no_trees) xs e h = refl
-no_name_edit (list (tree_and (text n) ts)) xs e h = let i : xs ≡ text n ∷ trees_list ts = cc in absurd (none_some (h ∙ ap (λ ys. option_and_then string_of (slice_get ys 0)) i))
-no_name_edit (list (tree_and t ts)) xs e h = refl
-no_name_edit t xs e h = absurd (none_some (sym e))
-
 -- ---- another name
 
 first_false : {A : Type 0} (b : Bool) (x y z : A) → b ≡ false → y ≡ z → cond b x y ≡ z
@@ -147,11 +118,3 @@ edit_unknown name (q ∷ []) s i p r = refl
 edit_unknown name (q ∷ u ∷ []) s i p r = first_false _ _ _ _ (other name (codes "set") s) (first_false _ _ _ _ (other name (codes "push") p) (first_false _ _ _ _ (other name (codes "remove") r) refl))
 edit_unknown name (q ∷ k ∷ u ∷ []) s i p r = first_false _ _ _ _ (other name (codes "insert") i) refl
 edit_unknown name (q ∷ k ∷ u ∷ t ∷ ts) s i p r = refl
-
--- ---- a value that was taken
-
--- it spells none, or memory ran out
-pub stops_unspelled : {S A : Type 0} {taken : S → List Tok → Type 0} {stand : S → TokensState} {a b : S} {t : Tree} {e : Error} (f : A → Datum) (g : Tree → Option A)
-    → TakesTree taken stand a b t → Unspelled (g t) e → StopsReading taken stand (λ u. spelled f (g u)) a b e
-stops_unspelled f g h (inl m) = giving_up (record { input = h.moves.input; no_refusal = ap (λ (i : Error). is_refusal i.code) m; cause = inl m })
-stops_unspelled f g h (inr (m, n)) = mismatch m h (ap (spelled f) n)

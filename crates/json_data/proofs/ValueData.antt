@@ -2,15 +2,15 @@
 use Rattle.std.proofs.Common.{◌≡◌, ◌∙◌, ℕ, List, [], ◌∷◌, map, bytes_eq, codes, true, false, Option, Some, None, refl, sym, ap, ap₂}
 use Rattle.std.specs.Prelude.{option_map}
 use Rattle.std.proofs.lemmas.Slice.Eq.{bytes_eq-Decides}
-use Rattle.json_grammar.specs.Tree.{Tree, null, boolean, num, text, list, pairs, Trees, no_trees, tree_and, Pairs, no_pairs, pair_and, trees_list, list_trees, pairs_list, list_pairs}
+use Rattle.json_grammar.specs.Tree.{Tree, null, boolean, num, text, list, pairs, Trees, no_trees, tree_and, Pairs, no_pairs, pair_and, trees_list, pairs_list, list_pairs}
 use Rattle.json_model.specs.Datum.{Datum, text_datum, list_datum, Data, datum_and, list_data, tree_of_datum, trees_of, pairs_of as rows_pairs, element_before, member_before}
 use Rattle.json_model.specs.Edit.{Step, key_step, index_step, Edit, set_at, insert_at, push_at, remove_at}
 use Rattle.json_io.specs.declared.error.ErrorCode.{ErrorCode}
-use Rattle.json_doc.proofs.Trees.{list_back, pairs_back}
-use Rattle.json_value.specs.Seen.{list_of, object_pairs}
+use Rattle.json_doc.proofs.Trees.{pairs_back}
+use Rattle.json_value.specs.Seen.{object_pairs}
 use Rattle.json_value.specs.EditTrees.{both, each_in, edit_in}
 use Rattle.json_data.specs.Reading.{gives, refuses, Series, gives_all, stops, prepend_reading, each, as_list, read_list}
-use Rattle.json_data.specs.ReadingValues.{value_datum, trees_data, pairs_rows, step_datum, steps_data, path_datum, edit_datum, spelled, read_array, read_object_value, read_edit}
+use Rattle.json_data.specs.ReadingValues.{value_datum, trees_data, pairs_rows, step_datum, steps_data, path_datum, edit_datum, spelled, read_object_value, read_edit}
 
 some_is : {A : Type 0} {x y : A} → Some x ≡ Some y → x ≡ y
 some_is e = cc
@@ -35,15 +35,6 @@ mutual
 
 pub same_value : (t u : Tree) → value_datum t ≡ value_datum u → t ≡ u
 same_value t u e = some_is (sym (tree_back t) ∙ ap tree_of_datum e ∙ tree_back u)
-
--- what an array and an object mean
-pub array_read : (t : Tree) (ts : List Tree) → Some ts ≡ list_of t → read_array t ≡ gives (value_datum (list (list_trees ts)))
-array_read (list us) ts e = let i : ts ≡ trees_list us = cc in ap (λ vs. gives (value_datum (list vs))) (sym (list_back us) ∙ ap list_trees (sym i))
-array_read null ts e = absurd (cc)
-array_read (boolean b) ts e = absurd (cc)
-array_read (num l) ts e = absurd (cc)
-array_read (text s) ts e = absurd (cc)
-array_read (pairs ps) ts e = absurd (cc)
 
 pub object_read : (t : Tree) (ms : List (List ℕ × Tree)) → Some ms ≡ object_pairs t → read_object_value t ≡ gives (value_datum (pairs (list_pairs ms)))
 object_read (pairs ps) ms e = let i : ms ≡ pairs_list ps = cc in ap (λ qs. gives (value_datum (pairs qs))) (sym (pairs_back ps) ∙ ap list_pairs (sym i))

@@ -1,57 +1,18 @@
 -- What was taken of a value, and where that is refused.
-use Rattle.std.proofs.Common.{◌≡◌, ◌≢◌, ◌∙◌, ℕ, List, [], Bool, Option, Some, None, option_map, Result, Ok, Err, refl, sym, ap, subst, IfOk, IfSome, OnOk}
-use Rattle.json_doc.specs.declared.json_type.JsonType.{JsonType}
+use Rattle.std.proofs.Common.{◌≡◌, ◌∙◌, ℕ, List, [], Bool, Option, Some, None, option_map, Result, Ok, Err, refl, sym, ap, subst, IfOk, IfSome, OnOk}
 use Rattle.json_doc.specs.Readings.{type_of}
-use Rattle.json_grammar.specs.declared.Kind.TheVariants.{Array as array, Object as object}
-use Rattle.json_grammar.specs.Tree.{Tree, null, boolean, num, text, Trees, no_trees, tree_and, Pairs, no_pairs, pair_and, list, pairs, Token as Tok, begin, end}
-use Rattle.json_io.specs.declared.error.ErrorCode.{ErrorCode}
-use Rattle.json_io.specs.declared.error.ErrorCode.TheVariants.{TypeUnmatched}
-use Rattle.json_model.specs.Datum.{Datum}
-use Rattle.json_tokens.specs.Kinds.{kind_of, first_kind}
-use Rattle.json_tokens.specs.Stand.{TokensState, TakesTokens, TakesTree, TakesOne, Peeks, Leaves}
-use Rattle.json_tokens.specs.declared.token.TokenKind.{TokenKind}
-use Rattle.json_tokens.proofs.Steps.{peek_tree, peek_kind}
+use Rattle.json_grammar.specs.declared.Kind.TheVariants.{Object as object}
+use Rattle.json_grammar.specs.Tree.{Tree, Trees, no_trees, tree_and, Pairs, no_pairs, pair_and, list, pairs, Token as Tok, end}
+use Rattle.json_tokens.specs.Stand.{TokensState, TakesTree, TakesOne, Leaves}
 use Rattle.json_data.proofs.Exits.{join-join}
 use Rattle.json_data.proofs.Lists.{InList, join, one_more, leaves}
 use Rattle.json_data.proofs.Pairs.{InPairs, InMember, join_pairs, join-join_pairs, one_member, leaves_pairs, ended_pairs}
-use Rattle.json_data.specs.Reader.{ReadsTree}
-use Rattle.json_data.specs.Reading.{Reading, gives, refuses}
-use Rattle.json_explain.specs.Refused.{Refused, element_step, member_step, ObjectReading, refused_here, key_refused, lacks_member, refused_within, reading_refused, whole_refused, list_refused, pair_refused, object_refused}
+use Rattle.json_explain.specs.Refused.{Refused, element_step, member_step, ObjectReading, lacks_member, refused_within, list_refused, object_refused}
 use Rattle.json_explain.specs.Explaining.{Explains, IsWithin, refused_in}
 use Rattle.json_explain.specs.declared.refusal.Refusal.{Refusal}
-use Rattle.json_explain.specs.declared.refusal.Wanted.{Wanted}
-use Rattle.json_explain.specs.declared.refusal.Wanted.TheVariants as wanted
 use Rattle.json_explain.proofs.Parts.{Passed, passed-stop, passed-end, PassedMembers, members-stop, members-end, element_within, member_within}
 
 -- ---- trees
-
-refused_as : (c : ErrorCode) (m : Option (List ℕ)) (w : Option Wanted) {j k : JsonType} → j ≡ k → Some (refused_here c m w j) ≡ Some (refused_here c m w k)
-refused_as c m w e = ap (λ (i : JsonType). Some (refused_here c m w i)) e
-
-pub no_array : (r : Tree → Option Refused) (t : Tree) (j : JsonType) → first_kind t ≢ kind_of (begin array) → type_of t ≡ j → list_refused r t ≡ Some (refused_here TypeUnmatched None (Some wanted.Array) j)
-no_array r null j n e = refused_as TypeUnmatched None (Some wanted.Array) e
-no_array r (boolean b) j n e = refused_as TypeUnmatched None (Some wanted.Array) e
-no_array r (num l) j n e = refused_as TypeUnmatched None (Some wanted.Array) e
-no_array r (text s) j n e = refused_as TypeUnmatched None (Some wanted.Array) e
-no_array r (list ts) j n e = absurd (n refl)
-no_array r (pairs ps) j n e = refused_as TypeUnmatched None (Some wanted.Array) e
-
-pub no_pair : (r s : Tree → Option Refused) (t : Tree) (j : JsonType) → first_kind t ≢ kind_of (begin array) → type_of t ≡ j → pair_refused r s t ≡ Some (refused_here TypeUnmatched None (Some wanted.Pair) j)
-no_pair r s null j n e = refused_as TypeUnmatched None (Some wanted.Pair) e
-no_pair r s (boolean b) j n e = refused_as TypeUnmatched None (Some wanted.Pair) e
-no_pair r s (num l) j n e = refused_as TypeUnmatched None (Some wanted.Pair) e
-no_pair r s (text b) j n e = refused_as TypeUnmatched None (Some wanted.Pair) e
-no_pair r s (list ts) j n e = absurd (n refl)
-no_pair r s (pairs ps) j n e = refused_as TypeUnmatched None (Some wanted.Pair) e
-
-pub no_object : (r : ObjectReading) (seen : List Bool) (t : Tree) (j : JsonType) → first_kind t ≢ kind_of (begin object) → type_of t ≡ j
-    → object_refused r seen t ≡ Some (refused_here TypeUnmatched None (Some wanted.Object) j)
-no_object r seen null j n e = refused_as TypeUnmatched None (Some wanted.Object) e
-no_object r seen (boolean b) j n e = refused_as TypeUnmatched None (Some wanted.Object) e
-no_object r seen (num l) j n e = refused_as TypeUnmatched None (Some wanted.Object) e
-no_object r seen (text s) j n e = refused_as TypeUnmatched None (Some wanted.Object) e
-no_object r seen (list ts) j n e = refused_as TypeUnmatched None (Some wanted.Object) e
-no_object r seen (pairs ps) j n e = absurd (n refl)
 
 lacks_within : (t : Tree) (j : type_of t ≡ (lacks_member []).found) (o : Option (List ℕ)) → IfSome (option_map lacks_member o) (IsWithin t)
 lacks_within t e None = tt
@@ -62,30 +23,6 @@ lacks_same f None m e = ap (option_map lacks_member) e
 lacks_same f (Some s) m e = ap (option_map lacks_member) e
 
 module _ {S : Type 0} {taken : S → List Tok → Type 0} {stand : S → TokensState} where
-  -- a tree was taken that is refused itself
-  pub itself : {f : Tree → Option Refused} {a b : S} (t : Tree) (c : ErrorCode) (m : Option (List ℕ)) (w : Option Wanted) (j : JsonType)
-      → TakesTree taken stand a b t → type_of t ≡ j → f t ≡ Some (refused_here c m w j) → Explains taken stand f a b (Some (refused_here c m w j))
-  itself t c m w j h e q = record { tree = t; takes = h; answer = q; within = (t, [], (refl, refl), e) }
-
-  -- ---- values without parts
-
-  pub whole_read : {f : Tree → Reading} {a b c : S} {k : TokenKind} {d : Datum} (w : Wanted)
-      → Peeks (stand a) (stand b) k → TakesTokens taken a [] b → ReadsTree taken stand f b c (gives d) → Explains taken stand (whole_refused f w) a c None
-  whole_read w p z h = record { tree = h.tree; takes = peek_tree p z h.takes; answer = ap (λ (r : Reading). reading_refused r w h.tree) h.answer; within = tt }
-
-  pub whole_stops : {f : Tree → Reading} {a b c : S} {k : TokenKind} {x : ErrorCode} (w : Wanted) (j : JsonType)
-      → ((t : Tree) → first_kind t ≡ k → type_of t ≡ j) → Peeks (stand a) (stand b) k → TakesTokens taken a [] b → ReadsTree taken stand f b c (refuses x)
-      → Explains taken stand (whole_refused f w) a c (Some (refused_here x None (Some w) j))
-  whole_stops {x = x} w j q p z h =
-      let e : type_of h.tree ≡ j = q h.tree (peek_kind p h.takes) in
-      itself h.tree x None (Some w) j (peek_tree p z h.takes) e (ap (λ (r : Reading). reading_refused r w h.tree) h.answer ∙ refused_as x None (Some w) e)
-
-  pub key_stops : {a b c : S} {k : TokenKind} (x : ErrorCode) (j : JsonType)
-      → ((t : Tree) → first_kind t ≡ k → type_of t ≡ j) → Peeks (stand a) (stand b) k → TakesTokens taken a [] b → ((t : Tree) × TakesTree taken stand b c t)
-      → Explains taken stand (λ t. Some (key_refused x t)) a c (Some (refused_here x None None j))
-  key_stops x j q p z h =
-      let e : type_of h.0 ≡ j = q h.0 (peek_kind p h.1) in
-      itself h.0 x None None j (peek_tree p z h.1) e (refused_as x None None e)
 
   -- ---- arrays
 

@@ -8,8 +8,6 @@ use Rattle.json_grammar.specs.Rules.{Rules}
 use Rattle.json_grammar.proofs.OneValue.{text_reads, one_reads}
 use Rattle.json_grammar.proofs.TextUtf8.{text_utf8}
 use Rattle.json_grammar.proofs.TokensUnique.{tokens_injective}
-use Rattle.json_io.specs.Outside.{SourceState}
-use Rattle.json_io.specs.Transfer.{ReadingCause}
 use Rattle.json_io.specs.Utf8.{Utf8Cause, IsUtf8Fault}
 use Rattle.json_io.specs.declared.error.Error.{Error}
 use Rattle.json_io.specs.declared.error.ErrorCode.{ErrorCode}
@@ -79,13 +77,6 @@ utf8_fault b k v u = v.longest (length b) v.short (subst IsUtf8 (sym (take_all (
 pub no_utf8_fault : (b : List ℕ) (c : ErrorCode) (p : Place) → Utf8Cause b c p → (t : Tree) → is_text false t b → ⊥
 no_utf8_fault b code.InvalidUTF8 p (k, v, e) t h = utf8_fault b k v (text_utf8 false t b h)
 no_utf8_fault b c p u t h = absurd u
-
--- a source that failed refuses no tree
-pub no_refused_source : (n : ℕ) (a b : SourceState) (c : ErrorCode) (p : Place) → ReadingCause n a b c p → is_refusal c ≡ true → ⊥
-no_refused_source n a b code.TypeUnmatched p h e = h
-no_refused_source n a b code.NumberOutOfRange p h e = h
-no_refused_source n a b code.ExpectedNumericKey p h e = h
-no_refused_source n a b c p h e = cc
 
 -- ---- what explains an error
 

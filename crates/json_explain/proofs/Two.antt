@@ -1,16 +1,10 @@
 -- An array of two, and where it is refused.
-use denote.Enum.Bare.{sameb}
-use Rattle.std.proofs.Common.{◌≡◌, ◌≢◌, ℕ, List, [], ◌∷◌, ◌++◌, Bool, false, rules, Option, Some, None, Result, Ok, Err, length, sym, subst, refl, IfOk, OnOk}
-use Rattle.json_grammar.specs.declared.Kind.{Kind}
+use Rattle.std.proofs.Common.{◌≡◌, ◌≢◌, ℕ, List, [], ◌∷◌, ◌++◌, Option, Some, None, Result, Ok, Err, length, sym, subst, refl, IfOk, OnOk}
 use Rattle.json_grammar.specs.declared.Kind.TheVariants.{Array as array}
-use Rattle.json_grammar.specs.TokenStates.{TokenState, Expected, a_value, element_or_end, name_or_end, nothing}
 use Rattle.json_grammar.specs.Tree.{Tree, Trees, no_trees, tree_and, trees_tokens, trees_list, list, Token as Tok, end}
-use Rattle.json_tokens.specs.contracts.token.TokenKind.{the_type}
-use Rattle.json_tokens.specs.Spots.{InArray, KindMayCome, BeforeElement}
 use Rattle.json_tokens.specs.declared.token.TokenKind.{TokenKind}
 use Rattle.json_tokens.specs.declared.token.TokenKind.TheVariants as kind
-use Rattle.json_tokens.specs.Stand.{TokensState, TakesTokens, TakesTree, TakesOne, Peeks, Leaves, FirstIs, WantsValue, WantsAt, WantsValueAt}
-use Rattle.json_tokens.proofs.Steps.{is_end, peek_one}
+use Rattle.json_tokens.specs.Stand.{TokensState, TakesTokens, TakesTree, TakesOne, Peeks, Leaves, FirstIs}
 use Rattle.json_data.proofs.Exits.{join-join}
 use Rattle.json_data.proofs.Lists.{InList, join, one_more, leaves, peeks_on, ended}
 use Rattle.json_explain.specs.Refused.{Refused, element_step, refused_within, pair_refused, other_length}
@@ -39,32 +33,6 @@ one_refused r s t e = rw e
 pub two_read : (r s : Tree → Option Refused) (t u : Tree) → r t ≡ None → s u ≡ None → pair_refused r s (list (tree_and t (tree_and u no_trees))) ≡ None
 two_read r s t u e h = rw (e, h)
 
--- ---- what follows
-
-value_kind : (k : TokenKind) (e : Expected) (c : List Kind) → BeforeElement e c → KindMayCome (record { opened = c; expected = e }) k → k ≢ kind.EndArray → WantsAt e (Some k)
-value_kind k a_value c i m n = absurd i
-value_kind k name_or_end c i m n = absurd i
-value_kind k nothing c i m n = absurd i
-value_kind kind.Key element_or_end c i m n = absurd m
-value_kind kind.EndArray element_or_end c i m n = absurd (n refl)
-value_kind kind.EndObject element_or_end c i m n = absurd m
-value_kind kind.Null element_or_end c i m n = refl
-value_kind kind.Bool element_or_end c i m n = refl
-value_kind kind.Int element_or_end c i m n = refl
-value_kind kind.Raw element_or_end c i m n = refl
-value_kind kind.Text element_or_end c i m n = refl
-value_kind kind.BeginArray element_or_end c i m n = refl
-value_kind kind.BeginObject element_or_end c i m n = refl
-
-pub no_end : (k : TokenKind) (r : Bool) → r ≡ sameb the_type k kind.EndArray → r ≡ false → k ≢ kind.EndArray
-no_end k r e t = search rules
-
--- an array goes on with a value where it does not end
-pub goes_on : {a b : TokensState} {k : TokenKind} → InArray a.spot → Peeks a b k → k ≢ kind.EndArray → WantsValue b
-goes_on {a = a} {b = b} {k = k} i p n =
-    let w = value_kind k a.spot.expected a.spot.opened i p.may n in
-    subst (λ (o : Option TokenKind). WantsValueAt b.spot o) (sym p.told) (subst (λ (s : TokenState). WantsValueAt s (Some k)) (sym p.spot) w)
-
 -- ---- what was taken
 
 -- what is left begins with no end
@@ -75,11 +43,6 @@ another h y ts k xs f n q no_trees i = absurd (n (sym (subst (λ (ys : List Tok)
 another h y ts k xs f n q (tree_and t us) i = q t us
 
 module _ {S : Type 0} {taken : S → List Tok → Type 0} {stand : S → TokensState} where
-  pub takes_end : {a b c : S} {k : TokenKind} {x : Tok} → k ≡ kind.EndArray → Peeks (stand a) (stand b) k → TakesTokens taken a [] b → TakesOne taken stand b c x → TakesOne taken stand a c (end array)
-  takes_end {a = a} {b = b} {c = c} {x = x} i p z r =
-      let h = subst (λ (j : TokenKind). Peeks (stand a) (stand b) j) i p in
-      let e : x ≡ end array = is_end x (r.as_told.told kind.EndArray h.told) in
-      subst (λ (y : Tok). TakesOne taken stand a c y) e (peek_one h z r)
 
   -- another element follows, and the array is left
   pub longer : {h : Tree → Option Refused} {a b c d : S} {ts : Trees} {k : TokenKind}

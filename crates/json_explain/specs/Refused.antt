@@ -142,10 +142,6 @@ abbrev pub fields_seen : List FieldReading → List Bool → List ℕ → List B
 fields_seen (f ∷ fs) (b ∷ bs) k = if bytes_eq k f.name then true ∷ bs else b ∷ fields_seen fs bs k
 fields_seen fs bs k = []
 
-abbrev pub no_fields_seen : List FieldReading → List Bool
-no_fields_seen [] = []
-no_fields_seen (f ∷ fs) = false ∷ no_fields_seen fs
-
 -- the name of the first field whose member must be there and was not seen
 abbrev pub field_missing : List FieldReading → List Bool → Option (List ℕ)
 field_missing (f ∷ fs) (b ∷ bs) = if b then field_missing fs bs else (if f.needed then Some f.name else field_missing fs bs)

@@ -181,11 +181,6 @@ tree_fails f old code.NumberOutOfRange p new e r = r
 tree_fails f old code.ExpectedNumericKey p new e r = r
 tree_fails f old c p new e r = absurd (cc)
 
--- the input is no UTF-8
-pub utf8_fails : (f : Tree → Reading) (s : InputState) (c : ErrorCode) (p : Place) → Utf8Cause s.text c p → NextValueFails f s c p s
-utf8_fails f s code.InvalidUTF8 p h = (h, refl)
-utf8_fails f s c p h = absurd h
-
 -- where a run of whitespace ends
 pub comes_next : (p : ParserState) (b : List ℕ) (i k : ℕ) → b ≡ p.text → i ≡ p.index → (i ≤ k) × (k ≤ length b) → ws (piece b i k) → (k < length b → ¬ (IsWhitespace (get_or b k 0))) → ComesNext p k
 comes_next p b i k e f o w s = record {
@@ -194,10 +189,6 @@ comes_next p b i k e f o w s = record {
   space = subst (λ (y : List ℕ). ws (piece y p.index k)) e (subst (λ (n : ℕ). ws (piece b n k)) f w);
   stop = subst (λ (y : List ℕ). k < length y → ¬ (IsWhitespace (get_or y k 0))) e s;
 }
-
--- by what it reads and where it is
-pub comes_same : (p q : ParserState) (k : ℕ) → p.text ≡ q.text → p.index ≡ q.index → ComesNext p k → ComesNext q k
-comes_same p q k e f h = comes_next q p.text p.index k e f (h.order, h.within) h.space h.stop
 
 -- ---- ends
 

@@ -241,30 +241,6 @@ whole_container (end object) (inr e) r l = absurd (cc)
 whole_container (key_token s) (inl e) r l = absurd (cc)
 whole_container (key_token s) (inr e) r l = absurd (cc)
 
--- a bracket that opens leads within
-pub begun_open : (x : Tok) (p : TokenState) → (kind_of x ≡ kind.BeginArray) ⊎ (kind_of x ≡ kind.BeginObject) → IsOpen (after_token p x)
-begun_open (begin array) p e = tt
-begun_open (begin object) p e = tt
-begun_open null_token p (inl e) = absurd (cc)
-begun_open null_token p (inr e) = absurd (cc)
-begun_open (boolean_token b) p (inl e) = absurd (cc)
-begun_open (boolean_token b) p (inr e) = absurd (cc)
-begun_open (num_token n) p e = absurd (no_begin (integer_in n) e)
-  where
-    no_begin : (o : Option ℤ) → (number_kind o ≡ kind.BeginArray) ⊎ (number_kind o ≡ kind.BeginObject) → ⊥
-    no_begin None (inl e) = cc
-    no_begin None (inr e) = cc
-    no_begin (Some n) (inl e) = cc
-    no_begin (Some n) (inr e) = cc
-begun_open (text_token s) p (inl e) = absurd (cc)
-begun_open (text_token s) p (inr e) = absurd (cc)
-begun_open (end array) p (inl e) = absurd (cc)
-begun_open (end array) p (inr e) = absurd (cc)
-begun_open (end object) p (inl e) = absurd (cc)
-begun_open (end object) p (inr e) = absurd (cc)
-begun_open (key_token s) p (inl e) = absurd (cc)
-begun_open (key_token s) p (inr e) = absurd (cc)
-
 -- the end follows
 end_array : (e : Expected) (c : List Kind) → EndMayCome e array → RestAt e c (end array ∷ [])
 end_array a_value c m = absurd m

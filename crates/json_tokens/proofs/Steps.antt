@@ -1,7 +1,5 @@
 -- Steps of a source, one after another.
-use Rattle.json_grammar.proofs.StringsUnique.{chars_same}
-use Rattle.json_tokens.specs.Pieces.{Says}
-use Rattle.std.proofs.Common.{◌≡◌, ℕ, ℤ, Bool, List, [], ◌∷◌, ◌++◌, Option, Some, None, refl, sym, ◌∙◌, subst, append_assoc, arith, inl, inr, ◌⊎◌}
+use Rattle.std.proofs.Common.{◌≡◌, ℤ, List, [], ◌∷◌, ◌++◌, Option, Some, None, refl, sym, ◌∙◌, subst, append_assoc, arith, inl, inr, ◌⊎◌}
 use Rattle.json_tokens.specs.declared.token.TokenKind.{TokenKind}
 use Rattle.json_tokens.specs.declared.token.TokenKind.TheVariants.{BeginArray, EndArray, BeginObject, EndObject}
 use Rattle.json_grammar.specs.Tree.{Tree, Token as Tok, tokens, begin, end, null_token, boolean_token, num_token, text_token, key_token}
@@ -33,25 +31,6 @@ peek_tree {taken = taken} {stand = stand} {a = a} {b = b} {c = c} {t = t} h z r 
   as_told = told_before h r.as_told;
 }
 
--- and then one token
-pub peek_one : {S : Type 0} {taken : S → List Tok → Type 0} {stand : S → TokensState} {a b c : S} {k : TokenKind} {x : Tok}
-    → Peeks (stand a) (stand b) k → TakesTokens taken a [] b → TakesOne taken stand b c x → TakesOne taken stand a c x
-peek_one {stand = stand} {a = a} {c = c} {x = x} h z r = record {
-  takes = joins z r.takes;
-  moves = subst (λ (p : TokenState). Moves (stand a) (stand c) (after_token p x)) h.spot (peek_moves h r.moves);
-  as_told = told_before h r.as_told;
-}
-
--- nothing was taken before
-pub from_same : {S : Type 0} {taken : S → List Tok → Type 0} {stand : S → TokensState} {a b c : S} {t : Tree}
-    → b ≡ a → TakesTree taken stand b c t → TakesTree taken stand a c t
-from_same {S = S} {taken = taken} {stand = stand} {c = c} {t = t} e r = subst (λ (s : S). TakesTree taken stand s c t) e r
-
--- the tree that was taken begins as was peeked
-pub peek_kind : {S : Type 0} {taken : S → List Tok → Type 0} {stand : S → TokensState} {b c : S} {a : TokensState} {k : TokenKind} {t : Tree}
-    → Peeks a (stand b) k → TakesTree taken stand b c t → first_kind t ≡ k
-peek_kind {k = k} h r = r.as_told.told k h.told
-
 -- a tree of one token
 pub scalar : {S : Type 0} {taken : S → List Tok → Type 0} {stand : S → TokensState} {b c : S} {x : Tok} (t : Tree) (y : Tok)
     → x ≡ y → tokens t ≡ y ∷ [] → kind_of y ≡ first_kind t → after_token (stand b).spot y ≡ state_after_value (stand b).spot
@@ -63,11 +42,6 @@ scalar {taken = taken} {stand = stand} {b = b} {c = c} t y i e k p q =
       moves = subst (λ (q : TokenState). Moves (stand b) (stand c) q) p r.moves;
       as_told = subst (λ (j : TokenKind). AsTold (stand b) j) k r.as_told;
     }
-
--- bytes say one text
-pub says_one : (e : Option Bool) (s r b : List ℕ) → Says s e b → Says r e b → s ≡ r
-says_one (Some lossy) s r b h k = (chars_same lossy [] [] h k refl).0
-says_one None s r b h k = h ∙ sym k
 
 -- by its kind
 no_bracket : (o : Option ℤ) (k : TokenKind) → number_kind o ≡ k → (k ≡ BeginArray) ⊎ ((k ≡ EndArray) ⊎ ((k ≡ BeginObject) ⊎ (k ≡ EndObject))) → ⊥
@@ -112,14 +86,3 @@ is_begin_object (begin array) e = cc
 is_begin_object (begin object) e = refl
 is_begin_object (end array) e = cc
 is_begin_object (end object) e = cc
-
-pub is_end_object : (x : Tok) → kind_of x ≡ EndObject → x ≡ end object
-is_end_object null_token e = cc
-is_end_object (boolean_token b) e = cc
-is_end_object (num_token l) e = absurd (no_bracket (integer_in l) EndObject e (inr (inr (inr refl))))
-is_end_object (text_token s) e = cc
-is_end_object (key_token s) e = cc
-is_end_object (begin array) e = cc
-is_end_object (begin object) e = cc
-is_end_object (end array) e = cc
-is_end_object (end object) e = refl

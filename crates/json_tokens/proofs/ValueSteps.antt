@@ -10,19 +10,17 @@ use Rattle.json_doc.proofs.Trees.{list_back, pairs_back}
 use Rattle.json_doc.specs.Readings.{type_of}
 use Rattle.json_doc.specs.declared.json_type.JsonType.TheVariants as json
 use Rattle.json_io.specs.Errors.{no_memory}
-use Rattle.json_io.specs.declared.error.Error.{Error}
 use Rattle.json_tokens.specs.declared.level.Level.{Level}
 use Rattle.json_tokens.specs.declared.level.Level.TheVariants as level
 use Rattle.json_tokens.specs.declared.token.TokenKind.{TokenKind}
 use Rattle.json_tokens.specs.declared.token.TokenKind.TheVariants as kind
 use Rattle.json_tokens.specs.declared.value_tokens.ValueTokens.{ValueTokens}
 use Rattle.json_tokens.specs.Kinds.{kind_of, first_kind, number_kind}
-use Rattle.json_tokens.specs.Refusals.{is_refusal}
 use Rattle.json_grammar.specs.TokenStates.{TokenState, initial_state, state_in, state_after_value, after_token}
 use Rattle.json_tokens.proofs.Places.{value_kind}
 use Rattle.json_tokens.specs.Spots.{around, begins_value, KindMayCome, IsOpen}
-use Rattle.json_tokens.specs.Stand.{over_tree, WantsValue, WantsValueAt, Peeks, Moves, AsTold, TakesOne, TakesTree, Leaves, Rest, FirstIs, TokensFail}
-use Rattle.json_tokens.specs.Values.{Left, elements_of, members_of, left_after_opening, opened_in, kind_left, left_tokens, open_tokens, next_tokens, spot_in_levels, ValueState, value_state, rest_of, head_kind, state_taken, state_stand, value_taken, value_stand, PullsMember, NoElement, FrontIs, SettlesNext, TakesTokensTo, Breaks}
+use Rattle.json_tokens.specs.Stand.{over_tree, WantsValue, WantsValueAt, Peeks, Moves, AsTold, TakesOne, TakesTree, Leaves, Rest, FirstIs}
+use Rattle.json_tokens.specs.Values.{Left, elements_of, members_of, left_after_opening, opened_in, kind_left, left_tokens, open_tokens, next_tokens, spot_in_levels, ValueState, value_state, rest_of, head_kind, state_taken, state_stand, value_taken, value_stand, PullsMember, NoElement, FrontIs, SettlesNext, TakesTokensTo}
 
 some_is : {A : Type 0} {x y : A} → Some x ≡ Some y → x ≡ y
 some_is e = cc
@@ -187,12 +185,6 @@ tree_taken a b t s =
 
 pub settled : {a m b : ValueState} {xs : List Tok} {p q : TokenState} → SettlesNext a m → TakesTokensTo m b xs p → p ≡ q → TakesTokensTo a b xs q
 settled s t e = record { tree = t.tree ∙ s.tree; rest = sym s.rest ∙ t.rest; spot = t.spot ∙ e; told = t.told; failed = t.failed ∙ s.failed }
-
-pub fails : {a m b : ValueState} {e : Error} → SettlesNext a m → e ≡ no_memory → Breaks m b → TokensFail (state_stand a) (state_stand b) e
-fails {e = e} s n k = record { input = ap over_tree (k.tree ∙ s.tree); no_refusal = ap (λ (i : Error). is_refusal i.code) n; failed = rw k.failed (ap Some (sym n)) }
-
-again_head : (b c : Bool) (o p : Option TokenKind) (j k : TokenKind) → p ≡ o → p ≡ Some k → (if b then o else None) ≡ Some j → k ≡ j
-again_head b c o p j k e f g = told_head b o j k (sym e ∙ f) g
 
 pub peeks : (a m : ValueState) (k : TokenKind) → SettlesNext a m → head_kind (rest_of m) ≡ Some k → Peeks (state_stand a) (state_stand (record m { told = true })) k
 peeks a m k s e = record {

@@ -1,7 +1,7 @@
 -- What edits leave of values.
 use Rattle.std.proofs.Common.{◌≡◌, ℕ, suc, cond, Option, Result, OnErr, ◌<◌, ◌≤◌, List, [], ◌∷◌, ◌++◌, length, get_or, set, map, filter, not, bytes_eq, Bool, Ok, Err, Some, IfSome, Vec, Global, refl, sym, ap, ◌∙◌, subst}
 use Rattle.std.specs.Prelude.{◌+◌, slice_get, remove, take, drop, option_map, true, false}
-use Rattle.std.proofs.lemmas.List.{map-set, length-map, set-get_or, get_or-map, map-append, map_push, map_more, take-map, drop-map, take_all}
+use Rattle.std.proofs.lemmas.List.{map-set, length-map, map-append, map_push, map_more, take-map, drop-map, take_all}
 use Rattle.std.proofs.lemmas.Option.{slice_get-map, slice_get_read}
 use Rattle.json_grammar.specs.Tree.{Tree, list, pairs, Trees, Pairs, list_trees, list_pairs}
 use Rattle.json_io.specs.declared.error.Error.{Error}
@@ -22,7 +22,7 @@ use Rattle.json_value.specs.declared.path.PointerNode.{PointerNode}
 use Rattle.json_value.specs.declared.path.PointerNode.TheVariants.{Key, Index}
 use Rattle.json_value.specs.declared.path.Edit.{Edit}
 use Rattle.json_value.specs.declared.path.Edit.TheVariants.{Set, Insert, Push, Remove}
-use Rattle.json_value.proofs.TreeEdits.{at_index-here, at_index-refused, at_index-missed, pushed-list, without_index-here, without_index-missed, at_key-here, at_key-refused, inserted-here, inserted-beside, without_key-list, has_key-push, has_key-here}
+use Rattle.json_value.proofs.TreeEdits.{at_index-here, at_index-missed, pushed-list, without_index-here, without_index-missed, at_key-here, inserted-here, inserted-beside, without_key-list, has_key-push, has_key-here}
 use Rattle.json_value.proofs.ValueLevels.{array_tree, object_tree}
 
 -- a refusal is passed on
@@ -65,9 +65,6 @@ module _ (self : Value) (a : Container Value) (v : Vec Value Global) (is : self 
   pub array_missed : (f : Trees → Changed Trees) (r : Refusal) → f (list_trees (map tree_of v.items)) ≡ Err r → on_list f (tree_of self) ≡ Err r
   array_missed f r e = ap (on_list f) array_before ∙ ap (within list) e
 
-  pub array_refuses : (f : Trees → Changed Trees) (code : ErrorCode) (place : Place) → RefusesChange (f (list_trees (map tree_of v.items))) code place → RefusesChange (on_list f (tree_of self)) code place
-  array_refuses f code place = refuses_so (f (list_trees (map tree_of v.items))) (on_list f (tree_of self)) (λ e h. ap (on_list f) array_before ∙ ap (within list) h) code place
-
 -- ---- an object whose members were lent
 
 module _ (self : Value) (o : Container (Keyed Value)) (v : Vec (Keyed Value) Global) (is : self ≡ Object o) (same : map pair_of v.items ≡ pairs_in o) where
@@ -82,9 +79,6 @@ module _ (self : Value) (o : Container (Keyed Value)) (v : Vec (Keyed Value) Glo
 
   pub object_missed : (f : Pairs → Changed Pairs) (r : Refusal) → f (list_pairs (map pair_of v.items)) ≡ Err r → on_pairs f (tree_of self) ≡ Err r
   object_missed f r e = ap (on_pairs f) object_before ∙ ap (within pairs) e
-
-  pub object_refuses : (f : Pairs → Changed Pairs) (code : ErrorCode) (place : Place) → RefusesChange (f (list_pairs (map pair_of v.items))) code place → RefusesChange (on_pairs f (tree_of self)) code place
-  object_refuses f code place = refuses_so (f (list_pairs (map pair_of v.items))) (on_pairs f (tree_of self)) (λ e h. ap (on_pairs f) object_before ∙ ap (within pairs) h) code place
 
 -- ---- members
 
@@ -137,15 +131,6 @@ module _ (k : List ℕ) (ps : List (Keyed Value)) (i : ℕ) (p : Keyed Value) (i
   pair_changed f u e =
       at_key-here k (map pair_of ps) i (text_bytes p.key) (tree_of p.value) (tree_of u) f first.before got its_key e ∙ sym (ap (λ (qs : List (List ℕ × Tree)). Ok (list_pairs qs)) (map-set pair_of ps i (keyed_so p.key u)))
 
-  pub pair_refuses : (f : Tree → Changed Tree) (code : ErrorCode) (place : Place) → RefusesChange (f (tree_of p.value)) code place → RefusesChange (at_key k f (list_pairs (map pair_of ps))) code place
-  pair_refuses f code place = refuses_so (f (tree_of p.value)) (at_key k f (list_pairs (map pair_of ps))) (λ r e. at_key-refused k (map pair_of ps) i (text_bytes p.key) (tree_of p.value) r f first.before got its_key e) code place
-
-  pub pair_kept : (u : Value) → tree_of u ≡ tree_of p.value → map pair_of (set ps i (keyed_so p.key u)) ≡ map pair_of ps
-  pair_kept u e =
-      let here : get_or (map pair_of ps) i (pair_of p) ≡ pair_of p = get_or-map pair_of ps i p (pair_of p) low ∙ sym (ap pair_of is) in
-      let same : pair_of (keyed_so p.key u) ≡ get_or (map pair_of ps) i (pair_of p) = ap (λ (t : Tree). (text_bytes p.key, t)) e ∙ sym here in
-      map-set pair_of ps i (keyed_so p.key u) ∙ ap (set (map pair_of ps) i) same ∙ set-get_or (map pair_of ps) i (pair_of p)
-
 pub insert_beside : (k : List ℕ) (ps : List (Keyed Value)) (n : Text) (u : Value) → text_bytes n ≡ k → has_key k (list_pairs (map pair_of ps)) ≡ false
     → inserted k (tree_of u) (list_pairs (map pair_of ps)) ≡ list_pairs (map pair_of (ps ++ keyed_so n u ∷ []))
 insert_beside k ps n u same none =
@@ -176,14 +161,6 @@ module _ (vs : List Value) (i : ℕ) (v : Value) (low : i < length vs) (is : v �
 
   pub element_changed : (f : Tree → Changed Tree) (u : Value) → f (tree_of v) ≡ Ok (tree_of u) → at_index i f (list_trees (map tree_of vs)) ≡ Ok (list_trees (map tree_of (set vs i u)))
   element_changed f u e = at_index-here (map tree_of vs) i (tree_of v) (tree_of u) f element_got e ∙ sym (ap (λ (ts : List Tree). Ok (list_trees ts)) (map-set tree_of vs i u))
-
-  pub element_refuses : (f : Tree → Changed Tree) (code : ErrorCode) (place : Place) → RefusesChange (f (tree_of v)) code place → RefusesChange (at_index i f (list_trees (map tree_of vs))) code place
-  element_refuses f code place = refuses_so (f (tree_of v)) (at_index i f (list_trees (map tree_of vs))) (λ r e. at_index-refused (map tree_of vs) i (tree_of v) r f element_got e) code place
-
-  pub element_kept : (u : Value) → tree_of u ≡ tree_of v → map tree_of (set vs i u) ≡ map tree_of vs
-  element_kept u e =
-      let here : get_or (map tree_of vs) i (tree_of v) ≡ tree_of v = get_or-map tree_of vs i v (tree_of v) low ∙ sym (ap tree_of is) in
-      map-set tree_of vs i u ∙ ap (set (map tree_of vs) i) (e ∙ sym here) ∙ set-get_or (map tree_of vs) i (tree_of v)
 
 pub element_missed : (vs : List Value) (i : ℕ) (f : Tree → Changed Tree) → length vs ≤ i → at_index i f (list_trees (map tree_of vs)) ≡ Err not_found
 element_missed vs i f h = let past : length (map tree_of vs) ≤ i = rw length-map h in at_index-missed (map tree_of vs) i f past

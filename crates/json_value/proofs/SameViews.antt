@@ -64,14 +64,6 @@ next i = omega arith
 pub trees_step : (xs ys : List Tree) (i : ℕ) (r : Bool) → i < length xs → length xs ≡ length ys → r ≡ option_eq same (slice_get xs i) (slice_get ys i) → trees_same (list_trees (drop i xs)) (list_trees (drop i ys)) ≡ (r && trees_same (list_trees (drop (i + 1) xs)) (list_trees (drop (i + 1) ys)))
 trees_step xs ys i r h e f = rest_step xs ys i h e ∙ ap₂ (λ b j. b && trees_same (list_trees (drop j xs)) (list_trees (drop j ys))) (sym f) (next i)
 
-pub trees_end : (xs ys : List Tree) (i : ℕ) → length xs ≤ i → length xs ≡ length ys → trees_same (list_trees (drop i xs)) (list_trees (drop i ys)) ≡ true
-trees_end [] [] zero h e = refl
-trees_end [] [] (suc i) h e = refl
-trees_end [] (y ∷ ys) i h e = absurd (omega (arith, e))
-trees_end (x ∷ xs) [] i h e = absurd (omega (arith, e))
-trees_end (x ∷ xs) (y ∷ ys) zero h e = absurd (omega arith)
-trees_end (x ∷ xs) (y ∷ ys) (suc i) h e = trees_end xs ys i (omega arith) (omega (arith, e))
-
 -- ---- measures
 
 -- the nodes of a tree that may be there
@@ -107,12 +99,6 @@ pub all_fail : (f : List ℕ → Bool) (ks : List (List ℕ)) (i : ℕ) (k : Lis
 all_fail f [] i k e g = absurd (cc)
 all_fail f (n ∷ ks) zero k e g = let s : n ≡ k = cc in and_left (f n) (list_all f ks) (ap f s ∙ g)
 all_fail f (n ∷ ks) (suc i) k e g = and_right (f n) (list_all f ks) (all_fail f ks i k e g)
-
-pub take_all : {X : Type 0} (xs : List X) (i : ℕ) → length xs ≤ i → take i xs ≡ xs
-take_all [] zero h = refl
-take_all [] (suc i) h = refl
-take_all (x ∷ xs) zero h = absurd (omega arith)
-take_all (x ∷ xs) (suc i) h = ap (λ r. x ∷ r) (take_all xs i (omega arith))
 
 none_next : {X : Type 0} (xs : List X) (i : ℕ) → slice_get xs i ≡ None → take (suc i) xs ≡ take i xs
 none_next [] zero e = refl

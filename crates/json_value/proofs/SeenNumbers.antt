@@ -1,17 +1,16 @@
 -- What a view reads of a number: a literal that is kept is a number, and the double is that of the literal.
-use Rattle.std.proofs.Common.{◌≡◌, ℕ, ℤ, List, Option, Some, None, refl, sym, ap, ◌∙◌, subst}
+use Rattle.std.proofs.Common.{◌≡◌, ℕ, ℤ, List, Option, Some, None, sym, ap, ◌∙◌, subst}
 use Rattle.std.proofs.lemmas.Option.{none-some, same_Some}
-use Rattle.std.specs.Float.{binary64}
 use Rattle.json_grammar.specs.Tree.{Tree, null, boolean, num, text, list, pairs}
 use Rattle.json_grammar.specs.Grammar.{number}
 use Rattle.json_grammar.specs.Proper.{IsProper}
-use Rattle.json_number.specs.Floats.{double_of, float_in}
+use Rattle.json_number.specs.Floats.{double_of}
 use Rattle.json_number.specs.Integers.{integer_in}
 use Rattle.json_number.specs.Numbers.{value_of, text_of_number}
 use Rattle.json_number.specs.declared.number.Number.{Number as NumberType}
 use Rattle.json_number.proofs.Doubles.{integer_double}
 use Rattle.json_number.proofs.Forms.{reads}
-use Rattle.json_doc.specs.Readings.{integer_of, literal_of, literal_unless}
+use Rattle.json_doc.specs.Readings.{literal_of, literal_unless}
 use Rattle.json_value.specs.Doubles.{double_in}
 use Rattle.json_value.specs.Seen.{seen}
 use Rattle.json_value.specs.declared.view.View.{View}
@@ -37,25 +36,3 @@ literal_seen v l e = literal_proper (seen v) l (seen_proper v) e
 -- the double of an integer by value
 pub number_double : (t : Tree) (n : NumberType) → t ≡ num (text_of_number n) → Some (double_of (value_of n)) ≡ double_in t
 number_double t n e = sym (ap double_in e ∙ integer_double (text_of_number n) (value_of n) (reads n).0 (reads n).1)
-
--- the double of another number
-pub literal_double : (t : Tree) (l : List ℕ) → Some l ≡ literal_of t → float_in binary64 l ≡ double_in t
-literal_double (num k) l e = ap (float_in binary64) (whole_literal (integer_in k) k l e)
-literal_double null l e = absurd (none-some l (sym e))
-literal_double (boolean b) l e = absurd (none-some l (sym e))
-literal_double (text s) l e = absurd (none-some l (sym e))
-literal_double (list ts) l e = absurd (none-some l (sym e))
-literal_double (pairs ps) l e = absurd (none-some l (sym e))
-
-no_literal : (o : Option ℤ) (k : List ℕ) → None ≡ o → None ≡ literal_unless o k → Some k ≡ None
-no_literal None k n e = sym e
-no_literal (Some z) k n e = absurd (none-some z n)
-
--- what is no number has no double
-pub no_double : (t : Tree) → None ≡ integer_of t → None ≡ literal_of t → None ≡ double_in t
-no_double (num k) n e = absurd (none-some k (sym (no_literal (integer_in k) k n e)))
-no_double null n e = refl
-no_double (boolean b) n e = refl
-no_double (text s) n e = refl
-no_double (list ts) n e = refl
-no_double (pairs ps) n e = refl
