@@ -1,5 +1,5 @@
 -- From the bytes of a source to a document.
-use Rattle.std.proofs.Common.{◌≡◌, ◌≢◌, ap, ◌∙◌, refl, ℕ, ◌≤◌, List, length, false, sym, subst, IsUtf8}
+use Rattle.std.proofs.Common.{◌≡◌, ◌≢◌, refl, ℕ, ◌≤◌, List, length, false, sym, subst, IsUtf8}
 use Rattle.json_grammar.specs.Tree.{Tree}
 use Rattle.json_grammar.specs.Grammar.{is_text}
 use Rattle.json_grammar.specs.Rules.{Rules, fits}
@@ -15,8 +15,6 @@ use Rattle.json_doc.specs.Docs.{IsDocOf, doc_tree, doc_root, doc_cells, doc_text
 use Rattle.json_doc.specs.Reading.{ReadingFailsWith}
 use Rattle.json_doc.proofs.Trees.{spelled}
 use Rattle.json_text.specs.Ruled.{usual_rules}
-use Rattle.json_value.specs.declared.value.Value.{Value}
-use Rattle.json_value.specs.Denotes.{tree_of}
 use Rattle.json_command.specs.Input.{max_bytes, IsInput, IsValid, InputFault, not_utf8, no_text}
 use Rattle.json_command.proofs.Inputs.{valid_no_fault}
 use Rattle.json_command.specs.Reading.{ReadsInput, InputFails}
@@ -47,11 +45,6 @@ module _ (rules : Rules) where
   pub doc_reads : (source source' : SourceState) (bytes seen : List ℕ) (d : Doc) → ReadsWithin max_bytes source source' bytes → seen ≡ bytes → Documents seen d → ReadsInput rules source source' (doc_tree d (doc_root d))
   doc_reads source source' bytes seen d read same (t, text, fit, doc) =
       subst (λ u. ReadsInput rules source source' u) (sym (root_is d t doc)) (record { bytes = bytes; all = read; input = record { short = read.within; text = subst (λ b. is_text false t b) same text; fit = fit } })
-
--- ---- the value at the root of a document
-
-pub root_value : (d d' : Doc) (v : Value) (at : ℕ) → tree_of v ≡ doc_tree d at → at ≡ doc_root d' → d' ≡ d → tree_of v ≡ doc_tree d (doc_root d)
-root_value d d' v at t p s = t ∙ ap (doc_tree d) (p ∙ ap doc_root s)
 
 -- ---- an argument that is read by the usual rules
 

@@ -5,15 +5,14 @@ use Rattle.json_grammar.specs.Rules.{Rules}
 use Rattle.json_grammar.proofs.Values.{one_tree}
 use Rattle.json_io.specs.declared.error.Error.{Error}
 use Rattle.json_io.specs.declared.error.ErrorCode.{ErrorCode}
-use Rattle.json_io.specs.declared.error.ErrorCode.TheVariants.{NoMemory, Io, TooLarge}
+use Rattle.json_io.specs.declared.error.ErrorCode.TheVariants.{TooLarge}
 use Rattle.json_io.specs.declared.error.Place.{Place}
-use Rattle.json_io.specs.declared.error.Place.TheVariants.{None as nowhere, Reading}
-use Rattle.json_io.specs.Errors.{no_memory}
+use Rattle.json_io.specs.declared.error.Place.TheVariants.{None as nowhere}
 use Rattle.json_io.specs.Known.{Drains}
 use Rattle.json_io.specs.Outside.{SourceState}
 use Rattle.json_io.specs.Transfer.{ReadsWithin}
 use Rattle.json_command.specs.Input.{max_bytes, IsInput, InputFault, too_large}
-use Rattle.json_command.specs.Reading.{ReadsInput, ReadsFault, InputFails, KnownInput, KnownFault}
+use Rattle.json_command.specs.Reading.{ReadsInput, ReadsFault, KnownFault}
 use Rattle.json_command.proofs.Inputs.{one_input_fault, valid_no_fault}
 
 -- ---- all that was read is what was known
@@ -73,19 +72,3 @@ module _ (rules : Rules) where
   -- bytes with a fault are not read as a text
   pub fault_not_read : (source source' : SourceState) (tree : Tree) (code : ErrorCode) (place : Place) → ReadsInput rules source source' tree → KnownFault rules source source' code place → ⊥
   fault_not_read source source' tree code place r bad = no_fault bad.bytes tree code place (input_known source source' bad.bytes tree r bad.known) bad.fault
-
-  -- ---- why reading fails
-
-  -- on a text it fails only for want of memory
-  pub input_fails : (source source' : SourceState) (tree : Tree) (code : ErrorCode) (place : Place) → InputFails rules source source' code place → KnownInput rules source source' tree → error code place ≡ no_memory
-  input_fails source source' tree NoMemory nowhere h good = refl
-  input_fails source source' tree Io Reading h good = absurd (good.read h)
-  input_fails source source' tree TooLarge nowhere h good = absurd (no_fault good.bytes tree TooLarge nowhere good.input (large_known source good.bytes h.1 good.known))
-  input_fails source source' tree code place h good = absurd (no_fault good.bytes tree code place good.input (fault_known source source' good.bytes code place h good.known))
-
-  -- on bytes with a fault it fails with that fault, or for want of memory
-  pub fault_fails : (source source' : SourceState) (code code' : ErrorCode) (place place' : Place) → InputFails rules source source' code' place' → KnownFault rules source source' code place → (error code' place' ≡ error code place) ⊎ (error code' place' ≡ no_memory)
-  fault_fails source source' code NoMemory place nowhere h bad = inr refl
-  fault_fails source source' code Io place Reading h bad = absurd (bad.read h)
-  fault_fails source source' code TooLarge place nowhere h bad = inl (same_fault bad.bytes code TooLarge place nowhere bad.fault (large_known source bad.bytes h.1 bad.known))
-  fault_fails source source' code code' place place' h bad = inl (same_fault bad.bytes code code' place place' bad.fault (fault_known source source' bad.bytes code' place' h bad.known))

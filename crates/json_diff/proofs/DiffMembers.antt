@@ -45,9 +45,6 @@ removals_make ms qs (pair_and k t ps) u h = by (has_key k qs) (λ ns. removals_m
         (ap (λ b. lookup_outcome (within pairs (cond b (Ok (without_key k ms)) (Err not_found)))) here)
         (more (without_key k ms) (λ n g. key_beside_removed k n ms (keys_turned n k (keys_apart n k ps g a.0)) ∙ later n g))
 
-some_same : (x y : Tree) → Some x ≡ Some y → x ≡ y
-some_same x y e = cc
-
 replaced_inserted : (k : List ℕ) (x y : Tree) (ps : Pairs) → first_value k ps ≡ Some x → replaced_at_key k y ps ≡ inserted k y ps
 replaced_inserted k x y no_pairs h = cc
 replaced_inserted k x y (pair_and n t ps) h = by (bytes_eq n k) h (replaced_inserted k x y ps)

@@ -1,29 +1,25 @@
 -- The parts of a patch between two trees, as the calls make them.
-use Rattle.std.proofs.Common.{◌≡◌, ℕ, zero, suc, ◌+◌, ◌-◌, ◌<◌, ◌≤◌, List, [], ◌∷◌, ◌++◌, append_assoc, length, map, take, drop, min, get_or, reverse, Bool, true, false, cond, ◌&&◌, Option, Some, None, refl, sym, ap, ap₂, ◌∙◌, arith}
+use Rattle.std.proofs.Common.{◌≡◌, ℕ, zero, suc, ◌+◌, ◌-◌, ◌<◌, ◌≤◌, List, [], ◌∷◌, ◌++◌, length, map, take, drop, min, get_or, reverse, Bool, true, false, cond, ◌&&◌, Option, Some, None, refl, sym, ap, ap₂, ◌∙◌, arith}
 use Rattle.std.specs.Prelude.{slice_get, decimal, nat_lt}
 use Rattle.std.proofs.lemmas.Bool.{and_from, lt-ltb}
-use Rattle.std.proofs.lemmas.List.{drop_all, drop_more, get_or-map, get_or-reverse, length-map, length-reverse, length-take, map_push, take-map}
+use Rattle.std.proofs.lemmas.List.{drop_all, drop_more, get_or-map, get_or-reverse, length-map, length-reverse, length-take, take-map}
 use Rattle.json_grammar.specs.Sizes.{nodes, trees_nodes}
-use Rattle.json_grammar.specs.Tree.{Tree, null, boolean, num, text, list, pairs, Trees, tree_and, trees_list, list_trees, Pairs, list_pairs}
+use Rattle.json_grammar.specs.Tree.{Tree, list, pairs, Trees, tree_and, list_trees, Pairs, list_pairs}
 use Rattle.json_model.specs.Edit.{has_key}
 use Rattle.json_model.specs.Same.{first_value, same}
 use Rattle.json_doc_print.proofs.Trees.{list_again}
 use Rattle.json_patch.specs.Pointer.{ReferenceToken, slash, escaped_token}
 use Rattle.json_patch.specs.Patch.{Operation, add, remove, replace}
-use Rattle.json_patch.specs.Merge.{members_or_none}
 use Rattle.json_diff.specs.MergeDiff.{has_unique_keys}
-use Rattle.json_diff.specs.Diff.{under, whole, key_removals, array_elements, common_front, common_back, element_removals, are_addressable, operations_between, members_operations, element_operations}
+use Rattle.json_diff.specs.Diff.{under, whole, key_removals, common_front, common_back, element_removals, are_addressable, operations_between, members_operations, element_operations}
 use Rattle.json_diff.specs.DiffDocument.{operation_below}
-use Rattle.json_diff.specs.DiffParts.{are_keyed, are_arrays, child_operations, operations_at}
+use Rattle.json_diff.specs.DiffParts.{are_keyed, child_operations, operations_at}
 use Rattle.json_diff.proofs.OperationsBelow.{document_under}
 
 abbrev Members : Type 0
 Members = List (List ℕ × Tree)
 
 -- ---- the whole
-
-pub whole_of_same : (t u : Tree) → true ≡ same t u → whole t u ≡ []
-whole_of_same t u e = ap (λ b. cond b [] (replace [] u ∷ [])) (sym e)
 
 pub whole_of_others : (t u : Tree) → false ≡ same t u → whole t u ≡ replace [] u ∷ []
 whole_of_others t u e = ap (λ b. cond b [] (replace [] u ∷ [])) (sym e)
@@ -127,9 +123,6 @@ element_more ts us i n u o h e f =
 pub elements_end : (ts us : List Tree) (i n m : ℕ) → length us ≤ i → i ≡ n → element_operations i (drop i ts) m (list_trees (drop i us)) ≡ element_removals n (drop n ts)
 elements_end ts us i n m h e = ap (λ (xs : List Tree). element_operations i (drop i ts) m (list_trees xs)) (drop_all i us h) ∙ ap (λ (j : ℕ). element_removals j (drop j ts)) e
 
-pub no_removals : (ts : List Tree) (n : ℕ) → length ts ≤ n → element_removals n (drop n ts) ≡ []
-no_removals ts n h = ap (element_removals n) (drop_all n ts h)
-
 only_first : (i : ℕ) (ts : List Tree) (m : ℕ) (us : List Tree) → element_operations i ts m (list_trees us) ≡ element_operations i ts m (list_trees (take m us))
 only_first i ts zero [] = refl
 only_first i ts (suc m) [] = refl
@@ -161,10 +154,6 @@ items_left f xs i x h e =
     let long : length (map f xs) ≡ length xs = length-map xs f in
     drop_more (map f xs) i (f x) (omega arith) ∙ ap (λ (y : Tree). y ∷ drop (i + 1) (map f xs)) (get_or-map f xs i x (f x) h ∙ ap f (sym e))
 
--- an element more is collected
-pub collected : {X : Type 0} (f : X → Tree) (xs : List X) (x : X) (left rest all : List Tree) → left ≡ f x ∷ rest → map f xs ++ left ≡ all → map f (xs ++ x ∷ []) ++ rest ≡ all
-collected f xs x left rest all e h = ap (λ (ys : List Tree). ys ++ rest) (map_push f xs x) ∙ append_assoc (map f xs) (f x ∷ []) rest ∙ ap (λ (ys : List Tree). map f xs ++ ys) (sym e) ∙ h
-
 -- lists of which the last n are cut off, seen as trees
 pub cut_operations : {X : Type 0} (f : X → Tree) (xs ys : List X) (ts us : List Tree) (n k l : ℕ) → map f xs ≡ ts → map f ys ≡ us → length xs < 18446744073709551616 → length ys < 18446744073709551616 → n ≡ common_back ts us → k ≡ length xs - n → l ≡ length ys - n
     → operations_between (list (list_trees ts)) (list (list_trees us)) ≡ element_operations 0 (map f (take k xs)) (length (take l ys)) (list_trees (map f (take l ys)))
@@ -175,18 +164,6 @@ cut_operations f xs ys ts us n k l e g low high back h i =
     let others : l ≡ length us - n = omega arith in
     let cut : length (take l ys) ≡ min l (length ys) = length-take l ys in
     array_operations ts us (map f (take k xs)) (map f (take l ys)) n (length (take l ys)) (omega arith) (omega arith) back (sym (take-map f k xs) ∙ ap₂ take front e) (sym (take-map f l ys) ∙ ap₂ take others g) (omega arith)
-
--- ---- neither two objects nor two arrays
-
-pub whole_operations : (t u : Tree) → are_keyed t u ≡ false → are_arrays t u ≡ false → operations_between t u ≡ whole t u
-whole_operations t null h g = refl
-whole_operations t (boolean b) h g = refl
-whole_operations t (num l) h g = refl
-whole_operations t (text s) h g = refl
-whole_operations t (list us) h g =
-    let n : ℕ = common_back (array_elements t) (trees_list us) in
-    ap (λ (b : Bool). cond (b && are_addressable (array_elements t) (trees_list us)) (element_operations 0 (take (length (array_elements t) - n) (array_elements t)) (length (trees_list us) - n) us) (whole t (list us))) g
-whole_operations t (pairs qs) h g = ap (λ (b : Bool). cond b (key_removals qs (members_or_none t) ++ members_operations (members_or_none t) qs) (whole t (pairs qs))) h
 
 -- ---- how many nodes there are
 

@@ -1,15 +1,14 @@
 -- Operations that a writer of a patch appends in turn.
-use Rattle.std.proofs.Common.{◌≡◌, ℕ, List, [], ◌∷◌, ◌++◌, append_assoc, append-nil, length, map, take, Option, refl, sym, ap, ap₂, ◌∙◌, codes, string_bytes}
+use Rattle.std.proofs.Common.{◌≡◌, ℕ, List, [], ◌∷◌, ◌++◌, append_assoc, append-nil, length, map, take, Option, sym, ap, ap₂, ◌∙◌, codes, string_bytes}
 use Rattle.std.proofs.lemmas.List.{map-append, take_at}
 use Rattle.json_grammar.specs.Tree.{Tree, text, no_pairs, pair_and}
 use Rattle.json_patch.specs.Pointer.{ReferenceToken, slash, escaped_token}
-use Rattle.json_patch.specs.Patch.{Operation, add, remove, replace}
+use Rattle.json_patch.specs.Patch.{Operation, replace}
 use Rattle.json_diff.specs.DiffDocument.{operation_members, operation_below}
 use Rattle.json_diff.specs.DiffParts.{child_operations, operations_at}
 use Rattle.json_diff.specs.DiffWriting.{AppendsTrees, AppendsOperations}
 use Rattle.json_diff.specs.declared.between.PatchWriter.{PatchWriter}
 use Rattle.json_value.specs.Denotes.{tree_of}
-use Rattle.json_diff.proofs.OperationsBelow.{document_under}
 use Rattle.json_diff.proofs.DiffParts.{child_below}
 
 abbrev trees : PatchWriter → List Tree
@@ -26,9 +25,6 @@ Remains old new rest all = (map tree_of new.operations.items ++ map (operation_b
 
 joined : (xs : List Tree) (b : List ℕ) (os ps : List Operation) → (xs ++ map (operation_below b) os) ++ map (operation_below b) ps ≡ xs ++ map (operation_below b) (os ++ ps)
 joined xs b os ps = append_assoc xs (map (operation_below b) os) (map (operation_below b) ps) ∙ ap (λ ts. xs ++ ts) (sym (map-append (operation_below b) os ps))
-
-pub writes_nothing : (w : PatchWriter) (os : List Operation) → os ≡ [] → AppendsOperations w w os
-writes_nothing w os e = (sym (append-nil (trees w)) ∙ ap (λ ps. trees w ++ map (operation_below (pointer w)) ps) (sym e), refl)
 
 pub writes_both : (old mid new : PatchWriter) (os ps all : List Operation) → all ≡ os ++ ps → AppendsOperations old mid os → AppendsOperations mid new ps → AppendsOperations old new all
 writes_both old mid new os ps all e h g =
@@ -50,19 +46,10 @@ remains_more old mid new os rest left all e h g = (
 pub remains_last : (old mid new : PatchWriter) (os left all : List Operation) → left ≡ os → Remains old mid left all → AppendsOperations mid new os → AppendsOperations old new all
 remains_last old mid new os left all e h g = (g.0 ∙ ap₂ (λ b ps. trees mid ++ map (operation_below b) ps) h.1 (sym e) ∙ h.0, g.1 ∙ h.1)
 
-pub remains_none : (old new : PatchWriter) (left all : List Operation) → left ≡ [] → Remains old new left all → AppendsOperations old new all
-remains_none old new left all e h = (sym (append-nil (trees new)) ∙ ap (λ ps. trees new ++ map (operation_below (pointer old)) ps) (sym e) ∙ h.0, h.1)
-
 -- ---- one operation
-
-pub writes_added : (old new : PatchWriter) (u : Tree) → AppendsTrees old new (operation_members (codes "add") (text (string_bytes old.path)) (pair_and (codes "value") u no_pairs) ∷ []) → AppendsOperations old new (add [] u ∷ [])
-writes_added old new u h = (h.0 ∙ ap (λ p. trees old ++ operation_members (codes "add") (text p) (pair_and (codes "value") u no_pairs) ∷ []) (sym (append-nil (pointer old))), h.1)
 
 pub writes_replaced : (old new : PatchWriter) (u : Tree) → AppendsTrees old new (operation_members (codes "replace") (text (string_bytes old.path)) (pair_and (codes "value") u no_pairs) ∷ []) → AppendsOperations old new (replace [] u ∷ [])
 writes_replaced old new u h = (h.0 ∙ ap (λ p. trees old ++ operation_members (codes "replace") (text p) (pair_and (codes "value") u no_pairs) ∷ []) (sym (append-nil (pointer old))), h.1)
-
-pub writes_removed : (old new : PatchWriter) → AppendsTrees old new (operation_members (codes "remove") (text (string_bytes old.path)) no_pairs ∷ []) → AppendsOperations old new (remove [] ∷ [])
-writes_removed old new h = (h.0 ∙ ap (λ p. trees old ++ operation_members (codes "remove") (text p) no_pairs ∷ []) (sym (append-nil (pointer old))), h.1)
 
 -- ---- below a token: it is appended to the pointer, and taken off again
 
@@ -77,7 +64,3 @@ below_token old mid next new k n os ps same token kept len h out back = (
 pub writes_child : (old mid next new : PatchWriter) (k : ReferenceToken) (n : ℕ) (o : Option Tree) (u : Tree) → string_bytes mid.path ≡ string_bytes old.path ++ (slash ∷ escaped_token k) → mid.operations ≡ old.operations → n ≡ length (string_bytes old.path)
     → AppendsOperations mid next (child_operations o u) → new.operations ≡ next.operations → string_bytes new.path ≡ take n (string_bytes next.path) → AppendsOperations old new (operations_at k o u)
 writes_child old mid next new k n o u = below_token old mid next new k n (child_operations o u) (operations_at k o u) (child_below (pointer old) k o u)
-
-pub writes_removal : (old mid next new : PatchWriter) (k : ReferenceToken) (n : ℕ) → string_bytes mid.path ≡ string_bytes old.path ++ (slash ∷ escaped_token k) → mid.operations ≡ old.operations → n ≡ length (string_bytes old.path)
-    → AppendsOperations mid next (remove [] ∷ []) → new.operations ≡ next.operations → string_bytes new.path ≡ take n (string_bytes next.path) → AppendsOperations old new (remove (k ∷ []) ∷ [])
-writes_removal old mid next new k n = below_token old mid next new k n (remove [] ∷ []) (remove (k ∷ []) ∷ []) (sym (document_under (pointer old) k (remove [] ∷ [])))

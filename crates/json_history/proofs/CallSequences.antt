@@ -7,30 +7,11 @@ use Rattle.json_io.specs.declared.error.ErrorCode.{ErrorCode}
 use Rattle.json_io.specs.declared.error.ErrorCode.TheVariants.{NoMemory, NotFound, TypeUnmatched}
 use Rattle.json_io.specs.declared.error.Place.{Place}
 use Rattle.json_io.specs.declared.error.Place.TheVariants.{None as nowhere}
-use Rattle.json_model.specs.Edit.{Edit, Changed, Refusal, not_found, type_unmatched, edited_once, and_then}
+use Rattle.json_model.specs.Edit.{Changed, Refusal, not_found, type_unmatched, edited_once, and_then}
 use Rattle.json_value.specs.Edits.{RefusesChange}
 use Rattle.json_history.specs.Calls.{call_of, CallsFail, MakesFirstCalls, NamesCall, numbered_place}
-use Rattle.json_history.specs.Change.{change}
-use Rattle.json_history.specs.History.{TreeHistory, TreeCall, edit, undo, redo, after_edit, after_call, run_calls_from, run_call, ChangeLog, log_edit, history_of}
+use Rattle.json_history.specs.History.{TreeHistory, TreeCall, edit, undo, redo, after_edit, after_call, run_calls_from, run_call, ChangeLog, history_of}
 use Rattle.json_history.specs.declared.call.Call.{Call}
-
--- an edit that a log took applies
-pub run_edit_ok : (k n : ChangeLog) (e : Edit) → log_edit k e ≡ Ok n → history_of n ≡ after_call (history_of k) (edit e) → run_call (history_of k) (edit e) ≡ Ok (history_of n)
-run_edit_ok k n e so tells = by (edited_once e k.value) so ∙ ap (λ h. Ok h) (sym tells)
-  where
-    by : (r : Changed Tree) → and_then r (λ u. and_then (change k.value e) (λ c. Ok (record { value = u; changes = c ∷ k.changes; redos = [] }))) ≡ Ok n
-        → ◌≡◌ {A = Changed TreeHistory} (and_then r (λ u. Ok (after_edit (history_of k) (Ok u)))) (Ok (after_edit (history_of k) r))
-    by (Ok u) h = refl
-    by (Err d) h = absurd (cc)
-
-run_edit_err : (h : TreeHistory) (e : Edit) (d : Refusal) → edited_once e h.now ≡ Err d → run_call h (edit e) ≡ Err d
-run_edit_err h e d is = ap (λ (r : Changed Tree). and_then r (λ u. Ok (after_edit h (Ok u)))) is
-
-pub run_edit_refused : (h : TreeHistory) (e : Edit) (code : ErrorCode) (place : Place) → RefusesChange (edited_once e h.now) code place → RefusesChange (run_call h (edit e)) code place
-run_edit_refused h e NoMemory nowhere r = tt
-run_edit_refused h e NotFound nowhere r = run_edit_err h e not_found r
-run_edit_refused h e TypeUnmatched nowhere r = run_edit_err h e type_unmatched r
-run_edit_refused h e code place r = absurd r
 
 -- ---- several calls
 

@@ -29,7 +29,3 @@ within_within g h (Err e) = refl
 pub within_and_then : {A B C D : Type 0} (g : C → D) (h : B → C) (f : A → Changed B) (r : Changed A) → within g (and_then r (λ c. within h (f c))) ≡ and_then r (λ c. within (λ n. g (h n)) (f c))
 within_and_then g h f (Ok x) = within_within g h (f x)
 within_and_then g h f (Err e) = refl
-
-pub and_then_assoc : {A B C : Type 0} (r : Changed A) (f : A → Changed B) (g : B → Changed C) → and_then (and_then r f) g ≡ and_then r (λ x. and_then (f x) g)
-and_then_assoc (Ok x) f g = refl
-and_then_assoc (Err e) f g = refl

@@ -80,11 +80,6 @@ pub key_change_some : (p : List Step) (k : List ℕ) (t : Tree) (ms : List (List
 key_change_some p k t ms e f =
     sym (ap (λ (u : Tree). result_ok (remove_change_in p (key_step k) u)) (object_of t ms e) ∙ ap (key_change p k (list_pairs ms)) (members_named_some 0 k (list_pairs ms) f))
 
--- the change of an edit is that at the end of its path
-and_then_and_then : {A B C : Type 0} (r : Changed A) (f : A → Changed B) (g : B → Changed C) → and_then (and_then r f) g ≡ and_then r (λ x. and_then (f x) g)
-and_then_and_then (Ok x) f g = refl
-and_then_and_then (Err e) f g = refl
-
 within_and_then_of : {A B : Type 0} (g : A → B) (r : Changed Tree) (f : Tree → Changed A) → within g (and_then r f) ≡ and_then r (λ c. within g (f c))
 within_and_then_of g (Ok c) f = refl
 within_and_then_of g (Err e) f = refl

@@ -1,5 +1,5 @@
 -- From the bytes of a source to those of a sink, by the calls of a history.
-use Rattle.std.proofs.Common.{◌≡◌, inl, inr, ℕ, List, Ok, Err, Result, OnOk, IfErr, None, false, refl, sym, subst, ◌∙◌, ap}
+use Rattle.std.proofs.Common.{◌≡◌, inl, inr, ℕ, List, Ok, Err, Result, OnOk, IfErr, None, false, sym, subst, ◌∙◌, ap}
 use Rattle.std.proofs.lemmas.Result.{IfErr-weaker}
 use Rattle.json_grammar.specs.Tree.{Tree}
 use Rattle.json_grammar.specs.Rules.{Rules}
@@ -14,17 +14,15 @@ use Rattle.json_text.specs.Ruled.{usual_rules}
 use Rattle.json_io.specs.declared.error.Error.{Error}
 use Rattle.json_io.specs.Known.{Appends}
 use Rattle.json_io.specs.declared.error.ErrorCode.{ErrorCode}
-use Rattle.json_io.specs.declared.error.ErrorCode.TheVariants.{NoMemory, Io, TooLarge, NotFound, TypeUnmatched}
+use Rattle.json_io.specs.declared.error.ErrorCode.TheVariants.{NoMemory, Io}
 use Rattle.json_io.specs.declared.error.Place.{Place}
-use Rattle.json_io.specs.declared.error.Place.TheVariants.{None as nowhere, Reading, Writing, Edit as in_edit}
+use Rattle.json_io.specs.declared.error.Place.TheVariants.{None as nowhere, Writing}
 use Rattle.json_io.specs.Outside.{SourceState, SinkState}
-use Rattle.json_command.proofs.Inputs.{no_io, no_not_found, no_type_unmatched}
 use Rattle.json_command.specs.Printing.{PrintingFails, Prints}
-use Rattle.json_command.specs.Reading.{ReadsInput, InputFails}
+use Rattle.json_command.specs.Reading.{ReadsInput}
 use Rattle.json_layout.specs.Styles.{indent_of, is_sorted, printed}
 use Rattle.json_layout.specs.Shown.{shown_as}
 use Rattle.json_layout.specs.declared.style.Style.{Style}
-use Rattle.json_history.specs.Calls.{CallsFail}
 use Rattle.json_history.specs.History.{TreeHistory, TreeCall, run_calls, run_calls_from, new_history}
 use Rattle.json_history.specs.Replay.{compact, Replays, ReplayFails}
 
@@ -43,23 +41,6 @@ replay_ok cs source source' sink sink' tree left (Ok u) reads proper made gains 
       flushed = flushed;
     }
 replay_ok cs source source' sink sink' tree left (Err e) reads proper made gains flushed = tt
-
--- reading failed, and nothing was written
-pub reading_fails : (cs : List TreeCall) (source source' : SourceState) (sink : SinkState) (code : ErrorCode) (place : Place) → InputFails usual_rules source source' code place → ReplayFails cs source source' sink sink code place
-reading_fails cs source source' sink NoMemory nowhere h = inl refl
-reading_fails cs source source' sink Io Reading h = (h, refl)
-reading_fails cs source source' sink TooLarge nowhere h = (h.0, h.1, refl)
-reading_fails cs source source' sink NotFound (in_edit n) h = absurd (no_not_found usual_rules h.bytes (in_edit n) h.fault)
-reading_fails cs source source' sink TypeUnmatched (in_edit n) h = absurd (no_type_unmatched usual_rules h.bytes (in_edit n) h.fault)
-reading_fails cs source source' sink Io Writing h = absurd (no_io usual_rules h.bytes Writing h.fault)
-reading_fails cs source source' sink code place h = (h, refl)
-
--- an edit did not apply, and nothing was written
-pub calls_fail : (cs : List TreeCall) (source source' : SourceState) (sink : SinkState) (tree : Tree) (code : ErrorCode) (place : Place) → ReadsInput usual_rules source source' tree → CallsFail (new_history tree) cs code place → ReplayFails cs source source' sink sink code place
-calls_fail cs source source' sink tree NoMemory nowhere r h = inl refl
-calls_fail cs source source' sink tree NotFound (in_edit n) r h = (record { tree = tree; reads = r; refused = h }, refl)
-calls_fail cs source source' sink tree TypeUnmatched (in_edit n) r h = (record { tree = tree; reads = r; refused = h }, refl)
-calls_fail cs source source' sink tree code place r h = absurd h
 
 -- writing failed, and a prefix of the text was written
 pub printing_fails : (cs : List TreeCall) (source source' : SourceState) (sink sink' : SinkState) (tree : Tree) (left : TreeHistory) (code : ErrorCode) (place : Place) → ReadsInput usual_rules source source' tree → run_calls tree cs ≡ Ok left

@@ -42,12 +42,6 @@ module _ (old : Value) (a b : Container (Keyed Value)) (was : old ≡ Object a) 
   object_kept_same (inl e) = inl (object_untouched e)
   object_kept_same (inr t) = inr (object_touched t)
 
--- ---- the value at the end of the path
-
-module _ (c : Change) (old new : Value) where
-  pub restores : (d : Change) → c ≡ d → RestoresAt d old new → RestoresAt c old new
-  restores d is h = subst (λ e. RestoresAt e old new) (sym is) h
-
 -- ---- the whole value
 
 kept_of : (p : List Step) (Kept : Value → Value → Type 0) (old new : Value) → Along p Kept old new → KeptAlong p Kept old new

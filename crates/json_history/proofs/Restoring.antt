@@ -78,9 +78,6 @@ module _ (v : Value) (a b : Container Value) (is : v ≡ Array a) where
   array_result : (ts : List Tree) → list_in b ≡ ts → ◌≡◌ {A = Changed Tree} (Ok (list (list_trees ts))) (Ok (tree_of (Array b)))
   array_result ts e = sym (ap (λ us. Ok (list (list_trees us))) e) ∙ ap (λ (t : Tree). Ok t) (sym (array_tree b))
 
-  pub array_kept : list_in b ≡ list_in a → tree_of (Array b) ≡ tree_of v
-  array_kept e = array_tree b ∙ ap (λ us. list (list_trees us)) e ∙ sym old_array_tree
-
   pub array_shortened : IsOk (without_last (tree_of v)) → list_in b ≡ all_but_last (list_in a) → without_last (tree_of v) ≡ Ok (tree_of (Array b))
   array_shortened h e =
       ap without_last old_array_tree

@@ -318,10 +318,6 @@ undone_of_change t u e c h g =
 
 -- ---- edits that do not apply
 
--- a step that fails for a reason fails the two steps for it
-and_then_err : {A B : Type 0} (r : Changed A) (f : A → Changed B) (e : Refusal) → r ≡ Err e → and_then r f ≡ Err e
-and_then_err r f e h = ap (λ r. and_then r f) h
-
 err_injective : {A : Type 0} (e r : Refusal) → ◌≡◌ {A = Changed A} (Err e) (Err r) → e ≡ r
 err_injective e r h = cc
 

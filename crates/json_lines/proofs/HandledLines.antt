@@ -1,5 +1,5 @@
 -- What the loop over the lines keeps.
-use Rattle.std.proofs.Common.{◌≡◌, ℕ, ◌+◌, ◌-◌, ◌<◌, ◌≤◌, inl, inr, false, ◌||◌, List, [], ◌∷◌, ◌++◌, length, Option, None, Some, Ok, Err, Result, IfSome, refl, sym, ap, ◌∙◌, subst, arith, append_assoc, append-nil}
+use Rattle.std.proofs.Common.{◌≡◌, ℕ, ◌+◌, ◌-◌, ◌<◌, inl, inr, false, ◌||◌, List, [], ◌∷◌, ◌++◌, length, Option, None, Some, Ok, Err, Result, IfSome, refl, sym, ap, ◌∙◌, subst, arith, append_assoc, append-nil}
 use Rattle.std.proofs.lemmas.List.{length-append}
 use Rattle.json_io.specs.Outside.{SinkState}
 use Rattle.json_layout.specs.TextWriting.{StopCause, WritesText}
@@ -15,7 +15,6 @@ use Rattle.json_lines.specs.declared.line_reader.Line.TheVariants.{Whole, TooLon
 use Rattle.json_lines.specs.declared.run.Tally.{Tally}
 use Rattle.json_lines.specs.Lines.{lines}
 use Rattle.json_lines.specs.Reading.{IsLineOf}
-use Rattle.json_command.specs.Input.{max_bytes}
 use Rattle.json_command.specs.Reporting.{ReportsUnlessMuted}
 use Rattle.json_lines.specs.Rows.{Outcome, outcome_row, is_bad, error_bytes, rows_of, errors_from, HasWithin}
 use Rattle.json_lines.specs.LineHandling.{LineHas}
@@ -51,10 +50,6 @@ HandledLines-start has a fresh =
 has_within : (limit : ℕ) (has : List ℕ → Outcome → Type 0) (bytes : List ℕ) (line : Line) (o : Outcome) → IsLineOf limit bytes line → LineHas has line o → HasWithin limit has bytes o
 has_within limit has bytes (Whole line) o is h = inr (is.1, subst (λ l. has l o) is.0 h)
 has_within limit has bytes TooLong o is h = inl (is, h)
-
--- there are fewer lines than may be counted
-pub few-lines : (has : List ℕ → Outcome → Type 0) (a b : RunState) → HandledLines has a b → b.tally.number ≤ max_bytes
-few-lines has a b h = omega (arith, h.number, h.read.room, h.read.few)
 
 -- one line more is handled
 handles_more : (has : List ℕ → Outcome → Type 0) (done : List (List ℕ)) (x : List ℕ) (o : Outcome) (s t u e f g : SinkState) (old new : Tally) → HandlesLines has done s t e f old → has x o → WritesText t u (outcome_row o) (Ok tt)

@@ -1,7 +1,7 @@
 -- What a sink gained that was lent to a writer.
-use Rattle.std.proofs.Common.{◌≡◌, ℕ, List, [], ◌++◌, refl, sym, ap, subst, ◌∙◌, Bool, false, ◌||◌, Option, Some, None, Result, Ok, Err, OnOk, IfErr, IfSome, arith}
+use Rattle.std.proofs.Common.{◌≡◌, ℕ, List, [], ◌++◌, refl, sym, subst, ◌∙◌, Bool, false, Option, Some, None, Result, Ok, Err, IfErr, IfSome, arith}
 use Rattle.std.specs.Borrow.{GName}
-use Rattle.json_io.specs.Known.{Grows, append_known}
+use Rattle.json_io.specs.Known.{Grows}
 use Rattle.json_io.specs.Lending.{lent_as, ComesBack}
 use Rattle.json_io.specs.Outside.{SinkState, SourceState}
 use Rattle.json_io.specs.declared.error.Error.{Error}
@@ -9,43 +9,17 @@ use Rattle.json_io.specs.Errors.{no_memory}
 use Rattle.json_io.proofs.Known.{known-append, known-nil}
 use Rattle.json_io.proofs.Putting.{Puts-nil}
 use Rattle.json_layout.specs.Buffered.{held_behind}
-use Rattle.json_layout.specs.Pieces.{holds_any}
 use Rattle.json_print.proofs.TextWriting.{front_gained}
-use Rattle.json_command.proofs.Printing.{none_held}
 use Rattle.json_command.specs.Reporting.{ReportsUnlessMuted}
-use Rattle.json_lines.specs.Lines.{lines}
 use Rattle.json_lines.specs.Rows.{Outcome, rows_of}
 use Rattle.json_lines.specs.Running.{StopsEarly}
-use Rattle.json_lines.specs.TopCall.{streams, GainsRows, WritesAllRows, WritesFewerRows, WritesPartOfTable, WritesPrefixes}
+use Rattle.json_lines.specs.TopCall.{streams, WritesFewerRows, WritesPartOfTable, WritesPrefixes}
 use Rattle.json_lines.specs.declared.run.Tally.{Tally}
 use Rattle.json_lines.proofs.HandledLines.{IfSome-map}
 use Rattle.json_lines.proofs.ReaderSteps.{gives_nothing}
 use Rattle.json_lines.proofs.SinkEnds.{came_back, sink_grew}
 
 module _ (has : List ℕ → Outcome → Type 0) (s u : SourceState) (old now errs errs' : SinkState) (name : GName) (held : List ℕ) (t : Tally) where
-  gained_now : (b : Bool) → holds_any held || b ≡ false → (done : List (List ℕ)) → GainsRows has done (lent_as old name old.gained) (held_behind (lent_as now name old.gained) held) errs errs' t → GainsRows has done old now errs errs' t
-  gained_now b flushed done h =
-      record {
-        outcomes = h.outcomes;
-        have = h.have;
-        rows = sym (known-nil now.gained) ∙ ap (append_known now.gained) (sym (none_held held b flushed).0) ∙ h.rows;
-        reports = h.reports;
-        bad = h.bad;
-      }
-
-  lent_all : WritesAllRows has (streams s (lent_as old name old.gained) errs) (streams u (held_behind (lent_as now name old.gained) held) errs') t → WritesAllRows has (streams s old errs) (streams u now errs') t
-  lent_all h =
-      record {
-        bytes = h.bytes;
-        gives = h.gives;
-        few = h.few;
-        drained = h.drained;
-        no_fault = h.no_fault;
-        no_sink_fault = h.no_sink_fault;
-        flushed = (none_held held now.unflushed h.flushed).1;
-        handled = IfSome-map s.left (λ b. GainsRows has (lines b) (lent_as old name old.gained) (held_behind (lent_as now name old.gained) held) errs errs' t) (λ b. GainsRows has (lines b) old now errs errs' t)
-            (λ b h'. gained_now now.unflushed h.flushed (lines b) h') h.handled;
-      }
 
   lent_front : Grows old.gained now.gained → (muted : Bool) (bytes : List ℕ) → StopsEarly has (lent_as old name old.gained) (held_behind (lent_as now name old.gained) held) errs errs' muted bytes → WritesPrefixes has old now errs errs' muted bytes
   lent_front g muted bytes h =
@@ -77,13 +51,6 @@ module _ (has : List ℕ → Outcome → Type 0) (s u : SourceState) (old now er
   module _ (began sent lent : SinkState) (name' : GName) (r : Result (Unit {0}) Error) (b : began ≡ lent_as old name old.gained) (loan : sent.loan ≡ began.loan) (is : sent ≡ held_behind lent held) (back : ComesBack lent now name') where
     here : sent ≡ held_behind (lent_as now name old.gained) held
     here = came_back old now sent lent began name name' held b loan is back
-
-    pub written_ok : OnOk r (WritesAllRows has (streams s began errs) (streams u sent errs') t) → OnOk r (WritesAllRows has (streams s old errs) (streams u now errs') t)
-    written_ok h = by r h
-      where
-        by : (r : Result (Unit {0}) Error) → OnOk r (WritesAllRows has (streams s began errs) (streams u sent errs') t) → OnOk r (WritesAllRows has (streams s old errs) (streams u now errs') t)
-        by (Err e) h = tt
-        by (Ok v) h = lent_all (subst (λ x. WritesAllRows has (streams s x errs) (streams u (held_behind (lent_as now name old.gained) held) errs') t) b (subst (λ x. WritesAllRows has (streams s began errs) (streams u x errs') t) here h))
 
     pub written_err : IfErr r (λ e. WritesFewerRows has (streams s began errs) (streams u sent errs') t e) → IfErr r (λ e. WritesPartOfTable has (streams s old errs) (streams u now errs') t e)
     written_err h = by r h

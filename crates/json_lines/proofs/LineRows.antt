@@ -1,5 +1,5 @@
 -- The outcome of one line.
-use Rattle.std.proofs.Common.{◌≡◌, ◌≢◌, ℕ, zero, suc, ◌-◌, ◌<◌, ◌≤◌, Bool, true, false, List, [], ◌∷◌, ◌++◌, length, take, Option, None, Some, Ok, Err, Result, refl, sym, ap, ◌∙◌, subst, arith, IsUtf8, ◌==◌, inl, inr, IfSome, IfOk, IfErr}
+use Rattle.std.proofs.Common.{◌≡◌, ◌≢◌, ℕ, zero, suc, ◌-◌, ◌<◌, ◌≤◌, Bool, true, false, List, [], ◌∷◌, length, take, Option, None, Some, Ok, Err, Result, refl, sym, ap, ◌∙◌, subst, arith, IsUtf8, ◌==◌, inl, inr, IfOk, IfErr}
 use Rattle.std.specs.Prelude.{get_or}
 use Rattle.std.proofs.lemmas.Bool.{eqb-true, eqb-false, cases_lt}
 use Rattle.std.proofs.lemmas.List.{take_all}
@@ -9,7 +9,7 @@ use Rattle.json_grammar.specs.Rules.{Rules, fits}
 use Rattle.json_grammar.specs.Tree.{Tree}
 use Rattle.json_io.specs.Errors.{no_memory}
 use Rattle.json_io.specs.FaultText.{text_of}
-use Rattle.json_io.specs.Outside.{SinkState, SourceState}
+use Rattle.json_io.specs.Outside.{SinkState}
 use Rattle.json_text.specs.Ruled.{usual_rules}
 use Rattle.json_io.specs.Utf8.{Utf8Cause}
 use Rattle.json_io.specs.declared.error.Error.{Error}
@@ -25,10 +25,7 @@ use Rattle.json_command.specs.Input.{InputFault, not_utf8, no_text, BlankTest}
 use Rattle.json_lines.specs.Cells.{LinesCommand, table_row}
 use Rattle.json_lines.specs.Outcomes.{max_line, HasOutcome, blank, good, faulty}
 use Rattle.json_lines.specs.Rows.{Row, Bad, outcome_row}
-use Rattle.json_lines.specs.Reading.{ReaderState, NextLineCall, IsLine, RepeatsError}
-use Rattle.json_lines.specs.LineHandling.{WritesRow, RowFails, ReturnsOutcome, IsWithinLimit}
-use Rattle.json_lines.specs.declared.line_reader.Line.{Line}
-use Rattle.json_lines.specs.declared.line_reader.Line.TheVariants.{Whole, TooLong}
+use Rattle.json_lines.specs.LineHandling.{WritesRow, RowFails, ReturnsOutcome}
 use Rattle.json_lines.proofs.OneOutcome.{some_outcome}
 use Rattle.json_lines.proofs.TextWriting.{WritesText-nil}
 
@@ -100,20 +97,6 @@ module _ (command : LinesCommand) (line : List ℕ) (short : length line ≤ max
   row_unread s e is = let some = some_outcome command line in record { outcome = some.0; has_it = some.1; row = WritesText-no-memory s (outcome_row some.0) e is }
 
 -- ---- the line that was read
-
-ok_no_error : {A : Type 0} (x : A) (e : Error) → Ok x ≡ Err e → ⊥
-ok_no_error x e h = cc
-
-line_short : (limit most : ℕ) (bytes : List ℕ) (line : Line) → limit ≤ most → IsLine limit bytes (Some line) → IsWithinLimit most line
-line_short limit most bytes (Whole line) l is = omega (arith, l, is.2)
-line_short limit most bytes TooLong l is = tt
-
-pub read-short : (old new : ReaderState) (source source' : SourceState) (line : Line) (most : ℕ) → old.limit ≤ most → NextLineCall old new source source' (Ok (Some line)) → IsWithinLimit most line
-read-short old new source source' line most l call = by old.stopped refl call.later
-  where
-    by : (stopped : Option Error) → old.stopped ≡ stopped → IfSome stopped (λ e. RepeatsError e old new source source' (Ok (Some line))) → IsWithinLimit most line
-    by None is again = let next = call.first is in line_short old.limit most (old.held ++ next.bytes) line l next.line_read
-    by (Some e) is again = absurd (ok_no_error (Some line) e again.again)
 
 pub said_blank : (line : List ℕ) (t u : Bool) → t ≡ u → BlankTest line t → BlankTest line u
 said_blank line t u e h = subst (BlankTest line) e h

@@ -21,10 +21,6 @@ pub ending : (xs : List ℕ) → has_newline xs ≡ true → xs ≡ first_line x
 ending [] h = absurd (false≢true h)
 ending (b ∷ xs) h = ending_step (b == 10) b xs refl h (ending xs)
 
-unbroken_step : (t : Bool) (b : ℕ) (xs : List ℕ) → has_newline xs ≡ false → has_newline (first_line xs) ≡ false → (b == 10) ≡ t → has_newline (cond t [] (b ∷ first_line xs)) ≡ false
-unbroken_step true b xs h k is = refl
-unbroken_step false b xs h k is = cond-false (b == 10) true (has_newline (first_line xs)) is ∙ k
-
 first-unbroken-step : (t : Bool) (b : ℕ) (xs : List ℕ) → has_newline (first_line xs) ≡ false → (b == 10) ≡ t → has_newline (cond t [] (b ∷ first_line xs)) ≡ false
 first-unbroken-step true b xs k is = refl
 first-unbroken-step false b xs k is = cond-false (b == 10) true (has_newline (first_line xs)) is ∙ k

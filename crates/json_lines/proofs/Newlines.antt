@@ -61,9 +61,6 @@ IsFirstNewline-found bytes (Some k) h = some_is bytes k h.0.high h.0.before h.1
 
 -- ---- lines
 
-split : List ℕ → List (List ℕ)
-split bytes = slice_split (λ b. b == 10) bytes
-
 split_step : (t : Bool) (b : ℕ) (bs : List ℕ) → slice_split (λ b. b == 10) bs ≡ first_line bs ∷ cond (has_newline bs) (slice_split (λ b. b == 10) (after_line bs)) []
     → cond t ([] ∷ slice_split (λ b. b == 10) bs) (onto_first b (slice_split (λ b. b == 10) bs))
     ≡ cond t [] (b ∷ first_line bs) ∷ cond (cond t true (has_newline bs)) (slice_split (λ b. b == 10) (cond t bs (after_line bs))) []

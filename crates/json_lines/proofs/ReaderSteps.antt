@@ -1,7 +1,7 @@
 -- How the steps of a reader follow on each other.
-use Rattle.std.proofs.Common.{◌≡◌, ℕ, ◌+◌, ◌-◌, ◌≤◌, false, List, [], ◌++◌, length, take, drop, slice_range, None, refl, sym, ap, ◌∙◌, subst, arith, append_assoc, append-nil}
+use Rattle.std.proofs.Common.{◌≡◌, ℕ, ◌+◌, ◌-◌, ◌≤◌, false, List, [], ◌++◌, length, take, drop, slice_range, sym, ap, ◌∙◌, subst, arith, append_assoc}
 use Rattle.std.proofs.Math.Seq.{take-add}
-use Rattle.std.proofs.lemmas.List.{length-append, length-take, drop-append-le, append-nil}
+use Rattle.std.proofs.lemmas.List.{length-append, length-take, drop-append-le}
 use Rattle.std.proofs.lemmas.Slice.{between_is}
 use Rattle.json_io.specs.Outside.{SourceState, counted, Rose}
 use Rattle.json_io.specs.declared.error.Error.{Error}
@@ -50,17 +50,6 @@ held-more old new s u n more =
     let head : drop old.start (take end items) ≡ held_bytes old = ap (drop old.start) more.kept ∙ sym (between_is old.buffer.items old.start end) in
     some ∙ ap (λ k. drop k (take new.end items)) more.same_start ∙ ap (λ k. drop old.start (take k items)) more.end_so ∙ ap (drop old.start) front ∙ parted
     ∙ ap (λ l. l ++ take n (drop end items)) head ∙ ap (λ l. held_bytes old ++ l) tail
-
-pub ReadsUnended-start : (a : ReaderState) (s : SourceState) → a.stopped ≡ None → has_newline a.held ≡ false → ReadsUnended a a s s
-ReadsUnended-start a s going unended =
-    record {
-      bytes = [];
-      reads = ReadsBytes-none a a s refl refl;
-      no_fault = refl;
-      held_so = sym (append-nil a.held);
-      no_newline = ap has_newline (append-nil a.held) ∙ unended;
-      goes_on = going;
-    }
 
 -- one read more, in which no line ends
 pub ReadsUnended-more : (a : ReaderState) (mid new : LineReader) (s t u : SourceState) (n : ℕ) → ReadsUnended a (line_reader_state mid) s t → ReadsMore mid new t u n → has_newline (new_bytes mid new) ≡ false

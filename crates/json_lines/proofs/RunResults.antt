@@ -1,10 +1,10 @@
 -- What the top call does, for each status.
-use Rattle.std.proofs.Common.{◌≡◌, ◌≢◌, ◌⊎◌, inl, inr, ◌<◌, ◌≤◌, ℕ, List, [], ◌++◌, length, refl, sym, ap, subst, ◌∙◌, Bool, true, false, Option, IfSome, arith, append_assoc}
+use Rattle.std.proofs.Common.{◌≡◌, ◌⊎◌, inl, inr, ℕ, List, [], ◌++◌, refl, sym, ap, subst, ◌∙◌, Bool, true, false, Option, IfSome, arith, append_assoc}
 use Rattle.std.specs.Prelude.{if◌then◌else◌}
 use Rattle.json_io.specs.Errors.{no_memory, bad_words}
 use Rattle.json_io.specs.FaultText.{text_of}
 use Rattle.json_io.specs.Known.{Appends}
-use Rattle.json_io.specs.Outside.{SinkState, SourceState, Rose}
+use Rattle.json_io.specs.Outside.{SinkState, SourceState}
 use Rattle.json_io.specs.Transfer.{AppendsFront}
 use Rattle.json_io.specs.declared.error.Error.{Error}
 use Rattle.json_io.specs.declared.error.ErrorCode.{ErrorCode}
@@ -16,10 +16,8 @@ use Rattle.json_command.specs.Reporting.{Reports}
 use Rattle.json_lines.specs.Cells.{LinesCommand}
 use Rattle.json_lines.specs.Lines.{lines}
 use Rattle.json_lines.specs.Outcomes.{HasOutcome, HaveOutcomes}
-use Rattle.json_lines.specs.Reading.{GivesBytes}
-use Rattle.json_command.specs.Input.{max_bytes}
 use Rattle.json_lines.specs.Rows.{Outcome, HasWithin, rows_of, errors_from, some_bad}
-use Rattle.json_lines.specs.RunResults.{OfOutcomes, Completes, RefusesWords, AppendsRowsPrefix, TellsErrorsPrefix, FailsBeforeReading, FailsWhileReading, FailsRun, RunResult, NothingFails}
+use Rattle.json_lines.specs.RunResults.{OfOutcomes, Completes, AppendsRowsPrefix, TellsErrorsPrefix, FailsRun, RunResult}
 use Rattle.json_lines.specs.TopCall.{Streams, GainsRows, WritesAllRows, WritesPartOfTable, WritesPrefixes, RunErrorCause, run_status}
 use Rattle.json_lines.specs.Words.{AsksForColumns, IsLinesRequest}
 use Rattle.json_lines.specs.declared.run.Tally.{Tally}
@@ -27,7 +25,6 @@ use Rattle.json_lines.proofs.HandledLines.{IfSome-map}
 use Rattle.json_lines.proofs.OneOutcome.{some_outcomes, all_within}
 use Rattle.json_lines.proofs.ReaderSteps.{gives_nothing}
 use Rattle.json_lines.proofs.RunStatus.{Reports-from, Reports-last}
-use Rattle.json_lines.proofs.Statuses.{status_above, reading_rose, writing_rose, too_many, memory_alone}
 use Rattle.json_lines.proofs.Totals.{rows_of-append, AllHave-append}
 
 abbrev within : LinesCommand → List ℕ → Outcome → Type 0
@@ -147,69 +144,3 @@ unasked-from words s sink errs errs' e n reports status (inr (is, unasked)) =
       status ∙ ap (λ (x : Error). run_status x.code x.place) is,
       record { unasked = unasked; unread = refl; unwritten = refl; told = subst (λ x. Reports (text_of x) errs errs') is reports },
     ))
-
--- ---- which of the three it is
-
--- the cause of the error
-cause_above : (code : ErrorCode) (place : Place) (bytes : List ℕ) (a c : Streams) → RunErrorCause bytes a c code place → (3 < run_status code place) × (run_status code place ≤ 7)
-cause_above code place bytes a c h = status_above bytes a.source c.source a.sink c.sink code place h
-
-module _ (words : List (List ℕ)) (old new : Streams) (n : ℕ) where
-  above : FailsRun words old new n → 2 < n
-  above b = omega (arith, b.status_is, cause_above b.error.code b.error.place b.bytes old new b.cause)
-
-  below : Completes words old new n → n < 2
-  below d = elim d.known [ inl h ↦ omega (arith, h) | inr h ↦ omega (arith, h) ]
-
-  pub is-complete-run : RunResult words old new n → n < 2 → Completes words old new n
-  is-complete-run (inl d) l = d
-  is-complete-run (inr (inl (e, r))) l = absurd (omega (arith, e, l))
-  is-complete-run (inr (inr b)) l = absurd (omega (arith, l, above b))
-
-  pub is-refused : RunResult words old new n → n ≡ 2 → RefusesWords words old new
-  is-refused (inl d) e = absurd (omega (arith, e, below d))
-  is-refused (inr (inl (f, r))) e = r
-  is-refused (inr (inr b)) e = absurd (omega (arith, e, above b))
-
-  pub is-failed : RunResult words old new n → 2 < n → FailsRun words old new n
-  is-failed (inl d) l = absurd (omega (arith, l, below d))
-  is-failed (inr (inl (e, r))) l = absurd (omega (arith, e, l))
-  is-failed (inr (inr b)) l = b
-
-  pub is-known : RunResult words old new n → (n ≤ 7) × (n ≢ 3)
-  is-known (inl d) = (omega (arith, below d), λ e. omega (arith, e, below d))
-  is-known (inr (inl (e, r))) = (omega (arith, e), λ f. omega (arith, e, f))
-  is-known (inr (inr b)) = let k = cause_above b.error.code b.error.place b.bytes old new b.cause in (omega (arith, b.status_is, k), λ e. omega (arith, b.status_is, k, e))
-
-  pub is-read-fault : RunResult words old new n → n ≡ 4 → Rose old.source.faults new.source.faults
-  is-read-fault h e = let b = is-failed h (omega (arith, e)) in reading_rose b.bytes old.source new.source old.sink new.sink b.error.code b.error.place b.cause (sym b.status_is ∙ e)
-
-  pub is-write-fault : RunResult words old new n → n ≡ 5 → Rose old.sink.faults new.sink.faults
-  is-write-fault h e = let b = is-failed h (omega (arith, e)) in writing_rose b.bytes old.source new.source old.sink new.sink b.error.code b.error.place b.cause (sym b.status_is ∙ e)
-
-  pub is-large : RunResult words old new n → n ≡ 7 → (bytes : List ℕ) × GivesBytes old.source new.source bytes × (max_bytes < length bytes)
-  is-large h e = let b = is-failed h (omega (arith, e)) in (b.bytes, b.gives, too_many b.bytes old.source new.source old.sink new.sink b.error.code b.error.place b.cause (sym b.status_is ∙ e))
-
-  pub read-told : RunResult words old new n → old.source.faults < new.source.faults → n ≡ 4
-  read-told (inl d) l = absurd (omega (arith, l, d.all.read))
-  read-told (inr (inl (e, r))) l = absurd (omega (arith, l, ap (λ (s : SourceState). s.faults) r.unread))
-  read-told (inr (inr b)) l = b.read_told l
-
-  pub write-told : RunResult words old new n → old.sink.faults < new.sink.faults → n ≡ 5
-  write-told (inl d) l = absurd (omega (arith, l, d.all.written))
-  write-told (inr (inl (e, r))) l = absurd (omega (arith, l, ap (λ (s : SinkState). s.faults) r.unwritten))
-  write-told (inr (inr b)) l = b.write_told l
-
-  unasked_fails : ¬ (IsLinesRequest words) → (b : FailsRun words old new n) → FailsBeforeReading b.error old new ⊎ FailsWhileReading words b.bytes b.error old new → n ≡ 6
-  unasked_fails none b (inl u) = b.status_is ∙ ap (λ (x : Error). run_status x.code x.place) u.lacks
-  unasked_fails none b (inr g) = absurd (none (g.command, g.asked))
-
-  pub is-unasked : RunResult words old new n → ¬ (IsLinesRequest words) → (n ≡ 2) ⊎ (n ≡ 6)
-  is-unasked (inl d) none = absurd (none (d.rows.command, d.rows.asked))
-  is-unasked (inr (inl (e, r))) none = inl e
-  is-unasked (inr (inr b)) none = inr (unasked_fails none b b.did)
-
-  pub is-complete : RunResult words old new n → NothingFails words old new → (n < 2) ⊎ (n ≡ 6)
-  is-complete (inl d) good = inl (below d)
-  is-complete (inr (inl (e, r))) good = absurd (r.unasked good.asked)
-  is-complete (inr (inr b)) good = inr (b.status_is ∙ memory_alone b.bytes old.source new.source old.sink new.sink good.bytes good.known good.few good.read good.written b.gives.consumed b.error.code b.error.place b.cause)

@@ -14,39 +14,18 @@ use Rattle.json_io.proofs.Putting.{AppendsFront-first, AppendsFront-then, Puts-n
 use Rattle.json_command.specs.Reporting.{Reports, ReportsUnlessMuted}
 use Rattle.json_lines.specs.declared.run.Tally.{Tally}
 use Rattle.json_lines.specs.Lines.{lines}
-use Rattle.json_lines.specs.Reading.{NextLineCause}
 use Rattle.json_lines.specs.Rows.{Outcome, rows_of}
 use Rattle.json_lines.specs.Steps.{RunState}
-use Rattle.json_lines.specs.Running.{IsFreshRun, HandlesLines, FinishesLines, FailsEarly, StopsEarly, RowErrorCause}
-use Rattle.json_lines.specs.TopCall.{Streams, RunErrorCause, GainsRows, WritesAllRows, WritesFewerRows}
+use Rattle.json_lines.specs.Running.{IsFreshRun, HandlesLines, FinishesLines, StopsEarly}
+use Rattle.json_lines.specs.TopCall.{Streams, GainsRows, WritesAllRows, WritesFewerRows}
 use Rattle.json_lines.proofs.TextWriting.{Begins-part}
 use Rattle.json_lines.proofs.HandledLines.{IfSome-map}
 use Rattle.json_lines.proofs.ReaderSteps.{gives_bytes, gives_nothing, few_bytes}
 use Rattle.json_lines.proofs.SinkEnds.{same_faults, ok_no_error, err_same}
-use Rattle.json_lines.proofs.Statuses.{cause-line, cause-flush}
+use Rattle.json_lines.proofs.Statuses.{cause-flush}
 
 abbrev pub streams_of : RunState → Streams
 streams_of s = record { source = s.source; sink = s.sink; errs = s.errs }
-
-cause-row : (code : ErrorCode) (place : Place) (bytes : List ℕ) (a c : Streams) → RowErrorCause a.sink c.sink code place → RunErrorCause bytes a c code place
-cause-row NoMemory nowhere bytes a c h = tt
-cause-row Io Writing bytes a c h = h
-cause-row code place bytes a c h = absurd h
-
-causes : (a c : RunState) (e : Error) (bytes : List ℕ) (P Q : Type 0) → c.reader.received ≡ length bytes → NextLineCause c.reader a.source c.source e.code e.place ⊎ (RowErrorCause a.sink c.sink e.code e.place × P × Q) → RunErrorCause bytes (streams_of a) (streams_of c) e.code e.place
-causes a c e bytes P Q received (inl h) = cause-line bytes a.source c.source a.sink c.sink e.code e.place c.reader received h
-causes a c e bytes P Q received (inr h) = cause-row e.code e.place bytes (streams_of a) (streams_of c) h.0
-
-pub WritesFewerRows-run : (has : List ℕ → Outcome → Type 0) (a c : RunState) (e : Error) → IsFreshRun a → FailsEarly has a c e → WritesFewerRows has (streams_of a) (streams_of c) c.tally e
-WritesFewerRows-run has a c e fresh fails =
-    record {
-      bytes = fails.bytes;
-      gives = gives_bytes a.reader c.reader a.source c.source fails.bytes fails.reads;
-      stops = fails.stops;
-      cause = causes a c e fails.bytes _ _ (omega (arith, fails.reads.received_so, fresh.received)) fails.cause;
-      reading_told = fails.reading_told;
-      writing_told = fails.writing_told;
-    }
 
 -- memory ran out for the reader
 pub WritesFewerRows-none : (has : List ℕ → Outcome → Type 0) (a : Streams) (t : Tally) → t.muted ≡ false → WritesFewerRows has a a t no_memory

@@ -20,13 +20,12 @@ use Rattle.json_value.specs.EditTrees.{path_in, each_in}
 use Rattle.json_value.specs.Seen.{list_of}
 use Rattle.json_data.specs.Reading.{gives, refuses}
 use Rattle.json_data.specs.ReadingValues.{path_datum, spelled, read_path}
-use Rattle.json_tokens.specs.Refusals.{refusal}
 use Rattle.json_data.specs.Spelled.{Unspelled}
 use Rattle.json_data.specs.ValueCalls.{TreeReadingFails}
 use Rattle.json_data.proofs.ValueData.{same_edit}
 use Rattle.json_command.specs.Input.{IsInput, IsValid}
 use Rattle.json_lines.specs.Cells.{Column, LinesCommand}
-use Rattle.json_lines.specs.Words.{column_of_pair, column_in, columns_in, WordSpells, WordSpellsNothing, NoColumns, SpellsCommand, SpellsHas, AsksForColumns, split_words}
+use Rattle.json_lines.specs.Words.{column_in, columns_in, WordSpells, WordSpellsNothing, NoColumns, SpellsCommand, SpellsHas, AsksForColumns, split_words}
 
 -- ---- paths
 
@@ -65,14 +64,6 @@ path_unspelled t e h = unspelled_by t e.code e.place h
 none_some : {A : Type 0} {x : A} → None ≡ Some x → ⊥
 none_some e = cc
 
-pub column_of_array : (t : Tree) (xs : List Tree) → Some xs ≡ list_of t → column_in t ≡ column_of_pair xs
-column_of_array (list ts) xs e = let i : xs ≡ trees_list ts = cc in ap column_of_pair (sym i)
-column_of_array null xs e = absurd (none_some (sym e))
-column_of_array (boolean b) xs e = absurd (none_some (sym e))
-column_of_array (num l) xs e = absurd (none_some (sym e))
-column_of_array (text s) xs e = absurd (none_some (sym e))
-column_of_array (pairs ps) xs e = absurd (none_some (sym e))
-
 pub columns_of_array : (t : Tree) (xs : List Tree) → Some xs ≡ list_of t → columns_in t ≡ each_in column_in xs
 columns_of_array (list ts) xs e = let i : xs ≡ trees_list ts = cc in ap (each_in column_in) (sym i)
 columns_of_array null xs e = absurd (none_some (sym e))
@@ -81,33 +72,11 @@ columns_of_array (num l) xs e = absurd (none_some (sym e))
 columns_of_array (text s) xs e = absurd (none_some (sym e))
 columns_of_array (pairs ps) xs e = absurd (none_some (sym e))
 
-pub no_column : (t : Tree) → None ≡ list_of t → column_in t ≡ None
-no_column (list ts) e = absurd (none_some e)
-no_column null e = refl
-no_column (boolean b) e = refl
-no_column (num l) e = refl
-no_column (text s) e = refl
-no_column (pairs ps) e = refl
-
-pub no_columns : (t : Tree) → None ≡ list_of t → columns_in t ≡ None
-no_columns (list ts) e = absurd (none_some e)
-no_columns null e = refl
-no_columns (boolean b) e = refl
-no_columns (num l) e = refl
-no_columns (text s) e = refl
-no_columns (pairs ps) e = refl
-
 pub pair_of : (xs : List Tree) (a b : Tree) → length xs ≡ 2 → Some a ≡ slice_get xs 0 → Some b ≡ slice_get xs 1 → xs ≡ a ∷ b ∷ []
 pair_of [] a b n e f = absurd (omega arith)
 pair_of (x ∷ []) a b n e f = absurd (omega arith)
 pair_of (x ∷ y ∷ []) a b n e f = cc
 pair_of (x ∷ y ∷ z ∷ xs) a b n e f = absurd (omega arith)
-
-pub not_two : (xs : List Tree) → length xs ≢ 2 → column_of_pair xs ≡ None
-not_two [] n = refl
-not_two (x ∷ []) n = refl
-not_two (x ∷ y ∷ []) n = absurd (n refl)
-not_two (x ∷ y ∷ z ∷ xs) n = refl
 
 -- ---- one meaning
 
@@ -126,9 +95,6 @@ spells reads word t x i h = record { tree = t; input = i; so = h }
 -- the tree that was read spells nothing
 none_spelled : {A : Type 0} (reads : Tree → Option A) (word : List ℕ) (t : Tree) → IsInput usual_rules word t → reads t ≡ None → WordSpellsNothing reads word
 none_spelled reads word t i n x s = none_some (sym n ∙ ap reads (one_tree false t s.tree word i.text s.input.text) ∙ s.so)
-
-same_code : (e : Error) (c : ErrorCode) → e ≡ refusal c → e.code ≡ c
-same_code e c h = ap (λ (x : Error). x.code) h
 
 pub unread_word : {A : Type 0} (reads : Tree → Option A) (word : List ℕ) (t : Tree) (e r : Error) → IsInput usual_rules word t → Unspelled (reads t) e → (r ≡ no_memory) ⊎ ((r ≡ bad_words) × (e.code ≢ NoMemory))
     → (r ≡ no_memory) ⊎ ((r ≡ bad_words) × WordSpellsNothing reads word)
@@ -152,14 +118,6 @@ not_few word cs n s is none columns k p q =
     none (omega (arith, is, ap length same, p)) (omega (arith, is, ap length same, q))
 
 -- ---- the command
-
-pub no_command : (word : List ℕ) (has : Option (List ℕ)) (e : Error) → (e ≡ no_memory) ⊎ ((e ≡ bad_words) × NoColumns word) → (e ≡ no_memory) ⊎ ((e ≡ bad_words) × ((k : LinesCommand) → ¬ (SpellsCommand word has k)))
-no_command word has e (inl m) = inl m
-no_command word has e (inr (b, n)) = inr (b, λ k s. n k.columns s.columns s.some s.few)
-
-pub no_has : (word : List ℕ) (has : Option (List ℕ)) (e : Error) → (e ≡ no_memory) ⊎ ((e ≡ bad_words) × ((p : List Step) → ¬ (SpellsHas has p))) → (e ≡ no_memory) ⊎ ((e ≡ bad_words) × ((k : LinesCommand) → ¬ (SpellsCommand word has k)))
-no_has word has e (inl m) = inl m
-no_has word has e (inr (b, n)) = inr (b, λ k s. n k.has s.has)
 
 pub two_words : (words : List (List ℕ)) (a b : List ℕ) → length words ≡ 2 → slice_get words 0 ≡ Some a → slice_get words 1 ≡ Some b → a ∷ b ∷ [] ≡ words
 two_words [] a b n e f = absurd (omega arith)

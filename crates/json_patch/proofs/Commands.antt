@@ -1,5 +1,5 @@
 -- What the arguments and the bytes of a source lead to.
-use Rattle.std.proofs.Common.{◌≡◌, ◌⊎◌, inl, inr, ℕ, ◌<◌, ◌≤◌, List, [], ◌∷◌, ◌++◌, codes, Result, Ok, Err, OnOk, IfErr, Option, None, arith, length, false, refl, sym, subst, ap, ◌∙◌}
+use Rattle.std.proofs.Common.{◌≡◌, ◌⊎◌, inl, inr, ℕ, ◌<◌, ◌≤◌, List, [], ◌∷◌, ◌++◌, codes, Result, Ok, Err, OnOk, IfErr, Option, arith, length, false, refl, sym, subst, ap, ◌∙◌}
 use Rattle.json_doc.specs.Readings.{elements}
 use Rattle.json_grammar.proofs.Sizes.{text_fits, nodes_some}
 use Rattle.json_grammar.proofs.Values.{one_tree}
@@ -7,7 +7,6 @@ use Rattle.json_grammar.specs.Sizes.{nodes, trees_nodes}
 use Rattle.json_grammar.specs.Grammar.{is_text}
 use Rattle.json_grammar.specs.Tree.{Tree, null, boolean, num, text, list, pairs, Trees, no_trees, tree_and, trees_list}
 use Rattle.json_model.specs.Edit.{not_found, type_unmatched}
-use Rattle.json_model.specs.Print.{shown}
 use Rattle.json_io.specs.Errors.{no_memory, bad_words}
 use Rattle.json_io.specs.FaultText.{text_of}
 use Rattle.json_io.specs.Outside.{SourceState, SinkState}
@@ -18,7 +17,6 @@ use Rattle.json_io.specs.declared.error.ErrorCode.TheVariants.{NoMemory, Io, Too
 use Rattle.json_io.specs.declared.error.Place.{Place}
 use Rattle.json_io.specs.declared.error.Place.TheVariants.{None as nowhere, Reading, Writing}
 use Rattle.json_command.specs.Input.{InputFault}
-use Rattle.json_command.specs.Printing.{PrintingFails}
 use Rattle.json_command.specs.Reading.{ReadsInput, InputFails, KnownFault}
 use Rattle.json_command.specs.Reporting.{Reports, StatusReports}
 use Rattle.json_command.specs.Statuses.{status_of}
@@ -46,14 +44,6 @@ module _ (r : PatchRequest) (source source' : SourceState) where
   reading_fails sink TooLarge nowhere h = (h.0, h.1, refl)
   reading_fails sink Io Writing h = absurd (no_io usual_rules h.bytes Writing h.fault)
   reading_fails sink code place h = (h, refl)
-
-  -- writing failed
-  pub writing_fails : (sink sink' : SinkState) (tree changed : Tree) (code : ErrorCode) (place : Place) → ReadsInput usual_rules source source' tree → outcome_of r tree ≡ Ok changed → PrintingFails sink sink' (shown None 0 changed) code place
-      → TransferFails r source source' sink sink' code place
-  writing_fails sink sink' tree changed NoMemory nowhere reads applied (inl same) = inl same
-  writing_fails sink sink' tree changed NoMemory nowhere reads applied (inr gains) = inr (record { tree = tree; reads = reads; changed = changed; applied = applied; gains = gains })
-  writing_fails sink sink' tree changed Io Writing reads applied h = (h.0, record { tree = tree; reads = reads; changed = changed; applied = applied; gains = h.1 })
-  writing_fails sink sink' tree changed code place reads applied h = absurd h
 
 -- ---- what the arguments ask for
 

@@ -13,9 +13,6 @@ some_same x y e = cc
 none_some : (x : ℕ) → None ≡ Some x → ⊥
 none_some x e = cc
 
-true_false : false ≡ true → ⊥
-true_false e = cc
-
 -- ---- digits
 
 digit_bounds : (x : ℕ) → is_digit x ≡ true → (48 ≤ x) × (x ≤ 57)
@@ -107,9 +104,6 @@ decimal_is_index i l = decimal_by_steps (λ n ds. index_of_token ds ≡ Some n) 
         more_digits ds (n / 10) (n % 10) (omega arith) (omega arith) h ∙ ap Some e
 
 -- ---- a numeral is an index
-
-not_small : (n : ℕ) → 10 ≤ n → n < 10 → ⊥
-not_small n l h = omega arith
 
 digit_back : (x : ℕ) → digit_value x < 10 → is_digit x ≡ true
 digit_back x h =

@@ -1,27 +1,22 @@
 -- The value that a token references.
-use Rattle.std.proofs.Common.{◌≡◌, ◌≢◌, ◌⊎◌, inl, inr, ℕ, ◌+◌, ◌-◌, ◌<◌, ◌≤◌, ◌^◌, List, [], ◌∷◌, ◌++◌, append_assoc, Bool, true, false, cond, not, ◌&&◌, ◌||◌, Option, Some, None, Result, Ok, Err, refl, sym, ap, ◌∙◌, subst, bytes_eq, codes, arith, ne_eqb, le-leb, leb-true, get_or, drop, length, zero, suc, drop-cons, add-one}
-use Rattle.std.specs.Prelude.{ok_or, option_map, slice_get, nat_le, slice_index, ◌==◌}
+use Rattle.std.proofs.Common.{◌≡◌, ◌≢◌, ◌⊎◌, inl, inr, ℕ, ◌+◌, ◌<◌, ◌≤◌, ◌^◌, List, [], ◌∷◌, ◌++◌, append_assoc, true, cond, ◌&&◌, Option, Some, None, Result, Ok, Err, refl, sym, ap, ◌∙◌, subst, bytes_eq, codes, arith, ne_eqb, leb-true, get_or, drop, length, zero, suc, drop-cons, add-one}
+use Rattle.std.specs.Prelude.{ok_or, option_map, slice_get, nat_le, slice_index}
 use Rattle.std.specs.Str.Parse.{IsNumeral, digits_value, without_leading_plus, ParsesUnsigned}
-use Rattle.std.proofs.lemmas.Bool.{or_cases, and_parts, and_from}
-use Rattle.std.proofs.lemmas.Bool.Decides.{eqb_tells}
-use Rattle.std.proofs.Math.Dec.{eqb}
+use Rattle.std.proofs.lemmas.Bool.{or_cases, and_parts}
 use Rattle.std.proofs.lemmas.Slice.Eq.{bytes_eq-Decides}
 use Rattle.json_grammar.specs.Tree.{Tree, null, boolean, num, text, list, pairs, trees_list, pairs_list}
-use Rattle.json_model.specs.Edit.{Step, index_step, Changed, Refusal, within, not_found, type_unmatched, and_then}
+use Rattle.json_model.specs.Edit.{Step, index_step, Changed, within, not_found, and_then}
 use Rattle.json_value.specs.Seen.{list_of, object_pairs, first_of}
 use Rattle.json_patch.specs.ValuesAt.{value_at_step, value_at_path}
-use Rattle.json_patch.specs.Pointer.{ReferenceToken, is_digit, index_after, index_of_token, step_of_token, path_of_tokens, value_at_pointer}
+use Rattle.json_patch.specs.Pointer.{ReferenceToken, index_of_token, step_of_token, path_of_tokens, value_at_pointer}
 use Rattle.json_patch.proofs.Indexes.{index_is_numeral, numeral_is_index}
 use Rattle.json_patch.proofs.PatchLaws.{value_at_pointer-step}
 use Rattle.json_patch.proofs.ReplacedAt.{value_at_path-append}
-use Rattle.json_patch.proofs.Results.{then_assoc, no_ok}
+use Rattle.json_patch.proofs.Results.{then_assoc}
 use Rattle.json_patch.specs.Lookups.{has_index_start, value_at_token}
 use Rattle.json_patch.proofs.ValueAtPath.{first_value-first_of}
 
 -- ---- indexes
-
-some_none : (x : ℕ) → None ≡ Some x → ⊥
-some_none x e = cc
 
 -- such a token begins with a digit, and with 0 only if it is `0`
 first_digit : (l : List ℕ) → has_index_start l ≡ true → (48 ≤ get_or l 0 0) × (get_or l 0 0 ≤ 57) × ((l ≡ codes "0") ⊎ (get_or l 0 0 ≢ 48))
@@ -53,32 +48,6 @@ index_of_token-unparsed {E} l r e p h is i small f =
     let g : ParsesUnsigned {E = E} 64 10 l (Err e) = subst (λ q. ParsesUnsigned {E = E} 64 10 l q) is h in
     let n = index_is_numeral l i f in
     g (subst (IsNumeral 10) (sym same) n.0, subst (λ v. v < 2 ^ 64) (sym (ap (digits_value 10) same ∙ n.1)) small)
-
-no_or : (a b : Bool) → (a || b) ≡ false → b ≡ true → ⊥
-no_or true b e f = cc
-no_or false b e f = cc
-
-digit_plain : (x : ℕ) (l : List ℕ) → is_digit x ≡ true → x ≢ 48 → (nat_le 49 x && nat_le x 57) ≡ true
-digit_plain x l d n =
-    let a = and_parts (nat_le 48 x) (nat_le x 57) d in
-    let low = leb-true 48 x a.0 in
-    and_from (nat_le 49 x) (nat_le x 57) (le-leb 49 x (omega (arith, low, n))) a.1
-
-pub index_of_token-no_start : (l : List ℕ) (i : ℕ) → has_index_start l ≡ false → index_of_token l ≢ Some i
-index_of_token-no_start [] i p e = some_none i e
-index_of_token-no_start (x ∷ []) i p e = by (is_digit x) refl e (eqb_tells x 48)
-  where
-    by : (b : Bool) → is_digit x ≡ b → cond b (Some (x - 48)) None ≡ Some i → ((eqb x 48 ≡ true) × (x ≡ 48)) ⊎ ((eqb x 48 ≡ false) × (x ≢ 48)) → ⊥
-    by false d f c = some_none i f
-    by true d f (inl c) = let g : has_index_start (48 ∷ []) ≡ false = subst (λ y. has_index_start (y ∷ []) ≡ false) c.1 p in cc
-    by true d f (inr c) = no_or (bytes_eq (x ∷ []) (codes "0")) (nat_le 49 x && nat_le x 57) p (digit_plain x [] d c.1)
-index_of_token-no_start (x ∷ y ∷ s) i p e = by (is_digit x && not (x == 48)) refl e
-  where
-    by : (b : Bool) → (is_digit x && not (x == 48)) ≡ b → elim b as (λ _. Option ℕ) [ true ↦ index_after (x - 48) (y ∷ s) | false ↦ None ] ≡ Some i → ⊥
-    by false d f = some_none i f
-    by true d f =
-        let q = and_parts (is_digit x) (not (x == 48)) d in
-        no_or (bytes_eq (x ∷ y ∷ s) (codes "0")) (nat_le 49 x && nat_le x 57) p (digit_plain x (y ∷ s) q.0 (λ g. let n : not (eqb 48 48) ≡ true = subst (λ z. not (eqb z 48) ≡ true) g q.1 in cc))
 
 -- ---- one step
 
@@ -122,14 +91,6 @@ at_array_none k (boolean b) xs e h = cc
 at_array_none k (num l) xs e h = cc
 at_array_none k (text s) xs e h = cc
 
-pub at_scalar : (k : ReferenceToken) (t : Tree) → None ≡ list_of t → None ≡ object_pairs t → value_at_token k t ≡ Err type_unmatched
-at_scalar k (list ts) a b = cc
-at_scalar k (pairs ps) a b = cc
-at_scalar k null a b = refl
-at_scalar k (boolean c) a b = refl
-at_scalar k (num l) a b = refl
-at_scalar k (text s) a b = refl
-
 -- ---- more steps
 
 pub value_at_pointer-cons : (k : ReferenceToken) (p : List ReferenceToken) (t : Tree) → value_at_pointer (k ∷ p) t ≡ and_then (value_at_token k t) (value_at_pointer p)
@@ -155,20 +116,6 @@ pub value_at_path-next : (k : ReferenceToken) (t u root : Tree) (s : Step) (a : 
 value_at_path-next k t u root s a h e f =
     let child_there : value_at_step s t ≡ Ok u = sym (ap (λ r. and_then r (λ v. value_at_step v t)) e) ∙ f in
     value_at_path-append a (s ∷ []) root ∙ ap (λ r. and_then r (value_at_path (s ∷ []))) h ∙ ap (λ r. and_then r (value_at_path [])) child_there
-
-path_of_tokens-err : (k : ReferenceToken) (p : List ReferenceToken) (t : Tree) (e : Refusal) → value_at_token k t ≡ Err e → path_of_tokens (k ∷ p) t ≡ Err e
-path_of_tokens-err k p t e h = by (step_of_token k t) h
-  where
-    inner : (s : Step) (r : Changed Tree) → r ≡ Err e → and_then r (λ u. within (λ q. s ∷ q) (path_of_tokens p u)) ≡ Err e
-    inner s (Ok u) g = absurd (no_ok u e (sym g))
-    inner s (Err f) g = cc
-
-    by : (r : Changed Step) → and_then r (λ s. value_at_step s t) ≡ Err e → and_then r (λ s. and_then (value_at_step s t) (λ u. within (λ q. s ∷ q) (path_of_tokens p u))) ≡ Err e
-    by (Ok s) g = inner s (value_at_step s t) g
-    by (Err f) g = cc
-
-pub path_of_tokens-lost : (k : ReferenceToken) (p : List ReferenceToken) (t : Tree) (a : List Step) (r : Changed (List Step)) (e : Refusal) → r ≡ within (λ q. a ++ q) (path_of_tokens (k ∷ p) t) → value_at_token k t ≡ Err e → r ≡ Err e
-path_of_tokens-lost k p t a r e h f = h ∙ ap (within (λ q. a ++ q)) (path_of_tokens-err k p t e f)
 
 pub drop_item : {A : Type 0} (xs : List A) (i : ℕ) (x : A) → i < length xs → x ≡ get_or xs i x → drop i xs ≡ x ∷ drop (i + 1) xs
 drop_item xs i x l e = drop-cons xs i x l ∙ ap (λ y. y ∷ drop (suc i) xs) (sym e) ∙ ap (λ n. x ∷ drop n xs) (sym (add-one i))

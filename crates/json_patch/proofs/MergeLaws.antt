@@ -1,5 +1,5 @@
 -- Merging again, and what merging keeps.
-use Rattle.std.proofs.Common.{◌≡◌, ◌≢◌, ℕ, List, [], ◌∷◌, Bool, true, false, cond, Option, Some, None, refl, sym, ap, ◌∙◌, bytes_eq}
+use Rattle.std.proofs.Common.{◌≡◌, ℕ, List, [], ◌∷◌, Bool, true, false, cond, Option, Some, None, refl, sym, ap, ◌∙◌, bytes_eq}
 use Rattle.std.proofs.lemmas.Slice.Eq.{bytes_eq-Decides}
 use Rattle.json_grammar.specs.Tree.{Tree, null, boolean, num, text, list, pairs, Pairs, no_pairs, pair_and}
 use Rattle.json_model.specs.Edit.{inserted, without_key, has_key}
@@ -20,13 +20,6 @@ true_false e = cc
 
 pub key_itself : (k : List ℕ) → bytes_eq k k ≡ true
 key_itself k = (bytes_eq-Decides k k).1 refl
-
-other_key : (a b : List ℕ) → a ≢ b → bytes_eq a b ≡ false
-other_key a b n = by (bytes_eq a b) refl
-  where
-    by : (r : Bool) → bytes_eq a b ≡ r → r ≡ false
-    by true e = absurd (n ((bytes_eq-Decides a b).0 e))
-    by false e = refl
 
 -- ---- the first value of a key
 

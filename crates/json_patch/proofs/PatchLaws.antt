@@ -143,14 +143,6 @@ has_key-inserted k u (pair_and m t ps) = by (bytes_eq m k) refl (has_key-inserte
     by true e i = ap (λ b. cond b true (has_key k ps)) e
     by false e i = ap (λ b. cond b true (has_key k (inserted k u ps))) e ∙ i
 
-without_absent : (k : List ℕ) (ps : Pairs) → has_key k ps ≡ false → without_key k ps ≡ ps
-without_absent k no_pairs h = refl
-without_absent k (pair_and m t ps) h = by (bytes_eq m k) h (without_absent k ps)
-  where
-    by : (b : Bool) → cond b true (has_key k ps) ≡ false → (has_key k ps ≡ false → without_key k ps ≡ ps) → cond b (without_key k ps) (pair_and m t (without_key k ps)) ≡ pair_and m t ps
-    by true e i = absurd (true_false e)
-    by false e i = ap (λ qs. pair_and m t qs) (i e)
-
 without_inserted : (k : List ℕ) (u : Tree) (ps : Pairs) → has_key k ps ≡ false → without_key k (inserted k u ps) ≡ ps
 without_inserted k u no_pairs h = ap (λ b. cond b no_pairs (pair_and k u no_pairs)) (key_itself k)
 without_inserted k u (pair_and m t ps) h = by (bytes_eq m k) refl h (without_inserted k u ps)

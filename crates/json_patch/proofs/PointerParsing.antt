@@ -90,9 +90,6 @@ one_more : (ks : List ReferenceToken) (k : ReferenceToken) (o : Option (List Ref
 one_more ks k None = refl
 one_more ks k (Some p) = ap Some (sym (append_assoc ks (k ∷ []) p))
 
-lost : (ks : List ReferenceToken) (o : Option (List ReferenceToken)) → option_map (λ p. ks ++ p) (prepend_token None o) ≡ None
-lost ks o = refl
-
 -- ks were read, and `remaining` is left; a part before a slash is read
 pub part_read : (parts remaining part after : List ℕ) (ks js : List ReferenceToken) (k : ReferenceToken) → unescaped_tokens (split_at_slashes parts) ≡ option_map (λ p. ks ++ p) (unescaped_tokens (split_at_slashes remaining)) → remaining ≡ part ++ (47 ∷ after) → Lacks 47 part
     → unescaped_after false part ≡ Some k → js ≡ ks ++ (k ∷ []) → unescaped_tokens (split_at_slashes parts) ≡ option_map (λ p. js ++ p) (unescaped_tokens (split_at_slashes after))

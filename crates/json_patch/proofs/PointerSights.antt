@@ -1,13 +1,12 @@
 -- Where tokens lead to, of what is seen.
-use Rattle.std.proofs.Common.{◌≡◌, ℕ, List, [], ◌∷◌, Bool, true, false, cond, Option, Some, None, Ok, Err, IfSome, refl, sym, ap, ◌∙◌, bytes_eq}
+use Rattle.std.proofs.Common.{◌≡◌, ℕ, List, [], ◌∷◌, Bool, Option, Some, None, Ok, Err, refl, sym, ap, ◌∙◌}
 use Rattle.std.specs.Prelude.{ok_or, option_map, option_and_then, slice_get}
 use Rattle.std.specs.Result.{result_ok}
 use Rattle.json_grammar.specs.Tree.{Tree, null, boolean, num, text, list, pairs}
 use Rattle.json_model.specs.Edit.{Step, key_step, index_step, Changed, not_found, within, and_then}
-use Rattle.json_value.specs.Seen.{list_of, object_pairs, first_of}
+use Rattle.json_value.specs.Seen.{list_of, object_pairs}
 use Rattle.json_value.specs.SightParts.{sight_elements, sight_members, sight_after, sight_along}
-use Rattle.json_value.specs.Sights.{Sight, sight_of}
-use Rattle.json_value.specs.declared.view.View.{View}
+use Rattle.json_value.specs.Sights.{Sight}
 use Rattle.json_patch.specs.ValuesAt.{value_at_step}
 use Rattle.json_patch.specs.Lookups.{value_at_token}
 use Rattle.json_patch.specs.Pointer.{ReferenceToken, index_of_token, step_of_token, path_of_tokens}
@@ -56,13 +55,3 @@ sight_at_pointer-next k p t u s v e f = by (step_of_token k t) refl
 abbrev pub or_else : Option Sight → Option Sight → Option Sight
 or_else (Some s) o = Some s
 or_else None o = o
-
-pub first_here : (k m : List ℕ) (s : Sight) (here rest : List (List ℕ × Sight)) → bytes_eq m k ≡ true → here ≡ (m, s) ∷ rest → first_sight k here ≡ Some s
-first_here k m s here rest same step = ap (first_sight k) step ∙ ap (λ b. option_map (λ (q : List ℕ × Sight). q.1) (cond b (Some (m, s)) (first_of k rest))) same
-
-pub first_behind : (k m : List ℕ) (s : Sight) (here rest : List (List ℕ × Sight)) → bytes_eq m k ≡ false → here ≡ (m, s) ∷ rest → first_sight k here ≡ first_sight k rest
-first_behind k m s here rest other step = ap (first_sight k) step ∙ ap (λ b. option_map (λ (q : List ℕ × Sight). q.1) (cond b (Some (m, s)) (first_of k rest))) other
-
-pub found_first : (o : Option View) (x y : Option Sight) → or_else (option_map sight_of o) x ≡ y → IfSome o (λ v. y ≡ Some (sight_of v))
-found_first None x y e = tt
-found_first (Some v) x y e = sym e

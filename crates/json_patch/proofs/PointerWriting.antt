@@ -1,6 +1,6 @@
 -- Tokens, escaped from left to right.
 use Rattle.std.proofs.Common.{subst, ◌≡◌, ◌≢◌, ℕ, zero, suc, ◌<◌, List, [], ◌∷◌, ◌++◌, Bool, true, false, cond, length, get_or, refl, sym, ap, ◌∙◌, arith, ◌==◌, append_assoc, append-nil}
-use Rattle.json_patch.specs.Pointer.{ReferenceToken, slash, tilde, escaped_byte, escaped_token, pointer_text, Lacks, AppendsFrontOf}
+use Rattle.json_patch.specs.Pointer.{slash, tilde, escaped_byte, escaped_token, Lacks, AppendsFrontOf}
 use Rattle.json_patch.proofs.PointerParsing.{lacks_first, lacks_rest}
 
 pub lacks_before : (c : ℕ) (a b : List ℕ) → Lacks c (a ++ b) → (i : ℕ) → i < length a → get_or a i 0 ≢ c
@@ -46,11 +46,6 @@ pub tilde_escaped : (whole text remaining plain after text' : List ℕ) → whol
 tilde_escaped whole text remaining plain after text' h e g =
     h ∙ ap (λ r. text ++ escaped_token r) e ∙ ap (λ r. text ++ r) (escaped_token-append plain (126 ∷ after)) ∙ sym (append_assoc text (escaped_token plain) (126 ∷ 48 ∷ escaped_token after))
     ∙ sym (append_assoc (text ++ escaped_token plain) (126 ∷ 48 ∷ []) (escaped_token after)) ∙ ap (λ a. a ++ escaped_token after) (sym g)
-
--- the text so far, and what is left of the tokens; one token is written
-pub token_written : (whole text : List ℕ) (k : ReferenceToken) (p : List ReferenceToken) (text' : List ℕ) → whole ≡ text ++ pointer_text (k ∷ p) → text' ≡ (text ++ (47 ∷ [])) ++ escaped_token k → whole ≡ text' ++ pointer_text p
-token_written whole text k p text' h g =
-    h ∙ sym (append_assoc text (47 ∷ []) (escaped_token k ++ pointer_text p)) ∙ sym (append_assoc (text ++ (47 ∷ [])) (escaped_token k) (pointer_text p)) ∙ ap (λ a. a ++ pointer_text p) (sym g)
 
 -- ---- fronts
 

@@ -5,7 +5,7 @@ use Rattle.json_grammar.specs.Tree.{Tree, null, boolean, num, text, list, pairs,
 use Rattle.json_model.specs.Edit.{Step, key_step, index_step, Changed, Refusal, not_found, type_unmatched, within, at_key, at_index, at_path, and_then}
 use Rattle.json_model.specs.Same.{first_value}
 use Rattle.json_patch.specs.ValuesAt.{value_at_step, value_at_path}
-use Rattle.json_patch.proofs.Results.{same_ok, no_ok, then_parts, within_parts, within_same, within_then}
+use Rattle.json_patch.proofs.Results.{same_ok, no_ok, then_parts, within_same, within_then}
 
 -- ---- one step
 
@@ -199,28 +199,9 @@ pub record ChangedAt (p : List Step) (f : Tree → Changed Tree) (t u : Tree) : 
   pub made : f old ≡ Ok new
   pub whole : replaced_at_path p new t ≡ u
 
-pub changed_at : (p : List Step) (f : Tree → Changed Tree) (t u : Tree) → at_path p f t ≡ Ok u → ChangedAt p f t u
-changed_at p f t u h =
-    let a = then_parts (value_at_path p t) (λ c. within (λ n. replaced_at_path p n t) (f c)) u (sym (at_path-replaced p f t) ∙ h) in
-    let b = within_parts (f a.0) (λ n. replaced_at_path p n t) u a.2 in
-    record { old = a.0; new = b.0; stood = a.1; made = b.1; whole = b.2 }
-
--- the value there after the change
-pub value_after_change : (p : List Step) (f : Tree → Changed Tree) (t u : Tree) (s : ChangedAt p f t u) → value_at_path p u ≡ Ok s.new
-value_after_change p f t u s = ap (value_at_path p) (sym s.whole) ∙ value_at_replaced p s.old s.new t s.stood
-
 -- a change of the value there is a change at the path
 pub change_at_path : (p : List Step) (f : Tree → Changed Tree) (t old new : Tree) → value_at_path p t ≡ Ok old → f old ≡ Ok new → at_path p f t ≡ Ok (replaced_at_path p new t)
 change_at_path p f t old new h g = at_path-replaced p f t ∙ ap (λ r. and_then r (λ c. within (λ n. replaced_at_path p n t) (f c))) h ∙ ap (within (λ n. replaced_at_path p n t)) g
-
--- a change that makes the new value there makes the whole
-pub change_again : (p : List Step) (f g : Tree → Changed Tree) (t u : Tree) (s : ChangedAt p f t u) → g s.old ≡ Ok s.new → at_path p g t ≡ Ok u
-change_again p f g t u s h = change_at_path p g t s.old s.new s.stood h ∙ ap Ok s.whole
-
--- a change that makes the old value of the new one makes the old whole
-pub change_back : (p : List Step) (f g : Tree → Changed Tree) (t u : Tree) (s : ChangedAt p f t u) → g s.new ≡ Ok s.old → at_path p g u ≡ Ok t
-change_back p f g t u s h =
-    change_at_path p g u s.new s.old (value_after_change p f t u s) h ∙ ap (λ x. Ok (replaced_at_path p s.old x)) (sym s.whole) ∙ ap Ok (replaced_twice p s.old s.old s.new t s.stood ∙ replaced_by_same p s.old t s.stood)
 
 -- ---- one path after another
 
@@ -230,13 +211,4 @@ value_at_path-append (s ∷ p) q t = by (value_at_step s t) (λ c. value_at_path
   where
     by : (r : Changed Tree) → ((c : Tree) → value_at_path (p ++ q) c ≡ and_then (value_at_path p c) (value_at_path q)) → and_then r (value_at_path (p ++ q)) ≡ and_then (and_then r (value_at_path p)) (value_at_path q)
     by (Ok c) h = h c
-    by (Err e) h = refl
-
-pub at_path_append : (p q : List Step) (f : Tree → Changed Tree) (t : Tree) → at_path (p ++ q) f t ≡ at_path p (at_path q f) t
-at_path_append [] q f t = refl
-at_path_append (s ∷ p) q f t = at_path-step s (p ++ q) f t ∙ by (value_at_step s t) (λ c. at_path_append p q f c) ∙ sym (at_path-step s p (at_path q f) t)
-  where
-    by : (r : Changed Tree) → ((c : Tree) → at_path (p ++ q) f c ≡ at_path p (at_path q f) c)
-        → and_then r (λ c. within (λ n. replaced_at_step s n t) (at_path (p ++ q) f c)) ≡ and_then r (λ c. within (λ n. replaced_at_step s n t) (at_path p (at_path q f) c))
-    by (Ok c) h = ap (within (λ n. replaced_at_step s n t)) (h c)
     by (Err e) h = refl

@@ -3,25 +3,22 @@ use Rattle.std.proofs.Common.{◌≡◌, List, [], ◌∷◌, ◌++◌, Ok, sym,
 use Rattle.json_grammar.specs.Tree.{Tree}
 use Rattle.json_model.specs.Edit.{Step, key_step, index_step}
 use Rattle.json_value.specs.Denotes.{tree_of, text_bytes}
-use Rattle.json_value.specs.Touched.{ArrayTouched, ObjectTouched, Along, RemovalTouches}
+use Rattle.json_value.specs.Touched.{ObjectTouched, Along, RemovalTouches}
 use Rattle.json_value.specs.declared.container.Container.{Container}
 use Rattle.json_value.specs.declared.pair.Keyed.{Keyed}
 use Rattle.json_value.specs.declared.path.PointerNode.{PointerNode}
 use Rattle.json_value.specs.declared.path.PointerNode.TheVariants.{Key, Index}
-use Rattle.json_value.specs.declared.value.Value.{Value, Array, Object}
+use Rattle.json_value.specs.declared.value.Value.{Value, Object}
 use Rattle.json_value.proofs.EditedValues.{along_as}
 use Rattle.json_patch.specs.Pointer.{ReferenceToken, path_of_tokens}
 use Rattle.json_patch.specs.Patch.{Operation}
-use Rattle.json_patch.specs.Touched.{AddTouches, RemovesChild, TouchesAt, AddsValue, RemovesValue, OperationTouches, OperationsTouch}
+use Rattle.json_patch.specs.Touched.{AddTouches, RemovesChild, TouchesAt, AddsValue, RemovesValue, OperationsTouch}
 use Rattle.json_patch.proofs.PatchLaws.{split_last-append}
 
 -- ---- the object or the array that a value is
 
 pub object_was : (Changes : List (Keyed Value) → List (Keyed Value) → Type 0) (old new : Value) (o : Container (Keyed Value)) → old ≡ Object o → ObjectTouched Changes (Object o) new → ObjectTouched Changes old new
 object_was Changes old new o is t = subst (λ (v : Value). ObjectTouched Changes v new) (sym is) t
-
-pub array_was : (Changes : List Value → List Value → Type 0) (old new : Value) (a : Container Value) → old ≡ Array a → ArrayTouched Changes (Array a) new → ArrayTouched Changes old new
-array_was Changes old new a is t = subst (λ (v : Value). ArrayTouched Changes v new) (sym is) t
 
 -- ---- a path
 
@@ -56,6 +53,3 @@ removes_below ts p k old new e h = subst (λ (q : List ReferenceToken). RemovesV
 -- what the operations left change from here on makes what all change
 abbrev pub GoesOn : List Operation → List Operation → Value → Value → Type 0
 GoesOn all left first here = (x : Value) → OperationsTouch left here x → OperationsTouch all first x
-
-pub goes_on : (all left next : List Operation) (o : Operation) (first here mid : Value) → GoesOn all left first here → left ≡ o ∷ next → OperationTouches o here mid → GoesOn all next first mid
-goes_on all left next o first here mid g e h x rest = g x (subst (λ (os : List Operation). OperationsTouch os here x) (sym e) (mid, h, rest))

@@ -1,5 +1,5 @@
 -- The members of a batch that were served so far.
-use Rattle.std.proofs.Common.{◌≡◌, ◌∙◌, List, [], ◌∷◌, ◌++◌, Bool, true, false, ◌&&◌, append_assoc, sym, ap}
+use Rattle.std.proofs.Common.{◌≡◌, ◌∙◌, List, [], ◌∷◌, ◌++◌, Bool, true, append_assoc, sym, ap}
 use Rattle.std.specs.Prelude.{Option, option_to_list}
 use Rattle.std.specs.List.{list_all}
 use Rattle.std.proofs.lemmas.Bool.{and_parts}
@@ -31,9 +31,6 @@ AllRead us = list_all member_only_reads us ≡ true
 pub record LeavesDocument {V : Type 0} (us rest : List Tree) (old now : V) : Type 0 where
   pub so : AllRead us → (now ≡ old) × AllRead rest
 
-pub leaves_none : {V : Type 0} (us rest : List Tree) (old now : V) → rest ≡ us → now ≡ old → LeavesDocument us rest old now
-leaves_none us rest old now e n = record { so = λ h. (n, ap (list_all member_only_reads) e ∙ h) }
-
 pub leaves_next : {V : Type 0} (us more rest : List Tree) (u : Tree) (old now next : V) → LeavesDocument us more old now → more ≡ u ∷ rest → (member_only_reads u ≡ true → next ≡ now) → LeavesDocument us rest old next
 leaves_next us more rest u old now next h e step =
     record {
@@ -43,18 +40,6 @@ leaves_next us more rest u old now next h e step =
           (step parts.0 ∙ k.0, parts.1);
     }
 
-pub leaves_all : {V : Type 0} (us rest : List Tree) (old now : V) → LeavesDocument us rest old now → AllRead us → now ≡ old
-leaves_all us rest old now h all = (h.so all).0
-
 -- all members only read, if the rest does
 pub record ReadSoFar (us rest : List Tree) : Type 0 where
   pub same : list_all member_only_reads us ≡ list_all member_only_reads rest
-
-pub reads_next : (us more rest : List Tree) (u : Tree) → ReadSoFar us more → more ≡ u ∷ rest → true ≡ member_only_reads u → ReadSoFar us rest
-reads_next us more rest u h e b = record { same = h.same ∙ ap (list_all member_only_reads) e ∙ ap (λ b. b && list_all member_only_reads rest) (sym b) }
-
-pub reads_stops : (us more rest : List Tree) (u : Tree) → ReadSoFar us more → more ≡ u ∷ rest → false ≡ member_only_reads u → false ≡ list_all member_only_reads us
-reads_stops us more rest u h e b = sym (h.same ∙ ap (list_all member_only_reads) e ∙ ap (λ b. b && list_all member_only_reads rest) (sym b))
-
-pub reads_all : (us rest : List Tree) → ReadSoFar us rest → rest ≡ [] → true ≡ list_all member_only_reads us
-reads_all us rest h e = sym (h.same ∙ ap (list_all member_only_reads) e)

@@ -1,4 +1,3 @@
-pub mod Operations
 pub mod Params
 pub mod Messages
 pub mod Replies
@@ -7,4 +6,3 @@ pub mod Batches
 pub mod ServingLaws
 pub mod ServedLines
 pub mod RunResults
-pub mod RunStatus

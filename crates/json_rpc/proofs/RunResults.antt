@@ -18,7 +18,6 @@ use Rattle.json_layout.specs.Buffered.{held_behind}
 use Rattle.json_layout.specs.Pieces.{holds_any}
 use Rattle.json_layout.specs.TextWriting.{Begins as BeginsWith, StopCause}
 use Rattle.json_print.proofs.TextWriting.{front_gained}
-use Rattle.json_command.proofs.Printing.{none_held}
 use Rattle.json_command.specs.Input.{max_bytes}
 use Rattle.json_lines.specs.Lines.{lines}
 use Rattle.json_lines.specs.Reading.{ReaderState, ReadsBytes, NextLineCause, fresh_reader}
@@ -116,19 +115,6 @@ Lent old name = lent_as old name old.gained
 abbrev Back : SinkState → SinkState → GName → List ℕ → SinkState
 Back old new name held = held_behind (lent_as new name old.gained) held
 
-lent_serves : (s s' : SourceState) (old new : SinkState) (name : GName) (held : List ℕ) → ServesAll (service_streams s (Lent old name)) (service_streams s' (Back old new name held)) → ServesAll (service_streams s old) (service_streams s' new)
-lent_serves s s' old new name held h =
-    let none = none_held held new.unflushed h.writes.flushed in
-    record {
-      reads = record { bytes = h.reads.bytes; gives = h.reads.gives; few = h.reads.few; drained = h.reads.drained; read = h.reads.read };
-      appends = record {
-        messages = h.appends.messages;
-        are = h.appends.are;
-        gained = sym (known-nil new.gained) ∙ ap (append_known new.gained) (sym none.0) ∙ h.appends.gained;
-      };
-      writes = record { written = h.writes.written; flushed = none.1 };
-    }
-
 lent_stops : (s s' : SourceState) (old new : SinkState) (name : GName) (held : List ℕ) (e : Error) → Grows old.gained new.gained → StopsBuffered (service_streams s (Lent old name)) (service_streams s' (Back old new name held)) e → StopsRun (service_streams s old) (service_streams s' new) e
 lent_stops s s' old new name held e g h =
     record {
@@ -147,10 +133,6 @@ lent_stops s s' old new name held e g h =
 module _ (old now sent lent began : SinkState) (name name' : GName) (held : List ℕ) (b : began ≡ lent_as old name old.gained) (loan_kept : sent.loan ≡ began.loan) (s : sent ≡ held_behind lent held) (back : ComesBack lent now name') where
   is : sent ≡ Back old now name held
   is = came_back old now sent lent began name name' held b loan_kept s back
-
-  pub served_through : (u u' : SourceState) (r : Result (Unit {0}) Error) → OnOk r (ServesAll (service_streams u began) (service_streams u' sent)) → OnOk r (ServesAll (service_streams u old) (service_streams u' now))
-  served_through u u' (Ok v) h = lent_serves u u' old now name held (subst (λ (x : SinkState). ServesAll (service_streams u (Lent old name)) (service_streams u' x)) is (subst (λ (x : SinkState). ServesAll (service_streams u x) (service_streams u' sent)) b h))
-  served_through u u' (Err e) h = tt
 
   pub stopped_through : (u u' : SourceState) (r : Result (Unit {0}) Error) → IfErr r (λ e. StopsBuffered (service_streams u began) (service_streams u' sent) e) → IfErr r (λ e. StopsRun (service_streams u old) (service_streams u' now) e)
   stopped_through u u' (Ok v) h = tt

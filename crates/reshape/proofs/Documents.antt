@@ -12,18 +12,17 @@ use Rattle.json_model.proofs.Printing.{shown_text}
 use Rattle.json_io.specs.declared.error.Error.{Error}
 use Rattle.json_io.specs.Known.{Appends}
 use Rattle.json_io.specs.declared.error.ErrorCode.{ErrorCode}
-use Rattle.json_io.specs.declared.error.ErrorCode.TheVariants.{NoMemory, Io, TooLarge, NotFound, TypeUnmatched}
+use Rattle.json_io.specs.declared.error.ErrorCode.TheVariants.{NoMemory, Io}
 use Rattle.json_io.specs.declared.error.Place.{Place}
-use Rattle.json_io.specs.declared.error.Place.TheVariants.{None as nowhere, Reading, Writing, Edit as in_edit}
+use Rattle.json_io.specs.declared.error.Place.TheVariants.{None as nowhere, Writing}
 use Rattle.json_io.specs.Outside.{SourceState, SinkState}
 use Rattle.json_doc.specs.declared.doc.Doc.{Doc}
 use Rattle.json_doc.specs.Docs.{doc_tree, doc_root}
 use Rattle.json_value.specs.declared.value.Value.{Value}
 use Rattle.json_value.specs.Denotes.{tree_of}
-use Rattle.json_command.proofs.Inputs.{no_io, no_not_found, no_type_unmatched}
-use Rattle.json_command.specs.Reading.{ReadsInput, InputFails}
+use Rattle.json_command.specs.Reading.{ReadsInput}
 use Rattle.json_command.specs.Printing.{HasRunOut, PrintingFails, Prints, RunsOutOnlyWith}
-use Rattle.reshape.specs.Reshape.{Layout, laid_out, ordered, EditingRefuses, Reshapes, ReshapingRefuses}
+use Rattle.reshape.specs.Reshape.{Layout, laid_out, ordered, Reshapes, ReshapingRefuses}
 
 module _ (rules : Rules) where
   -- the edits of the value at the root are those of the document's tree
@@ -53,23 +52,6 @@ module _ (rules : Rules) where
         flushed = flushed;
       }
   reshaped es l source source' sink sink' tree changed (Err e) reads indent proper applied gains flushed = tt
-
-  -- reading was refused, and nothing was written
-  pub reading_refused : (es : List Edit) (l : Layout) (source source' : SourceState) (sink : SinkState) (code : ErrorCode) (place : Place) → InputFails rules source source' code place → ReshapingRefuses rules es l source source' sink sink code place
-  reading_refused es l source source' sink NoMemory nowhere h = inl refl
-  reading_refused es l source source' sink Io Reading h = (h, refl)
-  reading_refused es l source source' sink TooLarge nowhere h = (h.0, h.1, refl)
-  reading_refused es l source source' sink NotFound (in_edit n) h = absurd (no_not_found rules h.bytes (in_edit n) h.fault)
-  reading_refused es l source source' sink TypeUnmatched (in_edit n) h = absurd (no_type_unmatched rules h.bytes (in_edit n) h.fault)
-  reading_refused es l source source' sink Io Writing h = absurd (no_io rules h.bytes Writing h.fault)
-  reading_refused es l source source' sink code place h = (h, refl)
-
-  -- an edit did not apply, and nothing was written
-  pub editing_refused : (es : List Edit) (l : Layout) (source source' : SourceState) (sink : SinkState) (tree : Tree) (code : ErrorCode) (place : Place) → ReadsInput rules source source' tree → EditingRefuses es tree code place → ReshapingRefuses rules es l source source' sink sink code place
-  editing_refused es l source source' sink tree NoMemory nowhere r h = inl refl
-  editing_refused es l source source' sink tree NotFound (in_edit n) r h = (record { tree = tree; reads = r; refused = h }, refl)
-  editing_refused es l source source' sink tree TypeUnmatched (in_edit n) r h = (record { tree = tree; reads = r; refused = h }, refl)
-  editing_refused es l source source' sink tree code place r h = absurd h
 
   -- what holds where members are not sorted, by cases on whether they are
   unless_sorted : (s : Bool) (A B : Type 0) → (s ≡ false → A ⊎ B) → A ⊎ (s ≡ false → B)

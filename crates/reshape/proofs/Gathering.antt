@@ -24,14 +24,6 @@ all_last f (y ∷ xs) x h e = by (f y) (list_all f xs) _ h (λ k. all_last f xs 
     by true b c h k = k h
     by false b c h k = h
 
-all_fails : {A : Type 0} (f : A → Bool) (xs : List A) (x : A) (more : List A) → f x ≡ false → list_all f (xs ++ x ∷ more) ≡ false
-all_fails f [] x more e = rw e refl
-all_fails f (y ∷ xs) x more e = by (f y) _ (all_fails f xs x more e)
-  where
-    by : (a b : Bool) → b ≡ false → (a && b) ≡ false
-    by true b e = e
-    by false b e = refl
-
 filter_skips : {A : Type 0} (f : A → Bool) (xs : List A) (x : A) → f x ≡ false → filter f (xs ++ x ∷ []) ≡ filter f xs
 filter_skips f [] x e = rw e refl
 filter_skips f (y ∷ xs) x e = ap (λ zs. cond (f y) (y ∷ zs) zs) (filter_skips f xs x e)
@@ -153,12 +145,6 @@ module _ (ws : List (List ℕ)) (w : List ℕ) where
       }
 
 -- ---- a word that is refused
-
-pub unknown : (ws : List (List ℕ)) (w : List ℕ) (more : List (List ℕ)) → is_known w ≡ false → ¬ (IsReshaping (ws ++ w ∷ more))
-unknown ws w more e (c, a) = differ (sym (all_fails is_known ws w more e) ∙ a.known)
-  where
-    differ : false ≡ true → ⊥
-    differ e = cc
 
 two_picked : {A : Type 0} (o : Option A) (x y : A) (xs : List A) → x ∷ y ∷ xs ≡ option_to_list o → ⊥
 two_picked None x y xs e = cc

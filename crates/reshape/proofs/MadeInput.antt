@@ -1,5 +1,5 @@
 -- Made input is a short text of two levels, record by record.
-use Rattle.std.proofs.Common.{◌≡◌, inl, inr, ℕ, zero, suc, ◌+◌, ◌*◌, ◌^◌, ◌<◌, ◌≤◌, List, [], ◌∷◌, ◌++◌, length, false, refl, sym, subst, ap, ◌∙◌, arith, append_assoc, append-nil, length-append, codes, decimal, Option, Some, Result, Ok, Err, IfErr, IsErrOf}
+use Rattle.std.proofs.Common.{◌≡◌, inl, inr, ℕ, zero, suc, ◌+◌, ◌*◌, ◌^◌, ◌<◌, ◌≤◌, List, [], ◌∷◌, ◌++◌, length, false, refl, sym, subst, ap, ◌∙◌, arith, append_assoc, append-nil, length-append, codes, decimal, Some, Result, Ok, Err, IfErr, IsErrOf}
 use Rattle.std.specs.List.{flat_map, range_with_len}
 use Rattle.std.specs.Char.{encode_utf8}
 use Rattle.std.proofs.lemmas.Fmt.{length-decimal-le}
@@ -10,15 +10,13 @@ use Rattle.json_number.proofs.Integers.{decimal_number}
 use Rattle.json_model.specs.Edit.{Edit}
 use Rattle.json_io.specs.declared.error.Error.{Error}
 use Rattle.json_io.specs.Errors.{no_memory}
-use Rattle.json_io.specs.Known.{Appends, append_known}
 use Rattle.json_io.specs.Outside.{SourceState, SinkState, Rose}
 use Rattle.json_text.specs.Ruled.{usual_rules}
 use Rattle.json_command.specs.Input.{max_bytes, IsInput}
 use Rattle.json_command.specs.Printing.{Prints}
-use Rattle.reshape.specs.Reshape.{Layout, laid_out, Reshapes}
+use Rattle.reshape.specs.Reshape.{laid_out}
 use Rattle.reshape.specs.Known.{KnownFit}
-use Rattle.json_command.proofs.KnownBytes.{input_known}
-use Rattle.reshape.specs.Made.{made_record, made_records, made, separator, summary, sorted_compact, IsPrinted, IsSummary, SummaryFails}
+use Rattle.reshape.specs.Made.{made_record, made_records, made, separator, summary, sorted_compact, IsSummary, SummaryFails}
 
 -- a record after another
 abbrev pub next_record : ℕ → List ℕ
@@ -246,28 +244,6 @@ made_summary n h =
     record { output = laid_out sorted_compact (made_tree n); printed = record { tree = made_tree n; is_text_of_it = (made_input n h).text; prints = refl }; sums = refl }
 
 -- ---- what the engine prints of input in memory
-
-same_ok : {A B : Type 0} {x y : A} → ◌≡◌ {A = Result A B} (Ok x) (Ok y) → x ≡ y
-same_ok e = cc
-
-same_some : {x y : List ℕ} → Some x ≡ Some y → x ≡ y
-same_some e = cc
-
-gained_text : (b : List ℕ) (old new : Option (List ℕ)) (bytes : List ℕ) → Appends old new bytes → old ≡ Some [] → new ≡ Some b → b ≡ bytes
-gained_text b old new bytes h e f = same_some (sym f ∙ h ∙ ap (λ o. append_known o bytes) e)
-
--- without edits and in this layout
-printed_plain : (b out : List ℕ) (source source' : SourceState) (sink sink' : SinkState) → Reshapes usual_rules [] sorted_compact source source' sink sink' → source.left ≡ Some b → sink.gained ≡ Some [] → sink'.gained ≡ Some out → IsPrinted b out
-printed_plain b out source source' sink sink' r told empty all =
-    record {
-      tree = r.tree;
-      is_text_of_it = (input_known usual_rules source source' b r.tree r.reads told).text;
-      prints = gained_text out sink.gained sink'.gained (laid_out sorted_compact r.changed) r.gains empty all ∙ ap (laid_out sorted_compact) (sym (same_ok r.applied));
-    }
-
-pub printed_from : (b out : List ℕ) (es : List Edit) (l : Layout) (source source' : SourceState) (sink sink' : SinkState) → es ≡ [] → l ≡ sorted_compact → Reshapes usual_rules es l source source' sink sink' → source.left ≡ Some b → sink.gained ≡ Some [] → sink'.gained ≡ Some out → IsPrinted b out
-printed_from b out es l source source' sink sink' e f r =
-    printed_plain b out source source' sink sink' (subst (λ es. Reshapes usual_rules es sorted_compact source source' sink sink') e (subst (λ l. Reshapes usual_rules es l source source' sink sink') f r))
 
 -- nothing can be wrong with it
 pub fit_from : (b : List ℕ) (tree : Tree) (es : List Edit) (source source' : SourceState) (sink sink' : SinkState) → es ≡ [] → IsInput usual_rules b tree → source.left ≡ Some b → ¬ (Rose source.faults source'.faults) → ¬ (Rose sink.faults sink'.faults)
