@@ -9,12 +9,12 @@ use Rattle.json_io.specs.declared.error.ErrorCode.TheVariants.{NoMemory, TypeUnm
 use Rattle.json_io.specs.declared.error.Place.{Place}
 use Rattle.json_io.specs.declared.error.Place.TheVariants.{None as nowhere}
 use Rattle.json_model.specs.Datum.{Datum, list_datum, list_data}
-use Rattle.json_model.specs.Edit.{Step, Edit}
+use Rattle.json_model.specs.Edit.{Edit}
 use Rattle.json_value.specs.declared.path.Edit.{Edit as ValueEdit}
 use Rattle.json_value.specs.Edits.{edit_of}
-use Rattle.json_value.specs.EditTrees.{path_in, edits_in}
+use Rattle.json_value.specs.EditTrees.{edits_in}
 use Rattle.json_data.specs.Reading.{Reading, gives, refuses, read_list}
-use Rattle.json_data.specs.ReadingValues.{spelled, path_datum, read_path, edit_datum, read_edit}
+use Rattle.json_data.specs.ReadingValues.{edit_datum, read_edit}
 use Rattle.json_tokens.specs.Refusals.{is_refusal}
 use Rattle.json_data.specs.ValueCalls.{TreeReadingFails}
 use Rattle.json_data.proofs.ValueData.{list_edits, list_none}
@@ -23,7 +23,7 @@ use Rattle.json_patch.specs.declared.error.PatchCode.{PatchCode}
 use Rattle.json_patch.specs.declared.error.PatchCode.TheVariants.{NoMemory as NoPatchMemory, BadPointer}
 use Rattle.json_value.specs.declared.value.Value.{Value}
 use Rattle.json_value.specs.Denotes.{tree_of}
-use Rattle.json_arguments.specs.Operands.{path_formed, edits_formed}
+use Rattle.json_arguments.specs.Operands.{edits_formed}
 
 -- an error that is a refusal is one of the tree
 pub refused : (f : Tree → Reading) (t : Tree) (c : ErrorCode) (p : Place) → is_refusal c ≡ true → TreeReadingFails f t c p → (d : ErrorCode) × (f t ≡ refuses d)
@@ -32,22 +32,6 @@ refused f t TypeUnmatched nowhere i h = (TypeUnmatched, h)
 refused f t NumberOutOfRange nowhere i h = (NumberOutOfRange, h)
 refused f t ExpectedNumericKey nowhere i h = (ExpectedNumericKey, h)
 refused f t c p i h = absurd h
-
--- ---- paths
-
-pub path_given : (t : Tree) (d : Datum) → read_path t ≡ gives d → true ≡ path_formed t
-path_given t d = by (path_in t)
-  where
-    by : (o : Option (List Step)) → spelled path_datum o ≡ gives d → true ≡ is_some o
-    by (Some p) e = refl
-    by None e = absurd (cc)
-
-pub path_refused : (t : Tree) (c : ErrorCode) → read_path t ≡ refuses c → false ≡ path_formed t
-path_refused t c = by (path_in t)
-  where
-    by : (o : Option (List Step)) → spelled path_datum o ≡ refuses c → false ≡ is_some o
-    by (Some p) e = absurd (cc)
-    by None e = refl
 
 -- ---- edits
 

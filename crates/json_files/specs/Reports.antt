@@ -28,11 +28,6 @@ location name (Some p) = name ++ codes ":" ++ decimal p.line ++ codes ":" ++ dec
 pub record IsHeadline (name : List ℕ) (position : Option Position) (sentence code_name line : List ℕ) : Type 0 where
   pub whole : line ≡ location name position ++ codes ": " ++ sentence ++ codes " (" ++ code_name ++ codes ")\n"
 
--- the line and the column of a place itself
-abbrev pub place_position : Place → Option Position
-place_position (At offset line column) = Some (record { line = line; column = column })
-place_position _ = None
-
 -- ---- the whole report
 
 -- the name of the code

@@ -46,5 +46,5 @@ pub use found_layout::find_style;
 pub use get::{GetPath, GetPointer};
 pub use job::{InputForm, Job};
 pub use patches::{ApplyMerge, ApplyPatch};
-pub use report::{error_report, file_report, input_report};
+pub use report::file_report;
 pub use run::print_documents;

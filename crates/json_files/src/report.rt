@@ -1,8 +1,8 @@
 // The reports of errors.
 ghost use Rattle.std.specs.Prelude.{◌≡◌, ◌≤◌, ◌+◌, ◌++◌, List, ℕ, true, Option, None, length, codes, decimal, IfOk, OnOk, IfSome, option_map};
 ghost use Rattle.json_files.specs.Excerpts.{IsExcerpt};
-ghost use Rattle.json_files.specs.Parts.{part_view, whole_part as spec_whole_part, HasFewLines};
-ghost use Rattle.json_files.specs.Reports.{IsReport, IsHeadline, IsExcerptAt, location, place_position, error_place, document_error_name, change_name, report_offset, position_of};
+ghost use Rattle.json_files.specs.Parts.{part_view, HasFewLines};
+ghost use Rattle.json_files.specs.Reports.{IsReport, IsHeadline, IsExcerptAt, location, error_place, document_error_name, change_name, report_offset, position_of};
 ghost use Rattle.json_files.specs.Sentences.{input_sentence, is_word, document_sentence, counted, value_number as number_of, hint_line};
 ghost use Rattle.json_io.specs.Errors.{name_of, OnlyNoMemory};
 
@@ -10,7 +10,7 @@ use crate::change_error::ChangeError;
 use crate::document_error::DocumentError;
 use crate::excerpt::push_excerpt;
 use crate::hint::hint_of;
-use crate::part::{Part, Scope, whole_part};
+use crate::part::{Part, Scope};
 use itoa::Buffer;
 use json_text::{Error, ErrorCode, FaultText, Place, Result, fault_text, place_of};
 use std::alloc::Global;
@@ -312,31 +312,6 @@ pub(crate) fn document_report(
     Ok(text)
 }
 
-/// Returns the first line of the report of an error of the document of this name:
-/// `NAME:LINE:COLUMN: sentence (CodeName)` and a newline, without a line and a column if the
-/// place has none. Fails with `NoMemory` if memory runs out.
-///
-/// ```
-/// use json_files::error_report;
-/// use json_text::{Error, ErrorCode, Place};
-/// let place = Place::At { offset: 9, line: 2, column: 4 };
-/// let error = Error { code: ErrorCode::ExpectedColon, place };
-/// let report = error_report(alloc, "a.json", &error)?;
-/// let expected = b"a.json:2:4: a colon is expected after the key (ExpectedColon)\n";
-/// assert_eq!(rt; report.as_slice(), expected.as_slice());
-/// ```
-pub fn error_report(alloc: Global, name: &str, error: &Error) -> Result<Vec<u8>>
-    ensures ok { IfOk result (λ line. IsHeadline name.now (place_position error.now.place)
-        (input_sentence error.now.code) (name_of error.now.code) line.items) }
-    ensures only { OnlyNoMemory result }
-{
-    let position = match error.place {
-        Place::At { line, column, .. } => Some(Position { line, column }),
-        _ => None,
-    };
-    input_headline(alloc, name, position, error.code)
-}
-
 /// Returns the first line of the report of a file of this name that could not be read or written,
 /// with the reason of the system: `NAME: reason (Io)` and a newline. Fails with `NoMemory` if
 /// memory runs out.
@@ -352,28 +327,4 @@ pub fn file_report(alloc: Global, name: &str, reason: &str) -> Result<Vec<u8>>
     ensures only { OnlyNoMemory result }
 {
     headline(alloc, name, None, reason.as_bytes(), b"Io")
-}
-
-/// Returns the report of an error of the document of this name and these bytes: the line of
-/// [`error_report`], and if the place has an offset in the bytes the line of the bytes there, cut
-/// to 76 bytes, a caret under the byte, and a hint at a usual cause. Fails with `NoMemory` if
-/// memory runs out.
-///
-/// ```
-/// use json_files::input_report;
-/// use json_text::{check_utf8, place_of, Error, ErrorCode};
-/// let place = place_of(b"[1,]", 3);
-/// let error = Error { code: ErrorCode::InvalidJsonValue, place };
-/// let report = input_report(alloc, "a.json", b"[1,]", &error)?;
-/// let expected = b"a.json:1:4: a value is expected (InvalidJsonValue)\n[1,]\n   ^\n\
-///     hint: JSON has no comma before a closing bracket\n";
-/// assert_eq!(rt; report.as_slice(), expected.as_slice());
-/// ```
-pub fn input_report(alloc: Global, name: &str, bytes: &[u8], error: &Error) -> Result<Vec<u8>>
-    ensures ok { IfOk result (λ report. IsReport (spec_whole_part name.now bytes.now)
-        (DocumentError.Input error.now) report.items) }
-    ensures only { OnlyNoMemory result }
-{
-    let part = whole_part(name, bytes);
-    document_report(alloc, part, &DocumentError::Input(*error), "")
 }
