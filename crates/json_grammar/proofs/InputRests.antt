@@ -5,7 +5,7 @@ use Rattle.json_grammar.specs.declared.Spot.{Spot}
 use Rattle.json_grammar.specs.declared.Spot.TheVariants.{Done as done}
 use Rattle.json_grammar.specs.Tree.{Token, num_token}
 use Rattle.json_grammar.specs.Grammar.{IsWhitespace, ws, IsDigit, null_bytes, boolean_bytes}
-use Rattle.json_grammar.specs.Lexeme.{EndsNumber}
+use Rattle.json_grammar.specs.NumberEnds.{EndsNumber}
 use Rattle.json_grammar.specs.Given.{LastEnds}
 use Rattle.json_grammar.proofs.Numbers.{InNumber, AreInNumber}
 use Rattle.json_grammar.proofs.FirstBytes.{cons_nil, head, tail, utf8_tail}

@@ -9,7 +9,7 @@ use Rattle.json_grammar.specs.Tree.{Tree, null, boolean, num, text, depth, Token
 use Rattle.json_grammar.specs.Grammar.{IsWhitespace, ws, IsDigit, number, Atom, Atoms, no_atoms, chars, string, null_bytes, boolean_bytes, value, is_text}
 use Rattle.json_grammar.specs.Place.{TakesValue, TakesKey, TakesEnd, bracket, closing, opened, after_comma, viable_prefix, reading, open_one, read_value, read_comma, read_key, read_colon}
 use Rattle.json_grammar.specs.Allows.{BeginsValue, Allows}
-use Rattle.json_grammar.specs.Lexeme.{EndsNumber}
+use Rattle.json_grammar.specs.NumberEnds.{EndsNumber}
 use Rattle.json_grammar.specs.Given.{LastEnds}
 use Rattle.json_grammar.specs.Levels.{still_open, peak}
 use Rattle.json_grammar.specs.Fault.{opens, is_surrogate, FaultCode, eof_while_parsing, invalid_literal, invalid_number, control_character, invalid_escape, invalid_surrogate, recursion_limit_exceeded, is_word, in_word, in_number, ends_in_zero, in_string, is_bad_number, row, faulty}

@@ -1,3 +1,4 @@
+pub mod Lexeme
 pub mod Lists
 pub mod TokensUnique
 pub mod Spellings

@@ -11,7 +11,7 @@ use Rattle.json_grammar.specs.Place.{TakesValue, TakesKey, takes_key, takes_key_
 use Rattle.json_grammar.specs.Given.{LastEnds}
 use Rattle.json_grammar.specs.Fault.{before_value, before_string, in_string}
 use Rattle.json_grammar.specs.Repeated.{names, RepeatsKey, open_keys, TokensRepeat, repeated}
-use Rattle.json_grammar.specs.Lexeme.{Lexed, advance_all}
+use Rattle.json_grammar.proofs.Lexeme.{Lexed, advance_all}
 use Rattle.json_grammar.proofs.Lists.{Cut, cut, longer, shorter, ws-append, cons_nil, head, tail, none_behind, holds_none}
 use Rattle.json_grammar.proofs.OpenKeys.{keys_inside, repeat_left, repeat_last}
 use Rattle.json_grammar.proofs.Values.{along}

@@ -11,7 +11,7 @@ use Rattle.json_grammar.proofs.OneFault.{opens_text}
 use Rattle.json_grammar.proofs.OneValue.{shorter_value, value_no_more, value_text}
 use Rattle.json_grammar.proofs.ValueFaults.{reads_no_fault}
 use Rattle.json_grammar.proofs.SomeValueFault.{some_value_fault}
-use Rattle.json_grammar.specs.Lexeme.{TreeEnds}
+use Rattle.json_grammar.specs.NumberEnds.{TreeEnds}
 use Rattle.json_grammar.proofs.RepeatedNames.{NameAt, repeated_at, at_repeated, repeated_more}
 use Rattle.json_grammar.proofs.FirstRepeated.{NoneIn, FirstIn, within, text_repeats, repeats_text}
 use Rattle.json_grammar.proofs.RepeatedInput.{opens_take, Reaches, ends_in, goes_past, reaches, name_place, named_value, search_any}

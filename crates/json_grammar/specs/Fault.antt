@@ -11,7 +11,7 @@ use Rattle.json_grammar.specs.Grammar.{ws, IsDigit, number, hex4, IsHighSurrogat
 use Rattle.json_grammar.specs.declared.Spot.{Spot}
 use Rattle.json_grammar.specs.declared.Spot.TheVariants.{Key as key, KeyOrEnd as key_or_end, Colon as colon, Done as done}
 use Rattle.json_grammar.specs.Place.{TakesValue, TakesKey, place, viable_prefix}
-use Rattle.json_grammar.specs.Lexeme.{TreeEnds}
+use Rattle.json_grammar.specs.NumberEnds.{TreeEnds}
 
 -- ---- how many brackets are open at once, strings aside
 

@@ -6,7 +6,7 @@ use Rattle.json_grammar.specs.declared.Spot.{Spot}
 use Rattle.json_grammar.specs.declared.Spot.TheVariants.{Colon as colon, Done as done}
 use Rattle.json_grammar.specs.Grammar.{string}
 use Rattle.json_grammar.specs.Place.{TakesKey, reading}
-use Rattle.json_grammar.specs.Lexeme.{EndsNumber}
+use Rattle.json_grammar.specs.NumberEnds.{EndsNumber}
 
 -- the bytes of b from the offset i up to j
 abbrev pub piece : List ℕ → ℕ → ℕ → List ℕ

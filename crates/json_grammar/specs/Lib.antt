@@ -2,7 +2,7 @@ pub mod Tree
 pub mod Grammar
 pub mod Place
 pub mod TokenStates
-pub mod Lexeme
+pub mod NumberEnds
 pub mod Levels
 pub mod Proper
 pub mod Fault

@@ -5,7 +5,7 @@ use Rattle.json_grammar.specs.Tree.{Tree, tokens}
 use Rattle.json_grammar.specs.declared.Spot.TheVariants.{Done as done}
 use Rattle.json_grammar.specs.Grammar.{is_text}
 use Rattle.json_grammar.specs.Place.{place, reading, viable_prefix}
-use Rattle.json_grammar.specs.Lexeme.{TreeEnds}
+use Rattle.json_grammar.specs.NumberEnds.{TreeEnds}
 use Rattle.json_grammar.specs.Fault.{opens, FaultCode, value_fault, viable_value, reads, too_deep, longest, row, eof_while_parsing, invalid_literal, invalid_number, expected_colon, expected_array_comma_or_end, expected_object_comma_or_end, expect_object_key_or_end, trailing_comma, invalid_json_value, control_character, invalid_escape, invalid_surrogate}
 use Rattle.json_grammar.proofs.OneValue.{value_no_more, value_place, viable_split}
 use Rattle.json_grammar.proofs.Opens.{closed_opens}
