@@ -97,7 +97,7 @@ module _ (v : Verb) where
   awaited : (o : Option Verb) (b : Bool) (m : Option OperandKind) (w : List ℕ) (ended : Bool) → o ≡ Some v → b ≡ true → elim o as (λ (x : Option Verb). Role) [ Some v ↦ cond b role.Width (role_of v ended m w) | None ↦ command_role w ] ≡ role.Width
   awaited o b m w ended e a = rw (e, a) refl
 
-  -- the number of an indent comes first, where it is missing
+  -- the number of an indent is named first, where it is missing
   end_awaited : (s : Asked) → s.verb ≡ Some v → Ends s
   end_awaited s e = by s.awaits_width refl
     where

@@ -42,7 +42,7 @@ words_length os vs h = sym (length-trees vs) ∙ texts_length os (map tree_of vs
 pub words_more : (os : List (OperandKind × List ℕ)) (vs : List Value) (k : OperandKind) (w : List ℕ) (v : Value) → SpellAll os (map tree_of vs) → SpellsOperand k w (tree_of v) → SpellAll (os ++ (k, w) ∷ []) (map tree_of (vs ++ v ∷ []))
 words_more os vs k w v h p = rw (map-append tree_of vs (v ∷ [])) (texts_more os (map tree_of vs) k w (tree_of v) h p)
 
--- the operand that comes next
+-- the next operand
 pub missing_is : (o : Option (Bor (List ℕ))) (source : Option (List ℕ)) (p p' : Option Verb) (v : Verb) (n m : ℕ) → o ≡ None → option_map (λ f. f.now) o ≡ source → p ≡ Some v → p ≡ p' → n ≡ m
     → slice_get (operands_of v) n ≡ cond (is_some source) None (slice_get (elim p' as (λ (x : Option Verb). List OperandKind) [ Some v ↦ operands_of v | None ↦ [] ]) m)
 missing_is None None (Some u) (Some u') v n m e f g h l = let k : v ≡ u' = cc in rw (k, l) refl

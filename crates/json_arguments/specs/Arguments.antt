@@ -1,4 +1,5 @@
--- The arguments of `mezdruk`, from the first on: which may come next, and what each adds to what is asked for.
+-- The arguments of `mezdruk`, from the first on: which may follow, and what each adds to what is
+-- asked for.
 use Rattle.std.specs.Prelude.{ℕ, Bool, true, false, not, cond, ◌&&◌, ◌||◌, ◌==◌, nat_le, List, [], ◌∷◌, length, take, drop, Option, Some, None, is_some, option_map, bytes_eq, codes}
 use Rattle.std.specs.List.{before_first, after_first}
 use Rattle.json_arguments.specs.declared.verb.Verb.{Verb}
@@ -29,7 +30,7 @@ verb_in w =
     (cond (bytes_eq w (codes "patch")) (Some verb.Patch)
     (cond (bytes_eq w (codes "merge")) (Some verb.Merge) None)))))))))
 
--- the operands of a command, which come before its files
+-- the operands of a command, which precede its files
 abbrev pub operands_of : Verb → List OperandKind
 operands_of verb.Get = kind.Path ∷ []
 operands_of verb.Edit = kind.Edits ∷ []

@@ -1,4 +1,5 @@
--- The rules of the command line: what an argument is after those before it, whether it may come next, and what it adds.
+-- The rules of the command line: what an argument is after those before it, whether it may follow,
+-- and what it adds.
 use Rattle.std.specs.Prelude.{◌≡◌, ℕ, ⊤, Bool, true, false, not, cond, ◌&&◌, ◌==◌, List, [], ◌∷◌, ◌++◌, length, slice_get, Option, Some, None, is_some, unwrap_or, option_map, option_and_then, bytes_eq, codes}
 use Rattle.std.specs.List.{list_any}
 use Rattle.json_arguments.specs.declared.verb.Verb.{Verb}
@@ -33,7 +34,8 @@ nothing_asked = record { verb = None; settings = no_settings; ended = false; awa
 abbrev pub operands_asked : Asked → List OperandKind
 operands_asked s = elim s.verb [ Some v ↦ operands_of v | None ↦ [] ]
 
--- the operand that comes next: no option names a file for it, and there are fewer operands than the command has
+-- the next operand: no option names a file for it, and there are fewer operands than the command
+-- has
 abbrev pub next_operand : Asked → Option OperandKind
 next_operand s = cond (is_some s.source) None (slice_get (operands_asked s) (length s.operands))
 
@@ -73,7 +75,7 @@ role_of v ended missing w =
 abbrev pub role_in : Asked → List ℕ → Role
 role_in s w = elim s.verb [ Some v ↦ cond s.awaits_width role.Width (role_of v s.ended (missing_operand s) w) | None ↦ command_role w ]
 
--- ---- whether it may come next
+-- ---- whether it may follow
 
 -- standard input cannot be changed in place
 abbrev pub in_place_and_input : Setting → List (List ℕ) → Bool
@@ -84,12 +86,13 @@ in_place_and_input _ files = false
 abbrev pub has_no_operands : Asked → Bool
 has_no_operands s = length s.operands == 0 && length s.files == 0
 
--- what says how a value is read comes before it
+-- an option that says how a value is read precedes it
 abbrev pub comes_late : Option OperandKind → Setting → Bool
 comes_late missing StringValue = not (is_some missing)
 comes_late missing _ = false
 
--- each option is asked for once, and none for rules of a stream; a file for the operand comes before operands and files
+-- each option is asked for once, and none for rules of a stream; a file for the operand precedes
+-- operands and files
 abbrev pub allows : Asked → List ℕ → Role → Bool
 allows s w (role.Setting x) = is_some (with_setting s.settings x) && (not (in_place_and_input x s.files) && (not (rules_of_stream s.settings x) && not (comes_late (missing_operand s) x)))
 allows s w role.WidthName = not (is_some s.settings.layout)

@@ -23,7 +23,7 @@ pub record HoldsAsked (line : Line) (s : Asked) : Type 0 where
   pub operands : SpellAll s.operands (map tree_of line.operands.items)
   pub files : map (λ f. f.now) line.files.items ≡ s.files
 
--- an argument of this role may come next and was added
+-- an argument of this role may follow and was added
 pub record TakesArgument (line : Line) (s : Asked) (w : List ℕ) (r : Role) : Type 0 where
   pub may : MayTake s w r
   pub holds : HoldsAsked line (add s w r)

@@ -23,13 +23,14 @@ begins_as_pointer w = length w == 0 || bytes_eq (take 1 w) (codes "/")
 
 -- ---- words
 
--- the operand is the word as it stands: a pointer, or a string that is asked for
+-- the operand is the word as it is: a pointer, or a string that is asked for
 abbrev pub taken_verbatim : OperandKind → List ℕ → Bool
 taken_verbatim kind.Path w = begins_as_pointer w
 taken_verbatim kind.Text w = true
 taken_verbatim _ w = false
 
--- the tree of a word: a string of the word as it stands, or that of a JSON text (RFC 8259, section 2) by the usual rules
+-- the tree of a word: a string of the word as it is, or that of a JSON text (RFC 8259, section 2)
+-- by the usual rules
 abbrev pub SpellsTree : OperandKind → List ℕ → Tree → Type 0
 SpellsTree kind w t = elim (taken_verbatim kind w) [ true ↦ t ≡ text w | false ↦ IsInput usual_rules w t ]
 

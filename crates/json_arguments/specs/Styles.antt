@@ -8,7 +8,7 @@ use Rattle.json_arguments.specs.declared.setting.Layout.{Layout}
 use Rattle.json_arguments.specs.declared.setting.Layout.TheVariants.{Compact, Spaces, Tab}
 use Rattle.json_arguments.specs.declared.setting.Settings.{Settings}
 
--- so many spaces, 8 at most
+-- n spaces, at most 8
 abbrev pub spaces_up_to_8 : ℕ → List ℕ
 spaces_up_to_8 n = replicate (min n 8) 32
 

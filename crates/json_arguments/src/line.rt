@@ -125,7 +125,7 @@ impl<'a> Line<'a> {
         }
     }
 
-    // The operand that comes next, if the command has one more.
+    // Returns the next operand, if the command has one more.
     fn next_operand(&self) -> Option<OperandKind>
         ensures { (s : Asked) → HoldsAsked self.now s → result ≡ next_operand s }
     {
@@ -135,7 +135,7 @@ impl<'a> Line<'a> {
         }
     }
 
-    // The kind by which the operand that comes next is read, if the command has one more.
+    // Returns the kind by which the next operand is read, if the command has one more.
     fn missing_operand(&self) -> Option<OperandKind>
         ensures { (s : Asked) → HoldsAsked self.now s → result ≡ missing_operand s }
     {
@@ -215,7 +215,7 @@ impl<'a> Line<'a> {
         }
     }
 
-    // Adds the name of the option whose number comes next.
+    // Adds the name of the option whose number follows.
     fn take_width_name(&mut self) -> Result<(), Refusal>
         ensures ok { OnOk result ((s : Asked) (w : List ℕ) → HoldsAsked self.old s
             → TakesArgument self.new s w Role.WidthName) }

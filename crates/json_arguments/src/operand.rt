@@ -36,7 +36,7 @@ pub enum OperandKind {
     Key,
     /// A JSON value.
     Value,
-    /// A string, which the argument is as it stands.
+    /// A string, which the argument is as it is.
     Text,
     /// A step: a JSON string or an index.
     Step,
@@ -98,7 +98,7 @@ fn read_text(alloc: Global, kind: OperandKind, text: &str) -> Result<Value, Refu
     }
 }
 
-// Whether an operand is taken as it stands, and is no JSON text.
+// Whether an operand is taken as it is, and is no JSON text.
 fn is_verbatim(kind: OperandKind, word: &str) -> bool
     ensures { result ≡ taken_verbatim kind word.now }
 {

@@ -27,7 +27,7 @@ pub enum Problem {
     /// It names the file of an operand after an operand or a file, or says how a value is read
     /// after the value.
     Late,
-    /// It comes after `--indent` and is no number from 0 to 8.
+    /// It follows `--indent` and is no number from 0 to 8.
     NoWidth,
     /// It is no JSON text.
     NoText {

@@ -139,7 +139,7 @@ fn repeated_option(alloc: Global, word: &str) -> Result<String, AllocError> {
     }
 }
 
-// Returns what an option has to come before.
+// Returns what an option has to precede.
 fn late_option(alloc: Global, word: &str) -> Result<String, AllocError> {
     let later = match Setting::of_word(word) {
         Some(_) => "VALUE",
@@ -148,7 +148,7 @@ fn late_option(alloc: Global, word: &str) -> Result<String, AllocError> {
     format!(in alloc; "`{word}`: the option has to come before {later}")
 }
 
-// Whether a word stands for itself in a shell and in a JSON string.
+// Returns whether a word needs no quotes in a shell and no escape in a JSON string.
 fn is_plain(word: &str) -> bool {
     let plain = word.bytes().all(
         |byte| matches!(byte, b'a'..=b'z' | b'A'..=b'Z' | b'0'..=b'9' | b'_' | b'.'),

@@ -17,7 +17,7 @@ use json_command::option_number;
 pub enum Layout {
     /// Without whitespace.
     Compact,
-    /// Indented by so many spaces.
+    /// Indented by this many spaces.
     Spaces(u8),
     /// Indented by a tab.
     Tab,
@@ -52,11 +52,11 @@ pub enum Setting {
     SortKeys,
     /// Input in which the keys of each object differ.
     UniqueKeys,
-    /// Input of so many levels at most.
+    /// Input of at most this many levels.
     Depth(u32),
     /// Strings by their content.
     Raw,
-    /// A value that is a string, as the argument stands.
+    /// A value that is a string, as the argument is.
     StringValue,
     /// The files changed in place.
     InPlace,
@@ -91,7 +91,7 @@ pub struct Settings {
     pub depth: Option<u32>,
     /// Whether a string is printed by its content.
     pub raw: bool,
-    /// Whether the value of an edit is a string, as the argument stands.
+    /// Whether the value of an edit is a string, as the argument is.
     pub string_value: bool,
     /// Whether files are changed in place.
     pub in_place: bool,

@@ -10,7 +10,7 @@ use crate::verb::Verb;
 use json_print::Style;
 use json_text::Rules;
 
-// So many spaces, 8 at most.
+// Returns `count` spaces, at most 8.
 fn spaces(count: u8) -> &'static str
     ensures { result.now ≡ spaces_up_to_8 count }
 {

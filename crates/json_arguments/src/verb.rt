@@ -87,7 +87,7 @@ impl Verb {
         }
     }
 
-    /// Returns the operands that come before the files.
+    /// Returns the operands that precede the files.
     pub fn operands(self) -> &'static [OperandKind]
         ensures { result.now ≡ operands_of self }
     {

@@ -1,5 +1,5 @@
 //! Tests alone: worked examples of data that are read, explained and written, of the values of a
-//! stream, and of derived structs. They stand here and not in the crates that they test, since a
+//! stream, and of derived structs. They are here and not in the crates that they test, since a
 //! library with tests is proved twice.
 #![tactic(auto)]
 

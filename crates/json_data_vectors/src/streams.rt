@@ -7,7 +7,7 @@ use json_stream::Deserializer;
 use json_text::{Error, ErrorCode, Place, Repaired, Result, repair};
 use std::alloc::Global;
 
-// How many values come, what is refused then, and whether nothing comes after that.
+// How many values are returned, what is refused then, and whether nothing follows that.
 fn drained(alloc: Global, text: &str) -> (usize, Refused, bool)
     requires { length text.now < 2 ^ 32 }
 {
@@ -25,7 +25,7 @@ fn drained(alloc: Global, text: &str) -> (usize, Refused, bool)
     (text.len(), None, false)
 }
 
-// A text, how many values come of it, and what is refused then.
+// A text, how many values it has, and what is refused then.
 struct Stream {
     json: &'static str,
     count: usize,

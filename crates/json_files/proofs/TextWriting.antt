@@ -52,7 +52,7 @@ fails_first a b p q code place h = absurd h
 pub ok_no_error : (u : Unit {0}) (e : Error) → Ok u ≡ Err e → ⊥
 ok_no_error u e h = cc
 
--- a failed call behind written text is told
+-- a failed call after written text is reported
 pub told_then : {A : Type 0} (a b c : SinkState) (p : List ℕ) (u : Unit {0}) (r : Result A Error) → WritesOutput a b p (Ok u) → (b.faults < c.faults → r ≡ Err writing_failed) → a.faults < c.faults → r ≡ Err writing_failed
 told_then a b c p u r g h l = elim (cases_lt a.faults b.faults) [ inl m ↦ absurd (ok_no_error u writing_failed (g.told m)) | inr m ↦ h (omega (arith, l, m)) ]
 
@@ -65,7 +65,7 @@ WritesOutput-then a b c p q u (Err e) g h =
 pub WritesOutput-first : (a b : SinkState) (p q : List ℕ) (e : Error) → WritesOutput a b p (Err e) → WritesOutput a b (p ++ q) (Err e)
 WritesOutput-first a b p q e h = record { ok = tt; flushed = tt; err = fails_first a b p q e.code e.place h.err; told = h.told }
 
--- memory ran out behind written text
+-- memory ran out after written text
 pub written_then_none : (a b c : SinkState) (p : List ℕ) (u : Unit {0}) (e : Error) → WritesOutput a b p (Ok u) → e ≡ no_memory → c ≡ b → WritingFails a c p e.code e.place
 written_then_none a b c p u e g is same = rw (is, same) (record { front = p; back = []; whole = sym (append-nil p); gains = g.ok })
 

@@ -21,8 +21,8 @@ is_continuation x = nat_le 128 x && nat_lt x 192
 abbrev pub space_under : ℕ → List ℕ
 space_under x = cond (is_continuation x) [] (32 ∷ [])
 
--- at most so many of the first bytes, or of the last ones: all if there are no more; else one byte more would split a
--- character, up to that many
+-- at most n of the first bytes, or of the last ones: all if there are no more; else one byte more
+-- would split a character, up to n
 pub record IsFront (bytes : List ℕ) (max : ℕ) (front : List ℕ) : Type 0 where
   pub rest : List ℕ
   pub whole : bytes ≡ front ++ rest

@@ -5,8 +5,8 @@ use Rattle.json_files.specs.declared.part.Part as code
 use Rattle.json_files.specs.declared.part.Scope.{Scope}
 use Rattle.json_files.specs.declared.part.Scope.TheVariants.{Document, Line, Value}
 
--- the name of the document, the bytes in which places are counted, how many lines come before them, and whether they are
--- the whole document, a line, or the document of which a value is read
+-- the name of the document, the bytes in which places are counted, how many lines precede them, and
+-- whether they are the whole document, a line, or the document of which a value is read
 pub record Part : Type 0 where
   pub name : List ℕ
   pub bytes : List ℕ

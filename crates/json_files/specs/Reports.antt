@@ -56,7 +56,7 @@ abbrev pub report_offset : List ℕ → Place → Option ℕ
 report_offset bytes (At offset line column) = cond (nat_le offset (length bytes)) (Some offset) None
 report_offset bytes _ = None
 
--- its line and its column, if so many lines come before the bytes
+-- its line and its column, if n lines precede the bytes
 abbrev pub position_of : ℕ → List ℕ → Option ℕ → Option Position
 position_of before bytes None = None
 position_of before bytes (Some offset) = Some (record { line = before + line_at bytes offset; column = column_at bytes offset })

@@ -19,7 +19,7 @@ use Rattle.json_files.specs.declared.value_stream.StreamPlace.{StreamPlace}
 use Rattle.json_files.specs.Parts.{Part, whole_part, value_part}
 use Rattle.json_files.specs.Reports.{IsReport}
 
--- after whitespace from i on comes a value of the tree, which ends at j
+-- after whitespace from i on follows a value of the tree, which ends at j
 pub record ReadsAt (b : List ℕ) (i : ℕ) (tree : Tree) (j : ℕ) : Type 0 where
   pub value : reads false (drop i b) tree (j - i)
   pub levels : depth tree ≤ 254
@@ -31,14 +31,16 @@ abbrev pub ValueFails : List ℕ → ℕ → ErrorCode → Place → Type 0
 ValueFails b i NoMemory nowhere = ⊤
 ValueFails b i code place = ValueFaultFrom false 254 i b code place
 
--- from i on, where n values come before, the values have these outcomes; if not of the whole, the first of them
+-- from i on, where n values precede, the values have these outcomes; if not of the whole, the first
+-- of them
 pub data StreamHas (task : Task) (name b : List ℕ) (whole : Bool) : ℕ → ℕ → List PartOutcome → Type 0 where
   ends : {i n : ℕ} → ws (drop i b) → StreamHas task name b whole i n []
   stops : {i n : ℕ} → whole ≡ false → StreamHas task name b whole i n []
   fails : {i n : ℕ} (e : Error) (report : List ℕ) → ¬ (ws (drop i b)) → ValueFaultFrom false 254 i b e.code e.place → IsReport (whole_part name b) (Input e) report → StreamHas task name b whole i n (Refused (Input e) report ∷ [])
   more : {i n : ℕ} (j : ℕ) (tree : Tree) (outcome : PartOutcome) (later : List PartOutcome) → ReadsAt b i tree j → TreeOutcome task (value_part name b n) tree outcome → StreamHas task name b whole j (n + 1) later → StreamHas task name b whole i n (outcome ∷ later)
 
--- where a value is read: the name and the text of the document, the offset, and how many values come before it
+-- where a value is read: the name and the text of the document, the offset, and how many values
+-- precede it
 pub record ValuePlace : Type 0 where
   pub name : List ℕ
   pub text : List ℕ

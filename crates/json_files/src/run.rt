@@ -26,10 +26,10 @@ const READING_FAILED: DocumentError = DocumentError::Input(Error {
     place: Place::Reading,
 });
 
-// How far a run has come.
+// The state of a run.
 #[derive(Drop)]
 pub(crate) struct Tally {
-    // where memory comes from
+    // the allocator
     pub(crate) alloc: Global,
     // the greatest status so far
     pub(crate) status: u8,

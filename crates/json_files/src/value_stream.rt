@@ -13,7 +13,7 @@ use json_text::{Error, ErrorCode, Parser, Place, Result, check_utf8};
 use std::alloc::Global;
 use std::rc::Rc;
 
-/// A place in the text of a document, and how many values come before it.
+/// A place in the text of a document, and how many values precede it.
 #[derive(Clone, Copy)]
 pub(crate) struct StreamPlace<'a> {
     /// The name of the document.
@@ -43,8 +43,8 @@ pub(crate) fn text_of(bytes: &[u8]) -> Result<&str>
     check_utf8(bytes)
 }
 
-/// Reads the value that comes next, by the usual rules. Returns its document and the offset after
-/// it. Fails with each fault of what follows as a value, and with `NoMemory` if memory runs out.
+/// Reads the next value, by the usual rules. Returns its document and the offset after it. Fails
+/// with each fault of what follows as a value, and with `NoMemory` if memory runs out.
 pub(crate) fn read_value_at(alloc: Global, text: &str, offset: usize) -> Result<(Rc<Doc>, usize)>
     requires { IsCharBoundary text.now offset }
     ensures ok { IfOk result (λ r. ReadsAt text.now offset

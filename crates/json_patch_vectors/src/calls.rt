@@ -225,7 +225,7 @@ pub(crate) fn is_value_of(alloc: Global, value: &Value, json: &str) -> TextResul
     Ok(*value == other)
 }
 
-// Whether the patch comes to what the row says, where the value is that of its document.
+// Whether the patch does what the row says, where the value is that of its document.
 fn changes(
     alloc: Global,
     kind: Kind,
@@ -248,7 +248,7 @@ fn changes_document(alloc: Global, kind: Kind, patch: View<'_>, row: Row<'_>) ->
     changes(alloc, kind, &mut value, patch, row)
 }
 
-// Whether the row's patch comes to what it says.
+// Whether the row's patch does what it says.
 fn holds(alloc: Global, kind: Kind, row: Row<'_>) -> TextResult<bool> {
     let patch = read(alloc, row.patch)?;
     changes_document(alloc, kind, View::packed(patch.view()), row)

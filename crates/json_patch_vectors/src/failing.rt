@@ -24,8 +24,8 @@ fn patch<S: Source, K: Sink, E: Sink>(
     }
 }
 
-// Whether a run comes to what it has to, where this call of the source fails. What is reported is
-// taken three bytes a call.
+// Whether a run has the right result where this call of the source fails. What is reported is taken
+// three bytes a call.
 fn fails_at_read(alloc: Global, call: u64) -> bool {
     let failing = [call];
     let mut source = FakeSource::new(INPUT, 1, &failing);
@@ -39,7 +39,7 @@ fn fails_at_read(alloc: Global, call: u64) -> bool {
     status == expected && sink.as_slice() == output && errs.as_slice() == error.as_bytes()
 }
 
-// The 18 bytes come by 18 calls, and the next says that the input ends.
+// 18 calls give the 18 bytes, and the next says that the input ends.
 #[test]
 fn a_source_that_fails_at_each_call(rt: HostRuntime) {
     for call in 0..20 {
@@ -47,7 +47,7 @@ fn a_source_that_fails_at_each_call(rt: HostRuntime) {
     }
 }
 
-// Whether a run comes to what it has to, where this call of the sink fails.
+// Whether a run has the right result where this call of the sink fails.
 fn fails_at_write(alloc: Global, call: u64) -> bool {
     let failing = [call];
     let mut source = SliceSource::new(INPUT);

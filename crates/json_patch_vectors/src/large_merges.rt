@@ -10,7 +10,7 @@ use std::rc::Rc;
 // A member: the number in its key, and its value, which is null if there is none.
 type Member = (usize, Option<usize>);
 
-// So many members, with keys below so many, of which each so many-th is null.
+// `count` members, with keys below `keys`, of which each `nulls`-th is null.
 #[derive(Clone, Copy)]
 struct Members {
     count: usize,

@@ -50,7 +50,7 @@ pub(crate) fn status_of<S: Source, K: Sink, E: Sink>(
     run_patch(alloc, arguments, source, sink, errs)
 }
 
-// How many rows a run does not come to, by a source that gives at most so many bytes a call.
+// How many rows a run does not satisfy, by a source that gives at most `at_once` bytes a call.
 fn differing(alloc: Global, at_once: usize) -> Result<u32> {
     differing_rows(
         alloc,

@@ -1,5 +1,5 @@
-//! Tests alone: worked examples of what is printed, and of writers and readers that fail. They
-//! stand here and not in `json_print`, since a library with tests is proved twice.
+//! Tests alone: worked examples of what is printed, and of writers and readers that fail. They are
+//! here and not in `json_print`, since a library with tests is proved twice.
 #![tactic(auto)]
 
 #[cfg(test)]

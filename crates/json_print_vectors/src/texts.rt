@@ -12,7 +12,7 @@ use json_print::{
 use json_text::{ErrorCode, FakeSink, LentSink, Result, Sink, VecSink, flush_all, put_all};
 use std::alloc::Global;
 
-// Each of these gives one part, and says only what may come after it.
+// Each of these gives one part, and says only what may follow it.
 fn begin<E: Events>(out: &mut E, hint: Option<usize>) -> Result<()>
     requires { AwaitsTree (E.stand (E.state out.old)) }
     ensures { OnOk result (AwaitsMember (E.stand (E.state out.new))) }
@@ -413,7 +413,7 @@ fn second_part_fails<E: Events>(out: &mut E) -> Result<bool>
     Ok(again == first && is_failed_write(first))
 }
 
-// Whether the error of a sink that fails once comes again, and no more is written.
+// Whether the error of a sink that fails once is returned again, and no more is written.
 fn error_comes_again(alloc: Global) -> Result<bool> {
     let mut out = Serializer::new(alloc, FakeSink::new(alloc, 2, &[1]));
     let same = second_part_fails(&mut out)?;

@@ -48,7 +48,7 @@ fn nearest_option(
 }
 
 impl Usage {
-    // Returns the line that says where the input comes from.
+    // Returns the line that says what the input is read from.
     fn input_hint(&self, alloc: Global) -> Result<String, AllocError> {
         let program = self.program;
         format!(in alloc; "\nhint: input is read from standard input, as in `{program} < FILE`")

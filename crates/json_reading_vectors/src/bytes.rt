@@ -113,7 +113,7 @@ fn has_origin(repaired: &Repaired, offset: usize, origin: usize) -> bool {
     offset <= repaired.as_str().len() && repaired.origin(offset) == origin
 }
 
-// Whether a repaired text is the right one, and its places come from where they do.
+// Whether a repaired text is the right one, and its places have the right origins.
 fn has_origins(repaired: &Repaired) -> bool {
     has_origin(repaired, 0, 0)
         && has_origin(repaired, 1, 1)

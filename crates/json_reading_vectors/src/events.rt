@@ -87,7 +87,7 @@ fn means(alloc: Global, span: Span<'_>, wanted: &[u8]) -> bool {
     bytes.as_slice() == wanted
 }
 
-// Whether the string that comes next means these bytes.
+// Whether the next string denotes these bytes.
 fn next_means(alloc: Global, parser: &mut Parser<'_>, wanted: &[u8]) -> bool {
     match next_of(parser) {
         Ok(Event::Str(span)) => means(alloc, span, wanted),
@@ -306,7 +306,7 @@ fn refusals_with_their_offsets(rt: HostRuntime) {
     assert!(rt; is_refused_in_its_line());
 }
 
-// So many brackets that open.
+// Returns `levels` opening brackets.
 fn brackets(alloc: Global, levels: usize) -> Result<String> {
     let mut text = String::new(alloc);
     for _ in 0..levels {
@@ -315,7 +315,7 @@ fn brackets(alloc: Global, levels: usize) -> Result<String> {
     Ok(text)
 }
 
-// Whether so many brackets are refused so.
+// Whether `levels` brackets are refused so.
 fn levels_are_refused(alloc: Global, levels: usize, code: ErrorCode) -> bool {
     match brackets(alloc, levels) {
         Ok(text) => refused(text.as_str()) == Some((code, Some(254))),

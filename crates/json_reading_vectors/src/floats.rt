@@ -161,7 +161,7 @@ fn floats_of_literals(rt: HostRuntime) {
     assert!(rt; matches!(wrong, Ok(None)), "{wrong:?}");
 }
 
-// The first literal that another double has, or that a double does not come back from.
+// The first literal that another double has, or from which a double is not read again.
 fn wrong_literal(alloc: Global) -> Result<Option<&'static str>> {
     let cases = [
         (0, "0.0"),
@@ -191,7 +191,7 @@ fn literals_of_doubles(rt: HostRuntime) {
     assert!(rt; matches!(wrong, Ok(None)), "{wrong:?}");
 }
 
-// The first literal that another `f32` has, or that an `f32` does not come back from.
+// The first literal that another `f32` has, or from which an `f32` is not read again.
 fn wrong_single(alloc: Global) -> Result<Option<&'static str>> {
     let cases = [
         (0x80000000, "-0.0"),

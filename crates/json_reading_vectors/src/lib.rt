@@ -1,6 +1,6 @@
 //! Tests alone: worked examples of what is read, part by part and as documents, and of sources and
-//! sinks. They stand here and not in `json_text`, `json_number` and `json_doc`, since a library
-//! with tests is proved twice.
+//! sinks. They are here and not in `json_text`, `json_number` and `json_doc`, since a library with
+//! tests is proved twice.
 #![tactic(auto)]
 
 #[cfg(test)]

@@ -32,7 +32,7 @@ pub trait Row {
     /// The text.
     fn text(&self) -> &'static str;
 
-    /// Whether what is expected of it comes.
+    /// Whether it has the expected result.
     fn holds(&self, alloc: Global) -> bool;
 }
 
@@ -45,7 +45,7 @@ fn first_wrong<R: Row>(alloc: Global, rows: &[R]) -> Option<&'static str> {
     None
 }
 
-/// Fails with the text of the first row of which something else comes.
+/// Fails with the text of the first row that has another result.
 pub fn each_holds<R: Row>(rt: &impl Abort, alloc: Global, rows: &[R]) {
     let wrong = first_wrong(alloc, rows);
     assert!(rt; wrong.is_none(), "{wrong:?}");

@@ -1,4 +1,4 @@
-// Parts that are taken where they come next.
+// Parts that are taken if they are next.
 use crate::looks::{Row, each_holds};
 use json_grammar::Kind;
 use json_text::{Event, Parser};

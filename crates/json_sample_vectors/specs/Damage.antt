@@ -15,6 +15,6 @@ read_damage_number = read_integer (between 0 (2 ^ 64))
 abbrev pub beginning : List ℕ → InputState
 beginning b = record { text = b; index = 0; lossy = false; repaired = None }
 
--- values of these data stand in the text one after another, and this is why no further one is given
+-- the text has values of these data, one after another, and this is why no further one is given
 abbrev pub UpToDamage : List ℕ → List Datum → Error → Type 0
 UpToDamage b ds e = (s new : InputState) × TakesValues read_damage_number (beginning b) ds s × NextValueFails read_damage_number s e.code e.place new

@@ -6,8 +6,8 @@ use json_stream::Deserializer;
 use json_text::{Error, Result};
 use std::alloc::Global;
 
-/// The numbers that stand in a text one after another, and what is wrong with the first thing that
-/// is none: its code and its place. Where nothing is wrong that is `EofWhileParsing`, at the end.
+/// The numbers of a text, one after another, and what is wrong with the first thing that is none:
+/// its code and its place. Where nothing is wrong that is `EofWhileParsing`, at the end.
 pub fn numbers_up_to_damage(alloc: Global, text: &str) -> Result<(Vec<u64>, Error)>
     requires { length text.now < 2 ^ 32 }
     ensures { IfOk result (λ r. UpToDamage text.now (numbers r.0.items) r.1) }

@@ -34,7 +34,7 @@ impl Serialize for Understated {
     }
 }
 
-/// A list without elements, which hints that nine come.
+/// A list without elements, which hints that nine follow.
 ///
 /// ```
 /// use json_write::to_string;

@@ -15,7 +15,7 @@ fn is_at(value: &Value, cell: u32) -> bool {
     }
 }
 
-// Whether there are three elements, which stand at cells 1, 3 and 5.
+// Whether there are three elements, which are at cells 1, 3 and 5.
 fn are_packed(list: &[Value]) -> bool {
     match list {
         [first, second, third] => is_at(first, 1) && is_at(second, 3) && is_at(third, 5),

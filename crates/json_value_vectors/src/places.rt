@@ -7,7 +7,7 @@ use json_text::Result;
 use json_value::{Array, Index, Object, PointerNode, Value};
 use std::alloc::Global;
 
-// Whether an array has so many elements, once it is written.
+// Whether an array has `len` elements, once it is written.
 fn is_long(array: &mut Array, alloc: Global, len: Option<usize>) -> bool {
     match array.list_mut(alloc) {
         Ok(list) => len == Some(list.len()),
@@ -15,7 +15,7 @@ fn is_long(array: &mut Array, alloc: Global, len: Option<usize>) -> bool {
     }
 }
 
-// Whether an array is lent, and then with so many elements.
+// Whether an array is lent, and then with `len` elements.
 fn has_elements(lent: Option<&mut Array>, alloc: Global, len: Option<usize>) -> bool {
     match lent {
         Some(array) => is_long(array, alloc, len),
@@ -23,7 +23,7 @@ fn has_elements(lent: Option<&mut Array>, alloc: Global, len: Option<usize>) -> 
     }
 }
 
-// Whether an object has so many members, once it is written.
+// Whether an object has `len` members, once it is written.
 fn is_large(object: &mut Object, alloc: Global, len: Option<usize>) -> bool {
     match object.pairs_mut(alloc) {
         Ok(pairs) => len == Some(pairs.len()),
@@ -31,7 +31,7 @@ fn is_large(object: &mut Object, alloc: Global, len: Option<usize>) -> bool {
     }
 }
 
-// Whether an object is lent, and then with so many members.
+// Whether an object is lent, and then with `len` members.
 fn has_members(lent: Option<&mut Object>, alloc: Global, len: Option<usize>) -> bool {
     match lent {
         Some(object) => is_large(object, alloc, len),
@@ -39,7 +39,7 @@ fn has_members(lent: Option<&mut Object>, alloc: Global, len: Option<usize>) -> 
     }
 }
 
-// Whether an array of so many elements is lent, or none.
+// Whether an array of that many elements is lent, or none.
 fn lends_array<V: JsonValueMutTrait>(value: &mut V, alloc: Global, len: Option<usize>) -> bool {
     match value.as_array_mut(alloc) {
         Ok(lent) => has_elements(lent, alloc, len),
@@ -47,7 +47,7 @@ fn lends_array<V: JsonValueMutTrait>(value: &mut V, alloc: Global, len: Option<u
     }
 }
 
-// Whether an object of so many members is lent, or none.
+// Whether an object of that many members is lent, or none.
 fn lends_object<V: JsonValueMutTrait>(value: &mut V, alloc: Global, len: Option<usize>) -> bool {
     match value.as_object_mut(alloc) {
         Ok(lent) => has_members(lent, alloc, len),
@@ -118,7 +118,7 @@ fn append_two(value: &mut Value, alloc: Global) -> bool {
 // What is lent of a value, and what is written there.
 #[derive(Clone, Copy)]
 enum Lend {
-    // An array of so many elements, or none, and an object of so many members, or none.
+    // An array of that many elements, or none, and an object of that many members, or none.
     Both(Option<usize>, Option<usize>),
     WriteFirst,
     WriteMember,

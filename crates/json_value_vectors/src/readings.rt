@@ -208,7 +208,7 @@ fn are_spelled(alloc: Global, literal: &str) -> bool {
     seen_are_spelled(alloc, &or_null(answer), literal) && spelled
 }
 
-// Whether an array is of so many elements, and an object of so many members.
+// Whether an array is of that many elements, and an object of that many members.
 fn are_sized(
     array: Option<&Array>,
     object: Option<&Object>,
@@ -226,7 +226,7 @@ fn are_sized(
     elements == len && members == count
 }
 
-// Whether a value, the value where it is lent, and what may be missing but is this value have so
+// Whether a value, the value where it is lent, and what may be missing but is this value have as
 // many.
 fn seen_are_sized(value: &Value, len: Option<usize>, count: Option<usize>) -> bool {
     let (lent, some) = (&value, Some(value));

@@ -52,7 +52,7 @@ fn stands_at(value: &Value, child: Child, doc: &Doc) -> bool {
     }
 }
 
-// Whether there are so many cells, the first of which is the root, and these texts in a row.
+// Whether there are that many cells, the first of which is the root, and these texts in a row.
 fn is_packed(doc: &Doc, cells: usize, texts: &str) -> bool {
     doc.cells().len() == cells && doc.root() == 0 && doc.text() == texts
 }
@@ -110,8 +110,8 @@ fn lends_and_keeps(value: &mut Value, alloc: Global, doc: &Doc) -> bool {
     lent && element_stands(value, 1, doc, 3)
 }
 
-// What is there of a document: so many cells with these texts; a child and a compact text after a
-// write; or an element of the array that is lent.
+// What a document has: this many cells with these texts; a child and a compact text after a write;
+// or an element of the array that is lent.
 #[derive(Clone, Copy)]
 enum Look {
     Cells(usize, &'static str),

@@ -44,7 +44,7 @@ fn push_record(text: &mut Vec<u8>, number: u32) -> Result<()>
     Ok(())
 }
 
-// Returns an array of `count` records, which are numbered from 0 on.
+// Returns an array of `records` records, which are numbered from 0 on.
 fn make(alloc: Global, records: u32) -> Result<Vec<u8>>
     ensures ok { IfOk result (λ v. v.items ≡ spec.made records) }
     ensures err { OnlyNoMemory result }
@@ -102,7 +102,7 @@ fn push_totals(text: &mut Vec<u8>, name: &[u8], bytes: &[u8]) -> Result<()>
     Ok(())
 }
 
-// Returns the summary of made input of `count` records.
+// Returns the summary of made input of `records` records.
 fn summary(alloc: Global, records: u32) -> Result<Vec<u8>>
     requires { records ≤ 100000 }
     ensures ok { IfOk result (λ v. IsSummary records v.items) }

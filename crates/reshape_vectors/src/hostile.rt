@@ -18,8 +18,8 @@ pub(crate) fn status_of<S: Source, K: Sink, E: Sink>(
     run(alloc, &Words::new(alloc), source, sink, errs)
 }
 
-// Whether a run comes to what it has to, where this call of the source fails. What is reported is
-// taken three bytes a call.
+// Whether a run has the right result where this call of the source fails. What is reported is taken
+// three bytes a call.
 fn fails_at_read(alloc: Global, call: u64) -> bool {
     let failing = [call];
     let mut source = FakeSource::new(INPUT, 1, &failing);
@@ -33,7 +33,7 @@ fn fails_at_read(alloc: Global, call: u64) -> bool {
     status == expected && sink.as_slice() == text && errs.as_slice() == told.as_bytes()
 }
 
-// The 30 bytes come by 30 calls, and the next tells the end.
+// 30 calls give the 30 bytes, and the next says that the input ends.
 #[test]
 fn a_source_that_fails_at_each_call(rt: HostRuntime) {
     for call in 0..32 {
@@ -41,7 +41,7 @@ fn a_source_that_fails_at_each_call(rt: HostRuntime) {
     }
 }
 
-// Whether a run comes to what it has to, where this call of the sink fails.
+// Whether a run has the right result where this call of the sink fails.
 fn fails_at_write(alloc: Global, call: u64) -> bool {
     let failing = [call];
     let mut source = SliceSource::new(INPUT);
@@ -103,8 +103,8 @@ fn a_sink_that_fails_at_a_long_string(rt: HostRuntime) {
     assert!(rt; text.is_ok_and(|text| fails_at_the_second_call(rt.alloc(), text.as_slice())));
 }
 
-// Whether the error of a serializer whose sink failed comes again at each later call, and no more
-// is written.
+// Whether the error of a serializer whose sink failed is returned again at each later call, and no
+// more is written.
 fn error_comes_again(alloc: Global) -> Result<bool> {
     let mut out = Serializer::new(alloc, FakeSink::new(alloc, 2, &[1]));
     out.begin_array(None)?;

@@ -12,7 +12,7 @@ fn array_of(alloc: Global, element: Value) -> Result<Value> {
     Ok(Value::from_vec(list))
 }
 
-// An array within an array, so many levels in all.
+// An array within an array, that many levels in all.
 fn nested(alloc: Global, levels: usize) -> Result<Value> {
     let mut value = Value::new_array();
     for _ in 1..levels {
@@ -42,7 +42,7 @@ fn edited(alloc: Global, edits: &[Edit]) -> Result<Vec<u8>> {
     Ok(sink.into_vec())
 }
 
-// Whether the bytes are so many brackets that open, and as many that close.
+// Whether the bytes are `levels` opening brackets and as many closing ones.
 fn are_brackets(bytes: &[u8], levels: usize) -> bool {
     let opened = bytes.iter().take(levels).all(|byte| *byte == b'[');
     let closed = bytes.iter().skip(levels).all(|byte| *byte == b']');

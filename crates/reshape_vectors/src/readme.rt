@@ -6,7 +6,7 @@ use json_value::{Edit, Path, PointerNode, Text, Value, View};
 use reshape::run;
 use std::alloc::Global;
 
-// Whether the program comes to the output that README.md shows.
+// Whether the program prints the output that README.md shows.
 fn is_reshaped(alloc: Global, words: &Words) -> bool {
     let mut source = SliceSource::new(b"{\"a\": 1, \"b\": 1.50}");
     let (mut sink, mut errs) = (VecSink::new(alloc), VecSink::new(alloc));

@@ -1,4 +1,4 @@
-// Inputs and words with what `run` comes to.
+// Inputs and words with the results of `run`.
 
 /// Worked examples of the top call, as `json_command::rows` reads them: the input, the status, the
 /// output, the error, and the arguments, each closed by `|`.

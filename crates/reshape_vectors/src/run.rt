@@ -11,7 +11,7 @@ use std::alloc::Global;
 /// The greatest number of bytes that the source gives at once.
 const AT_ONCE: usize = 4_096;
 
-// How many of these rows `run` does not come to.
+// How many of these rows `run` does not satisfy.
 fn differing(alloc: Global, rows: &str) -> Result<u32>
     ensures { OnlyNoMemory result }
 {
@@ -20,8 +20,8 @@ fn differing(alloc: Global, rows: &str) -> Result<u32>
     })
 }
 
-/// Runs the worked examples of `run`, and returns how many come to something else: none, where
-/// memory suffices.
+/// Runs the worked examples of `run`, and returns how many have another result: none, where memory
+/// suffices.
 pub fn vectors(alloc: Global) -> Result<u32>
     ensures { OnlyNoMemory result }
 {

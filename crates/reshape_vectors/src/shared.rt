@@ -1,4 +1,4 @@
-// What the calls that programs share come to.
+// The results of calls that programs share.
 use json_command::{
     BAD_WORDS, Status, option_number, print_value, read_argument, read_document_from, report,
     report_text, write_text,
@@ -38,7 +38,7 @@ fn copy<K: Sink>(alloc: Global, input: &[u8], failing: u64, sink: &mut K) -> Res
     print(alloc, &doc, sink)
 }
 
-// Whether a copy comes to this, and to this output, where this read fails.
+// Whether a copy has this result and this output where this read fails.
 fn copies(alloc: Global, input: &[u8], failing: u64, outcome: (Result<()>, &str)) -> bool {
     let mut sink = VecSink::new(alloc);
     let copied = copy(alloc, input, failing, &mut sink);

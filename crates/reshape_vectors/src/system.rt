@@ -1,4 +1,4 @@
-// What failures of a reader and a writer of the system come to.
+// The results of failures of a reader and a writer of the system.
 use crate::hostile::status_of;
 use json_text::{SliceSource, StdSink, StdSource, VecSink};
 use std::alloc::Global;

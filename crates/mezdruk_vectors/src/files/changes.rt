@@ -262,7 +262,7 @@ fn the_value_at_a_path(rt: HostRuntime) {
     assert!(rt; path_leads(rt.alloc(), BY_PATH));
 }
 
-// Whether inputs come to what the rows say where the content of strings is printed.
+// Whether inputs have the results of the rows where the content of strings is printed.
 fn content_is_printed(alloc: Global, rows: &[Row]) -> bool {
     let mut job = compact(Unchanged);
     job.raw = true;

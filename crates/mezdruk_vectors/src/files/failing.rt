@@ -124,7 +124,7 @@ fn is_written(sink: &FakeSink<'_>, text: &str) -> bool {
     sink.as_slice() == text.as_bytes()
 }
 
-// Whether a run comes to what it has to, where this call of the sink fails.
+// Whether a run has the right result where this call of the sink fails.
 fn fails_at_write(alloc: Global, documents: &[Document], row: &Write) -> bool {
     let failing = [row.call];
     let mut sink = FakeSink::new(alloc, 1, &failing);
@@ -150,7 +150,7 @@ fn a_sink_that_fails_at_each_call(rt: HostRuntime) {
     assert!(rt; matches!(each_write_fails(rt.alloc()), Ok(true)));
 }
 
-// Whether a run comes to what it has to, where this call of the sink of errors fails.
+// Whether a run has the right result where this call of the sink of errors fails.
 fn fails_at_report(alloc: Global, documents: &[Document], call: u64) -> bool {
     let failing = [call];
     let mut sink = VecSink::new(alloc);

@@ -35,8 +35,8 @@ fn edits(alloc: Global) -> Result<Vec<Edit>> {
     ]?)
 }
 
-// What one line comes to: the input, the number of the edit, the pointer, and the output or the
-// code of the error.
+// One line: the input, the number of the edit, the pointer, and the output or the code of the
+// error.
 type Row = (&'static str, usize, &'static str, &'static str);
 
 /// A pointer leads to the same place as the steps that it means in the document.

@@ -245,7 +245,7 @@ fn a_key_that_repeats(rt: HostRuntime) {
     assert!(rt; repeated_key_is_reported(rt.alloc()));
 }
 
-// A piece of an input or of a report, and how many times it comes.
+// A piece of an input or of a report, and how many times it is repeated.
 struct Piece {
     bytes: &'static [u8],
     times: usize,

@@ -24,7 +24,7 @@ fn append<S: Source, K: Sink, E: Sink>(
     }
 }
 
-// Whether a run comes to what it has to, where this call of the source fails.
+// Whether a run has the right result where this call of the source fails.
 fn fails_at_read(alloc: Global, call: u64) -> bool {
     let failing = [call];
     let mut source = FakeSource::new(INPUT, 1, &failing);
@@ -38,7 +38,7 @@ fn fails_at_read(alloc: Global, call: u64) -> bool {
     status == expected && sink.as_slice() == output && errs.as_slice() == told.as_bytes()
 }
 
-// The 6 bytes come by 6 calls, and the next tells the end.
+// 6 calls give the 6 bytes, and the next says that the input ends.
 #[test]
 fn a_source_that_fails_at_each_call(rt: HostRuntime) {
     for call in 0..8 {
@@ -46,7 +46,7 @@ fn a_source_that_fails_at_each_call(rt: HostRuntime) {
     }
 }
 
-// Whether a run comes to what it has to, where this call of the sink fails.
+// Whether a run has the right result where this call of the sink fails.
 fn fails_at_write(alloc: Global, call: u64) -> bool {
     let failing = [call];
     let mut source = SliceSource::new(INPUT);

@@ -13,7 +13,7 @@ const EDITS: &str = r#"[["set",["a",1],{"x":1.50}],["insert",["b"],"c",null],
 
 const EDITED: &str = r#"{"a":[{"x":1.50},3,4],"b":{"d":[]}}"#;
 
-/// What is done with a history, with what it comes to, or what the history then is.
+/// What is done with a history, with its result, or what the history then is.
 #[derive(Clone, Copy)]
 enum Step {
     /// An undo, and whether there is anything to undo.
@@ -87,7 +87,7 @@ fn has_indexes(changes: &[Change], first: usize, second: usize) -> bool {
     }
 }
 
-// Takes a step, and returns whether it comes to what is said of it.
+// Takes a step, and returns whether it has the result that is said of it.
 fn holds(alloc: Global, history: &mut History, step: Step) -> Result<bool> {
     match step {
         Step::Undo(is_done) => Ok(history.undo(alloc)? == is_done),
@@ -110,7 +110,7 @@ fn holds(alloc: Global, history: &mut History, step: Step) -> Result<bool> {
     }
 }
 
-// Takes the steps in turn, and returns whether each comes to what is said of it.
+// Takes the steps in turn, and returns whether each has the result that is said of it.
 fn hold(alloc: Global, history: &mut History, steps: &[Step]) -> Result<bool> {
     for step in steps {
         if !holds(alloc, history, *step)? {

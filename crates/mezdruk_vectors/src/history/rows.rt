@@ -1,4 +1,4 @@
-// Inputs and words with what `run_history` comes to.
+// Inputs and words with the results of `run_history`.
 use json_command::rows::differing_rows;
 use json_history::run_history;
 use json_text::{Result, Sink, Source, Words};
@@ -42,7 +42,7 @@ pub(crate) fn status_of<S: Source, K: Sink, E: Sink>(
     run_history(alloc, words, source, sink, errs)
 }
 
-// How many of these rows a run does not come to.
+// How many of these rows a run does not satisfy.
 fn differing(alloc: Global, rows: &str) -> Result<u32> {
     differing_rows(alloc, rows, 4_096, |alloc, words, source, sink, errs| {
         status_of(alloc, words, source, sink, errs)

@@ -27,7 +27,7 @@ fn print_values<S: Source, K: Sink, E: Sink>(
     }
 }
 
-// Whether a run comes to what it has to, where this call of the source fails.
+// Whether a run has the right result where this call of the source fails.
 fn fails_at_read(alloc: Global, call: u64, expected: u8, errors: &str) -> bool {
     let failing = [call];
     let mut source = FakeSource::new(INPUT, 1, &failing);
@@ -55,8 +55,8 @@ const READS: [(u64, u8, &str); 8] = [
     (7, 1, ERROR_ALONE),
 ];
 
-// The 5 bytes come by 5 calls. The second line ends at call 3. The end comes twice: to the last
-// line, which has no newline, and to the call after it.
+// 5 calls give the 5 bytes. The second line ends at call 3. The end is met twice: by the last line,
+// which has no newline, and by the call after it.
 #[test]
 fn a_source_that_fails_at_each_call(rt: HostRuntime) {
     for (call, status, errors) in READS {
@@ -79,7 +79,7 @@ const WRITES: [Write; 9] = [
     (8, 1, "1\n3\n", ERROR_ALONE),
 ];
 
-// Whether a run comes to what it has to, where this call of the sink fails.
+// Whether a run has the right result where this call of the sink fails.
 fn fails_at_write(alloc: Global, call: u64, expected: u8, output: &str, errors: &str) -> bool {
     let failing = [call];
     let mut source = SliceSource::new(INPUT);
@@ -102,7 +102,7 @@ fn a_sink_that_fails_at_each_call(rt: HostRuntime) {
     }
 }
 
-// Whether a run comes to what it has to, where this call of the sink of errors fails.
+// Whether a run has the right result where this call of the sink of errors fails.
 fn fails_at_report(alloc: Global, call: u64) -> bool {
     let failing = [call];
     let mut source = SliceSource::new(b"1\nx\n3\ny\n");

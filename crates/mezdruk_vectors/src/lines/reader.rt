@@ -12,7 +12,7 @@ fn has_next<S: Source>(
     Ok(reader.next_line(source)? == line)
 }
 
-// Whether a reader of lines of at most so many bytes gives these, and then none.
+// Whether a reader of lines of at most `limit` bytes returns these, and then none.
 fn has_lines<S: Source>(
     alloc: Global,
     limit: u8,

@@ -1,4 +1,4 @@
-// Inputs and arguments with what `run_lines` comes to.
+// Inputs and arguments with the results of `run_lines`.
 
 /// Worked examples, as `json_command::rows` reads them: the input, the status, the output, the
 /// errors, and the arguments, each closed by `|`.

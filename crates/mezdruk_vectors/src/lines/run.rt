@@ -16,7 +16,7 @@ pub(crate) fn status_of<S: Source, K: Sink, E: Sink>(
     run_lines(alloc, words, source, sink, errs)
 }
 
-// How many of these rows a run does not come to, by a source that gives at most so many bytes a
+// How many of these rows a run does not satisfy, by a source that gives at most `at_once` bytes a
 // call.
 fn differing(alloc: Global, rows: &str, at_once: usize) -> Result<u32> {
     differing_rows(

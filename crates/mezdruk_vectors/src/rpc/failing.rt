@@ -7,7 +7,7 @@ const LINE: &str = "{\"jsonrpc\":\"2.0\",\"method\":\"get\",\"params\":[[]],\"id
 
 const REPLY: &str = "{\"jsonrpc\":\"2.0\",\"result\":null,\"id\":1}\n";
 
-// Whether so many lines have their replies where the read after them fails.
+// Whether these lines have their replies where the read after them fails.
 fn are_served(alloc: Global, count: usize) -> Result<bool> {
     let (lines, replies) = (LINE.repeat(alloc, count)?, REPLY.repeat(alloc, count)?);
     let fails = [count as u64];
@@ -39,7 +39,7 @@ fn a_read_that_fails_inside_a_line_ends_with_4(rt: HostRuntime) {
     assert!(rt; ends_at_a_failed_read(rt.alloc()));
 }
 
-// Whether a session ends with 5 and a report where the sink takes so many bytes a call and this
+// Whether a session ends with 5 and a report where the sink takes a number of bytes a call and this
 // call fails, after these bytes.
 fn ends_after(alloc: Global, most: u16, failing: u64, written: &[u8]) -> bool {
     let fails = [failing];

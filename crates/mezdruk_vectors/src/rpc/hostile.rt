@@ -150,7 +150,7 @@ fn lines_have_their_replies(rt: HostRuntime) {
     }
 }
 
-// A piece of an input, and how many times it comes.
+// A piece of an input, and how many times it is repeated.
 type Piece<'a> = (&'a [u8], usize);
 
 fn bytes_of(alloc: Global, pieces: &[Piece<'_>]) -> Result<Vec<u8>> {
@@ -199,7 +199,7 @@ fn a_line_has_at_most_1048576_bytes(rt: HostRuntime) {
     }
 }
 
-// Whether a value of so many levels is set, with these replies.
+// Whether a value of this many levels is set, with these replies.
 fn sets_levels(alloc: Global, levels: usize, replies: &str) -> Result<bool> {
     let pieces = [
         (
