@@ -12,7 +12,8 @@ pub struct Outlet<'a> {
 }
 
 impl<'a> Outlet<'a> {
-    /// The outlet that writes there and notes it there.
+    /// Creates an outlet that writes to `writer` and notes in `closed` that nobody reads it any
+    /// more.
     pub fn new(writer: Stdout, closed: &'a Cell<bool>) -> Outlet<'a> {
         Outlet { writer, closed }
     }
