@@ -23,7 +23,6 @@ lacks_same f None m e = ap (option_map lacks_member) e
 lacks_same f (Some s) m e = ap (option_map lacks_member) e
 
 module _ {S : Type 0} {taken : S → List Tok → Type 0} {stand : S → TokensState} where
-
   -- ---- arrays
 
   -- an element was refused, and then the array was left

@@ -43,7 +43,6 @@ another h y ts k xs f n q no_trees i = absurd (n (sym (subst (λ (ys : List Tok)
 another h y ts k xs f n q (tree_and t us) i = q t us
 
 module _ {S : Type 0} {taken : S → List Tok → Type 0} {stand : S → TokensState} where
-
   -- another element follows, and the array is left
   pub longer : {h : Tree → Option Refused} {a b c d : S} {ts : Trees} {k : TokenKind}
       → InList taken stand a b ts → Peeks (stand b) (stand c) k → TakesTokens taken b [] c → k ≢ kind.EndArray → Leaves taken stand c d

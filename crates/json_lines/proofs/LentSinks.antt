@@ -20,7 +20,6 @@ use Rattle.json_lines.proofs.ReaderSteps.{gives_nothing}
 use Rattle.json_lines.proofs.SinkEnds.{came_back, sink_grew}
 
 module _ (has : List ℕ → Outcome → Type 0) (s u : SourceState) (old now errs errs' : SinkState) (name : GName) (held : List ℕ) (t : Tally) where
-
   lent_front : Grows old.gained now.gained → (muted : Bool) (bytes : List ℕ) → StopsEarly has (lent_as old name old.gained) (held_behind (lent_as now name old.gained) held) errs errs' muted bytes → WritesPrefixes has old now errs errs' muted bytes
   lent_front g muted bytes h =
       record {

@@ -10,7 +10,6 @@ use Rattle.json_lines.specs.Reading.{ReaderState, NextLineCause}
 use Rattle.json_lines.specs.TopCall.{ErrorCause}
 
 module _ (bytes : List ℕ) (source source' : SourceState) (sink sink' : SinkState) where
-
   -- the reader failed
   pub cause-line : (code : ErrorCode) (place : Place) (reader : ReaderState) → reader.received ≡ length bytes → NextLineCause reader source source' code place → ErrorCause bytes source source' sink sink' code place
   cause-line Io Reading reader received h = h.0
